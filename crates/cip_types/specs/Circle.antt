@@ -1,0 +1,10 @@
+-- The order of sequence numbers of 32 bits, which go round (Volume 2, chapter 2, sequenced address item).
+use Rattle.std.specs.Prelude.{ℕ, ◌+◌, ◌-◌, ◌%◌, ◌^◌, ◌≤◌}
+
+-- how far a is ahead of b, counted up from b round the circle
+abbrev pub distance : ℕ → ℕ → ℕ
+distance a b = (a + 2 ^ 32 - b) % 2 ^ 32
+
+-- a is ahead of b, by less than half of the circle
+abbrev pub IsNewer : ℕ → ℕ → Type 0
+IsNewer a b = (1 ≤ distance a b) × (distance a b ≤ 2 ^ 31 - 1)

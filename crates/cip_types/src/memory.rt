@@ -1,0 +1,19 @@
+//! Want of memory.
+
+use std::alloc::{AllocError, AllocFailed};
+
+/// A growth of memory was refused. Whoever answers this has changed nothing.
+#[derive(Clone, Copy, Debug, PartialEq, Eq)]
+pub struct OutOfMemory;
+
+impl From<AllocError> for OutOfMemory {
+    fn from(_error: AllocError) -> OutOfMemory {
+        OutOfMemory
+    }
+}
+
+impl<T: Drop> From<AllocFailed<T>> for OutOfMemory {
+    fn from(_refused: AllocFailed<T>) -> OutOfMemory {
+        OutOfMemory
+    }
+}
