@@ -1,6 +1,6 @@
 //! Values in order.
 
-ghost use Rattle.std.specs.Prelude.{◌≡◌, [], ◌∷◌, IfOk};
+ghost use Rattle.std.specs.Prelude.{◌≡◌, [], ◌∷◌, IfOk, length, replicate};
 
 use crate::memory::OutOfMemory;
 use std::alloc::Global;
@@ -72,6 +72,31 @@ impl<T: Copy> Items<T> {
         Ok(Items {
             vec: Vec::from_slice(alloc, values)?,
         })
+    }
+}
+
+impl Items<u8> {
+    /// Copies as many other bytes over these. Takes no memory.
+    pub fn overwrite(&mut self, bytes: &[u8])
+        requires { length self.old ≡ length bytes.now }
+        ensures { self.new ≡ bytes.now }
+    {
+        self.vec.copy_from_slice(bytes);
+    }
+
+    /// Makes all bytes zero. Takes no memory.
+    pub fn zero(&mut self)
+        ensures { self.new ≡ replicate (length self.old) 0 }
+    {
+        zero_bytes(&mut self.vec);
+    }
+}
+
+fn zero_bytes(bytes: &mut [u8])
+    ensures { bytes.new ≡ replicate (length bytes.old) 0 }
+{
+    for byte in bytes.iter_mut() {
+        *byte = 0;
     }
 }
 

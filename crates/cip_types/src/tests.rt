@@ -53,6 +53,17 @@ fn items_keep_their_order(rt: HostRuntime) -> Result<(), Fail> {
     Ok(())
 }
 
+#[test]
+fn bytes_are_overwritten_and_zeroed(rt: HostRuntime) -> Result<(), Fail> {
+    let mut items = Items::copy_of(rt.alloc(), &[3u8, 1]).ok().ok_or("memory")?;
+    assert_eq!(rt; items.as_slice().len(), 2);
+    items.overwrite(&[7, 8]);
+    assert_eq!(rt; items.as_slice(), [7, 8].as_slice());
+    items.zero();
+    assert_eq!(rt; items.as_slice(), [0, 0].as_slice());
+    Ok(())
+}
+
 fn one_vec(alloc: std::alloc::Global) -> Result<Vec<u16>, Fail> {
     Ok(vec![in alloc; 7]?)
 }

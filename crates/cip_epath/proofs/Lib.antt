@@ -1,0 +1,9 @@
+pub mod Numbers
+pub mod Segments
+pub mod Taken
+pub mod Faults
+pub mod Cuts
+pub mod Arrangements
+pub mod Walks
+pub mod Texts
+pub mod PathLaws

@@ -1,0 +1,6 @@
+pub mod Key
+pub mod Segment
+pub mod Path
+pub mod Reading
+pub mod Draft
+pub mod Written

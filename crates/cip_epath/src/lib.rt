@@ -1,0 +1,24 @@
+//! Paths of the Connection Manager and of explicit requests: lists of segments, as bytes.
+//!
+//! Volume 1, appendix C, data management: segment types.
+#![tactic(auto)]
+
+mod check;
+mod draft;
+mod fault;
+mod key;
+mod path;
+mod read;
+mod reading;
+mod segment;
+mod write;
+
+pub use check::check_key;
+pub use fault::PathFault;
+pub use key::{Key, KeyFault};
+pub use path::{ConnPath, Target};
+pub use read::{read_path, read_target};
+pub use write::{write_path, write_target};
+
+#[cfg(test)]
+mod tests;

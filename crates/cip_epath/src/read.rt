@@ -1,0 +1,124 @@
+//! Reading paths.
+
+ghost use Rattle.std.specs.Prelude.{◌≡◌, Result};
+ghost use Rattle.cip_epath.specs.declared.fault.PathFault.{PathFault};
+ghost use Rattle.cip_epath.specs.declared.path.Target.{Target};
+ghost use Rattle.cip_epath.specs.Path.{PathFields, view_path, IsPath, IsTarget, IsReading};
+ghost use Rattle.cip_epath.specs.Reading.{Gives, seen, path_reading, target_reading};
+ghost use Rattle.cip_epath.specs.Draft.{view_draft, path_of, target_of};
+
+use crate::draft::{Draft, Inhibits, TargetDraft};
+use crate::fault::PathFault;
+use crate::path::{ConnPath, Target};
+use crate::reading::segment_of;
+
+/// The path that a whole text makes.
+fn finished<'a>(draft: Draft<'a>, inhibits: Inhibits) -> Result<ConnPath<'a>, PathFault>
+    ensures { Gives view_path result (path_of inhibits (view_draft draft.entry)) }
+{
+    let inhibit = match inhibits {
+        Inhibits::Nothing => None,
+        Inhibits::One(ms) => Some(ms),
+        Inhibits::Several => return Err(PathFault::Shape),
+    };
+    let (head, config, consumed, produced, segment) = match draft {
+        Draft::Two(head, consumed, produced) => (head, None, consumed, produced, None),
+        Draft::Three(head, config, consumed, produced) => {
+            (head, Some(config), consumed, produced, None)
+        }
+        Draft::Whole(head, config, consumed, produced, data) => {
+            (head, config, consumed, produced, Some(data))
+        }
+        _ => return Err(PathFault::Shape),
+    };
+    Ok(ConnPath {
+        key: head.key,
+        inhibit,
+        class: head.class,
+        config,
+        consumed,
+        produced,
+        segment,
+    })
+}
+
+/// The path that the segments make, from the front on.
+fn walked_path(bytes: &[u8]) -> Result<ConnPath<'_>, PathFault>
+    ensures { seen view_path result ≡ path_reading bytes.now }
+{
+    let mut rest = bytes;
+    let mut draft = Draft::Start;
+    let mut inhibits = Inhibits::Nothing;
+    while !rest.is_empty() {
+        let (segment, after) = segment_of(rest)?;
+        draft = draft.then(segment);
+        inhibits = inhibits.then(segment);
+        rest = after;
+    }
+    finished(draft, inhibits)
+}
+
+/// The connection path that the bytes are a text of. Its data segment lies in the bytes.
+///
+/// The first segment that does not read gives the fault: `Segment` where its first byte begins none,
+/// `KeyFormat` where it is an electronic key of another format, and else `Truncated`. `Shape` comes
+/// where all segments read and stand as those of no path; so does no bytes.
+///
+/// Volume 1, appendix C, segment types, and chapter 3, connection path.
+pub fn read_path(bytes: &[u8]) -> Result<ConnPath<'_>, PathFault>
+    // What is answered is a reading of the text.
+    ensures reading { IsReading IsPath bytes.now (seen view_path result) }
+    // There is no other.
+    ensures only { (other : Result PathFields PathFault) → IsReading IsPath bytes.now other → seen view_path result ≡ other }
+    // As a function of the bytes.
+    ensures value { seen view_path result ≡ path_reading bytes.now }
+{
+    walked_path(bytes)
+}
+
+/// The target that a whole text makes.
+fn finished_target(draft: TargetDraft) -> Result<Target, PathFault>
+    ensures { result ≡ target_of draft }
+{
+    match draft {
+        TargetDraft::Instanced(class, instance) => Ok(Target {
+            class,
+            instance,
+            attribute: None,
+        }),
+        TargetDraft::Whole(class, instance, attribute) => Ok(Target {
+            class,
+            instance,
+            attribute: Some(attribute),
+        }),
+        _ => Err(PathFault::Shape),
+    }
+}
+
+/// The target that the segments make, from the front on.
+fn walked_target(bytes: &[u8]) -> Result<Target, PathFault>
+    ensures { result ≡ target_reading bytes.now }
+{
+    let mut rest = bytes;
+    let mut draft = TargetDraft::Start;
+    while !rest.is_empty() {
+        let (segment, after) = segment_of(rest)?;
+        draft = draft.then(segment);
+        rest = after;
+    }
+    finished_target(draft)
+}
+
+/// The target that the bytes of a request path are a text of. The faults are those of `read_path`.
+///
+/// Volume 1, appendix C, segment types, and chapter 2, request path.
+pub fn read_target(bytes: &[u8]) -> Result<Target, PathFault>
+    // What is answered is a reading of the text.
+    ensures reading { IsReading IsTarget bytes.now result }
+    // There is no other.
+    ensures only { (other : Result Target PathFault) → IsReading IsTarget bytes.now other → result ≡ other }
+    // As a function of the bytes.
+    ensures value { result ≡ target_reading bytes.now }
+{
+    walked_target(bytes)
+}

@@ -1,0 +1,23 @@
+//! The segments of paths.
+
+use crate::key::Key;
+
+/// What the value of a logical segment names.
+#[derive(Clone, Copy, Debug, PartialEq, Eq)]
+pub enum LogicalType {
+    Class,
+    Instance,
+    Member,
+    ConnectionPoint,
+    Attribute,
+}
+
+/// One segment of a path.
+#[derive(Clone, Copy, Debug)]
+pub enum Segment<'a> {
+    Logical(LogicalType, u32),
+    Key(Key),
+    Data(&'a [u8]),
+    /// A production inhibit time, in milliseconds.
+    Inhibit(u8),
+}
