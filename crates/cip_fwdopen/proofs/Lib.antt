@@ -1,0 +1,9 @@
+pub mod ReadingLaws
+pub mod ParamsLaws
+pub mod OpenLaws
+pub mod ByteLaws
+pub mod FrontLaws
+pub mod RequestLaws
+pub mod AnswerLaws
+pub mod ReplyLaws
+pub mod WrittenLaws

@@ -1,0 +1,6 @@
+pub mod Readings
+pub mod Front
+pub mod Request
+pub mod Open
+pub mod Numbers
+pub mod Reply

@@ -1,0 +1,28 @@
+-- What reading bytes as a text of some format answers (Volume 1, chapter 3, not enough data, too much
+-- data).
+use Rattle.std.specs.Prelude.{ℕ, List, Result, Ok, Err, slice_index}
+use Rattle.cip_types.specs.Texts.{Lacks, Exceeds, Found, whole, short, long, Tailed}
+use Rattle.cip_fwdopen.specs.declared.fault.ReadFault.{ReadFault}
+use Rattle.cip_fwdopen.specs.declared.fault.ReadFault.TheVariants.{NotEnough, TooMuch, Path}
+
+-- an answer with its value seen by view
+abbrev pub seen : {X Y : Type 0} → (X → Y) → Result X ReadFault → Result Y ReadFault
+seen view (Ok x) = Ok (view x)
+seen view (Err f) = Err f
+
+-- the answer is a reading of the bytes, in a format that no text begins another of
+abbrev pub IsReadingOf : {P : Type 0} → (List ℕ → P → Type 0) → List ℕ → Result P ReadFault → Type 0
+IsReadingOf IsText bytes (Ok p) = IsText bytes p
+IsReadingOf IsText bytes (Err NotEnough) = Lacks IsText bytes
+IsReadingOf IsText bytes (Err TooMuch) = Exceeds IsText bytes
+IsReadingOf IsText bytes (Err (Path f)) = ⊥
+
+-- how bytes stand to the texts of a format, as an answer
+abbrev pub answer_of : {P : Type 0} → Found P → Result P ReadFault
+answer_of (whole p) = Ok p
+answer_of short = Err NotEnough
+answer_of long = Err TooMuch
+
+-- the number at a place of a fixed part, counted from 0
+abbrev pub number : Tailed → ℕ → ℕ
+number text place = slice_index text.0 place

@@ -1,0 +1,102 @@
+//! The data of a Forward_Open and of a Large_Forward_Open.
+
+ghost use Rattle.std.specs.Prelude.{◌≡◌, Result, ◌≤◌, ◌<◌, ◌^◌, false};
+ghost use Rattle.cip_fwdopen.specs.declared.fault.ReadFault.{ReadFault};
+ghost use Rattle.cip_fwdopen.specs.Readings.{seen};
+ghost use Rattle.cip_fwdopen.specs.Open.{OpenFields, view_open, open_of, params_of, IsOpenReading, open_reading};
+ghost use Rattle.cip_fwdopen.specs.Numbers.{numbers_of};
+
+use crate::fault::ReadFault;
+use crate::fixed::Fixed;
+use cip_netparams::{NetParams, read16, read32};
+use cip_types::{ConnId, Triad};
+
+/// The data of a Forward_Open or of a Large_Forward_Open. Packet intervals are in microseconds.
+///
+/// Volume 1, chapter 3, Forward_Open service.
+#[derive(Clone, Copy, Debug)]
+pub struct OpenRequest<'a> {
+    /// Priority and time tick of the unconnected request.
+    pub priority_tick: u8,
+    /// Its time-out, in ticks.
+    pub ticks: u8,
+    pub o_t_id: ConnId,
+    pub t_o_id: ConnId,
+    pub triad: Triad,
+    /// The connection timeout multiplier's code.
+    pub multiplier: u8,
+    pub o_t_rpi: u32,
+    pub o_t_params: NetParams,
+    pub t_o_rpi: u32,
+    pub t_o_params: NetParams,
+    /// The transport class and trigger byte. It is not read.
+    pub trigger: u8,
+    /// The connection path's bytes. They are not read.
+    pub path: &'a [u8],
+}
+
+fn params_of(large: bool, word: u32) -> NetParams
+    ensures { result ≡ params_of large word }
+{
+    if large {
+        read32(word)
+    } else {
+        read16((word & 0xFFFF) as u16)
+    }
+}
+
+fn request_of<'a>(large: bool, fixed: Fixed, path: &'a [u8]) -> OpenRequest<'a>
+    ensures { view_open result ≡ open_of large (numbers_of fixed, path.now) }
+{
+    OpenRequest {
+        priority_tick: fixed.priority_tick,
+        ticks: fixed.ticks,
+        o_t_id: ConnId(fixed.o_t_id),
+        t_o_id: ConnId(fixed.t_o_id),
+        triad: Triad {
+            serial: fixed.serial,
+            vendor: fixed.vendor,
+            originator: fixed.originator,
+        },
+        multiplier: fixed.multiplier,
+        o_t_rpi: fixed.o_t_rpi,
+        o_t_params: params_of(large, fixed.o_t_word),
+        t_o_rpi: fixed.t_o_rpi,
+        t_o_params: params_of(large, fixed.t_o_word),
+        trigger: fixed.trigger,
+        path,
+    }
+}
+
+fn whole_open(large: bool, bytes: &[u8]) -> Result<OpenRequest<'_>, ReadFault>
+    ensures { seen view_open result ≡ open_reading large bytes.now }
+{
+    let Some((fixed, rest)) = Fixed::at(large, bytes) else {
+        return Err(ReadFault::NotEnough);
+    };
+    let len = 2 * usize::from(fixed.path_words);
+    if rest.len() < len {
+        return Err(ReadFault::NotEnough);
+    }
+    if rest.len() > len {
+        return Err(ReadFault::TooMuch);
+    }
+    Ok(request_of(large, fixed, rest))
+}
+
+/// The request that the bytes are the data of: of a Large_Forward_Open, whose words of connection
+/// parameters have 32 bits, or of a Forward_Open, whose have 16. Reserved bytes are not looked at.
+///
+/// NotEnough where the bytes end before the fields or the path do, TooMuch where bytes follow the
+/// path; never Path.
+///
+/// Volume 1, chapter 3, Forward_Open and Large_Forward_Open services.
+pub fn read_open(large: bool, bytes: &[u8]) -> Result<OpenRequest<'_>, ReadFault>
+    ensures value { seen view_open result ≡ open_reading large bytes.now }
+    // What is answered is a reading of the bytes.
+    ensures reading { IsOpenReading large bytes.now (seen view_open result) }
+    // There is no other.
+    ensures only { (other : Result OpenFields ReadFault) → IsOpenReading large bytes.now other → seen view_open result ≡ other }
+{
+    whole_open(large, bytes)
+}

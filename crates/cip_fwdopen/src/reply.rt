@@ -1,0 +1,155 @@
+//! Replies to a Forward_Open and to a Large_Forward_Open.
+
+ghost use Rattle.std.specs.Prelude.{◌≡◌, Result};
+ghost use Rattle.std.specs.Option.{option_map};
+ghost use Rattle.std.specs.Int.{w16};
+ghost use Rattle.cip_types.specs.Fields.{Finds, field_at, fields_at};
+ghost use Rattle.cip_fwdopen.specs.declared.fault.ReadFault.{ReadFault};
+ghost use Rattle.cip_fwdopen.specs.declared.reply.OpenReply.{OpenReply};
+ghost use Rattle.cip_fwdopen.specs.Reply.{triad_widths, triad_numbers, failure_reading, opened_reading, answer_reading, IsOpenReplyReading, open_reply_reading};
+
+use crate::fault::ReadFault;
+use crate::front::{Head, Success};
+use cip_types::fields::{u16_at, u32_at};
+use cip_types::{ConnId, Fault, Triad};
+
+/// What a target says of a connection that it opened. Actual packet intervals are in microseconds.
+///
+/// Volume 1, chapter 3, Forward_Open service, successful response.
+#[derive(Clone, Copy, Debug, PartialEq, Eq)]
+pub struct Opened {
+    pub o_t_id: ConnId,
+    pub t_o_id: ConnId,
+    pub triad: Triad,
+    pub o_t_api: u32,
+    pub t_o_api: u32,
+}
+
+/// What a target says of a connection that it did not open.
+///
+/// Volume 1, chapter 3, Forward_Open service, unsuccessful response.
+#[derive(Clone, Copy, Debug, PartialEq, Eq)]
+pub struct Refused {
+    pub fault: Fault,
+    /// The connection that the request named, where the reply says it.
+    pub triad: Option<Triad>,
+}
+
+/// What a reply to a Forward_Open says.
+#[derive(Clone, Copy, Debug, PartialEq, Eq)]
+pub enum OpenAnswer {
+    Opened(Opened),
+    Refused(Refused),
+}
+
+/// A reply to a Forward_Open or a Large_Forward_Open.
+#[derive(Clone, Copy, Debug, PartialEq, Eq)]
+pub struct OpenReply {
+    /// The reply's service byte. It is not judged.
+    pub service: u8,
+    pub answer: OpenAnswer,
+}
+
+fn triad_at(bytes: &[u8]) -> Option<(Triad, &[u8])>
+    ensures { Finds (λ x. (triad_numbers x.0, x.1.now)) result (fields_at triad_widths bytes.now) }
+{
+    let (serial, rest) = u16_at(bytes)?;
+    let (vendor, rest) = u16_at(rest)?;
+    let (originator, rest) = u32_at(rest)?;
+    let triad = Triad {
+        serial,
+        vendor,
+        originator,
+    };
+    Some((triad, rest))
+}
+
+fn failure_of(bytes: &[u8]) -> Result<Option<Triad>, ReadFault>
+    ensures { result ≡ failure_reading bytes.now }
+{
+    if bytes.is_empty() {
+        return Ok(None);
+    }
+    let Some((triad, rest)) = triad_at(bytes) else {
+        return Err(ReadFault::NotEnough);
+    };
+    match rest.len() {
+        0 | 2 => Ok(Some(triad)),
+        1 => Err(ReadFault::NotEnough),
+        _ => Err(ReadFault::TooMuch),
+    }
+}
+
+fn opened_of(bytes: &[u8]) -> Result<Opened, ReadFault>
+    ensures { result ≡ opened_reading bytes.now }
+{
+    let Some((success, rest)) = Success::at(bytes) else {
+        return Err(ReadFault::NotEnough);
+    };
+    let len = 2 * usize::from(success.application_words);
+    if rest.len() < len {
+        return Err(ReadFault::NotEnough);
+    }
+    if rest.len() > len {
+        return Err(ReadFault::TooMuch);
+    }
+    Ok(success.opened)
+}
+
+fn first_word(words: &[u8]) -> Option<u16>
+    ensures { result ≡ option_map (λ x. x.0) (field_at w16 words.now) }
+{
+    let (word, _) = u16_at(words)?;
+    Some(word)
+}
+
+fn answer_of(fault: Fault, bytes: &[u8]) -> Result<OpenAnswer, ReadFault>
+    ensures { result ≡ answer_reading fault bytes.now }
+{
+    if fault.general == 0 {
+        return Ok(OpenAnswer::Opened(opened_of(bytes)?));
+    }
+    let triad = failure_of(bytes)?;
+    Ok(OpenAnswer::Refused(Refused { fault, triad }))
+}
+
+fn whole_reply(bytes: &[u8]) -> Result<OpenReply, ReadFault>
+    ensures { result ≡ open_reply_reading bytes.now }
+{
+    let Some((head, rest)) = Head::at(bytes) else {
+        return Err(ReadFault::NotEnough);
+    };
+    let len = 2 * usize::from(head.words);
+    if rest.len() < len {
+        return Err(ReadFault::NotEnough);
+    }
+    let (words, data) = rest.split_at(len);
+    let fault = Fault {
+        general: head.general,
+        extra: first_word(words),
+    };
+    let answer = answer_of(fault, data)?;
+    Ok(OpenReply {
+        service: head.service,
+        answer,
+    })
+}
+
+/// The reply that the bytes are. General status 0 says that the connection is open; an application
+/// reply is left aside. With another one the fault keeps of the additional words the first alone, and
+/// the data names the connection (8 bytes, or 10, the last two not looked at) or is empty. Neither the
+/// service nor the reserved byte is judged.
+///
+/// NotEnough where the bytes are no reply and a longer reply begins so; TooMuch where they are none,
+/// none begins so, and a reply stands in front of them; never Path.
+///
+/// Volume 1, chapter 3, Forward_Open service, successful and unsuccessful response.
+pub fn read_open_reply(bytes: &[u8]) -> Result<OpenReply, ReadFault>
+    ensures value { result ≡ open_reply_reading bytes.now }
+    // What is answered is a reading of the bytes.
+    ensures reading { IsOpenReplyReading bytes.now result }
+    // There is no other.
+    ensures only { (other : Result OpenReply ReadFault) → IsOpenReplyReading bytes.now other → result ≡ other }
+{
+    whole_reply(bytes)
+}

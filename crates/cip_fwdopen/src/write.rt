@@ -1,0 +1,130 @@
+//! What originator and target of a Forward_Open write.
+
+ghost use Rattle.std.specs.Prelude.{◌≡◌, ◌≢◌, ◌%◌, ◌≤◌, ◌++◌, length, IfOk, OnOk, Ok};
+ghost use Rattle.std.specs.Int.{to_le_bytes};
+ghost use Rattle.cip_types.specs.Fields.{fields_text};
+ghost use Rattle.cip_fwdopen.specs.Open.{view_open, params_width, params_word, greatest_size, open_text, IsOpenText, open_reading};
+ghost use Rattle.cip_fwdopen.specs.Reply.{opened_text, opened_reply, refused_text, refused_reply, IsOpenReplyText, open_reply_reading, extra_text, failure_text, triad_widths, triad_numbers, TriadFits};
+
+use crate::open::OpenRequest;
+use crate::reply::Opened;
+use cip_netparams::{NetParams, write16, write32};
+use cip_types::fields::{put_bytes, put_u8, put_u16, put_u32};
+use cip_types::{Fault, OutOfMemory, Triad};
+use std::alloc::Global;
+
+fn put_params(out: &mut Vec<u8>, large: bool, params: &NetParams) -> Result<(), OutOfMemory>
+    requires { params.now.size ≤ greatest_size large }
+    ensures { OnOk result (out.new.items ≡ out.old.items ++ to_le_bytes (params_width large) (params_word large params.now)) }
+{
+    if large {
+        return put_u32(out, write32(params));
+    }
+    put_u16(out, write16(params))
+}
+
+fn put_triad(out: &mut Vec<u8>, triad: Triad) -> Result<(), OutOfMemory>
+    ensures text { OnOk result (out.new.items ≡ out.old.items ++ fields_text triad_widths (triad_numbers triad)) }
+    ensures fits { TriadFits triad }
+{
+    put_u16(out, triad.serial)?;
+    put_u16(out, triad.vendor)?;
+    put_u32(out, triad.originator)
+}
+
+/// The data of a Forward_Open, or of a Large_Forward_Open, with reserved bytes and spare bits zero.
+/// The path has to be whole words, of which there are at most 255, and in a Forward_Open the sizes
+/// have to fit nine bits. OutOfMemory where memory is refused, as of the other writers.
+///
+/// Volume 1, chapter 3, Forward_Open and Large_Forward_Open services.
+pub fn write_open(
+    alloc: Global,
+    large: bool,
+    request: &OpenRequest<'_>,
+) -> Result<Vec<u8>, OutOfMemory>
+    requires whole_words { length request.now.path.now % 2 ≡ 0 }
+    requires short { length request.now.path.now ≤ 510 }
+    requires o_t_size { request.now.o_t_params.size ≤ greatest_size large }
+    requires t_o_size { request.now.t_o_params.size ≤ greatest_size large }
+    ensures text { IfOk result (λ v. v.items ≡ open_text large (view_open request.now)) }
+    ensures is_text { IfOk result (λ v. IsOpenText large v.items (view_open request.now)) }
+    ensures read_back { IfOk result (λ v. open_reading large v.items ≡ Ok (view_open request.now)) }
+{
+    let mut out = Vec::new(alloc);
+    put_u8(&mut out, request.priority_tick)?;
+    put_u8(&mut out, request.ticks)?;
+    put_u32(&mut out, request.o_t_id.0)?;
+    put_u32(&mut out, request.t_o_id.0)?;
+    put_triad(&mut out, request.triad)?;
+    put_bytes(&mut out, &[request.multiplier, 0, 0, 0])?;
+    put_u32(&mut out, request.o_t_rpi)?;
+    put_params(&mut out, large, &request.o_t_params)?;
+    put_u32(&mut out, request.t_o_rpi)?;
+    put_params(&mut out, large, &request.t_o_params)?;
+    put_bytes(&mut out, &[request.trigger, (request.path.len() / 2) as u8])?;
+    put_bytes(&mut out, request.path)?;
+    Ok(out)
+}
+
+/// The whole reply that says that a connection is open, to a Large_Forward_Open or to a
+/// Forward_Open, with no application reply.
+///
+/// Volume 1, chapter 3, Forward_Open service, successful response.
+pub fn write_opened(alloc: Global, large: bool, opened: &Opened) -> Result<Vec<u8>, OutOfMemory>
+    ensures text { IfOk result (λ v. v.items ≡ opened_text large opened.now) }
+    ensures is_text { IfOk result (λ v. IsOpenReplyText v.items (opened_reply large opened.now)) }
+    ensures read_back { IfOk result (λ v. open_reply_reading v.items ≡ Ok (opened_reply large opened.now)) }
+{
+    let mut out = Vec::new(alloc);
+    put_u8(&mut out, if large { 0xDB } else { 0xD4 })?;
+    put_bytes(&mut out, &[0, 0, 0])?;
+    put_u32(&mut out, opened.o_t_id.0)?;
+    put_u32(&mut out, opened.t_o_id.0)?;
+    put_triad(&mut out, opened.triad)?;
+    put_u32(&mut out, opened.o_t_api)?;
+    put_u32(&mut out, opened.t_o_api)?;
+    put_bytes(&mut out, &[0, 0])?;
+    Ok(out)
+}
+
+fn put_extra(out: &mut Vec<u8>, extra: Option<u16>) -> Result<(), OutOfMemory>
+    ensures { OnOk result (out.new.items ≡ out.old.items ++ extra_text extra) }
+{
+    let Some(code) = extra else {
+        return put_u8(out, 0);
+    };
+    put_u8(out, 1)?;
+    put_u16(out, code)
+}
+
+fn put_failure(out: &mut Vec<u8>, triad: Option<Triad>) -> Result<(), OutOfMemory>
+    ensures { OnOk result (out.new.items ≡ out.old.items ++ failure_text triad) }
+{
+    let Some(triad) = triad else {
+        return Ok(());
+    };
+    put_triad(out, triad)?;
+    put_bytes(out, &[0, 0])
+}
+
+/// The whole reply that refuses a request of the service. Its data names a connection where one is
+/// given, with remaining path size 0. The general status of a refusal is not 0.
+///
+/// Volume 1, chapter 3, Forward_Open service, unsuccessful response.
+pub fn write_refused(
+    alloc: Global,
+    service: u8,
+    fault: Fault,
+    triad: Option<Triad>,
+) -> Result<Vec<u8>, OutOfMemory>
+    requires { fault.general ≢ 0 }
+    ensures text { IfOk result (λ v. v.items ≡ refused_text service fault triad) }
+    ensures is_text { IfOk result (λ v. IsOpenReplyText v.items (refused_reply service fault triad)) }
+    ensures read_back { IfOk result (λ v. open_reply_reading v.items ≡ Ok (refused_reply service fault triad)) }
+{
+    let mut out = Vec::new(alloc);
+    put_bytes(&mut out, &[service | 0x80, 0, fault.general])?;
+    put_extra(&mut out, fault.extra)?;
+    put_failure(&mut out, triad)?;
+    Ok(out)
+}
