@@ -1,0 +1,27 @@
+use Rattle.std.proofs.Common.{arith, take, vec_len, vec_capacity}
+use Rattle.std.proofs.lemmas.List.{take_more}
+use Rattle.cip_tables.proofs.RunLemmas.{Runs_more, run_all, run_folds}
+use Rattle.cip_tables.proofs.StepLemmas.{run_sound}
+use Rattle.cip_tables.proofs.device.run.Goals as goal
+
+pub loop-event-preserved : goal.loop-event-preserved
+loop-event-preserved g c = record {
+  told =
+      rw (c.push_reserved.ensures.items, take_more c.args.events.now c.loop-event.event-index c.event-item.result (omega arith), ← c.event-item.is)
+      (Runs_more _ _ _ _ _ _ _ c.loop-event.invariant.told c.step-outcome.ensures);
+  count = omega arith;
+  room = omega arith;
+}
+
+pub returns : goal.returns
+returns g c =
+    let table = g.D.Device.table in
+    let ran = run_all (table c.args.device.now) (table c.loop-event.device) c.args.events.now c.loop-event.outcomes.items c.loop-event.event-index (omega arith) c.loop-event.invariant.told in
+    let folds = run_folds (table c.args.device.now) c.args.events.now c.loop-event.outcomes.items (table c.loop-event.device) ran in
+    record {
+      run = ran;
+      outcomes = folds.told;
+      table = folds.table;
+      sound = run_sound _ c.args.events.now c.loop-event.outcomes.items _ ran;
+      err = tt;
+    }

@@ -1,0 +1,13 @@
+pub mod Profiles
+pub mod Points
+pub mod Rows
+pub mod Refusals
+pub mod Checks
+pub mod Opening
+pub mod Asking
+pub mod Replies
+pub mod Requests
+pub mod Step
+pub mod Run
+pub mod Sound
+pub mod News

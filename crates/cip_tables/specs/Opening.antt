@@ -1,0 +1,136 @@
+-- Opening a connection: which one makes room, what the new one is, and the table after it
+-- (Volume 1, chapter 3, Forward_Open, connection ids and first watchdog).
+use Rattle.std.specs.Prelude.{ℕ, ◌+◌, ◌*◌, ◌^◌, ◌==◌, nat_le, max, Bool, true, false, if◌then◌else◌, List, [], ◌∷◌, ◌++◌, length, find, Option, Some, None, unwrap_or}
+use Rattle.std.specs.Option.{option_map}
+use Rattle.std.specs.List.{list_any}
+use Rattle.cip_types.specs.declared.names.Triad.{Triad}
+use Rattle.cip_types.specs.declared.names.Node.{Node}
+use Rattle.cip_types.specs.declared.names.ConnId.{ConnId}
+use Rattle.cip_types.specs.declared.names.Ms.{Ms}
+use Rattle.cip_netparams.specs.declared.Trigger.{Trigger}
+use Rattle.cip_netparams.specs.declared.Trigger.TheVariants.{Cyclic, ChangeOfState}
+use Rattle.cip_netparams.specs.Word.{trigger_of}
+use Rattle.cip_netparams.specs.Rate.{interval_ms, timeout}
+use Rattle.cip_fwdopen.specs.Open.{OpenFields}
+use Rattle.cip_fwdopen.specs.declared.reply.Opened.{Opened}
+use Rattle.cip_tables.specs.declared.event.Notice.{Notice}
+use Rattle.cip_tables.specs.declared.event.Notice.TheVariants as notice
+use Rattle.cip_tables.specs.declared.profile.InputPoint.{InputPoint}
+use Rattle.cip_tables.specs.declared.profile.Profile.{Profile}
+use Rattle.cip_tables.specs.declared.row.Row.{Row}
+use Rattle.cip_tables.specs.declared.row.Production.{Production}
+use Rattle.cip_tables.specs.declared.row.State.TheVariants.{Established}
+use Rattle.cip_tables.specs.declared.table.PointValue.{PointValue}
+use Rattle.cip_tables.specs.declared.table.AdapterTable.{AdapterTable}
+use Rattle.cip_tables.specs.Points.{put_value}
+use Rattle.cip_tables.specs.Rows.{has_triad, is_timed_out, without_first}
+use Rattle.cip_tables.specs.Checks.{Admitted, stored, is_multicast}
+
+-- ROOM
+
+-- The connection that makes room for a new one: that of the same triad, which has timed out, and among
+-- 64 the timed-out one that was opened first.
+abbrev pub makes_room : List Row → Triad → Row → Bool
+makes_room rows triad =
+    if list_any (has_triad triad) rows then has_triad triad
+    else (if nat_le 64 (length rows) then is_timed_out else (λ _. false))
+
+abbrev pub triad_of : Row → Triad
+triad_of row = row.triad
+
+-- the triad of the connection that makes room
+abbrev pub replaced_triad : List Row → Triad → Option Triad
+replaced_triad rows triad = option_map triad_of (find (makes_room rows triad) rows)
+
+-- THE NEW CONNECTION
+
+-- the byte that begins a device's ids, and a counter
+abbrev pub connection_id : Profile → ℕ → ConnId
+connection_id profile counter = record { 0 = profile.incarnation * 2 ^ 24 + counter }
+
+-- the first watchdog waits for at least 10 seconds
+abbrev pub first_deadline : Ms → ℕ → Ms
+first_deadline clock timeout_ms = record { 0 = clock.0 + max 10000 timeout_ms }
+
+abbrev pub served_trigger : Option Trigger → Trigger
+served_trigger None = Cyclic
+served_trigger (Some trigger) = trigger
+
+-- a cyclic producer is not held back
+abbrev pub served_inhibit : Trigger → Option ℕ → ℕ
+served_inhibit Cyclic inhibit = 0
+served_inhibit ChangeOfState inhibit = unwrap_or inhibit 0
+
+-- the producer that a point to point connection begins: its data are new, and due at once
+abbrev pub new_production : AdapterTable → Node → Trigger → ℕ → Production
+new_production t address trigger inhibit = record {
+  producer = t.next_id;
+  sequence = 1;
+  count = 0;
+  written = true;
+  due = t.clock;
+  address = address;
+  trigger = trigger;
+  inhibit = inhibit;
+  last = None;
+}
+
+abbrev pub opened_production : AdapterTable → Node → OpenFields → Admitted → Production
+opened_production t peer request admitted =
+    let trigger = served_trigger (trigger_of request.trigger) in
+    new_production t peer trigger (served_inhibit trigger admitted.path.inhibit)
+
+-- the connection that an admitted request opens
+unfoldable pub opened_row : AdapterTable → Node → OpenFields → Admitted → Row
+opened_row t peer request admitted = record {
+  triad = request.triad;
+  peer = peer;
+  kind = admitted.consumer.kind;
+  consumed = admitted.path.consumed;
+  produced = admitted.path.produced;
+  o_t_id = connection_id t.profile t.next_id;
+  t_o_id = request.t_o_id;
+  o_t_api = interval_ms request.o_t_rpi;
+  t_o_api = interval_ms request.t_o_rpi;
+  multiplier = request.multiplier;
+  multicast = is_multicast request.t_o_params.kind;
+  opening = t.next_id;
+  last = None;
+  deadline = first_deadline t.clock (timeout request.multiplier (interval_ms request.o_t_rpi));
+  state = Established (opened_production t peer request admitted);
+}
+
+-- THE TABLE AFTER IT
+
+-- the values with a data segment at the configuration, where there is one to store
+abbrev pub configured : Option InputPoint → Option (List ℕ) → List PointValue → List PointValue
+configured None segment values = values
+configured (Some config) None values = values
+configured (Some config) (Some segment) values = put_value config.instance segment values
+
+-- what makes room is gone, the new connection is the last, its data segment is stored, its id is drawn
+unfoldable pub opened_table : AdapterTable → Row → Admitted → AdapterTable
+opened_table t row admitted = record t {
+  rows = without_first (makes_room t.rows row.triad) t.rows ++ row ∷ [];
+  values = configured t.profile.config (stored admitted.path.config admitted.path.segment) t.values;
+  next_id = t.next_id + 1;
+}
+
+-- WHAT IS TOLD OF IT
+
+-- the ids, and the actual packet intervals in microseconds
+abbrev pub opened_reply : Row → Opened
+opened_reply row = record {
+  o_t_id = row.o_t_id;
+  t_o_id = row.t_o_id;
+  triad = row.triad;
+  o_t_api = 1000 * row.o_t_api;
+  t_o_api = 1000 * row.t_o_api;
+}
+
+abbrev pub replaced_notices : Option Triad → List Notice
+replaced_notices None = []
+replaced_notices (Some triad) = notice.Replaced triad ∷ []
+
+abbrev pub opened_notices : List Row → Row → List Notice
+opened_notices rows row = replaced_notices (replaced_triad rows row.triad) ++ notice.Opened row.triad row.o_t_id ∷ []

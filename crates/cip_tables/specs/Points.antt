@@ -1,0 +1,37 @@
+-- What the points of an adapter hold (Volume 1, chapter 5, Assembly object).
+use Rattle.std.specs.Prelude.{ℕ, ◌==◌, Bool, if◌then◌else◌, List, [], ◌∷◌, ◌++◌, map, find, replicate, Option, Some, None, option_to_list}
+use Rattle.std.specs.Option.{option_map}
+use Rattle.cip_tables.specs.declared.profile.InputPoint.{InputPoint}
+use Rattle.cip_tables.specs.declared.profile.Profile.{Profile}
+use Rattle.cip_tables.specs.declared.table.PointValue.{PointValue}
+use Rattle.cip_tables.specs.Profiles.{as_point}
+
+-- the points with data: outputs, inputs, the configuration
+abbrev pub data_points : Profile → List InputPoint
+data_points profile = map as_point profile.outputs ++ (profile.inputs ++ option_to_list profile.config)
+
+-- a point that holds zeros
+abbrev pub zeros : InputPoint → PointValue
+zeros point = record { point = point.instance; bytes = replicate point.len 0 }
+
+-- what all points begin with
+abbrev pub opening_values : Profile → List PointValue
+opening_values profile = map zeros (data_points profile)
+
+abbrev pub is_value_of : ℕ → PointValue → Bool
+is_value_of point value = value.point == point
+
+-- other bytes, where the value is the point's
+abbrev pub changed_value : ℕ → List ℕ → PointValue → PointValue
+changed_value point bytes value = if is_value_of point value then record value { bytes = bytes } else value
+
+-- the values with other bytes at a point
+abbrev pub put_value : ℕ → List ℕ → List PointValue → List PointValue
+put_value point bytes values = map (changed_value point bytes) values
+
+abbrev pub bytes_of : PointValue → List ℕ
+bytes_of value = value.bytes
+
+-- what a point holds
+abbrev pub bytes_at : List PointValue → ℕ → Option (List ℕ)
+bytes_at values point = option_map bytes_of (find (is_value_of point) values)

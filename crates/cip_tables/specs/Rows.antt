@@ -1,0 +1,53 @@
+-- Connections and lists of them: who drives an output, which connection has a triad
+-- (Volume 1, chapter 3, application connection types and connection triads).
+use Rattle.std.specs.Prelude.{ℕ, ◌==◌, ◌&&◌, not, Bool, true, false, if◌then◌else◌, List, [], ◌∷◌, filter}
+use Rattle.std.specs.List.{list_any}
+use Rattle.cip_types.specs.declared.names.Triad.{Triad}
+use Rattle.cip_tables.specs.declared.row.Row.{Row}
+use Rattle.cip_tables.specs.declared.row.Kind.{Kind}
+use Rattle.cip_tables.specs.declared.row.Kind.TheVariants.{ExclusiveOwner, InputOnly, ListenOnly}
+use Rattle.cip_tables.specs.declared.row.State.{State}
+use Rattle.cip_tables.specs.declared.row.State.TheVariants.{Established, TimedOut}
+
+abbrev pub is_owner : Kind → Bool
+is_owner ExclusiveOwner = true
+is_owner InputOnly = false
+is_owner ListenOnly = false
+
+abbrev pub is_listener : Kind → Bool
+is_listener ExclusiveOwner = false
+is_listener InputOnly = false
+is_listener ListenOnly = true
+
+abbrev pub lives : State → Bool
+lives (Established production) = true
+lives TimedOut = false
+
+abbrev pub is_established : Row → Bool
+is_established row = lives row.state
+
+abbrev pub is_timed_out : Row → Bool
+is_timed_out row = not (is_established row)
+
+abbrev pub same_triad : Triad → Triad → Bool
+same_triad a b = a.serial == b.serial && (a.vendor == b.vendor && a.originator == b.originator)
+
+abbrev pub has_triad : Triad → Row → Bool
+has_triad triad row = same_triad row.triad triad
+
+-- the triad is that of an established connection
+abbrev pub holds_triad : Triad → Row → Bool
+holds_triad triad row = is_established row && has_triad triad row
+
+-- the connection is the established exclusive owner of the output
+abbrev pub drives : ℕ → Row → Bool
+drives point row = is_established row && (is_owner row.kind && row.consumed == point)
+
+-- the drivers of an output
+abbrev pub drivers : ℕ → List Row → List Row
+drivers point rows = filter (drives point) rows
+
+-- the connections without the first that passes a test
+abbrev pub without_first : (Row → Bool) → List Row → List Row
+without_first test [] = []
+without_first test (row ∷ rows) = if test row then rows else row ∷ without_first test rows

@@ -1,0 +1,52 @@
+-- What holds of every table that a run reaches.
+use Rattle.std.specs.Prelude.{ℕ, ◌≡◌, ◌≤◌, ◌<◌, ◌==◌, Bool, false, List, [], ◌∷◌, length, Result}
+use Rattle.std.specs.List.{list_any}
+use Rattle.cip_types.specs.declared.names.ConnId.{ConnId}
+use Rattle.cip_tables.specs.declared.event.Event.{Event}
+use Rattle.cip_tables.specs.declared.profile.Profile.{Profile}
+use Rattle.cip_tables.specs.declared.row.Row.{Row}
+use Rattle.cip_tables.specs.declared.table.AdapterTable.{AdapterTable}
+use Rattle.cip_tables.specs.declared.table.DeviceTable.{DeviceTable}
+use Rattle.cip_tables.specs.declared.table.DeviceTable.TheVariants.{Adapter}
+use Rattle.cip_tables.specs.declared.table.Config.{Config}
+use Rattle.cip_tables.specs.Rows.{has_triad, drivers}
+use Rattle.cip_tables.specs.Opening.{connection_id}
+use Rattle.cip_tables.specs.Step.{opening_table}
+use Rattle.cip_tables.specs.Run.{Outcome, Runs}
+
+-- no two connections have one triad
+abbrev pub TriadsDiffer : List Row → Type 0
+TriadsDiffer [] = Unit {0}
+TriadsDiffer (row ∷ rows) = (list_any (has_triad row.triad) rows ≡ false) × TriadsDiffer rows
+
+abbrev pub has_o_t_id : ConnId → Row → Bool
+has_o_t_id id row = row.o_t_id.0 == id.0
+
+-- no two connections have one O->T id
+abbrev pub IdsDiffer : List Row → Type 0
+IdsDiffer [] = Unit {0}
+IdsDiffer (row ∷ rows) = (list_any (has_o_t_id row.o_t_id) rows ≡ false) × IdsDiffer rows
+
+-- each O->T id is the device's, and its counter, which is the opening number, is below the next one
+abbrev pub IdsAreDrawn : Profile → ℕ → List Row → Type 0
+IdsAreDrawn profile next_id [] = Unit {0}
+IdsAreDrawn profile next_id (row ∷ rows) = (row.o_t_id ≡ connection_id profile row.opening) × (row.opening < next_id) × IdsAreDrawn profile next_id rows
+
+-- an output has at most one established exclusive owner
+abbrev pub HasOneOwner : List Row → Type 0
+HasOneOwner rows = (point : ℕ) → length (drivers point rows) ≤ 1
+
+pub record IsSound (t : AdapterTable) : Type 0 where
+  pub few : length t.rows ≤ 64
+  pub one_owner : HasOneOwner t.rows
+  pub triads_differ : TriadsDiffer t.rows
+  pub ids_differ : IdsDiffer t.rows
+  pub ids_are_drawn : IdsAreDrawn t.profile t.next_id t.rows
+  pub ids_are_left : t.next_id ≤ 16777216
+
+abbrev pub IsSoundDevice : DeviceTable → Type 0
+IsSoundDevice (Adapter t) = IsSound t
+
+-- in every adapter's table that a run from a fresh device reaches, this holds
+abbrev pub OverEveryRun : (AdapterTable → Type 0) → Type 0
+OverEveryRun Holds = (made : Config) (events : List Event) (outcomes : List Outcome) (t : AdapterTable) → Runs (opening_table made) events outcomes (Adapter t) → Holds t

@@ -1,0 +1,19 @@
+//! What a request is admitted as.
+
+use crate::row::Kind;
+use cip_epath::ConnPath;
+
+/// What consumes the O->T data of a connection: what the connection is for, and how many bytes the
+/// output has (0 where it consumes none).
+#[derive(Clone, Copy, Debug, PartialEq, Eq)]
+pub struct Consumer {
+    pub kind: Kind,
+    pub len: u64,
+}
+
+/// What an open request is admitted as: its path, and what its consumed point is.
+#[derive(Clone, Copy, Debug)]
+pub struct Admission<'a> {
+    pub path: ConnPath<'a>,
+    pub consumer: Consumer,
+}

@@ -1,0 +1,72 @@
+//! What a request to the message router asks.
+
+ghost use Rattle.std.specs.Prelude.{◌≡◌, Result};
+ghost use Rattle.cip_fwdopen.specs.Open.{OpenFields, view_open, open_reading};
+ghost use Rattle.cip_tables.specs.Asking.{asked_reading, asked_manager, asked_open, data_status, view_asked};
+
+use crate::refusal::Status;
+use cip_fwdopen::{OpenRequest, ReadFault, read_open, read_request};
+
+/// A request by what it asks.
+///
+/// Volume 1, chapter 2, message router request, and chapter 3, Connection Manager services.
+#[derive(Clone, Copy, Debug)]
+pub enum Asked<'a> {
+    /// There is not even a service.
+    Nothing,
+    /// The router refuses this service by itself.
+    Refused(u8, Status),
+    /// A connection, by a Forward_Open or (`true`) a Large_Forward_Open.
+    Opening(bool, OpenRequest<'a>),
+}
+
+/// The status for data of a service that do not read.
+fn data_status(fault: ReadFault) -> Status
+    ensures { result ≡ data_status fault }
+{
+    match fault {
+        ReadFault::NotEnough => Status::NotEnoughData,
+        ReadFault::TooMuch => Status::TooMuchData,
+        ReadFault::Path(_) => Status::PathSegment,
+    }
+}
+
+fn asked_open(service: u8, large: bool, body: &[u8]) -> Asked<'_>
+    ensures { view_asked result ≡ asked_open service large (open_reading large body.now) }
+{
+    match read_open(large, body) {
+        Ok(request) => Asked::Opening(large, request),
+        Err(fault) => Asked::Refused(service, data_status(fault)),
+    }
+}
+
+fn asked_manager(service: u8, body: &[u8]) -> Asked<'_>
+    ensures { view_asked result ≡ asked_manager service body.now }
+{
+    match service {
+        0x54 => asked_open(service, false, body),
+        0x5B => asked_open(service, true, body),
+        _ => Asked::Refused(service, Status::Service),
+    }
+}
+
+/// What the bytes of a request ask. Takes no memory.
+///
+/// The router refuses, in this order: bytes that end within the request path (status 0x13), a path that
+/// is no class and instance (0x04), another object than the Connection Manager (0x05), another service
+/// than its opens (0x08), data that are too short (0x13) or too long (0x15).
+#[tactic(auto, unfolding(crate::specs::Asking::asked_reading))]
+pub fn read_asked(bytes: &[u8]) -> Asked<'_>
+    ensures { view_asked result ≡ asked_reading bytes.now }
+{
+    let [service, ..] = bytes else {
+        return Asked::Nothing;
+    };
+    match read_request(bytes) {
+        Ok(request) if request.target.class == 6 && request.target.instance == 1 => {
+            asked_manager(request.service, request.body)
+        }
+        Ok(_) => Asked::Refused(*service, Status::PathDestination),
+        Err(fault) => Asked::Refused(*service, data_status(fault)),
+    }
+}

@@ -1,0 +1,54 @@
+//! What a device is, and runs of one.
+
+ghost use Rattle.std.specs.Prelude.{◌≡◌, ◌↔◌, None, Some, Result, filter, IfOk, IfErr, OnErr, IsErr};
+ghost use Rattle.cip_tables.specs.declared.table.DeviceTable.{DeviceTable};
+ghost use Rattle.cip_tables.specs.Step.{step, opening_table, config_fault};
+ghost use Rattle.cip_tables.specs.Run.{Follows, Runs, found_memory, outcomes_of, performed, table_after};
+ghost use Rattle.cip_tables.specs.Sound.{IsSoundDevice};
+ghost use Rattle.cip_tables.specs.News.{IsRefusedAs};
+
+use crate::event::{Event, NewFault, Outcome};
+use crate::table::Config;
+use cip_types::OutOfMemory;
+use std::alloc::Global;
+
+/// A device, which contracts see as the table of its connections.
+pub trait Device {
+    ghost table: { Self → DeviceTable };
+
+    /// A fresh device. Its configuration is taken, and dropped where it is refused.
+    ///
+    /// The faults, in order: `Profile` with the first thing that is wrong, `OutOfMemory`.
+    fn new(alloc: Global, config: Config) -> Result<Self, NewFault>
+        ensures table { IfOk result (λ device. table device ≡ opening_table config) }
+        ensures valid { IfOk result (λ _. config_fault config ≡ None) }
+        ensures fault { IfErr result (λ fault. IsRefusedAs (config_fault config) fault) };
+
+    /// One event. The outcome and the next table are those of the table's step. After a fault, want of
+    /// memory included, the device is as it was; want of memory is answered only where the step has an
+    /// answer to give.
+    fn step(&mut self, event: &Event) -> Outcome
+        ensures { Follows (step (table self.old) event.now) (table self.old) result (table self.new) };
+}
+
+/// Steps a device through events, in order. Room for all outcomes is made first: where that is refused,
+/// nothing has run.
+pub fn run<D: Device>(
+    alloc: Global,
+    device: &mut D,
+    events: &[Event],
+) -> Result<Vec<Outcome>, OutOfMemory>
+    ensures run { IfOk result (λ outcomes. Runs (D.table device.old) events.now outcomes.items (D.table device.new)) }
+    // As a fold: where memory was refused, the event counts as none.
+    ensures outcomes { IfOk result (λ outcomes. filter found_memory outcomes.items ≡ outcomes_of (D.table device.old) (performed events.now outcomes.items)) }
+    ensures table { IfOk result (λ outcomes. D.table device.new ≡ table_after (D.table device.old) (performed events.now outcomes.items)) }
+    ensures sound { IsSoundDevice (D.table device.old) → IsSoundDevice (D.table device.new) }
+    ensures err { OnErr result (D.table device.new ≡ D.table device.old) }
+{
+    let mut outcomes = Vec::with_capacity(alloc, events.len())?;
+    for event in events {
+        let outcome = device.step(event);
+        outcomes.push_reserved(outcome);
+    }
+    Ok(outcomes)
+}

@@ -1,0 +1,30 @@
+//! What holds of every table that a run of an adapter reaches, from a fresh device on. Each call does
+//! nothing: its contract is the law.
+
+ghost use Rattle.std.specs.Prelude.{◌≤◌, length};
+ghost use Rattle.cip_tables.specs.Sound.{OverEveryRun, HasOneOwner, TriadsDiffer, IdsDiffer, IdsAreDrawn};
+
+/// An output has at most one established exclusive owner.
+pub fn at_most_one_owner()
+    ensures { OverEveryRun (λ t. HasOneOwner t.rows) }
+{}
+
+/// No two connections have one triad.
+pub fn triads_are_distinct()
+    ensures { OverEveryRun (λ t. TriadsDiffer t.rows) }
+{}
+
+/// No two connections have one O->T id.
+pub fn ids_are_distinct()
+    ensures { OverEveryRun (λ t. IdsDiffer t.rows) }
+{}
+
+/// Each O->T id begins with the device's incarnation, and its counter is below the next one.
+pub fn ids_are_below_the_next()
+    ensures { OverEveryRun (λ t. IdsAreDrawn t.profile t.next_id t.rows) }
+{}
+
+/// There are at most 64 connections.
+pub fn at_most_64_connections()
+    ensures { OverEveryRun (λ t. length t.rows ≤ 64) }
+{}

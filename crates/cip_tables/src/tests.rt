@@ -1,0 +1,175 @@
+//! Profiles and what is wrong with them, requests by what they ask, and replies.
+
+use crate::*;
+use cip_fwdopen::Opened;
+use cip_types::{ConnId, Identity, Items, Node, OutOfMemory, Triad};
+use std::alloc::Global;
+use std::test::*;
+
+fn profile(alloc: Global) -> Result<Profile, OutOfMemory> {
+    let output = OutputPoint {
+        instance: 150,
+        len: 4,
+        idle: Action::Zero,
+        fault: Action::Hold,
+    };
+    let input = InputPoint {
+        instance: 100,
+        len: 1_400,
+    };
+    Ok(Profile {
+        incarnation: 0x10,
+        node: Node(0xC0A8_010A),
+        mask: 0xFFFF_FF00,
+        identity: Identity {
+            vendor: 1,
+            device_type: 12,
+            product: 7,
+            major: 2,
+            minor: 3,
+        },
+        outputs: Items::one(alloc, output)?,
+        inputs: Items::one(alloc, input)?,
+        config: Some(InputPoint {
+            instance: 151,
+            len: 400,
+        }),
+        input_only: 152,
+        listen_only: 153,
+    })
+}
+
+#[test]
+fn a_good_profile_passes(rt: HostRuntime) -> Result<(), Fail> {
+    let mut good = profile(rt.alloc())?;
+    assert_eq!(rt; good.check(), Ok(()));
+    good.mask = 0;
+    assert_eq!(rt; good.check(), Ok(()));
+    good.config = None;
+    assert_eq!(rt; good.check(), Ok(()));
+    Ok(())
+}
+
+#[test]
+fn addresses_have_a_mask_and_a_host(rt: HostRuntime) -> Result<(), Fail> {
+    let mut bad = profile(rt.alloc())?;
+    bad.mask = 0xFF00_FF00;
+    assert_eq!(rt; bad.check(), Err(ProfileFault::Address));
+    bad.mask = 0xFFFF_FFFF;
+    assert_eq!(rt; bad.check(), Err(ProfileFault::Address));
+    bad.mask = 0xFFFF_FF00;
+    bad.node = Node(0xC0A8_0100);
+    assert_eq!(rt; bad.check(), Err(ProfileFault::Address));
+    bad.incarnation = 0;
+    assert_eq!(rt; bad.check(), Err(ProfileFault::Incarnation));
+    Ok(())
+}
+
+#[test]
+fn instances_differ(rt: HostRuntime) -> Result<(), Fail> {
+    let mut bad = profile(rt.alloc())?;
+    bad.listen_only = 152;
+    assert_eq!(rt; bad.check(), Err(ProfileFault::SameInstance));
+    bad.listen_only = 150;
+    assert_eq!(rt; bad.check(), Err(ProfileFault::SameInstance));
+    bad.listen_only = 100;
+    assert_eq!(rt; bad.check(), Err(ProfileFault::SameInstance));
+    bad.listen_only = 151;
+    assert_eq!(rt; bad.check(), Err(ProfileFault::SameInstance));
+    bad.inputs = Items::new(rt.alloc());
+    assert_eq!(rt; bad.check(), Err(ProfileFault::Points));
+    Ok(())
+}
+
+#[test]
+fn lengths_go_before_revisions(rt: HostRuntime) -> Result<(), Fail> {
+    let mut bad = profile(rt.alloc())?;
+    bad.identity.major = 128;
+    assert_eq!(rt; bad.check(), Err(ProfileFault::Identity));
+    let input = InputPoint {
+        instance: 100,
+        len: 1_401,
+    };
+    bad.inputs = Items::one(rt.alloc(), input)?;
+    assert_eq!(rt; bad.check(), Err(ProfileFault::Length));
+    assert_eq!(rt; ProfileFault::Length.number(), 5);
+    Ok(())
+}
+
+#[test]
+fn a_configuration_is_whole_words(rt: HostRuntime) -> Result<(), Fail> {
+    let mut bad = profile(rt.alloc())?;
+    let odd = InputPoint {
+        instance: 151,
+        len: 3,
+    };
+    bad.config = Some(odd);
+    assert_eq!(rt; bad.check(), Err(ProfileFault::Length));
+    let long = InputPoint {
+        instance: 151,
+        len: 402,
+    };
+    bad.config = Some(long);
+    assert_eq!(rt; bad.check(), Err(ProfileFault::Length));
+    Ok(())
+}
+
+#[test]
+fn the_router_refuses_by_itself(rt: HostRuntime) {
+    assert!(rt; matches!(read_asked(&[]), Asked::Nothing));
+    assert!(rt;
+        matches!(
+            read_asked(&[0x54, 1]),
+            Asked::Refused(0x54, Status::NotEnoughData)
+        )
+    );
+    assert!(rt;
+        matches!(
+            read_asked(&[0x54, 1, 0x91, 2]),
+            Asked::Refused(0x54, Status::PathSegment)
+        )
+    );
+    let other = [0x0E, 2, 0x20, 1, 0x24, 1];
+    assert!(rt;
+        matches!(
+            read_asked(&other),
+            Asked::Refused(0x0E, Status::PathDestination)
+        )
+    );
+    let service = [0x0E, 2, 0x20, 6, 0x24, 1];
+    assert!(rt; matches!(read_asked(&service), Asked::Refused(0x0E, Status::Service)));
+    let short = [0x5B, 2, 0x20, 6, 0x24, 1, 0];
+    assert!(rt;
+        matches!(
+            read_asked(&short),
+            Asked::Refused(0x5B, Status::NotEnoughData)
+        )
+    );
+    assert_eq!(rt; Status::PathDestination.code(), 5);
+    assert_eq!(rt; Refusal::Ownership.code(), 0x0106);
+}
+
+#[test]
+fn replies_are_written_whole(rt: HostRuntime) -> Result<(), Fail> {
+    let triad = Triad {
+        serial: 1,
+        vendor: 0x1234,
+        originator: 0x1234_5678,
+    };
+    let refused = Reply::Refused(0x54, Refusal::InUse.fault(), Some(triad));
+    let bytes = refused.write(rt.alloc())?;
+    let wanted = [
+        0xD4, 0, 1, 1, 0, 1, 1, 0, 0x34, 0x12, 0x78, 0x56, 0x34, 0x12, 0, 0,
+    ];
+    assert_eq!(rt; bytes.as_slice(), wanted.as_slice());
+    let opened = Opened {
+        o_t_id: ConnId(0x1000_0001),
+        t_o_id: ConnId(0x2000_0001),
+        triad,
+        o_t_api: 10_000,
+        t_o_api: 10_000,
+    };
+    let bytes = Reply::Opened(false, opened).write(rt.alloc())?;
+    assert_eq!(rt; bytes.len(), 30);
+    Ok(())
+}

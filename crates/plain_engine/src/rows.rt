@@ -1,0 +1,87 @@
+//! Lists of connections.
+
+ghost use Rattle.std.specs.Prelude.{◌≡◌, ◌≤◌, vec_len, vec_capacity, ◌<◌, ◌∷◌, ◌++◌, [], find, OnOk};
+ghost use Rattle.std.specs.List.{list_any, position, position_or_len, remove};
+ghost use Rattle.std.specs.Option.{option_map};
+ghost use Rattle.cip_tables.specs.Rows.{has_triad, is_timed_out, without_first};
+ghost use Rattle.cip_tables.specs.Opening.{makes_room, triad_of, replaced_triad};
+
+use crate::checks::{MOST_ROWS, has_triad, is_timed_out};
+use cip_tables::Row;
+use cip_types::{OutOfMemory, Triad};
+
+fn is_known(rows: &[Row], triad: Triad) -> bool
+    ensures { result ≡ list_any (has_triad triad) rows.now }
+{
+    rows.iter().any(|row| has_triad(row, triad))
+}
+
+fn place_of(rows: &[Row], triad: Triad) -> Option<usize>
+    ensures { result ≡ position (has_triad triad) rows.now }
+{
+    rows.iter().position(|row| has_triad(row, triad))
+}
+
+fn first_timed_out(rows: &[Row]) -> Option<usize>
+    ensures { result ≡ position is_timed_out rows.now }
+{
+    rows.iter().position(|row| is_timed_out(row))
+}
+
+/// Where the connection is that makes room for a new one, or how many there are where none is.
+#[tactic(auto, using(crate::proofs::Places::none_passes, crate::proofs::Places::position_or))]
+fn leaving(rows: &[Row], triad: Triad) -> usize
+    ensures { result ≡ position_or_len (makes_room rows.now triad) rows.now }
+{
+    if is_known(rows, triad) {
+        place_of(rows, triad).unwrap_or(rows.len())
+    } else if rows.len() >= MOST_ROWS {
+        first_timed_out(rows).unwrap_or(rows.len())
+    } else {
+        rows.len()
+    }
+}
+
+/// The triad of the connection that makes room for a new one.
+pub fn replaced(rows: &[Row], triad: Triad) -> Option<Triad>
+    ensures { result ≡ replaced_triad rows.now triad }
+{
+    let at = leaving(rows, triad);
+    if at < rows.len() {
+        Some(rows[at].triad)
+    } else {
+        None
+    }
+}
+
+/// Takes out the connection at a place, if there is one.
+#[tactic(auto, using(crate::proofs::Places::remove_past))]
+fn remove_at(rows: &mut Vec<Row>, at: usize)
+    ensures items { rows.new.items ≡ remove rows.old.items at }
+    ensures len { vec_len rows.new ≤ vec_len rows.old }
+    ensures capacity { vec_capacity rows.new ≡ vec_capacity rows.old }
+{
+    if at < rows.len() {
+        rows.remove(at);
+    }
+}
+
+/// Makes room for one more connection.
+pub fn make_room(rows: &mut Vec<Row>) -> Result<(), OutOfMemory>
+    ensures same { rows.new.items ≡ rows.old.items }
+    ensures room { OnOk result (vec_len rows.new < vec_capacity rows.new) }
+{
+    rows.reserve(1)?;
+    Ok(())
+}
+
+/// Puts a connection last, and takes out the one that makes room for it. Takes no memory.
+#[tactic(auto, using(crate::proofs::Places::without_first_at))]
+pub fn append_row(rows: &mut Vec<Row>, row: Row)
+    requires { vec_len rows.old < vec_capacity rows.old }
+    ensures { rows.new.items ≡ without_first (makes_room rows.old.items row.triad) rows.old.items ++ row ∷ [] }
+{
+    let at = leaving(rows, row.triad);
+    remove_at(rows, at);
+    rows.push_reserved(row);
+}

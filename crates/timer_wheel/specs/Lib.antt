@@ -1,0 +1,5 @@
+pub mod Timers
+pub mod Place
+pub mod Marks
+pub mod Hints
+pub mod Layout

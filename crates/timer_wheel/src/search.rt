@@ -1,0 +1,97 @@
+//! The key of a token.
+
+ghost use Rattle.std.specs.Prelude.{◌≡◌, ℕ, ◌*◌, ◌≤◌, IfOk, IfSome, IfNone, IsTrue, ◌↔◌, slice_get, slice_set, vec_len};
+ghost use Rattle.timer_wheel.specs.Hints as spec;
+ghost use Rattle.timer_wheel.specs.Layout.{HasToken, Mirrors};
+
+use crate::Token;
+use crate::place::Timer;
+use cip_types::OutOfMemory;
+use std::alloc::Global;
+
+// 2^64 over the golden ratio: its multiples spread over the upper bits.
+const SPREAD: u64 = 0x9E37_79B9_7F4A_7C15;
+
+/// The key that each token was last armed at, as far as known: a guess, to be checked.
+#[derive(Drop)]
+pub struct Hints {
+    keys: Vec<usize>,
+    // How many lower bits of a spread token are dropped.
+    shift: u32,
+}
+
+impl Hints {
+    /// Room for the guesses of so many tokens, four places or more for each.
+    pub fn new(alloc: Global, tokens: usize) -> Result<Self, OutOfMemory>
+        ensures { IfOk result (λ hints. 4 * tokens ≤ vec_len hints.keys) }
+    {
+        let places = tokens
+            .saturating_mul(4)
+            .checked_next_power_of_two()
+            .ok_or(OutOfMemory)?;
+        Ok(Hints {
+            keys: vec![in alloc; 0; places]?,
+            shift: places.leading_zeros().wrapping_add(1),
+        })
+    }
+
+    // The place of the guess for a token.
+    fn place_of(&self, token: Token) -> usize
+        ensures { result ≡ spec.place_of self.now.shift token.0 }
+    {
+        token.0.wrapping_mul(SPREAD).wrapping_shr(self.shift) as usize
+    }
+
+    /// Notes where a token is armed.
+    pub fn note(&mut self, token: Token, key: usize)
+        ensures noted { let place = spec.place_of self.old.shift token.0 in
+            self.new.keys.items ≡ slice_set self.old.keys.items place key }
+        ensures shift { self.new.shift ≡ self.old.shift }
+    {
+        let place = self.place_of(token);
+        if let Some(hint) = self.keys.get_mut(place) {
+            *hint = key;
+        }
+    }
+
+    /// Where the token may be armed.
+    pub fn guess(&self, token: Token) -> Option<usize>
+        ensures { result ≡ slice_get self.now.keys.items (spec.place_of self.now.shift token.0) }
+    {
+        self.keys.get(self.place_of(token)).copied()
+    }
+}
+
+// Whether a key has the timer of a token.
+fn has_token(timers: &[Option<Timer>], token: Token, key: usize) -> bool
+    ensures { IsTrue result ↔ HasToken timers.now token.0 key }
+{
+    match timers.get(key) {
+        Some(Some(timer)) => timer.token == token,
+        _ => false,
+    }
+}
+
+/// The key of an armed token: mostly the one that was guessed, else a search of the tokens.
+pub fn key_of(
+    timers: &[Option<Timer>],
+    tokens: &[Token],
+    hints: &Hints,
+    token: Token,
+) -> Option<usize>
+    requires { Mirrors tokens.now timers.now }
+    ensures found { IfSome result (HasToken timers.now token.0) }
+    ensures absent { IfNone result ((key : ℕ) → ¬ HasToken timers.now token.0 key) }
+{
+    if let Some(key) = hints.guess(token)
+        && has_token(timers, token, key)
+    {
+        return Some(key);
+    }
+    for (key, held) in tokens.iter().enumerate() {
+        if *held == token && has_token(timers, token, key) {
+            return Some(key);
+        }
+    }
+    None
+}
