@@ -1,80 +1,32 @@
 -- The data of a reply is read one way.
-use Rattle.std.proofs.Common.{◌≡◌, ◌≢◌, ℕ, ◌<◌, true, false, eqb, List, [], ◌∷◌, ◌++◌, length, Option, Some, None, Result, Ok, Err, refl, sym, ap, subst, ◌∙◌, append_assoc, arith, rules, inl, inr}
+use Rattle.std.proofs.Common.{◌≡◌, ◌≢◌, ℕ, ◌<◌, true, false, eqb, List, [], ◌∷◌, ◌++◌, length, Option, Some, None, Ok, Err, refl, sym, ap, subst, ◌∙◌, append_assoc, arith, rules, inl, inr}
 use Rattle.std.specs.List.{AllByRecursion}
 use Rattle.std.proofs.lemmas.Bool.{cases_Bool, eqb-true, eqb-false, eq-eqb}
-use Rattle.std.proofs.lemmas.List.{length-append, append-nil}
+use Rattle.std.proofs.lemmas.List.{append-nil}
 use Rattle.cip_types.specs.declared.Fault.{Fault}
 use Rattle.cip_types.specs.declared.Triad.{Triad}
 use Rattle.cip_types.specs.Fields.{fields_text, AreFields, fields_at}
-use Rattle.cip_types.specs.Texts.{Lacks, Exceeds, Found, whole, short, long, found_image, Tailed, IsTailedText, tailed_found}
+use Rattle.cip_types.specs.Texts.{Lacks, Tailed}
 use Rattle.cip_types.proofs.FieldLaws.{IsBytes, IsWide, wide8, wide16, wide32, fields_taken, fields_again, fields_lack, zeros, fields_tabulated}
-use Rattle.cip_types.proofs.TextLaws.{image_found, tailed_is_found}
-use Rattle.cip_fwdopen.specs.declared.fault.ReadFault.{ReadFault}
-use Rattle.cip_fwdopen.specs.declared.fault.ReadFault.TheVariants.{NotEnough, TooMuch, Path}
+use Rattle.cip_fwdopen.specs.declared.fault.ReadFault.TheVariants.{TooMuch}
 use Rattle.cip_fwdopen.specs.declared.reply.Opened as made
 use Rattle.cip_fwdopen.specs.declared.reply.OpenAnswer.{OpenAnswer}
 use Rattle.cip_fwdopen.specs.declared.reply.OpenAnswer.TheVariants.{Opened, Refused}
-use Rattle.cip_fwdopen.specs.Readings.{seen, answer_of}
+use Rattle.cip_fwdopen.specs.Readings.{seen}
 use Rattle.cip_fwdopen.specs.Reply.{opened_widths, application_len, opened_of, IsOpenedText, triad_widths, triad_numbers, triad_of, IsFailureRest, IsFailureText, IsAnswerText, failure_of, failure_reading, opened_reading, refused_by, answer_reading}
-use Rattle.cip_fwdopen.proofs.ReadingLaws.{tailed_long, tailed_whole}
-
--- ---- readings of texts that may begin longer ones
-
--- the answer is right, and what is too much stays so with more behind it
-abbrev pub IsAnswered : {P : Type 0} → (List ℕ → P → Type 0) → (List ℕ → Result P ReadFault) → List ℕ → Result P ReadFault → Type 0
-IsAnswered IsText reading bytes (Ok p) = IsText bytes p
-IsAnswered IsText reading bytes (Err NotEnough) = Lacks IsText bytes
-IsAnswered IsText reading bytes (Err TooMuch) = Exceeds IsText bytes × ((more : List ℕ) → reading (bytes ++ more) ≡ Err TooMuch)
-IsAnswered IsText reading bytes (Err (Path f)) = ⊥
-
-pub answered_seen : {P Q : Type 0} (view : P → Q) (IsP : List ℕ → P → Type 0) (IsQ : List ℕ → Q → Type 0) (reads : List ℕ → Result P ReadFault) (reads' : List ℕ → Result Q ReadFault)
-    → ((t : List ℕ) (p : P) → IsP t p → IsQ t (view p)) → ((t : List ℕ) → reads' t ≡ seen view (reads t))
-    → (bytes : List ℕ) (r : Result P ReadFault) → IsAnswered IsP reads bytes r → IsAnswered IsQ reads' bytes (seen view r)
-answered_seen view IsP IsQ reads reads' kept same bytes (Ok p) is = kept bytes p is
-answered_seen view IsP IsQ reads reads' kept same bytes (Err NotEnough) is = (is.0, is.1, (view is.2.0, kept (bytes ++ is.0) is.2.0 is.2.1))
-answered_seen view IsP IsQ reads reads' kept same bytes (Err TooMuch) is =
-    let x = is.0 in
-    ((x.0, x.1, x.2, x.3, (view x.4.0, kept x.0 x.4.0 x.4.1)), λ more. same (bytes ++ more) ∙ ap (seen view) (is.1 more))
-answered_seen view IsP IsQ reads reads' kept same bytes (Err (Path f)) is = absurd is
+use Rattle.cip_fwdopen.proofs.AmongLaws.{IsAnswered, answered_seen, tail_reads, tail_is_answered}
+use Rattle.cip_fwdopen.proofs.ReplyLaws.{SomeAnswer, IsRead}
 
 -- ---- a success's data
 
 wide_opened : AllByRecursion IsWide opened_widths
 wide_opened = (wide32, (wide32, (wide16, (wide16, (wide32, (wide32, (wide32, (wide8, (wide8, tt)))))))))
 
-abbrev found_opened : List ℕ → Found Tailed
-found_opened bytes = tailed_found opened_widths application_len bytes
+opened_reads : (t : List ℕ) (o : made.Opened) → IsOpenedText t o → opened_reading t ≡ Ok o
+opened_reads t o is = tail_reads made.Opened opened_widths wide_opened application_len opened_of t o is
 
--- the fixed part of a text is read, whatever follows
-opened_fixed : (t u : List ℕ) (p : Tailed) → IsTailedText opened_widths application_len t p → fields_at opened_widths (t ++ u) ≡ Some (p.0, p.1 ++ u)
-opened_fixed t u p is = ap (λ (x : List ℕ). fields_at opened_widths (x ++ u)) is.2 ∙ ap (fields_at opened_widths) (append_assoc (fields_text opened_widths p.0) p.1 u) ∙ fields_again opened_widths wide_opened p.0 (p.1 ++ u) is.0
-
-opened_by : (bytes : List ℕ) (found : Found Tailed) → found_opened bytes ≡ found → opened_reading bytes ≡ answer_of (found_image opened_of found)
-opened_by bytes found e = ap (λ (x : Found Tailed). answer_of (found_image opened_of x)) e
-
-pub opened_reads : (t : List ℕ) (o : made.Opened) → IsOpenedText t o → opened_reading t ≡ Ok o
-opened_reads t o is =
-    let fixed = sym (ap (fields_at opened_widths) (append-nil t)) ∙ opened_fixed t [] is.0 is.1 ∙ ap (λ (x : List ℕ). Some (is.0.0, x)) (append-nil is.0.1) in
-    opened_by t (whole is.0) (tailed_whole opened_widths application_len t is.0 fixed is.1.1) ∙ ap Ok is.2
-
--- bytes behind a text are too much
-opened_exceeds : (t u : List ℕ) (o : made.Opened) → IsOpenedText t o → 0 < length u → opened_reading (t ++ u) ≡ Err TooMuch
-opened_exceeds t u o is some =
-    opened_by (t ++ u) long (tailed_long opened_widths application_len (t ++ u) (is.0.0, is.0.1 ++ u) (opened_fixed t u is.0 is.1) (omega (arith, length-append is.0.1 u, is.1.1, some)))
-
-opened_stays : (bytes : List ℕ) → Exceeds IsOpenedText bytes → (more : List ℕ) → opened_reading (bytes ++ more) ≡ Err TooMuch
-opened_stays bytes x more =
-    ap opened_reading (ap (λ (y : List ℕ). y ++ more) x.3 ∙ append_assoc x.0 x.1 more)
-    ∙ opened_exceeds x.0 (x.1 ++ more) x.4.0 x.4.1 (omega (arith, length-append x.1 more, x.2))
-
-opened_found : (bytes : List ℕ) (found : Found made.Opened) → Rattle.cip_types.specs.Texts.IsFound IsOpenedText bytes found → IsAnswered IsOpenedText opened_reading bytes (answer_of found)
-opened_found bytes (whole o) is = is
-opened_found bytes short is = is
-opened_found bytes long is = (is, opened_stays bytes is)
-
-pub opened_is_answered : (bytes : List ℕ) → IsBytes bytes → IsAnswered IsOpenedText opened_reading bytes (opened_reading bytes)
-opened_is_answered bytes fits =
-    opened_found bytes (found_image opened_of (found_opened bytes)) (image_found opened_of (IsTailedText opened_widths application_len) bytes (found_opened bytes) (tailed_is_found opened_widths wide_opened application_len bytes fits))
+opened_is_answered : (bytes : List ℕ) → IsBytes bytes → IsAnswered IsOpenedText opened_reading bytes (opened_reading bytes)
+opened_is_answered bytes fits = tail_is_answered made.Opened opened_widths wide_opened application_len opened_of bytes fits
 
 -- ---- a failure's data
 
@@ -169,7 +121,7 @@ on_success fault t e = rw e refl
 on_failure : (fault : Fault) (t : List ℕ) → eqb fault.general 0 ≡ false → answer_reading fault t ≡ seen (refused_by fault) (failure_reading t)
 on_failure fault t e = rw e refl
 
-pub answer_reads : (fault : Fault) (t : List ℕ) (a : OpenAnswer) → IsAnswerText fault t a → answer_reading fault t ≡ Ok a
+answer_reads : (fault : Fault) (t : List ℕ) (a : OpenAnswer) → IsAnswerText fault t a → answer_reading fault t ≡ Ok a
 answer_reads fault t (Opened o) is = on_success fault t (eq-eqb fault.general 0 is.0) ∙ ap (seen Opened) (opened_reads t o is.1)
 answer_reads fault t (Refused r) is =
     elim (cases_Bool (eqb fault.general 0)) [
@@ -177,7 +129,7 @@ answer_reads fault t (Refused r) is =
       | inr e ↦ on_failure fault t e ∙ ap (seen (refused_by fault)) (failure_reads t r.triad is.2) ∙ ap (λ (f : Fault). Ok (refused_by f r.triad)) (sym is.1)
     ]
 
-pub answer_is_answered : (fault : Fault) (bytes : List ℕ) → IsBytes bytes → IsAnswered (IsAnswerText fault) (answer_reading fault) bytes (answer_reading fault bytes)
+answer_is_answered : (fault : Fault) (bytes : List ℕ) → IsBytes bytes → IsAnswered (IsAnswerText fault) (answer_reading fault) bytes (answer_reading fault bytes)
 answer_is_answered fault bytes fits =
     elim (cases_Bool (eqb fault.general 0)) [
       | inl e ↦ subst (IsAnswered (IsAnswerText fault) (answer_reading fault) bytes) (sym (on_success fault bytes e))
@@ -186,13 +138,7 @@ answer_is_answered fault bytes fits =
           (answered_seen (refused_by fault) IsFailureText (IsAnswerText fault) failure_reading (answer_reading fault) (λ t triad is. (eqb-false fault.general 0 e, refl, is)) (λ t. on_failure fault t e) bytes (failure_reading bytes) (failure_is_answered bytes fits))
     ]
 
--- some data, with a reply of any fault
-pub record SomeAnswer (fault : Fault) : Type 0 where
-  pub text : List ℕ
-  pub answer : OpenAnswer
-  pub is : IsAnswerText fault text answer
-
-pub some_answer : (fault : Fault) → SomeAnswer fault
+some_answer : (fault : Fault) → SomeAnswer IsAnswerText fault
 some_answer fault =
     elim (cases_Bool (eqb fault.general 0)) [
       | inl e ↦ let ns = zeros opened_widths in
@@ -200,3 +146,7 @@ some_answer fault =
           record { text = fields_text opened_widths ns ++ []; answer = Opened (opened_of (ns, [])); is = (eqb-true fault.general 0 e, ((ns, []), (are, refl, refl), refl)) }
       | inr e ↦ record { text = []; answer = refused_by fault None; is = (eqb-false fault.general 0 e, refl, refl) }
     ]
+
+-- the data of replies to a request to open reads as what it says
+pub open_data : IsRead IsAnswerText answer_reading
+open_data = record { reads = answer_reads; answered = answer_is_answered; some = some_answer }

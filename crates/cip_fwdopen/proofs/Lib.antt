@@ -1,9 +1,14 @@
 pub mod ReadingLaws
+pub mod AmongLaws
 pub mod ParamsLaws
 pub mod OpenLaws
 pub mod ByteLaws
 pub mod FrontLaws
 pub mod RequestLaws
-pub mod AnswerLaws
 pub mod ReplyLaws
+pub mod AnswerLaws
+pub mod OpenReplyLaws
 pub mod WrittenLaws
+pub mod CloseLaws
+pub mod CloseReplyLaws
+pub mod GetLaws

@@ -11,7 +11,7 @@ use Rattle.cip_types.proofs.FieldLaws.{wide16, field_again}
 use Rattle.cip_fwdopen.specs.declared.reply.Opened as made
 use Rattle.cip_fwdopen.specs.Front.{Begins}
 use Rattle.cip_fwdopen.specs.Reply.{reply_service, opened_widths, opened_numbers, opened_service, opened_text, opened_reply, refused_text, refused_reply, failure_text, reply_widths, IsReplyFront, IsOpenedText, IsFailureText, IsOpenReplyText, open_reply_reading, OpenedFits, TriadFits, RefusedFits}
-use Rattle.cip_fwdopen.proofs.ReplyLaws.{reply_reads}
+use Rattle.cip_fwdopen.proofs.OpenReplyLaws.{reply_reads}
 
 -- ---- what stands in front of the data
 
@@ -22,7 +22,7 @@ head_text service general words sl gl wl =
     let c : words % 256 ≡ words = omega arith in
     rw (a, b, c) refl
 
-front_stands : (service general words : ℕ) (extras rest : List ℕ) → service < 256 → general < 256 → words < 256 → length extras ≡ 2 * words → Begins IsReplyFront (service ∷ 0 ∷ general ∷ words ∷ (extras ++ rest)) (service ∷ 0 ∷ general ∷ words ∷ [], extras) rest
+pub front_stands : (service general words : ℕ) (extras rest : List ℕ) → service < 256 → general < 256 → words < 256 → length extras ≡ 2 * words → Begins IsReplyFront (service ∷ 0 ∷ general ∷ words ∷ (extras ++ rest)) (service ∷ 0 ∷ general ∷ words ∷ [], extras) rest
 front_stands service general words extras rest sl gl wl len =
     (service ∷ 0 ∷ general ∷ words ∷ extras, ((omega arith, (omega arith, (omega arith, (omega arith, tt)))), len, ap (λ (x : List ℕ). x ++ extras) (sym (head_text service general words sl gl wl))), refl)
 

@@ -4,3 +4,5 @@ pub mod Request
 pub mod Open
 pub mod Numbers
 pub mod Reply
+pub mod Close
+pub mod Get

@@ -1,9 +1,13 @@
--- The numbers of fixed parts that were read, in their order (Volume 1, chapter 3, Forward_Open service).
+-- The numbers of fixed parts that were read, in their order (Volume 1, chapter 3, Forward_Open and
+-- Forward_Close services).
 use Rattle.std.specs.Prelude.{ℕ, List, [], ◌∷◌}
 use Rattle.cip_fwdopen.specs.declared.fixed.Fixed.{Fixed}
 use Rattle.cip_fwdopen.specs.declared.front.Head.{Head}
 use Rattle.cip_fwdopen.specs.declared.front.Success.{Success}
+use Rattle.cip_fwdopen.specs.declared.front.CloseFront.{CloseFront}
+use Rattle.cip_fwdopen.specs.declared.front.ClosedFront.{ClosedFront}
 use Rattle.cip_fwdopen.specs.Reply.{opened_numbers}
+use Rattle.cip_fwdopen.specs.Close.{closed_numbers}
 
 -- the numbers in front of the path of a request to open
 abbrev pub numbers_of : Fixed → List ℕ
@@ -19,3 +23,11 @@ head_numbers h = h.service ∷ h.reserved ∷ h.general ∷ h.words ∷ []
 -- the numbers in front of the application reply of a success
 abbrev pub success_numbers : Success → List ℕ
 success_numbers s = opened_numbers s.opened s.application_words s.reserved
+
+-- the numbers in front of the path of a request to close
+abbrev pub close_front_numbers : CloseFront → List ℕ
+close_front_numbers f = f.priority_tick ∷ f.ticks ∷ f.triad.serial ∷ f.triad.vendor ∷ f.triad.originator ∷ f.path_words ∷ f.reserved ∷ []
+
+-- the numbers in front of the application reply of a success of closing
+abbrev pub closed_front_numbers : ClosedFront → List ℕ
+closed_front_numbers f = closed_numbers f.triad f.application_words f.reserved

@@ -17,6 +17,18 @@ IsReadingOf IsText bytes (Err NotEnough) = Lacks IsText bytes
 IsReadingOf IsText bytes (Err TooMuch) = Exceeds IsText bytes
 IsReadingOf IsText bytes (Err (Path f)) = ⊥
 
+-- the bytes are no text of a format
+abbrev pub IsNoText : {P : Type 0} → (List ℕ → P → Type 0) → List ℕ → Type 0
+IsNoText {P} IsText bytes = (p : P) → IsText bytes p → ⊥
+
+-- the answer is a reading of the bytes, in a format whose texts may begin others: bytes that are a text
+-- read as that, bytes that are none and begin one are not enough, others too much
+abbrev pub IsReadingAmong : {P : Type 0} → (List ℕ → P → Type 0) → List ℕ → Result P ReadFault → Type 0
+IsReadingAmong IsText bytes (Ok p) = IsText bytes p
+IsReadingAmong IsText bytes (Err NotEnough) = IsNoText IsText bytes × Lacks IsText bytes
+IsReadingAmong IsText bytes (Err TooMuch) = IsNoText IsText bytes × ¬ Lacks IsText bytes × Exceeds IsText bytes
+IsReadingAmong IsText bytes (Err (Path f)) = ⊥
+
 -- how bytes stand to the texts of a format, as an answer
 abbrev pub answer_of : {P : Type 0} → Found P → Result P ReadFault
 answer_of (whole p) = Ok p

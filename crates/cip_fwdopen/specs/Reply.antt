@@ -18,14 +18,14 @@ use Rattle.std.specs.Int.{Width, w8, w16, w32, to_le_bytes}
 use Rattle.cip_types.specs.declared.Fault.{Fault}
 use Rattle.cip_types.specs.declared.Triad.{Triad}
 use Rattle.cip_types.specs.Fields.{fields_text, AreFields, field_at, fields_at}
-use Rattle.cip_types.specs.Texts.{Lacks, Exceeds, IsImage, found_image, Tailed, IsTailedText, tailed_found}
+use Rattle.cip_types.specs.Texts.{IsImage, found_image, Tailed, IsTailedText, tailed_found}
 use Rattle.cip_fwdopen.specs.declared.fault.ReadFault.{ReadFault}
-use Rattle.cip_fwdopen.specs.declared.fault.ReadFault.TheVariants.{NotEnough, TooMuch, Path}
+use Rattle.cip_fwdopen.specs.declared.fault.ReadFault.TheVariants.{NotEnough, TooMuch}
 use Rattle.cip_fwdopen.specs.declared.reply.Opened as made
 use Rattle.cip_fwdopen.specs.declared.reply.OpenAnswer.{OpenAnswer}
 use Rattle.cip_fwdopen.specs.declared.reply.OpenAnswer.TheVariants.{Opened, Refused}
 use Rattle.cip_fwdopen.specs.declared.reply.OpenReply.{OpenReply}
-use Rattle.cip_fwdopen.specs.Readings.{seen, answer_of, number}
+use Rattle.cip_fwdopen.specs.Readings.{IsReadingAmong, seen, answer_of, number}
 use Rattle.cip_fwdopen.specs.Front.{Begins, front_at}
 
 -- the service byte of a reply
@@ -130,21 +130,17 @@ abbrev pub IsAnswerText : Fault → List ℕ → OpenAnswer → Type 0
 IsAnswerText fault text (Opened o) = (fault.general ≡ 0) × IsOpenedText text o
 IsAnswerText fault text (Refused r) = (fault.general ≢ 0) × (r.fault ≡ fault) × IsFailureText text r.triad
 
--- the text is a reply
+-- the text is a reply of the service, its data being of the answer
+abbrev pub IsReplyText : {A : Type 0} → (Fault → List ℕ → A → Type 0) → List ℕ → ℕ → A → Type 0
+IsReplyText IsAnswer text service answer = (front : Tailed) × (rest : List ℕ) × Begins IsReplyFront text front rest × (service ≡ number front 0) × IsAnswer (fault_of front) rest answer
+
+-- the text is a reply to a request to open
 abbrev pub IsOpenReplyText : List ℕ → OpenReply → Type 0
-IsOpenReplyText text r = (front : Tailed) × (rest : List ℕ) × Begins IsReplyFront text front rest × (r.service ≡ number front 0) × IsAnswerText (fault_of front) rest r.answer
+IsOpenReplyText text r = IsReplyText IsAnswerText text r.service r.answer
 
--- the bytes are no reply
-abbrev pub IsNoReply : List ℕ → Type 0
-IsNoReply bytes = (r : OpenReply) → IsOpenReplyText bytes r → ⊥
-
--- the answer is a reading of the bytes as a reply. A reply may begin a longer one: bytes that are a
--- reply read as that, bytes that are none and begin one are not enough, others too much.
+-- the answer is a reading of the bytes as a reply to a request to open
 abbrev pub IsOpenReplyReading : List ℕ → Result OpenReply ReadFault → Type 0
-IsOpenReplyReading bytes (Ok r) = IsOpenReplyText bytes r
-IsOpenReplyReading bytes (Err NotEnough) = IsNoReply bytes × Lacks IsOpenReplyText bytes
-IsOpenReplyReading bytes (Err TooMuch) = IsNoReply bytes × ¬ Lacks IsOpenReplyText bytes × Exceeds IsOpenReplyText bytes
-IsOpenReplyReading bytes (Err (Path f)) = ⊥
+IsOpenReplyReading = IsReadingAmong IsOpenReplyText
 
 -- ---- reading
 
@@ -181,14 +177,26 @@ answer_reading fault bytes = if fault.general == 0 then seen Opened (opened_read
 abbrev pub with_answer : ℕ → OpenAnswer → OpenReply
 with_answer service answer = record { service = service; answer = answer }
 
--- the reply of a front, and data
-abbrev pub open_reply_of : Option (Tailed × List ℕ) → Result OpenReply ReadFault
-open_reply_of None = Err NotEnough
-open_reply_of (Some x) = seen (with_answer (number x.0 0)) (answer_reading (fault_of x.0) x.1)
+-- service, fault and data of a reply
+abbrev pub Unread : Type 0
+Unread = ℕ × Fault × List ℕ
 
--- the reading of bytes as a reply
+-- the service and the fault that a front names, and the data behind it
+abbrev pub unread : Tailed × List ℕ → Unread
+unread x = (number x.0 0, fault_of x.0, x.1)
+
+-- what bytes that are a reply say before their data is read; None where they end before it
+unfoldable pub unread_reading : List ℕ → Option Unread
+unread_reading bytes = option_map unread (front_at reply_widths extras_len bytes)
+
+-- the reply that make makes of the service and of what read answers to the data
+abbrev pub reply_of : {A R : Type 0} → (ℕ → A → R) → (Fault → List ℕ → Result A ReadFault) → Option Unread → Result R ReadFault
+reply_of make read None = Err NotEnough
+reply_of make read (Some x) = seen (make x.0) (read x.1 x.2)
+
+-- the reading of bytes as a reply to a request to open
 unfoldable pub open_reply_reading : List ℕ → Result OpenReply ReadFault
-open_reply_reading bytes = open_reply_of (front_at reply_widths extras_len bytes)
+open_reply_reading bytes = reply_of with_answer answer_reading (unread_reading bytes)
 
 -- ---- what fits
 

@@ -1,15 +1,21 @@
 //! Requests to the Connection Manager and its replies, as bytes.
 #![tactic(auto)]
 
+mod close;
 mod fault;
 mod fixed;
 mod front;
+mod get;
 mod message;
 mod open;
 mod reply;
 mod write;
 
+pub use close::{
+    CloseAnswer, CloseReply, CloseRequest, read_close, read_close_reply, write_close, write_closed,
+};
 pub use fault::ReadFault;
+pub use get::{GetAnswer, GetReply, read_get_reply, write_get, write_got};
 pub use message::{Request, read_request};
 pub use open::{OpenRequest, read_open};
 pub use reply::{OpenAnswer, OpenReply, Opened, Refused, read_open_reply};

@@ -1,15 +1,13 @@
 //! Replies to a Forward_Open and to a Large_Forward_Open.
 
 ghost use Rattle.std.specs.Prelude.{◌≡◌, Result};
-ghost use Rattle.std.specs.Option.{option_map};
-ghost use Rattle.std.specs.Int.{w16};
-ghost use Rattle.cip_types.specs.Fields.{Finds, field_at, fields_at};
+ghost use Rattle.cip_types.specs.Fields.{Finds, fields_at};
 ghost use Rattle.cip_fwdopen.specs.declared.fault.ReadFault.{ReadFault};
 ghost use Rattle.cip_fwdopen.specs.declared.reply.OpenReply.{OpenReply};
 ghost use Rattle.cip_fwdopen.specs.Reply.{triad_widths, triad_numbers, failure_reading, opened_reading, answer_reading, IsOpenReplyReading, open_reply_reading};
 
 use crate::fault::ReadFault;
-use crate::front::{Head, Success};
+use crate::front::{Success, unread_at};
 use cip_types::fields::{u16_at, u32_at};
 use cip_types::{ConnId, Fault, Triad};
 
@@ -64,7 +62,8 @@ fn triad_at(bytes: &[u8]) -> Option<(Triad, &[u8])>
     Some((triad, rest))
 }
 
-fn failure_of(bytes: &[u8]) -> Result<Option<Triad>, ReadFault>
+/// The connection that the data of a failure names: 8 bytes, or 10, or none.
+pub fn failure_of(bytes: &[u8]) -> Result<Option<Triad>, ReadFault>
     ensures { result ≡ failure_reading bytes.now }
 {
     if bytes.is_empty() {
@@ -96,13 +95,6 @@ fn opened_of(bytes: &[u8]) -> Result<Opened, ReadFault>
     Ok(success.opened)
 }
 
-fn first_word(words: &[u8]) -> Option<u16>
-    ensures { result ≡ option_map (λ x. x.0) (field_at w16 words.now) }
-{
-    let (word, _) = u16_at(words)?;
-    Some(word)
-}
-
 fn answer_of(fault: Fault, bytes: &[u8]) -> Result<OpenAnswer, ReadFault>
     ensures { result ≡ answer_reading fault bytes.now }
 {
@@ -116,21 +108,12 @@ fn answer_of(fault: Fault, bytes: &[u8]) -> Result<OpenAnswer, ReadFault>
 fn whole_reply(bytes: &[u8]) -> Result<OpenReply, ReadFault>
     ensures { result ≡ open_reply_reading bytes.now }
 {
-    let Some((head, rest)) = Head::at(bytes) else {
+    let Some(reply) = unread_at(bytes) else {
         return Err(ReadFault::NotEnough);
     };
-    let len = 2 * usize::from(head.words);
-    if rest.len() < len {
-        return Err(ReadFault::NotEnough);
-    }
-    let (words, data) = rest.split_at(len);
-    let fault = Fault {
-        general: head.general,
-        extra: first_word(words),
-    };
-    let answer = answer_of(fault, data)?;
+    let answer = answer_of(reply.fault, reply.content)?;
     Ok(OpenReply {
-        service: head.service,
+        service: reply.service,
         answer,
     })
 }

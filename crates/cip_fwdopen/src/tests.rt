@@ -164,3 +164,119 @@ fn a_refusal_names_the_connection_or_does_not(rt: HostRuntime) {
     assert_eq!(rt; read_open_reply(&REFUSED[..7]), Err(ReadFault::NotEnough));
     assert_eq!(rt; read_open_reply(&REFUSED[..5]), Err(ReadFault::NotEnough));
 }
+
+const CLOSE: [u8; 26] = [
+    0x4E, 0x02, 0x20, 0x06, 0x24, 0x01, 0x0A, 0x0E, 0x05, 0, 0x34, 0x12, 0x78, 0x56, 0x34, 0x12,
+    0x04, 0, 0x20, 0x04, 0x24, 0x97, 0x2C, 0x98, 0x2C, 0x64,
+];
+
+const CLOSED: [u8; 14] = [
+    0xCE, 0, 0, 0, 0x05, 0, 0x34, 0x12, 0x78, 0x56, 0x34, 0x12, 0, 0,
+];
+
+const UNCLOSED: [u8; 16] = [
+    0xCE, 0, 0x01, 0x01, 0x07, 0x01, 0x01, 0, 0x34, 0x12, 0x78, 0x56, 0x34, 0x12, 0, 0,
+];
+
+const FIFTH: Triad = Triad {
+    serial: 5,
+    vendor: 0x1234,
+    originator: 0x1234_5678,
+};
+
+#[test]
+fn a_close_request_is_read_and_written(rt: HostRuntime) -> Result<(), Fail> {
+    let close = read_close(&CLOSE[6..]).ok().ok_or("a close request")?;
+    assert!(rt; close.priority_tick == 0x0A && close.ticks == 0x0E);
+    assert_eq!(rt; close.triad, FIFTH);
+    assert_eq!(rt; close.path, &CLOSE[18..]);
+    assert!(rt; matches!(read_close(&CLOSE[6..25]), Err(ReadFault::NotEnough)));
+    assert!(rt; matches!(read_close(&CLOSE[6..17]), Err(ReadFault::NotEnough)));
+    assert!(rt; matches!(read_close(&[0; 13]), Err(ReadFault::TooMuch)));
+    let shorter = CloseRequest {
+        path: &CLOSE[18..22],
+        ..close
+    };
+    let written = write_close(rt.alloc(), &shorter).ok().ok_or("memory")?;
+    let expected = [
+        0x0A, 0x0E, 0x05, 0, 0x34, 0x12, 0x78, 0x56, 0x34, 0x12, 0x02, 0, 0x20, 0x04, 0x24, 0x97,
+    ];
+    assert_eq!(rt; written.as_slice(), expected.as_slice());
+    Ok(())
+}
+
+#[test]
+fn a_closed_connection_is_answered(rt: HostRuntime) -> Result<(), Fail> {
+    let reply = CloseReply {
+        service: 0xCE,
+        answer: CloseAnswer::Closed(FIFTH),
+    };
+    let written = write_closed(rt.alloc(), FIFTH).ok().ok_or("memory")?;
+    assert_eq!(rt; written.as_slice(), CLOSED.as_slice());
+    assert_eq!(rt; read_close_reply(&CLOSED), Ok(reply));
+    assert_eq!(rt; read_close_reply(&CLOSED[..13]), Err(ReadFault::NotEnough));
+    let mut longer = [0; 16];
+    longer[..14].copy_from_slice(&CLOSED);
+    assert_eq!(rt; read_close_reply(&longer), Err(ReadFault::TooMuch));
+    longer[12] = 1;
+    assert_eq!(rt; read_close_reply(&longer), Ok(reply));
+    Ok(())
+}
+
+#[test]
+fn a_refused_close_names_the_connection(rt: HostRuntime) {
+    let refused = Refused {
+        fault: Fault {
+            general: 0x01,
+            extra: Some(0x0107),
+        },
+        triad: Some(NAMED),
+    };
+    let reply = CloseReply {
+        service: 0xCE,
+        answer: CloseAnswer::Refused(refused),
+    };
+    assert_eq!(rt; read_close_reply(&UNCLOSED), Ok(reply));
+    assert_eq!(rt;
+        read_close_reply(&UNCLOSED[..15]),
+        Err(ReadFault::NotEnough)
+    );
+}
+
+#[test]
+fn a_value_is_asked_for(rt: HostRuntime) -> Result<(), Fail> {
+    let target = Target {
+        class: 4,
+        instance: 150,
+        attribute: Some(3),
+    };
+    let request = [0x0E, 0x03, 0x20, 0x04, 0x24, 0x96, 0x30, 0x03];
+    let written = write_get(rt.alloc(), &target).ok().ok_or("memory")?;
+    assert_eq!(rt; written.as_slice(), request.as_slice());
+    Ok(())
+}
+
+#[test]
+fn a_value_is_answered(rt: HostRuntime) -> Result<(), Fail> {
+    let value = [0x11, 0x22, 0x33, 0x44];
+    let text = [0x8E, 0, 0, 0, 0x11, 0x22, 0x33, 0x44];
+    let written = write_got(rt.alloc(), &value).ok().ok_or("memory")?;
+    assert_eq!(rt; written.as_slice(), text.as_slice());
+    let reply = read_get_reply(&text).ok().ok_or("a reply")?;
+    assert!(rt; reply.service == 0x8E);
+    assert_eq!(rt; reply.answer, GetAnswer::Got(&value));
+    let missing = Fault {
+        general: 0x14,
+        extra: None,
+    };
+    let refusal = read_get_reply(&[0x8E, 0, 0x14, 0]).ok().ok_or("a refusal")?;
+    assert_eq!(rt; refusal.answer, GetAnswer::Refused(missing));
+    assert!(rt;
+        matches!(
+            read_get_reply(&[0x8E, 0, 0x14, 0, 1]),
+            Err(ReadFault::TooMuch)
+        )
+    );
+    assert!(rt; matches!(read_get_reply(&[0x8E, 0, 0]), Err(ReadFault::NotEnough)));
+    Ok(())
+}

@@ -23,7 +23,8 @@ fn put_params(out: &mut Vec<u8>, large: bool, params: &NetParams) -> Result<(), 
     put_u16(out, write16(params))
 }
 
-fn put_triad(out: &mut Vec<u8>, triad: Triad) -> Result<(), OutOfMemory>
+/// Appends the numbers that name a connection.
+pub fn put_triad(out: &mut Vec<u8>, triad: Triad) -> Result<(), OutOfMemory>
     ensures text { OnOk result (out.new.items ≡ out.old.items ++ fields_text triad_widths (triad_numbers triad)) }
     ensures fits { TriadFits triad }
 {

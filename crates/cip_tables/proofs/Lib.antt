@@ -1,5 +1,9 @@
 pub mod PointLemmas
 pub mod RunLemmas
+pub mod FollowLemmas
 pub mod CheckLemmas
 pub mod SoundLemmas
+pub mod GroupLemmas
+pub mod SupportLemmas
+pub mod WrittenLemmas
 pub mod StepLemmas

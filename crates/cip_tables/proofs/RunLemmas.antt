@@ -1,5 +1,5 @@
 -- A run goes on by one event, and is the fold of the step over the events that memory was there for.
-use Rattle.std.proofs.Common.{◌≡◌, ℕ, List, [], ◌∷◌, ◌++◌, Bool, true, false, cond, filter, ◌≤◌, length, take, refl, sym, ◌∙◌, ap, subst, Result, Ok, Err}
+use Rattle.std.proofs.Common.{◌≡◌, ℕ, List, [], ◌∷◌, ◌++◌, true, false, filter, ◌≤◌, length, take, refl, subst, Result, Ok, Err}
 use Rattle.std.proofs.lemmas.List.{take_all}
 use Rattle.cip_tables.specs.declared.event.Event.{Event}
 use Rattle.cip_tables.specs.declared.event.Answer.{Answer}

@@ -1,5 +1,5 @@
--- An opening keeps the rows sound.
-use Rattle.std.proofs.Common.{◌≡◌, ◌≤◌, ◌<◌, ℕ, ◌+◌, ◌*◌, ◌^◌, Bool, true, false, cond, not, ◌||◌, ◌&&◌, nat_lt, nat_le, ◌==◌, List, [], ◌∷◌, ◌++◌, length, map, filter, Option, Some, None, refl, sym, ◌∙◌, ap, subst, arith, suc, length-append}
+-- What keeps the rows sound: one is taken out, some are filtered out, one is appended.
+use Rattle.std.proofs.Common.{◌≡◌, ◌≤◌, ◌<◌, ℕ, ◌+◌, ◌*◌, ◌^◌, Bool, true, false, cond, not, ◌||◌, ◌&&◌, nat_le, ◌==◌, List, [], ◌∷◌, ◌++◌, length, filter, refl, sym, ◌∙◌, ap, arith, length-append}
 use Rattle.std.specs.List.{list_any}
 use Rattle.std.proofs.lemmas.Bool.Decides.{nat_tests}
 use Rattle.std.proofs.lemmas.Grind.{common_steps}
@@ -60,6 +60,46 @@ drawn_without p profile next_id (row ∷ rows) drawn =
     elim (p row) as (λ b. IdsAreDrawn profile next_id (cond b rows (row ∷ without_first p rows))) [
       | true ↦ drawn.2
       | false ↦ (drawn.0, drawn.1, drawn_without p profile next_id rows drawn.2)
+    ]
+
+-- ---- some are filtered out
+
+pub count_filter : (p q : Row → Bool) (rows : List Row) → length (filter q (filter p rows)) ≤ length (filter q rows)
+count_filter p q [] = omega arith
+count_filter p q (row ∷ rows) = grind (arith, common_steps, count_filter p q rows)
+
+pub length_filter_le : (p : Row → Bool) (rows : List Row) → length (filter p rows) ≤ length rows
+length_filter_le p [] = omega arith
+length_filter_le p (row ∷ rows) = grind (arith, common_steps, length_filter_le p rows)
+
+pub any_filter : (p q : Row → Bool) (rows : List Row) → list_any q rows ≡ false → list_any q (filter p rows) ≡ false
+any_filter p q [] none = refl
+any_filter p q (row ∷ rows) none =
+    let parts = or_false (q row) (list_any q rows) none in
+    grind (arith, common_steps, parts, any_filter p q rows parts.1)
+
+pub triads_filter : (p : Row → Bool) (rows : List Row) → TriadsDiffer rows → TriadsDiffer (filter p rows)
+triads_filter p [] differ = tt
+triads_filter p (row ∷ rows) differ =
+    elim (p row) as (λ b. TriadsDiffer (cond b (row ∷ filter p rows) (filter p rows))) [
+      | true ↦ (any_filter p (has_triad row.triad) rows differ.0, triads_filter p rows differ.1)
+      | false ↦ triads_filter p rows differ.1
+    ]
+
+pub ids_filter : (p : Row → Bool) (rows : List Row) → IdsDiffer rows → IdsDiffer (filter p rows)
+ids_filter p [] differ = tt
+ids_filter p (row ∷ rows) differ =
+    elim (p row) as (λ b. IdsDiffer (cond b (row ∷ filter p rows) (filter p rows))) [
+      | true ↦ (any_filter p (has_o_t_id row.o_t_id) rows differ.0, ids_filter p rows differ.1)
+      | false ↦ ids_filter p rows differ.1
+    ]
+
+pub drawn_filter : (p : Row → Bool) (profile : Profile) (next_id : ℕ) (rows : List Row) → IdsAreDrawn profile next_id rows → IdsAreDrawn profile next_id (filter p rows)
+drawn_filter p profile next_id [] drawn = tt
+drawn_filter p profile next_id (row ∷ rows) drawn =
+    elim (p row) as (λ b. IdsAreDrawn profile next_id (cond b (row ∷ filter p rows) (filter p rows))) [
+      | true ↦ (drawn.0, drawn.1, drawn_filter p profile next_id rows drawn.2)
+      | false ↦ drawn_filter p profile next_id rows drawn.2
     ]
 
 -- none passes, so none is kept
@@ -128,13 +168,13 @@ pub record IsDrawn (profile : Profile) (next_id : ℕ) (new : Row) : Type 0 wher
 pub drawn_new : (profile : Profile) (next_id : ℕ) (rows : List Row) (new : Row) → IsDrawn profile next_id new → IdsAreDrawn profile next_id rows → list_any (has_o_t_id new.o_t_id) rows ≡ false
 drawn_new profile next_id rows new is drawn = rw is.id (next_is_new profile next_id rows drawn)
 
-pub drawn_append : (profile : Profile) (next_id : ℕ) (rows : List Row) (new : Row) → IsDrawn profile next_id new → IdsAreDrawn profile next_id rows → IdsAreDrawn profile (next_id + 1) (rows ++ new ∷ [])
-drawn_append profile next_id [] new is drawn =
+pub drawn_append : (profile : Profile) (next_id next : ℕ) (rows : List Row) (new : Row) → next_id < next → IsDrawn profile next_id new → IdsAreDrawn profile next_id rows → IdsAreDrawn profile next (rows ++ new ∷ [])
+drawn_append profile next_id next [] new more is drawn =
     let opening = is.opening in
     (is.id ∙ ap (connection_id profile) (sym is.opening), omega arith, tt)
-drawn_append profile next_id (row ∷ rows) new is drawn =
+drawn_append profile next_id next (row ∷ rows) new more is drawn =
     let below : row.opening < next_id = drawn.1 in
-    (drawn.0, omega arith, drawn_append profile next_id rows new is drawn.2)
+    (drawn.0, omega arith, drawn_append profile next_id next rows new more is drawn.2)
 
 -- ---- room
 

@@ -1,7 +1,7 @@
 -- The checks of a Forward_Open, in order: the first that fails answers. What a request names is looked
 -- up between the checks, and each later check is asked of what was found
 -- (Volume 1, chapter 3, Forward_Open and the Connection Manager's extended status codes).
-use Rattle.std.specs.Prelude.{◌≡◌, ℕ, ◌+◌, ◌==◌, ◌&&◌, ◌||◌, not, nat_lt, nat_le, Bool, true, false, if◌then◌else◌, List, [], ◌∷◌, length, find, Option, Some, None, Result, Ok, Err, is_some, is_none, unwrap_or}
+use Rattle.std.specs.Prelude.{◌≡◌, ℕ, ◌+◌, ◌==◌, ◌&&◌, ◌||◌, not, nat_lt, nat_le, Bool, true, false, if◌then◌else◌, List, [], ◌∷◌, ◌++◌, length, find, Option, Some, None, Result, Ok, Err, is_none, unwrap_or}
 use Rattle.std.specs.List.{list_any}
 use Rattle.std.specs.Str.{bytes_eq}
 use Rattle.cip_types.specs.declared.names.Identity.{Identity}
@@ -12,7 +12,6 @@ use Rattle.cip_epath.specs.declared.key.KeyFault.TheVariants.{VendorOrProduct, D
 use Rattle.cip_epath.specs.Key.{KeyFields, key_fault}
 use Rattle.cip_epath.specs.Path.{PathFields, view_path}
 use Rattle.cip_epath.specs.Reading.{path_reading}
-use Rattle.cip_netparams.specs.declared.NetParams.{NetParams}
 use Rattle.cip_netparams.specs.declared.ConnectionType.{ConnectionType}
 use Rattle.cip_netparams.specs.declared.ConnectionType.TheVariants.{Null, Multicast, PointToPoint, Reserved}
 use Rattle.cip_netparams.specs.declared.Trigger.{Trigger}
@@ -26,6 +25,8 @@ use Rattle.cip_tables.specs.declared.profile.Profile.{Profile}
 use Rattle.cip_tables.specs.declared.refusal.Refusal.{Refusal}
 use Rattle.cip_tables.specs.declared.refusal.Refusal.TheVariants as refusal
 use Rattle.cip_tables.specs.declared.row.Row.{Row}
+use Rattle.cip_tables.specs.declared.row.State.{State}
+use Rattle.cip_tables.specs.declared.row.State.TheVariants.{Established, TimedOut}
 use Rattle.cip_tables.specs.declared.row.Kind.TheVariants.{ExclusiveOwner, InputOnly, ListenOnly}
 use Rattle.cip_tables.specs.declared.admission.Consumer.{Consumer}
 use Rattle.cip_tables.specs.declared.table.PointValue.{PointValue}
@@ -33,7 +34,7 @@ use Rattle.cip_tables.specs.declared.table.AdapterTable.{AdapterTable}
 use Rattle.cip_tables.specs.declared.admission.Admission.{Admission}
 use Rattle.cip_tables.specs.Profiles.{is_at, is_output_at}
 use Rattle.cip_tables.specs.Points.{bytes_at}
-use Rattle.cip_tables.specs.Rows.{is_owner, is_listener, is_established, is_timed_out, holds_triad, drives}
+use Rattle.cip_tables.specs.Rows.{is_owner, is_listener, is_established, is_timed_out, holds_triad, drives, is_member, is_supported}
 
 -- A CHECK
 
@@ -108,9 +109,12 @@ is_point_to_point Null = false
 is_point_to_point Multicast = false
 is_point_to_point Reserved = false
 
--- the T->O types that are served: point to point
+-- the T->O types that are served: multicast and point to point
 abbrev pub is_produced_type : ConnectionType → Bool
-is_produced_type kind = is_point_to_point kind
+is_produced_type Multicast = true
+is_produced_type PointToPoint = true
+is_produced_type Null = false
+is_produced_type Reserved = false
 
 abbrev pub is_multicast : ConnectionType → Bool
 is_multicast Multicast = true
@@ -239,13 +243,59 @@ changes_config profile rows values path = list_any is_established rows && has_ot
 abbrev pub is_owned : List Row → Consumer → ℕ → Bool
 is_owned rows consumer point = is_owner consumer.kind && list_any (drives point) rows
 
--- how many ids an opening draws
-abbrev pub drawn_ids : ℕ
-drawn_ids = 1
+-- the connection whose producer a multicast one on the input joins
+abbrev pub group_of : List Row → ℕ → Option Row
+group_of rows point = find (is_member point) rows
+
+-- the same where the connection is to be multicast
+abbrev pub joined : List Row → OpenFields → ℕ → Option Row
+joined rows request point = if is_multicast request.t_o_params.kind then group_of rows point else None
+
+-- how many ids an opening draws: two, where a multicast producer begins
+abbrev pub drawn_ids : OpenFields → Option Row → ℕ
+drawn_ids request None = if is_multicast request.t_o_params.kind then 2 else 1
+drawn_ids request (Some member) = 1
 
 -- no id is left, or no connection can make room
-abbrev pub is_used_up : List Row → ℕ → Bool
-is_used_up rows next_id = nat_lt 16777216 (next_id + drawn_ids) || (nat_le 64 (length rows) && not (list_any is_timed_out rows))
+abbrev pub is_used_up : List Row → ℕ → ℕ → Bool
+is_used_up rows next_id drawn = nat_lt 16777216 (next_id + drawn) || (nat_le 64 (length rows) && not (list_any is_timed_out rows))
+
+-- a listen-only connection is multicast, and another kind supports it
+abbrev pub is_alone : List Row → Consumer → ℕ → Bool
+is_alone rows consumer point = is_listener consumer.kind && not (is_supported rows consumer.kind point)
+
+-- the trigger of the producer that a connection shares
+abbrev pub state_trigger : State → Trigger
+state_trigger (Established production) = production.trigger
+state_trigger TimedOut = Cyclic
+
+abbrev pub state_inhibit : State → ℕ
+state_inhibit (Established production) = production.inhibit
+state_inhibit TimedOut = 0
+
+abbrev pub same_trigger : Trigger → Trigger → Bool
+same_trigger Cyclic Cyclic = true
+same_trigger ChangeOfState ChangeOfState = true
+same_trigger a b = false
+
+-- the trigger of a request that is served
+abbrev pub served_trigger : Option Trigger → Trigger
+served_trigger None = Cyclic
+served_trigger (Some trigger) = trigger
+
+-- a cyclic producer is not held back
+abbrev pub served_inhibit : Trigger → Option ℕ → ℕ
+served_inhibit Cyclic inhibit = 0
+served_inhibit ChangeOfState inhibit = unwrap_or inhibit 0
+
+-- what a joiner has in common with the producer: packet interval, trigger, inhibit time
+abbrev pub group_checks : OpenFields → PathFields → Option Row → List Check
+group_checks request path None = []
+group_checks request path (Some member) =
+    check (not (interval_ms request.t_o_rpi == member.t_o_api)) refusal.PacketInterval
+    ∷ check (not (same_trigger (served_trigger (trigger_of request.trigger)) (state_trigger member.state))) refusal.Trigger
+    ∷ check (not (served_inhibit (served_trigger (trigger_of request.trigger)) path.inhibit == state_inhibit member.state)) refusal.PacketInterval
+    ∷ []
 
 -- what a request is judged by: how things stand at the adapter
 pub record Standing : Type 0 where
@@ -263,27 +313,43 @@ points_checks at request path points =
     ∷ check (not (request.t_o_params.size == t_o_size points.1)) refusal.ProducedSize
     ∷ check (is_owned at.rows points.0 path.consumed) refusal.Ownership
     ∷ check (is_listener points.0.kind && not (is_multicast request.t_o_params.kind)) refusal.ProducedType
-    ∷ check (is_used_up at.rows at.next_id) refusal.OutOfConnections
+    ∷ check (is_alone at.rows points.0 path.produced) refusal.NoSupport
     ∷ []
+
+-- what is asked of the producer that a multicast connection joins, and of the ids and the room that are left
+abbrev pub room_checks : Standing → OpenFields → PathFields → Option Row → List Check
+room_checks at request path group =
+    group_checks request path group ++ check (is_used_up at.rows at.next_id (drawn_ids request group)) refusal.OutOfConnections ∷ []
+
+unfoldable pub room_check : Standing → OpenFields → PathFields → Option Row → Check
+room_check at request path group = first_of (room_checks at request path group)
 
 unfoldable pub points_check : Standing → OpenFields → PathFields → Points → Check
 points_check at request path points = first_of (points_checks at request path points)
 
 -- THE VERDICT
 
--- what a request is admitted as
+-- what a request is admitted as: its path, what its consumed point is, and the connection whose producer it
+-- joins
 pub record Admitted : Type 0 where
   pub path : PathFields
   pub consumer : Consumer
+  pub group : Option Row
 
 -- the same of an admission of the program
 abbrev pub view_admission : Admission → Admitted
-view_admission a = record { path = view_path a.path; consumer = a.consumer }
+view_admission a = record { path = view_path a.path; consumer = a.consumer; group = a.group }
+
+-- an admission, once the points are found and nothing is asked of them that fails
+abbrev pub admitted_points : Standing → OpenFields → PathFields → Points → Result Admitted Refusal
+admitted_points at request path points =
+    let group = joined at.rows request path.produced in
+    unless (room_check at request path group) (record { path = path; consumer = points.0; group = group })
 
 unfoldable pub admitted_path : Standing → OpenFields → PathFields → Result Admitted Refusal
 admitted_path at request path =
     and_then (points_of at.profile path) (λ points.
-    unless (points_check at request path points) (record { path = path; consumer = points.0 }))
+    and_then (unless (points_check at request path points) points) (λ found. admitted_points at request path found))
 
 -- the path, where its segments are arranged as a path's are
 abbrev pub shaped_path : Option PathFields → Result PathFields Refusal

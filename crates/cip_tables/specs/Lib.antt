@@ -4,6 +4,7 @@ pub mod Rows
 pub mod Refusals
 pub mod Checks
 pub mod Opening
+pub mod Closing
 pub mod Asking
 pub mod Replies
 pub mod Requests

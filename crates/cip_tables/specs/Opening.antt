@@ -1,14 +1,16 @@
 -- Opening a connection: which one makes room, what the new one is, and the table after it
--- (Volume 1, chapter 3, Forward_Open, connection ids and first watchdog).
-use Rattle.std.specs.Prelude.{ℕ, ◌+◌, ◌*◌, ◌^◌, ◌==◌, nat_le, max, Bool, true, false, if◌then◌else◌, List, [], ◌∷◌, ◌++◌, length, find, Option, Some, None, unwrap_or}
+-- (Volume 1, chapter 3, Forward_Open, connection ids and first watchdog; Volume 2, chapter 3, multicast
+-- address allocation).
+use Rattle.std.specs.Prelude.{ℕ, ◌+◌, ◌-◌, ◌%◌, ◌*◌, ◌^◌, nat_le, max, Bool, true, false, if◌then◌else◌, List, [], ◌∷◌, ◌++◌, length, find, Option, Some, None}
 use Rattle.std.specs.Option.{option_map}
-use Rattle.std.specs.List.{list_any}
+use Rattle.std.specs.List.{list_any, position_or_len}
 use Rattle.cip_types.specs.declared.names.Triad.{Triad}
 use Rattle.cip_types.specs.declared.names.Node.{Node}
 use Rattle.cip_types.specs.declared.names.ConnId.{ConnId}
 use Rattle.cip_types.specs.declared.names.Ms.{Ms}
+use Rattle.cip_epath.specs.Path.{PathFields}
+use Rattle.cip_netparams.specs.declared.ConnectionType.{ConnectionType}
 use Rattle.cip_netparams.specs.declared.Trigger.{Trigger}
-use Rattle.cip_netparams.specs.declared.Trigger.TheVariants.{Cyclic, ChangeOfState}
 use Rattle.cip_netparams.specs.Word.{trigger_of}
 use Rattle.cip_netparams.specs.Rate.{interval_ms, timeout}
 use Rattle.cip_fwdopen.specs.Open.{OpenFields}
@@ -19,12 +21,14 @@ use Rattle.cip_tables.specs.declared.profile.InputPoint.{InputPoint}
 use Rattle.cip_tables.specs.declared.profile.Profile.{Profile}
 use Rattle.cip_tables.specs.declared.row.Row.{Row}
 use Rattle.cip_tables.specs.declared.row.Production.{Production}
+use Rattle.cip_tables.specs.declared.row.State.{State}
 use Rattle.cip_tables.specs.declared.row.State.TheVariants.{Established}
 use Rattle.cip_tables.specs.declared.table.PointValue.{PointValue}
 use Rattle.cip_tables.specs.declared.table.AdapterTable.{AdapterTable}
+use Rattle.cip_tables.specs.Profiles.{host_id, is_at}
 use Rattle.cip_tables.specs.Points.{put_value}
 use Rattle.cip_tables.specs.Rows.{has_triad, is_timed_out, without_first}
-use Rattle.cip_tables.specs.Checks.{Admitted, stored, is_multicast}
+use Rattle.cip_tables.specs.Checks.{Admitted, stored, is_multicast, drawn_ids, served_trigger, served_inhibit}
 
 -- ROOM
 
@@ -52,16 +56,17 @@ connection_id profile counter = record { 0 = profile.incarnation * 2 ^ 24 + coun
 abbrev pub first_deadline : Ms → ℕ → Ms
 first_deadline clock timeout_ms = record { 0 = clock.0 + max 10000 timeout_ms }
 
-abbrev pub served_trigger : Option Trigger → Trigger
-served_trigger None = Cyclic
-served_trigger (Some trigger) = trigger
+-- the multicast addresses of a device begin at 239.192.1.0, 32 for each host id, and go by its inputs' places
+abbrev pub multicast_address : Profile → ℕ → Node
+multicast_address profile point = record {
+  0 = 0xEFC00100 + 32 * ((host_id profile.node.0 profile.mask - 1) % 1024) + position_or_len (is_at point) profile.inputs;
+}
 
--- a cyclic producer is not held back
-abbrev pub served_inhibit : Trigger → Option ℕ → ℕ
-served_inhibit Cyclic inhibit = 0
-served_inhibit ChangeOfState inhibit = unwrap_or inhibit 0
+-- where the datagrams of a producer go: to its group, or to the one consumer
+abbrev pub address_of : Profile → Node → ConnectionType → ℕ → Node
+address_of profile peer kind point = if is_multicast kind then multicast_address profile point else peer
 
--- the producer that a point to point connection begins: its data are new, and due at once
+-- the producer that a connection begins: its data are new, and due at once
 abbrev pub new_production : AdapterTable → Node → Trigger → ℕ → Production
 new_production t address trigger inhibit = record {
   producer = t.next_id;
@@ -75,10 +80,21 @@ new_production t address trigger inhibit = record {
   last = None;
 }
 
-abbrev pub opened_production : AdapterTable → Node → OpenFields → Admitted → Production
-opened_production t peer request admitted =
+abbrev pub opened_production : AdapterTable → Node → OpenFields → PathFields → Production
+opened_production t peer request path =
     let trigger = served_trigger (trigger_of request.trigger) in
-    new_production t peer trigger (served_inhibit trigger admitted.path.inhibit)
+    new_production t (address_of t.profile peer request.t_o_params.kind path.produced) trigger (served_inhibit trigger path.inhibit)
+
+-- a joiner shares the producer of its group; another connection begins one
+abbrev pub opened_state : AdapterTable → Node → OpenFields → PathFields → Option Row → State
+opened_state t peer request path None = Established (opened_production t peer request path)
+opened_state t peer request path (Some member) = member.state
+
+-- A joiner has the id of its group. The producer chooses a multicast id, the second that it draws, and the
+-- consumer that of a point to point connection.
+abbrev pub opened_t_o_id : AdapterTable → OpenFields → Option Row → ConnId
+opened_t_o_id t request None = if is_multicast request.t_o_params.kind then connection_id t.profile (t.next_id + 1) else request.t_o_id
+opened_t_o_id t request (Some member) = member.t_o_id
 
 -- the connection that an admitted request opens
 unfoldable pub opened_row : AdapterTable → Node → OpenFields → Admitted → Row
@@ -89,7 +105,7 @@ opened_row t peer request admitted = record {
   consumed = admitted.path.consumed;
   produced = admitted.path.produced;
   o_t_id = connection_id t.profile t.next_id;
-  t_o_id = request.t_o_id;
+  t_o_id = opened_t_o_id t request admitted.group;
   o_t_api = interval_ms request.o_t_rpi;
   t_o_api = interval_ms request.t_o_rpi;
   multiplier = request.multiplier;
@@ -97,7 +113,7 @@ opened_row t peer request admitted = record {
   opening = t.next_id;
   last = None;
   deadline = first_deadline t.clock (timeout request.multiplier (interval_ms request.o_t_rpi));
-  state = Established (opened_production t peer request admitted);
+  state = opened_state t peer request admitted.path admitted.group;
 }
 
 -- THE TABLE AFTER IT
@@ -108,12 +124,12 @@ configured None segment values = values
 configured (Some config) None values = values
 configured (Some config) (Some segment) values = put_value config.instance segment values
 
--- what makes room is gone, the new connection is the last, its data segment is stored, its id is drawn
-unfoldable pub opened_table : AdapterTable → Row → Admitted → AdapterTable
-opened_table t row admitted = record t {
+-- what makes room is gone, the new connection is the last, its data segment is stored, its ids are drawn
+unfoldable pub opened_table : AdapterTable → OpenFields → Row → Admitted → AdapterTable
+opened_table t request row admitted = record t {
   rows = without_first (makes_room t.rows row.triad) t.rows ++ row ∷ [];
   values = configured t.profile.config (stored admitted.path.config admitted.path.segment) t.values;
-  next_id = t.next_id + 1;
+  next_id = t.next_id + drawn_ids request admitted.group;
 }
 
 -- WHAT IS TOLD OF IT

@@ -1,10 +1,13 @@
 -- What the points of an adapter hold (Volume 1, chapter 5, Assembly object).
-use Rattle.std.specs.Prelude.{ℕ, ◌==◌, Bool, if◌then◌else◌, List, [], ◌∷◌, ◌++◌, map, find, replicate, Option, Some, None, option_to_list}
+use Rattle.std.specs.Prelude.{ℕ, ◌==◌, length, Bool, if◌then◌else◌, List, ◌++◌, map, find, replicate, Option, Some, None, option_to_list}
 use Rattle.std.specs.Option.{option_map}
 use Rattle.cip_tables.specs.declared.profile.InputPoint.{InputPoint}
 use Rattle.cip_tables.specs.declared.profile.Profile.{Profile}
 use Rattle.cip_tables.specs.declared.table.PointValue.{PointValue}
-use Rattle.cip_tables.specs.Profiles.{as_point}
+use Rattle.cip_tables.specs.declared.profile.OutputPoint.{OutputPoint}
+use Rattle.cip_tables.specs.declared.profile.Action.{Action}
+use Rattle.cip_tables.specs.declared.profile.Action.TheVariants.{Hold, Zero}
+use Rattle.cip_tables.specs.Profiles.{as_point, is_output_at}
 
 -- the points with data: outputs, inputs, the configuration
 abbrev pub data_points : Profile → List InputPoint
@@ -35,3 +38,22 @@ bytes_of value = value.bytes
 -- what a point holds
 abbrev pub bytes_at : List PointValue → ℕ → Option (List ℕ)
 bytes_at values point = option_map bytes_of (find (is_value_of point) values)
+
+-- ---- an output whose owner is lost
+
+-- zeros, where the value is the point's
+abbrev pub zeroed_value : ℕ → PointValue → PointValue
+zeroed_value point value = if is_value_of point value then record value { bytes = replicate (length value.bytes) 0 } else value
+
+-- an action on what a point holds
+abbrev pub acted_values : Action → ℕ → List PointValue → List PointValue
+acted_values Hold point values = values
+acted_values Zero point values = map (zeroed_value point) values
+
+abbrev pub fault_values : Option OutputPoint → List PointValue → List PointValue
+fault_values None values = values
+fault_values (Some output) values = acted_values output.fault output.instance values
+
+-- the values after the fault action of an output
+abbrev pub lost_values : Profile → ℕ → List PointValue → List PointValue
+lost_values profile point values = fault_values (find (is_output_at point) profile.outputs) values

@@ -1,22 +1,25 @@
 -- Requests to the message router: what is replied, and what becomes of the table
 -- (Volume 1, chapter 2, message router request and reply formats, and chapter 3, Connection Manager).
-use Rattle.std.specs.Prelude.{ℕ, Bool, true, false, List, [], ◌∷◌, Option, Some, None, Result, Ok, Err}
-use Rattle.cip_types.specs.declared.names.Triad.{Triad}
-use Rattle.cip_types.specs.declared.names.Fault.{Fault}
+use Rattle.std.specs.Prelude.{ℕ, ◌==◌, not, length, find, if◌then◌else◌, Bool, true, false, List, [], ◌∷◌, Option, Some, None, Result, Ok, Err}
 use Rattle.cip_types.specs.declared.names.Node.{Node}
 use Rattle.cip_fwdopen.specs.Open.{OpenFields}
-use Rattle.cip_tables.specs.declared.reply.Reply.{Reply}
-use Rattle.cip_tables.specs.declared.reply.Reply.TheVariants as reply
 use Rattle.cip_tables.specs.declared.event.Notice.{Notice}
 use Rattle.cip_tables.specs.declared.event.Frame.{Frame}
-use Rattle.cip_tables.specs.declared.event.Recipient.{Recipient}
 use Rattle.cip_tables.specs.declared.event.Recipient.TheVariants.{Peer}
 use Rattle.cip_tables.specs.declared.event.Verdict.{Verdict}
 use Rattle.cip_tables.specs.declared.event.Verdict.TheVariants.{Done, BadFrame}
 use Rattle.cip_tables.specs.declared.event.Answer.{Answer}
 use Rattle.cip_tables.specs.declared.table.AdapterTable.{AdapterTable}
-use Rattle.cip_tables.specs.Asking.{AskedFields, nothing, refused, opening, asked_reading}
-use Rattle.cip_tables.specs.Replies.{reply_text}
+use Rattle.cip_tables.specs.Asking.{AskedFields, nothing, refused, closing, assembly, opening, asked_reading}
+use Rattle.cip_fwdopen.specs.Close.{CloseFields}
+use Rattle.cip_tables.specs.declared.row.Row.{Row}
+use Rattle.cip_tables.specs.Rows.{has_triad}
+use Rattle.cip_tables.specs.Points.{bytes_at}
+use Rattle.cip_tables.specs.Closing.{closed_table, closed_notices}
+use Rattle.cip_tables.specs.declared.refusal.Refusal.TheVariants as refusal
+use Rattle.cip_tables.specs.declared.refusal.Status.TheVariants as status
+use Rattle.cip_tables.specs.Replies.{ReplyFields, opened, closed, got, reply_text}
+use Rattle.cip_tables.specs.Replies as replies
 use Rattle.cip_tables.specs.declared.refusal.Refusal.{Refusal}
 use Rattle.cip_tables.specs.declared.refusal.Status.{Status}
 use Rattle.cip_tables.specs.Refusals.{refusal_fault, status_fault}
@@ -27,7 +30,7 @@ use Rattle.cip_tables.specs.Opening.{opened_row, opened_table, opened_reply, ope
 
 -- the reply to a request, what happened to connections, and the table after it
 pub record Served : Type 0 where
-  pub reply : Reply
+  pub reply : ReplyFields
   pub notices : List Notice
   pub table : AdapterTable
 
@@ -39,7 +42,7 @@ open_service true = 0x5B
 -- a connection that is refused, with its triad
 abbrev pub refused_open : AdapterTable → Bool → OpenFields → Refusal → Served
 refused_open t large request why = record {
-  reply = reply.Refused (open_service large) (refusal_fault why) (Some request.triad);
+  reply = replies.refused (open_service large) (refusal_fault why) (Some request.triad);
   notices = [];
   table = t;
 }
@@ -48,9 +51,9 @@ unfoldable pub admitted_open : AdapterTable → Node → Bool → OpenFields →
 admitted_open t peer large request admitted =
     let row = opened_row t peer request admitted in
     record {
-      reply = reply.Opened large (opened_reply row);
+      reply = opened large (opened_reply row);
       notices = opened_notices t.rows row;
-      table = opened_table t row admitted;
+      table = opened_table t request row admitted;
     }
 
 abbrev pub judged_open : AdapterTable → Node → Bool → OpenFields → Result Admitted Refusal → Served
@@ -61,13 +64,60 @@ judged_open t peer large request (Ok admitted) = admitted_open t peer large requ
 unfoldable pub served_open : AdapterTable → Node → Bool → OpenFields → Served
 served_open t peer large request = judged_open t peer large request (verdict (standing t) request)
 
+-- a close of no connection
+abbrev pub unknown_close : AdapterTable → CloseFields → Served
+unknown_close t request = record {
+  reply = replies.refused 0x4E (refusal_fault refusal.NotFound) (Some request.triad);
+  notices = [];
+  table = t;
+}
+
+abbrev pub known_close : AdapterTable → Row → Served
+known_close t row = record {
+  reply = closed row.triad;
+  notices = closed_notices t.rows row;
+  table = closed_table t row;
+}
+
+abbrev pub close_of : AdapterTable → CloseFields → Option Row → Served
+close_of t request None = unknown_close t request
+close_of t request (Some row) = known_close t row
+
+-- a Forward_Close, of a connection in any state
+unfoldable pub served_close : AdapterTable → CloseFields → Served
+served_close t request = close_of t request (find (has_triad request.triad) t.rows)
+
+abbrev pub router_refusal : AdapterTable → ℕ → Status → Served
+router_refusal t service why = record { reply = replies.refused service (status_fault why) None; notices = []; table = t }
+
+-- the attribute that is the value of an assembly
+abbrev pub is_value_attribute : Option ℕ → Bool
+is_value_attribute None = false
+is_value_attribute (Some attribute) = attribute == 3
+
+-- the value of a point that there is, by a request of this service
+abbrev pub get_of : AdapterTable → ℕ → Option ℕ → List ℕ → List ℕ → Served
+get_of t service attribute body value =
+    if not (service == 0x0E) then router_refusal t service status.Service
+    else (if not (is_value_attribute attribute) then router_refusal t service status.Attribute
+    else (if not (length body == 0) then router_refusal t service status.TooMuchData
+    else record { reply = got value; notices = []; table = t }))
+
+abbrev pub assembly_of : AdapterTable → ℕ → Option ℕ → List ℕ → Option (List ℕ) → Served
+assembly_of t service attribute body None = router_refusal t service status.PathDestination
+assembly_of t service attribute body (Some value) = get_of t service attribute body value
+
+-- a service of an assembly instance
+unfoldable pub served_assembly : AdapterTable → ℕ → ℕ → Option ℕ → List ℕ → Served
+served_assembly t service instance attribute body = assembly_of t service attribute body (bytes_at t.values instance)
+
 -- THE ANSWER
 
 -- an answer and the table after it
 abbrev pub Next : Type 0
 Next = Answer × AdapterTable
 
-abbrev pub reply_frame : Node → Reply → Frame
+abbrev pub reply_frame : Node → ReplyFields → Frame
 reply_frame peer reply = record { to = Peer peer; bytes = reply_text reply }
 
 abbrev pub replied : Node → Served → Next
@@ -85,12 +135,11 @@ replied peer served = (
 abbrev pub plain_answer : Verdict → Answer
 plain_answer verdict = record { frames = []; datagrams = []; verdict = verdict; notices = [] }
 
-abbrev pub router_refusal : AdapterTable → ℕ → Status → Served
-router_refusal t service why = record { reply = reply.Refused service (status_fault why) None; notices = []; table = t }
-
 abbrev pub answered : AdapterTable → Node → AskedFields → Next
 answered t peer nothing = (plain_answer BadFrame, t)
 answered t peer (refused service why) = replied peer (router_refusal t service why)
+answered t peer (closing request) = replied peer (served_close t request)
+answered t peer (assembly service instance attribute body) = replied peer (served_assembly t service instance attribute body)
 answered t peer (opening large request) = replied peer (served_open t peer large request)
 
 -- a request of a peer

@@ -47,7 +47,40 @@ drives point row = is_established row && (is_owner row.kind && row.consumed == p
 abbrev pub drivers : ℕ → List Row → List Row
 drivers point rows = filter (drives point) rows
 
+abbrev pub same_kind : Kind → Kind → Bool
+same_kind ExclusiveOwner ExclusiveOwner = true
+same_kind InputOnly InputOnly = true
+same_kind ListenOnly ListenOnly = true
+same_kind a b = false
+
+-- the connection is established, and shares the multicast producer of the input
+abbrev pub is_member : ℕ → Row → Bool
+is_member point row = is_established row && (row.multicast && row.produced == point)
+
+-- the connection supports one of the kind on the input: it is of another kind and shares the producer
+abbrev pub supports : Kind → ℕ → Row → Bool
+supports kind point row = is_member point row && not (same_kind row.kind kind)
+
+-- a connection of the kind on the input is supported
+abbrev pub is_supported : List Row → Kind → ℕ → Bool
+is_supported rows kind point = list_any (supports kind point) rows
+
+-- the connection is an established listen-only one without support
+abbrev pub is_forsaken : List Row → Row → Bool
+is_forsaken rows row = is_established row && (is_listener row.kind && not (is_supported rows row.kind row.produced))
+
 -- the connections without the first that passes a test
 abbrev pub without_first : (Row → Bool) → List Row → List Row
 without_first test [] = []
 without_first test (row ∷ rows) = if test row then rows else row ∷ without_first test rows
+
+-- ---- what a write changes
+
+-- an established connection's producer has new data
+abbrev pub written_state : State → State
+written_state (Established production) = Established (record production { written = true })
+written_state TimedOut = TimedOut
+
+-- the input of the connection was written
+abbrev pub written_row : ℕ → Row → Row
+written_row point row = if row.produced == point then record row { state = written_state row.state } else row

@@ -1,5 +1,5 @@
 -- What a device does at an event, and over a list of events.
-use Rattle.std.specs.Prelude.{ℕ, ◌≡◌, Bool, true, false, if◌then◌else◌, List, [], ◌∷◌, Result, Ok, Err, IsOk}
+use Rattle.std.specs.Prelude.{◌≡◌, Bool, true, false, if◌then◌else◌, List, [], ◌∷◌, Result, Ok, Err, IsOk}
 use Rattle.cip_tables.specs.declared.event.Event.{Event}
 use Rattle.cip_tables.specs.declared.event.Answer.{Answer}
 use Rattle.cip_tables.specs.declared.event.StepFault.{StepFault}

@@ -1,5 +1,5 @@
 -- What holds of every table that a run reaches.
-use Rattle.std.specs.Prelude.{ℕ, ◌≡◌, ◌≤◌, ◌<◌, ◌==◌, Bool, false, List, [], ◌∷◌, length, Result}
+use Rattle.std.specs.Prelude.{ℕ, ◌≡◌, ◌≤◌, ◌<◌, ◌==◌, Bool, true, false, List, [], ◌∷◌, length}
 use Rattle.std.specs.List.{list_any}
 use Rattle.cip_types.specs.declared.names.ConnId.{ConnId}
 use Rattle.cip_tables.specs.declared.event.Event.{Event}
@@ -9,7 +9,7 @@ use Rattle.cip_tables.specs.declared.table.AdapterTable.{AdapterTable}
 use Rattle.cip_tables.specs.declared.table.DeviceTable.{DeviceTable}
 use Rattle.cip_tables.specs.declared.table.DeviceTable.TheVariants.{Adapter}
 use Rattle.cip_tables.specs.declared.table.Config.{Config}
-use Rattle.cip_tables.specs.Rows.{has_triad, drivers}
+use Rattle.cip_tables.specs.Rows.{has_triad, drivers, is_forsaken, is_member}
 use Rattle.cip_tables.specs.Opening.{connection_id}
 use Rattle.cip_tables.specs.Step.{opening_table}
 use Rattle.cip_tables.specs.Run.{Outcome, Runs}
@@ -36,12 +36,37 @@ IdsAreDrawn profile next_id (row ∷ rows) = (row.o_t_id ≡ connection_id profi
 abbrev pub HasOneOwner : List Row → Type 0
 HasOneOwner rows = (point : ℕ) → length (drivers point rows) ≤ 1
 
+-- no established listen-only connection is without support
+abbrev pub ListenersAreSupported : List Row → Type 0
+ListenersAreSupported rows = list_any (is_forsaken rows) rows ≡ false
+
+-- two established multicast connections of one input have one T->O id, one packet interval, and equal
+-- productions, the producer's number among them
+pub record SharesProducer (a b : Row) : Type 0 where
+  pub id : a.t_o_id ≡ b.t_o_id
+  pub api : a.t_o_api ≡ b.t_o_api
+  pub state : a.state ≡ b.state
+
+-- where both are established multicast connections of the first one's input
+abbrev pub Agree : Row → Row → Type 0
+Agree a b = is_member a.produced a ≡ true → is_member a.produced b ≡ true → SharesProducer a b
+
+abbrev pub AllAgree : Row → List Row → Type 0
+AllAgree row [] = Unit {0}
+AllAgree row (other ∷ rows) = Agree row other × AllAgree row rows
+
+abbrev pub GroupsAgree : List Row → Type 0
+GroupsAgree [] = Unit {0}
+GroupsAgree (row ∷ rows) = AllAgree row rows × GroupsAgree rows
+
 pub record IsSound (t : AdapterTable) : Type 0 where
   pub few : length t.rows ≤ 64
   pub one_owner : HasOneOwner t.rows
   pub triads_differ : TriadsDiffer t.rows
   pub ids_differ : IdsDiffer t.rows
   pub ids_are_drawn : IdsAreDrawn t.profile t.next_id t.rows
+  pub listeners_are_supported : ListenersAreSupported t.rows
+  pub groups_agree : GroupsAgree t.rows
   pub ids_are_left : t.next_id ≤ 16777216
 
 abbrev pub IsSoundDevice : DeviceTable → Type 0

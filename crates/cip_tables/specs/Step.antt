@@ -1,27 +1,62 @@
 -- One event at a device's table.
-use Rattle.std.specs.Prelude.{ℕ, List, [], Option, None, Result, Ok, Err}
+use Rattle.std.specs.Prelude.{ℕ, ◌==◌, length, map, find, if◌then◌else◌, List, [], Option, Some, None, Result, Ok, Err}
 use Rattle.cip_tables.specs.declared.event.Event.{Event}
-use Rattle.cip_tables.specs.declared.event.Event.TheVariants.{Request}
+use Rattle.cip_tables.specs.declared.event.Event.TheVariants.{Request, Write, Read}
 use Rattle.cip_tables.specs.declared.event.Answer.{Answer}
 use Rattle.cip_tables.specs.declared.event.StepFault.{StepFault}
+use Rattle.cip_tables.specs.declared.event.StepFault.TheVariants as fault
+use Rattle.cip_tables.specs.declared.event.Verdict.TheVariants.{Done, Value}
+use Rattle.cip_tables.specs.declared.profile.InputPoint.{InputPoint}
 use Rattle.cip_tables.specs.declared.profile.Profile.{Profile}
 use Rattle.cip_tables.specs.declared.table.AdapterTable.{AdapterTable}
 use Rattle.cip_tables.specs.declared.table.Config.{Config}
 use Rattle.cip_tables.specs.declared.table.Config.TheVariants as config
 use Rattle.cip_tables.specs.declared.table.DeviceTable.{DeviceTable}
 use Rattle.cip_tables.specs.declared.table.DeviceTable.TheVariants.{Adapter}
-use Rattle.cip_tables.specs.Profiles.{profile_fault}
+use Rattle.cip_tables.specs.Profiles.{profile_fault, is_at}
 use Rattle.cip_tables.specs.declared.profile.ProfileFault.{ProfileFault}
-use Rattle.cip_tables.specs.Points.{opening_values}
-use Rattle.cip_tables.specs.Requests.{Next, requested}
+use Rattle.cip_tables.specs.Points.{opening_values, put_value, bytes_at}
+use Rattle.cip_tables.specs.Rows.{written_row}
+use Rattle.cip_tables.specs.Requests.{Next, requested, plain_answer}
 
 -- an answer and the device's table after it
 abbrev pub DeviceNext : Type 0
 DeviceNext = Answer × DeviceTable
 
+-- ---- reads and writes of the application
+
+abbrev pub value_answer : List ℕ → Answer
+value_answer bytes = plain_answer (Value bytes)
+
+abbrev pub read_of : AdapterTable → Option (List ℕ) → Result Next StepFault
+read_of t None = Err fault.NoSuchPoint
+read_of t (Some bytes) = Ok (value_answer bytes, t)
+
+-- what an output, an input or the configuration holds
+unfoldable pub read : AdapterTable → ℕ → Result Next StepFault
+read t point = read_of t (bytes_at t.values point)
+
+-- the input holds other bytes, and each of its producers has new data
+unfoldable pub written_table : AdapterTable → ℕ → List ℕ → AdapterTable
+written_table t point bytes = record t {
+  rows = map (written_row point) t.rows;
+  values = put_value point bytes t.values;
+}
+
+abbrev pub write_of : AdapterTable → ℕ → List ℕ → Option InputPoint → Result Next StepFault
+write_of t point bytes None = Err fault.NoSuchPoint
+write_of t point bytes (Some input) =
+    if length bytes == input.len then Ok (plain_answer Done, written_table t point bytes) else Err fault.WrongLength
+
+-- other bytes for an input
+unfoldable pub write : AdapterTable → ℕ → List ℕ → Result Next StepFault
+write t point bytes = write_of t point bytes (find (is_at point) t.profile.inputs)
+
 -- Either the first fault, the table staying, or an answer and the next table. Want of memory is never named.
 abbrev pub adapter_step : AdapterTable → Event → Result Next StepFault
 adapter_step t (Request peer bytes) = Ok (requested t peer bytes)
+adapter_step t (Write point bytes) = write t point bytes
+adapter_step t (Read point) = read t point
 
 abbrev pub as_adapter : Result Next StepFault → Result DeviceNext StepFault
 as_adapter (Ok next) = Ok (next.0, Adapter next.1)
@@ -46,3 +81,7 @@ opening_table (config.Adapter profile) = Adapter (adapter_table profile)
 -- what is wrong with what a device is to be made of
 abbrev pub config_fault : Config → Option ProfileFault
 config_fault (config.Adapter profile) = profile_fault profile
+
+-- what a point of a device holds
+abbrev pub bytes_in : DeviceTable → ℕ → Option (List ℕ)
+bytes_in (Adapter t) point = bytes_at t.values point

@@ -1,6 +1,6 @@
 //! What a request is admitted as.
 
-use crate::row::Kind;
+use crate::row::{Kind, Row};
 use cip_epath::ConnPath;
 
 /// What consumes the O->T data of a connection: what the connection is for, and how many bytes the
@@ -11,9 +11,11 @@ pub struct Consumer {
     pub len: u64,
 }
 
-/// What an open request is admitted as: its path, and what its consumed point is.
+/// What an open request is admitted as: its path, what its consumed point is, and the connection whose
+/// multicast producer it joins.
 #[derive(Clone, Copy, Debug)]
 pub struct Admission<'a> {
     pub path: ConnPath<'a>,
     pub consumer: Consumer,
+    pub group: Option<Row>,
 }

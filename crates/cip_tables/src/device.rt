@@ -1,13 +1,13 @@
 //! What a device is, and runs of one.
 
-ghost use Rattle.std.specs.Prelude.{◌≡◌, ◌↔◌, None, Some, Result, filter, IfOk, IfErr, OnErr, IsErr};
+ghost use Rattle.std.specs.Prelude.{◌≡◌, ◌≢◌, ◌↔◌, Err, None, Some, Result, filter, IfOk, IfErr, OnErr, IsErr};
 ghost use Rattle.cip_tables.specs.declared.table.DeviceTable.{DeviceTable};
-ghost use Rattle.cip_tables.specs.Step.{step, opening_table, config_fault};
+ghost use Rattle.cip_tables.specs.Step.{step, opening_table, config_fault, bytes_in};
 ghost use Rattle.cip_tables.specs.Run.{Follows, Runs, found_memory, outcomes_of, performed, table_after};
 ghost use Rattle.cip_tables.specs.Sound.{IsSoundDevice};
 ghost use Rattle.cip_tables.specs.News.{IsRefusedAs};
 
-use crate::event::{Event, NewFault, Outcome};
+use crate::event::{Event, NewFault, Outcome, StepFault};
 use crate::table::Config;
 use cip_types::OutOfMemory;
 use std::alloc::Global;
@@ -29,6 +29,17 @@ pub trait Device {
     /// answer to give.
     fn step(&mut self, event: &Event) -> Outcome
         ensures { Follows (step (table self.old) event.now) (table self.old) result (table self.new) };
+
+    /// Sets what an input holds, as the event Write does, and gives the same answer. Takes no memory.
+    fn write_point(&mut self, point: u32, bytes: &[u8]) -> Outcome
+        ensures step { Follows (step (table self.old) (Event.Write point bytes.now)) (table self.old) result (table self.new) }
+        ensures no_memory { result ≢ Err StepFault.OutOfMemory };
+
+    /// What an output, an input or the configuration holds. Takes no memory. The one fault is
+    /// `NoSuchPoint`.
+    fn read_point(&self, point: u32) -> Result<&[u8], StepFault>
+        ensures found { IfOk result (λ bytes. bytes_in (table self.now) point ≡ Some bytes.now) }
+        ensures none { IfErr result (λ fault. (fault ≡ StepFault.NoSuchPoint) × (bytes_in (table self.now) point ≡ None)) };
 }
 
 /// Steps a device through events, in order. Room for all outcomes is made first: where that is refused,

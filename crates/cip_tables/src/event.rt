@@ -11,6 +11,10 @@ use thiserror::Error;
 pub enum Event {
     /// A peer sends a request to the message router.
     Request { peer: Node, bytes: Items<u8> },
+    /// The application sets what an input holds.
+    Write { point: u32, bytes: Items<u8> },
+    /// The application asks what a point holds.
+    Read { point: u32 },
 }
 
 /// Whom a frame goes to.
@@ -44,6 +48,8 @@ pub enum Verdict {
     Done,
     /// Its bytes are too few to be answered.
     BadFrame,
+    /// The bytes that a point holds.
+    Value(Items<u8>),
 }
 
 /// What happened to a connection.
@@ -51,6 +57,10 @@ pub enum Verdict {
 pub enum Notice {
     /// A connection was opened, with this O->T id.
     Opened(Triad, ConnId),
+    /// A connection was closed by its originator, or by another peer.
+    Closed(Triad),
+    /// A listen-only connection lost its last support.
+    Dropped(Triad),
     /// A timed-out connection made room for a new one.
     Replaced(Triad),
 }

@@ -2,7 +2,7 @@
 //! nothing: its contract is the law.
 
 ghost use Rattle.std.specs.Prelude.{◌≤◌, length};
-ghost use Rattle.cip_tables.specs.Sound.{OverEveryRun, HasOneOwner, TriadsDiffer, IdsDiffer, IdsAreDrawn};
+ghost use Rattle.cip_tables.specs.Sound.{OverEveryRun, HasOneOwner, TriadsDiffer, IdsDiffer, IdsAreDrawn, ListenersAreSupported, GroupsAgree};
 
 /// An output has at most one established exclusive owner.
 pub fn at_most_one_owner()
@@ -27,4 +27,16 @@ pub fn ids_are_below_the_next()
 /// There are at most 64 connections.
 pub fn at_most_64_connections()
     ensures { OverEveryRun (λ t. length t.rows ≤ 64) }
+{}
+
+/// Each established listen-only connection is supported: an established multicast connection of another
+/// kind gathers the same input.
+pub fn listeners_are_supported()
+    ensures { OverEveryRun (λ t. ListenersAreSupported t.rows) }
+{}
+
+/// The established multicast connections of one input have one producer, one T->O id, one packet interval
+/// and equal productions.
+pub fn groups_share_one_production()
+    ensures { OverEveryRun (λ t. GroupsAgree t.rows) }
 {}

@@ -17,6 +17,8 @@ pub enum Refusal {
     Trigger,
     /// Another connection owns the output, or the configuration would change under a connection.
     Ownership,
+    /// No connection has this triad.
+    NotFound,
     /// The multiplier is none, or a redundant owner is asked for.
     Parameter,
     /// A requested packet interval is out of range.
@@ -31,6 +33,8 @@ pub enum Refusal {
     Revision,
     /// The path names no application points.
     Path,
+    /// No connection of another kind supports a listen-only one.
+    NoSupport,
     /// The production inhibit time is above the T->O packet interval.
     InhibitTime,
     /// The O->T connection type is not served.
@@ -62,6 +66,7 @@ impl Refusal {
             Refusal::InUse => 0x0100,
             Refusal::Trigger => 0x0103,
             Refusal::Ownership => 0x0106,
+            Refusal::NotFound => 0x0107,
             Refusal::Parameter => 0x0108,
             Refusal::PacketInterval => 0x0111,
             Refusal::OutOfConnections => 0x0113,
@@ -69,6 +74,7 @@ impl Refusal {
             Refusal::DeviceType => 0x0115,
             Refusal::Revision => 0x0116,
             Refusal::Path => 0x0117,
+            Refusal::NoSupport => 0x0119,
             Refusal::InhibitTime => 0x011B,
             Refusal::ConsumedType => 0x0123,
             Refusal::ProducedType => 0x0124,
@@ -107,6 +113,8 @@ pub enum Status {
     Service,
     /// The data of the request are too short.
     NotEnoughData,
+    /// The object has no such attribute, or none is named.
+    Attribute,
     /// The data of the request are too long.
     TooMuchData,
 }
@@ -121,6 +129,7 @@ impl Status {
             Status::PathDestination => 0x05,
             Status::Service => 0x08,
             Status::NotEnoughData => 0x13,
+            Status::Attribute => 0x14,
             Status::TooMuchData => 0x15,
         }
     }

@@ -171,5 +171,9 @@ fn replies_are_written_whole(rt: HostRuntime) -> Result<(), Fail> {
     };
     let bytes = Reply::Opened(false, opened).write(rt.alloc())?;
     assert_eq!(rt; bytes.len(), 30);
+    let bytes = Reply::Got(&[1, 2]).write(rt.alloc())?;
+    assert_eq!(rt; bytes.as_slice(), [0x8E, 0, 0, 0, 1, 2].as_slice());
+    let bytes = Reply::Closed(triad).write(rt.alloc())?;
+    assert_eq!(rt; bytes.len(), 14);
     Ok(())
 }

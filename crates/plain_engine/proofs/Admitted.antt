@@ -1,18 +1,18 @@
 -- What an admitted request is, for the row that it opens.
-use Rattle.std.proofs.Common.{◌≡◌, ◌≤◌, ℕ, ◌+◌, Bool, true, false, not, ◌&&◌, ◌||◌, ◌==◌, nat_lt, nat_le, List, [], ◌∷◌, ◌++◌, length, Option, Some, None, Result, Ok, refl, sym, ap, subst, ◌∙◌, arith}
+use Rattle.std.proofs.Common.{◌≡◌, ◌≤◌, ℕ, ◌+◌, Bool, true, false, cond, not, ◌&&◌, ◌||◌, ◌==◌, nat_lt, List, length, Option, Some, None, Ok, refl, sym, ap, ◌∙◌, arith}
 use Rattle.std.specs.Prelude.{IsTrue}
 use Rattle.std.proofs.lemmas.Bool.Decides.{nat_tests}
 use Rattle.cip_netparams.specs.Rate.{is_interval, interval_ms}
-use Rattle.cip_epath.specs.Path.{PathFields}
 use Rattle.cip_fwdopen.specs.Open.{OpenFields}
 use Rattle.cip_tables.specs.declared.profile.InputPoint.{InputPoint}
 use Rattle.cip_tables.specs.declared.profile.Profile.{Profile}
 use Rattle.cip_tables.specs.declared.table.PointValue.{PointValue}
-use Rattle.cip_tables.specs.Checks.{Admitted, Standing, verdict, stored, named_len, has_other_length, is_known_config}
+use Rattle.cip_tables.specs.Checks.{Admitted, Standing, verdict, stored, named_len, has_other_length, is_multicast, drawn_ids}
+use Rattle.cip_tables.specs.declared.row.Row.{Row}
 use Rattle.cip_tables.specs.Points.{data_points}
 use Rattle.cip_tables.specs.Opening.{configured}
-use Rattle.cip_tables.proofs.CheckLemmas.{IsAdmitted, admitted_is, ids_left}
-use Rattle.plain_engine.specs.Kept.{HaveLengths, AreFound, FitConfig, length_of}
+use Rattle.cip_tables.proofs.CheckLemmas.{admitted_is, ids_left}
+use Rattle.plain_engine.specs.Kept.{HaveLengths, AreFound, FitConfig}
 use Rattle.plain_engine.proofs.Lengths.{fit_of, config_len, lengths_put}
 
 not_false : (b : Bool) → not b ≡ false → b ≡ true
@@ -28,22 +28,27 @@ and_parts true b h = (refl, h)
 and_parts false b h = cc
 
 -- what the times and the id of an admitted request are
-pub record IsTimed (at : Standing) (request : OpenFields) : Type 0 where
+pub record IsTimed (at : Standing) (request : OpenFields) (group : Option Row) : Type 0 where
   pub o_t : IsTrue (is_interval request.o_t_rpi)
   pub t_o : IsTrue (is_interval request.t_o_rpi)
   pub waits : request.multiplier ≤ 7
-  pub left : at.next_id ≤ 16777215
+  pub left : at.next_id + drawn_ids request group ≤ 16777216
+  pub draws : 1 ≤ drawn_ids request group
 
 multiplier_fits : (m : ℕ) → nat_lt 7 m ≡ false → m ≤ 7
 multiplier_fits m h = grind (arith, nat_tests)
 
-pub is_timed : (at : Standing) (request : OpenFields) (admitted : Admitted) → verdict at request ≡ Ok admitted → IsTimed at request
+draws_some : (request : OpenFields) (group : Option Row) → 1 ≤ drawn_ids request group
+draws_some request None = elim (is_multicast request.t_o_params.kind) as (λ b. 1 ≤ cond b 2 1) [ true ↦ omega arith | false ↦ omega arith ]
+draws_some request (Some member) = omega arith
+
+pub is_timed : (at : Standing) (request : OpenFields) (admitted : Admitted) → verdict at request ≡ Ok admitted → IsTimed at request admitted.group
 is_timed at request admitted e =
     let is = admitted_is at request admitted e in
     let both = and_parts (is_interval request.o_t_rpi) (is_interval request.t_o_rpi) (not_false _ is.are_intervals) in
     let served = or_parts (nat_lt 7 request.multiplier) _ is.is_served in
-    let left = ids_left at.rows at.next_id is.not_used_up in
-    record { o_t = both.0; t_o = both.1; waits = multiplier_fits request.multiplier served.0; left = omega arith }
+    let left = ids_left at.rows at.next_id (drawn_ids request admitted.group) is.not_used_up in
+    record { o_t = both.0; t_o = both.1; waits = multiplier_fits request.multiplier served.0; left = left; draws = draws_some request admitted.group }
 
 pub interval_fits : (rpi : ℕ) → IsTrue (is_interval rpi) → interval_ms rpi ≤ 10000
 interval_fits rpi is = grind (arith, nat_tests)

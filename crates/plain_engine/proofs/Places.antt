@@ -1,6 +1,6 @@
 -- Edits of a list at the first place that passes a test.
-use Rattle.std.proofs.Common.{◌≡◌, ◌<◌, ◌≤◌, ℕ, ◌+◌, Bool, true, false, cond, not, List, [], ◌∷◌, ◌++◌, length, map, filter, fold, take, drop, get_or, set, Option, Some, None, nat_lt, unwrap_or, find, slice_get, suc, one-add, drop-cons, refl, sym, ◌∙◌, ap, arith, rules}
-use Rattle.std.specs.List.{position_or_len, position, remove, insert}
+use Rattle.std.proofs.Common.{◌≡◌, ◌<◌, ◌≤◌, ℕ, ◌+◌, Bool, true, false, cond, not, List, [], ◌∷◌, length, map, take, drop, get_or, set, Some, None, nat_lt, unwrap_or, find, slice_get, suc, drop-cons, refl, sym, ◌∙◌, ap, arith}
+use Rattle.std.specs.List.{position_or_len, position, remove}
 use Rattle.std.proofs.lemmas.Grind.{common_steps}
 use Rattle.std.proofs.lemmas.Bool.Decides.{nat_tests}
 use Rattle.std.proofs.lemmas.List.Sums.{prefix_len-le-length}
@@ -27,6 +27,9 @@ place_or n m le = grind (arith, nat_tests)
 
 pub position_or : {X : Type 0} (p : X → Bool) (xs : List X) → unwrap_or (position p xs) (length xs) ≡ position_or_len p xs
 position_or p xs = place_or _ _ (prefix_len-le-length (λ x. not (p x)) xs)
+
+pub place_bound : {X : Type 0} (p : X → Bool) (xs : List X) → position_or_len p xs ≤ length xs
+place_bound p xs = prefix_len-le-length (λ x. not (p x)) xs
 
 pub remove_past : {X : Type 0} (xs : List X) (n : ℕ) → length xs ≤ n → remove xs n ≡ xs
 remove_past xs n le = grind (arith, common_steps)

@@ -28,6 +28,7 @@ pub record IsKept (profile : Profile) (values : List PointValue) (clock : ℕ) :
   pub clock_in_range : clock ≤ 2 ^ 48
   pub lengths : HaveLengths profile values
   pub found : AreFound (data_points profile) (data_points profile)
+  pub few : length profile.inputs ≤ 8
 
 -- what the point holds, wherever it stands in the list, has this length
 abbrev pub FitPoint : ℕ → ℕ → List PointValue → Type 0

@@ -1,28 +1,37 @@
 //! An adapter over plain lists.
 
-ghost use Rattle.std.specs.Prelude.{◌≡◌, ◌∷◌, ◌++◌, [], Ok, Result, IfOk, OnOk, OnErr, IfSome, Option, vec_len, vec_capacity, ◌<◌, ◌≤◌, IsTrue};
+ghost use Rattle.std.specs.Prelude.{◌≡◌, ◌≢◌, ◌+◌, ◌∷◌, [], Ok, Err, Result, IfOk, ◌<◌, ◌≤◌, IsTrue, length};
 ghost use Rattle.std.specs.Option.{option_map};
+ghost use Rattle.cip_epath.specs.Path.{view_path};
 ghost use Rattle.cip_fwdopen.specs.Open.{view_open};
-ghost use Rattle.cip_netparams.specs.Word.{trigger_of};
+ghost use Rattle.cip_fwdopen.specs.Close.{view_close};
 ghost use Rattle.cip_netparams.specs.Rate.{is_interval};
-ghost use Rattle.cip_tables.specs.Replies.{HasStatus};
-ghost use Rattle.cip_tables.specs.Checks.{standing, verdict, view_admission, stored};
-ghost use Rattle.cip_tables.specs.Opening.{opened_row, opened_reply, opened_notices, replaced_notices, replaced_triad, opened_table, opened_production, served_trigger, served_inhibit};
-ghost use Rattle.cip_tables.specs.Requests.{requested, plain_answer, replied, reply_frame, admitted_open, served_open, refused_open, router_refusal};
-ghost use Rattle.cip_tables.specs.Step.{step, adapter_step};
+ghost use Rattle.cip_tables.specs.Replies.{view_reply, HasStatus};
+ghost use Rattle.cip_tables.specs.Checks.{standing, verdict, view_admission, drawn_ids};
+ghost use Rattle.cip_tables.specs.Opening.{opened_row, opened_production, opened_state, opened_t_o_id, connection_id};
+ghost use Rattle.cip_tables.specs.Requests.{requested, replied, reply_frame, admitted_open, served_open, router_refusal, known_close, served_close, served_assembly, is_value_attribute};
+ghost use Rattle.cip_tables.specs.Closing.{closed_values};
+ghost use Rattle.cip_tables.specs.Step.{write, read};
 ghost use Rattle.cip_tables.specs.Run.{Follows};
 
-use crate::checks::{admit, stored};
-use crate::rows::{append_row, make_room, replaced};
-use crate::standing::Standing;
-use crate::values::{configure, opening_values};
-use cip_fwdopen::{OpenRequest, Opened};
-use cip_netparams::{ConnectionType, Trigger, api_of, timeout_of};
-use cip_tables::{
-    Admission, Answer, Asked, Config, Device, Event, Frame, NewFault, Notice, Outcome, PointValue,
-    Production, Profile, Recipient, Reply, Row, State, Verdict, read_asked,
+use crate::addresses::address_of;
+use crate::answers::{opened_reply, opening_notices, plain_answer, reply_answer};
+use crate::checks::{
+    admit, drawn_ids, drives, find_input, is_multicast, served_inhibit, served_trigger, stored,
 };
-use cip_types::{ConnId, Items, Ms, Node, OutOfMemory, Triad};
+use crate::rows::{
+    append_row, closed_notices, find_row, make_room, others, replaced, staying, write_rows,
+};
+use crate::standing::Standing;
+use crate::values::{configure, find_value, lose, opening_values, put_value};
+use cip_epath::ConnPath;
+use cip_fwdopen::{CloseRequest, OpenRequest};
+use cip_netparams::{api_of, timeout_of};
+use cip_tables::{
+    Admission, Answer, Asked, Config, Device, Event, NewFault, Outcome, PointValue, Production,
+    Profile, Refusal, Reply, Row, State, Status, StepFault, Verdict, read_asked,
+};
+use cip_types::{ConnId, Items, Ms, Node, OutOfMemory};
 use std::alloc::Global;
 use std::marker::Model;
 
@@ -31,6 +40,11 @@ const FIRST_WATCHDOG: u64 = 10_000;
 
 /// What the incarnation counts in a connection id.
 const INCARNATION: u32 = 1 << 24;
+
+/// The service that reads an attribute, and the attribute that is an assembly's value.
+const GET_ATTRIBUTE_SINGLE: u8 = 0x0E;
+
+const VALUE: u32 = 3;
 
 /// An adapter over plain lists, which contracts see as its table.
 ///
@@ -56,88 +70,7 @@ impl Model for PlainAdapter {
     ghost invariant = { λ a. IsKept a.profile a.values.items a.clock.0 };
 }
 
-fn plain_answer(alloc: Global, verdict: Verdict) -> Answer
-    ensures { result ≡ plain_answer verdict }
-{
-    Answer {
-        frames: Items::new(alloc),
-        datagrams: Items::new(alloc),
-        verdict,
-        notices: Items::new(alloc),
-    }
-}
-
-/// The answer that replies to a peer.
-fn reply_answer(
-    alloc: Global,
-    peer: Node,
-    reply: &Reply,
-    notices: Vec<Notice>,
-) -> Result<Answer, OutOfMemory>
-    requires { HasStatus reply.now }
-    ensures { IfOk result (λ answer. answer ≡ record { frames = reply_frame peer reply.now ∷ []; datagrams = []; verdict = Verdict.Done; notices = notices.items }) }
-{
-    let bytes = reply.write(alloc)?;
-    let frame = Frame {
-        to: Recipient::Peer(peer),
-        bytes: Items::from_vec(bytes),
-    };
-    Ok(Answer {
-        frames: Items::one(alloc, frame)?,
-        datagrams: Items::new(alloc),
-        verdict: Verdict::Done,
-        notices: Items::from_vec(notices),
-    })
-}
-
-fn opening_notices(
-    alloc: Global,
-    gone: Option<Triad>,
-    row: &Row,
-) -> Result<Vec<Notice>, OutOfMemory>
-    ensures { IfOk result (λ notices. notices.items ≡ replaced_notices gone ++ Notice.Opened row.now.triad row.now.o_t_id ∷ []) }
-{
-    let mut notices = Vec::new(alloc);
-    if let Some(gone) = gone {
-        notices.push(Notice::Replaced(gone))?;
-    }
-    notices.push(Notice::Opened(row.triad, row.o_t_id))?;
-    Ok(notices)
-}
-
-/// The trigger of a request, cyclic where it names none.
-fn served_trigger(trigger: u8) -> Trigger
-    ensures { result ≡ served_trigger (trigger_of trigger) }
-{
-    match Trigger::read(trigger) {
-        Some(trigger) => trigger,
-        None => Trigger::Cyclic,
-    }
-}
-
-/// A cyclic producer is not held back.
-fn served_inhibit(trigger: Trigger, inhibit: Option<u8>) -> u8
-    ensures { result ≡ served_inhibit trigger inhibit }
-{
-    match trigger {
-        Trigger::Cyclic => 0,
-        Trigger::ChangeOfState => inhibit.unwrap_or(0),
-    }
-}
-
-fn opened_reply(row: &Row) -> Opened
-    requires o_t { row.now.o_t_api ≤ 10000 }
-    requires t_o { row.now.t_o_api ≤ 10000 }
-    ensures { result ≡ opened_reply row.now }
-{
-    Opened {
-        o_t_id: row.o_t_id,
-        t_o_id: row.t_o_id,
-        triad: row.triad,
-        o_t_api: 1000 * row.o_t_api,
-        t_o_api: 1000 * row.t_o_api,
-    }
-}
+// OPENING
 
 impl PlainAdapter {
     ghost use Rattle.plain_engine.specs.Views.{view_standing};
@@ -154,26 +87,53 @@ impl PlainAdapter {
     }
 
     /// The producer that a connection begins.
-    fn production(
-        &self,
-        peer: Node,
-        request: &OpenRequest<'_>,
-        admission: &Admission<'_>,
-    ) -> Production
-        ensures { result ≡ opened_production self.now peer (view_open request.now) (view_admission admission.now) }
+    fn production(&self, peer: Node, request: &OpenRequest<'_>, path: &ConnPath<'_>) -> Production
+        ensures { result ≡ opened_production self.now peer (view_open request.now) (view_path path.now) }
     {
         let trigger = served_trigger(request.trigger);
+        let kind = request.t_o_params.kind;
         Production {
             producer: self.next_id,
             sequence: 1,
             count: 0,
             written: true,
             due: self.clock,
-            address: peer,
+            address: address_of(&self.profile, peer, kind, path.produced),
             trigger,
-            inhibit: served_inhibit(trigger, admission.path.inhibit),
+            inhibit: served_inhibit(trigger, path.inhibit),
             last: None,
         }
+    }
+
+    /// The state of a connection that is opened: it shares a producer, or begins one.
+    fn state_of(&self, peer: Node, request: &OpenRequest<'_>, admission: &Admission<'_>) -> State
+        ensures { result ≡ opened_state self.now peer (view_open request.now) (view_path admission.now.path) admission.now.group }
+    {
+        match admission.group {
+            Some(member) => member.state,
+            None => State::Established(self.production(peer, request, &admission.path)),
+        }
+    }
+
+    fn connection_id(&self, counter: u32) -> ConnId
+        requires { counter ≤ 16777215 }
+        ensures { result ≡ connection_id self.now.profile counter }
+    {
+        ConnId(u32::from(self.profile.incarnation) * INCARNATION + counter)
+    }
+
+    /// The T->O id of a connection that is opened.
+    fn t_o_id_of(&self, request: &OpenRequest<'_>, group: Option<Row>) -> ConnId
+        requires { self.now.next_id + drawn_ids (view_open request.now) group ≤ 16777216 }
+        ensures { result ≡ opened_t_o_id self.now (view_open request.now) group }
+    {
+        let Some(member) = group else {
+            if is_multicast(request.t_o_params.kind) {
+                return self.connection_id(self.next_id + 1);
+            }
+            return request.t_o_id;
+        };
+        member.t_o_id
     }
 
     /// The connection that an admitted request opens.
@@ -182,29 +142,29 @@ impl PlainAdapter {
         requires o_t { IsTrue (is_interval request.now.o_t_rpi) }
         requires t_o { IsTrue (is_interval request.now.t_o_rpi) }
         requires waits { request.now.multiplier ≤ 7 }
-        requires left { self.now.next_id ≤ 16777215 }
+        requires left { self.now.next_id + drawn_ids (view_open request.now) admission.now.group ≤ 16777216 }
+        requires draws { 1 ≤ drawn_ids (view_open request.now) admission.now.group }
         ensures { result ≡ opened_row self.now peer (view_open request.now) (view_admission admission.now) }
     {
         let o_t_api = api_of(request.o_t_rpi).unwrap();
         let t_o_api = api_of(request.t_o_rpi).unwrap();
         let timeout = timeout_of(request.multiplier, o_t_api).unwrap();
-        let production = self.production(peer, request, admission);
         Row {
             triad: request.triad,
             peer,
             kind: admission.consumer.kind,
             consumed: admission.path.consumed,
             produced: admission.path.produced,
-            o_t_id: ConnId(u32::from(self.profile.incarnation) * INCARNATION + self.next_id),
-            t_o_id: request.t_o_id,
+            o_t_id: self.connection_id(self.next_id),
+            t_o_id: self.t_o_id_of(request, admission.group),
             o_t_api,
             t_o_api,
             multiplier: request.multiplier,
-            multicast: request.t_o_params.kind == ConnectionType::Multicast,
+            multicast: is_multicast(request.t_o_params.kind),
             opening: self.next_id,
             last: None,
             deadline: Ms(self.clock.0 + FIRST_WATCHDOG.max(timeout.0)),
-            state: State::Established(production),
+            state: self.state_of(peer, request, admission),
         }
     }
 
@@ -231,15 +191,8 @@ impl PlainAdapter {
             stored(&admission.path),
         );
         append_row(&mut self.rows, row);
-        self.next_id += 1;
+        self.next_id += drawn_ids(request, admission.group);
         Ok(answer)
-    }
-
-    fn refuse(&self, peer: Node, reply: Reply) -> Result<Answer, OutOfMemory>
-        requires { HasStatus reply }
-        ensures { IfOk result (λ answer. answer ≡ record { frames = reply_frame peer reply ∷ []; datagrams = []; verdict = Verdict.Done; notices = [] }) }
-    {
-        reply_answer(self.alloc, peer, &reply, Vec::new(self.alloc))
     }
 
     /// A Forward_Open of either size.
@@ -252,9 +205,83 @@ impl PlainAdapter {
             Err(why) => {
                 let service = if large { 0x5B } else { 0x54 };
                 let reply = Reply::Refused(service, why.fault(), Some(request.triad));
-                Ok(self.refuse(peer, reply)?)
+                Ok(self.reply(peer, reply)?)
             }
         }
+    }
+}
+
+// OTHER REQUESTS
+
+impl PlainAdapter {
+    fn reply(&self, peer: Node, reply: Reply<'_>) -> Result<Answer, OutOfMemory>
+        requires { HasStatus (view_reply reply) }
+        ensures { IfOk result (λ answer. answer ≡ record { frames = reply_frame peer (view_reply reply.entry) ∷ []; datagrams = []; verdict = Verdict.Done; notices = [] }) }
+    {
+        reply_answer(self.alloc, peer, &reply, Vec::new(self.alloc))
+    }
+
+    /// A request that the message router refuses.
+    fn refuse(&mut self, peer: Node, service: u8, why: Status) -> Outcome
+        ensures { Follows (Ok (replied peer (router_refusal self.old service why))) self.old result self.new }
+    {
+        Ok(self.reply(peer, Reply::Refused(service, why.fault(), None))?)
+    }
+
+    /// The close of a connection.
+    #[tactic(auto, unfolding(cip_tables::specs::Closing::closed_table))]
+    fn close(&mut self, peer: Node, row: &Row) -> Outcome
+        ensures { Follows (Ok (replied peer (known_close self.old row.now))) self.old result self.new }
+    {
+        let left = others(self.alloc, &self.rows, row.triad)?;
+        let notices = closed_notices(self.alloc, &left, row.triad)?;
+        let staying = staying(self.alloc, &left)?;
+        let answer = reply_answer(self.alloc, peer, &Reply::Closed(row.triad), notices)?;
+        lose_owner(&mut self.values, &self.profile, row);
+        self.rows = staying;
+        Ok(answer)
+    }
+
+    /// A Forward_Close.
+    #[tactic(auto, unfolding(cip_tables::specs::Requests::served_close))]
+    fn forward_close(&mut self, peer: Node, request: &CloseRequest<'_>) -> Outcome
+        ensures { Follows (Ok (replied peer (served_close self.old (view_close request.now)))) self.old result self.new }
+    {
+        match find_row(&self.rows, request.triad) {
+            Some(row) => self.close(peer, &row),
+            None => {
+                let fault = Refusal::NotFound.fault();
+                let reply = Reply::Refused(0x4E, fault, Some(request.triad));
+                Ok(self.reply(peer, reply)?)
+            }
+        }
+    }
+
+    /// A service of an assembly instance.
+    #[tactic(auto, unfolding(cip_tables::specs::Requests::served_assembly))]
+    fn assembly(
+        &mut self,
+        peer: Node,
+        service: u8,
+        instance: u32,
+        attribute: Option<u32>,
+        body: &[u8],
+    ) -> Outcome
+        ensures { Follows (Ok (replied peer (served_assembly self.old service instance attribute body.now))) self.old result self.new }
+    {
+        let Some(value) = find_value(&self.values, instance) else {
+            return self.refuse(peer, service, Status::PathDestination);
+        };
+        if service != GET_ATTRIBUTE_SINGLE {
+            return self.refuse(peer, service, Status::Service);
+        }
+        if !is_value_attribute(attribute) {
+            return self.refuse(peer, service, Status::Attribute);
+        }
+        if !body.is_empty() {
+            return self.refuse(peer, service, Status::TooMuchData);
+        }
+        Ok(self.reply(peer, Reply::Got(value))?)
     }
 
     /// A request of a peer.
@@ -264,11 +291,64 @@ impl PlainAdapter {
     {
         match read_asked(bytes) {
             Asked::Nothing => Ok(plain_answer(self.alloc, Verdict::BadFrame)),
-            Asked::Refused(service, why) => {
-                Ok(self.refuse(peer, Reply::Refused(service, why.fault(), None))?)
+            Asked::Refused(service, why) => self.refuse(peer, service, why),
+            Asked::Closing(request) => self.forward_close(peer, &request),
+            Asked::Assembly(service, instance, attribute, body) => {
+                self.assembly(peer, service, instance, attribute, body)
             }
             Asked::Opening(large, request) => self.forward_open(peer, large, &request),
         }
+    }
+}
+
+// POINTS
+
+impl PlainAdapter {
+    /// Sets what an input holds.
+    #[tactic(auto, unfolding(cip_tables::specs::Step::write, cip_tables::specs::Step::written_table))]
+    fn write(&mut self, point: u32, bytes: &[u8]) -> Outcome
+        ensures step { Follows (write self.old point bytes.now) self.old result self.new }
+        ensures no_memory { result ≢ Err StepFault.OutOfMemory }
+    {
+        let Some(input) = find_input(self.profile.inputs.as_slice(), point) else {
+            return Err(StepFault::NoSuchPoint);
+        };
+        if bytes.len() as u64 != input.len {
+            return Err(StepFault::WrongLength);
+        }
+        put_value(&mut self.values, point, bytes);
+        write_rows(&mut self.rows, point);
+        Ok(plain_answer(self.alloc, Verdict::Done))
+    }
+
+    /// What a point holds.
+    #[tactic(auto, unfolding(cip_tables::specs::Step::read))]
+    fn read(&mut self, point: u32) -> Outcome
+        ensures { Follows (read self.old point) self.old result self.new }
+    {
+        let Some(value) = find_value(&self.values, point) else {
+            return Err(StepFault::NoSuchPoint);
+        };
+        let value = Items::copy_of(self.alloc, value)?;
+        Ok(plain_answer(self.alloc, Verdict::Value(value)))
+    }
+}
+
+fn is_value_attribute(attribute: Option<u32>) -> bool
+    ensures { result ≡ is_value_attribute attribute }
+{
+    match attribute {
+        Some(attribute) => attribute == VALUE,
+        None => false,
+    }
+}
+
+/// The fault action, where the connection drove an output. Takes no memory.
+fn lose_owner(values: &mut [PointValue], profile: &Profile, row: &Row)
+    ensures { values.new ≡ closed_values profile.now row.now values.old }
+{
+    if drives(row, row.consumed) {
+        lose(values, profile, row.consumed);
     }
 }
 
@@ -291,10 +371,21 @@ impl Device for PlainAdapter {
         })
     }
 
-    #[tactic(auto, unfolding(cip_tables::specs::Step::step))]
+    #[tactic(auto, unfolding(cip_tables::specs::Step::step), using(cip_tables::proofs::FollowLemmas::adapter_follows))]
     fn step(&mut self, event: &Event) -> Outcome {
         match event {
             Event::Request { peer, bytes } => self.request(*peer, bytes.as_slice()),
+            Event::Write { point, bytes } => self.write(*point, bytes.as_slice()),
+            Event::Read { point } => self.read(*point),
         }
+    }
+
+    #[tactic(auto, unfolding(cip_tables::specs::Step::step), using(cip_tables::proofs::FollowLemmas::adapter_follows))]
+    fn write_point(&mut self, point: u32, bytes: &[u8]) -> Outcome {
+        self.write(point, bytes)
+    }
+
+    fn read_point(&self, point: u32) -> Result<&[u8], StepFault> {
+        find_value(&self.values, point).ok_or(StepFault::NoSuchPoint)
     }
 }

@@ -1,18 +1,19 @@
 //! The checks of a request to open a connection.
 
-ghost use Rattle.std.specs.Prelude.{◌≡◌, ◌==◌, Some, Option, None, find, length};
+ghost use Rattle.std.specs.Prelude.{◌≡◌, ◌≤◌, ◌==◌, Some, Option, None, find, length};
 ghost use Rattle.std.specs.List.{list_any};
 ghost use Rattle.std.specs.Option.{option_map, option_copied};
 ghost use Rattle.cip_epath.specs.Key.{view_key};
 ghost use Rattle.cip_epath.specs.Path.{view_path};
 ghost use Rattle.cip_epath.specs.Reading.{path_reading};
 ghost use Rattle.cip_netparams.specs.Word.{trigger_of};
+ghost use Rattle.cip_netparams.specs.Rate.{interval_ms};
 ghost use Rattle.cip_fwdopen.specs.Open.{view_open};
 ghost use Rattle.cip_tables.specs.Profiles.{is_at, is_output_at};
 ghost use Rattle.cip_tables.specs.Points.{bytes_at};
-ghost use Rattle.cip_tables.specs.Rows.{same_triad, has_triad, holds_triad, drives, is_timed_out, is_established, is_owner, is_listener};
+ghost use Rattle.cip_tables.specs.Rows.{same_triad, has_triad, holds_triad, drives, is_timed_out, is_established, is_owner, is_listener, is_member, supports, is_supported};
 ghost use Rattle.plain_engine.specs.Views.{view_standing};
-ghost use Rattle.cip_tables.specs.Checks.{Gives, readable_path, inhibit_of, key_of, key_check, key_refusal, is_point_to_point, is_produced_type, is_multicast, is_change_of_state, is_unserved, are_intervals, is_held_back, connection_check, is_known_config, heartbeat_consumer, consumer_of, path_check, points_of, named_len, has_other_length, stored, has_other_bytes, config_bytes, changes_config, is_owned, is_used_up, o_t_size, t_o_size, points_check, view_admission, admitted_path, verdict};
+ghost use Rattle.cip_tables.specs.Checks.{Gives, readable_path, inhibit_of, key_of, key_check, key_refusal, is_point_to_point, is_produced_type, is_multicast, is_change_of_state, is_unserved, are_intervals, is_held_back, connection_check, is_known_config, heartbeat_consumer, consumer_of, path_check, points_of, named_len, has_other_length, stored, has_other_bytes, config_bytes, changes_config, is_owned, is_used_up, o_t_size, t_o_size, group_of, joined, drawn_ids, is_alone, state_trigger, state_inhibit, same_trigger, served_trigger, served_inhibit, first_of, group_checks, room_check, admitted_points, points_check, view_admission, admitted_path, verdict};
 
 use crate::standing::Standing;
 use crate::values::find_value;
@@ -24,8 +25,8 @@ use cip_tables::{
 };
 use cip_types::{Identity, Triad};
 
-/// The last counter of a connection id.
-const LAST_ID: u32 = 0x00FF_FFFF;
+/// The counter that no connection id has any more.
+const ID_END: u32 = 0x0100_0000;
 
 /// The most connections of an adapter.
 pub const MOST_ROWS: usize = 64;
@@ -51,7 +52,7 @@ pub fn has_triad(row: &Row, triad: Triad) -> bool
     row.triad == triad
 }
 
-fn drives(row: &Row, point: u32) -> bool
+pub fn drives(row: &Row, point: u32) -> bool
     ensures { result ≡ drives point row.now }
 {
     is_established(row) && row.kind == Kind::ExclusiveOwner && row.consumed == point
@@ -119,13 +120,49 @@ fn key_refusal(identity: &Identity, path: &Option<ConnPath<'_>>) -> Option<Refus
     }
 }
 
+/// Whether the connection is established, and shares the multicast producer of the input.
+pub fn is_member(row: &Row, point: u32) -> bool
+    ensures { result ≡ is_member point row.now }
+{
+    is_established(row) && row.multicast && row.produced == point
+}
+
+/// The connection whose producer a multicast one on the input joins.
+fn group_of(rows: &[Row], point: u32) -> Option<Row>
+    ensures { result ≡ group_of rows.now point }
+{
+    rows.iter().copied().find(|row| is_member(row, point))
+}
+
+fn supports(row: &Row, kind: Kind, point: u32) -> bool
+    ensures { result ≡ supports kind point row.now }
+{
+    is_member(row, point) && row.kind != kind
+}
+
+/// Whether a connection of the kind on the input is supported.
+pub fn is_supported(rows: &[Row], kind: Kind, point: u32) -> bool
+    ensures { result ≡ is_supported rows.now kind point }
+{
+    rows.iter().any(|row| supports(row, kind, point))
+}
+
 fn is_point_to_point(kind: ConnectionType) -> bool
     ensures { result ≡ is_point_to_point kind }
 {
     kind == ConnectionType::PointToPoint
 }
 
-fn is_multicast(kind: ConnectionType) -> bool
+fn is_produced_type(kind: ConnectionType) -> bool
+    ensures { result ≡ is_produced_type kind }
+{
+    match kind {
+        ConnectionType::Multicast | ConnectionType::PointToPoint => true,
+        ConnectionType::Null | ConnectionType::Reserved => false,
+    }
+}
+
+pub fn is_multicast(kind: ConnectionType) -> bool
     ensures { result ≡ is_multicast kind }
 {
     kind == ConnectionType::Multicast
@@ -179,7 +216,7 @@ fn connection_refusal(
     if !is_point_to_point(request.o_t_params.kind) {
         return Some(Refusal::ConsumedType);
     }
-    if !is_point_to_point(request.t_o_params.kind) {
+    if !is_produced_type(request.t_o_params.kind) {
         return Some(Refusal::ProducedType);
     }
     if Trigger::read(request.trigger).is_none() {
@@ -207,7 +244,7 @@ fn is_known_config(config: Option<InputPoint>, named: Option<u32>) -> bool
     }
 }
 
-fn find_output(outputs: &[OutputPoint], instance: u32) -> Option<OutputPoint>
+pub fn find_output(outputs: &[OutputPoint], instance: u32) -> Option<OutputPoint>
     ensures { result ≡ find (is_output_at instance) outputs.now }
 {
     outputs
@@ -216,7 +253,7 @@ fn find_output(outputs: &[OutputPoint], instance: u32) -> Option<OutputPoint>
         .find(|output| output.instance == instance)
 }
 
-fn find_input(inputs: &[InputPoint], instance: u32) -> Option<InputPoint>
+pub fn find_input(inputs: &[InputPoint], instance: u32) -> Option<InputPoint>
     ensures { result ≡ find (is_at instance) inputs.now }
 {
     inputs
@@ -349,10 +386,131 @@ fn is_owned(rows: &[Row], consumer: &Consumer, point: u32) -> bool
     consumer.kind == Kind::ExclusiveOwner && is_driven(rows, point)
 }
 
-fn is_used_up(rows: &[Row], next_id: u32) -> bool
-    ensures { result ≡ is_used_up rows.now next_id }
+fn is_alone(rows: &[Row], consumer: &Consumer, point: u32) -> bool
+    ensures { result ≡ is_alone rows.now consumer.now point }
 {
-    next_id > LAST_ID || (rows.len() >= MOST_ROWS && !has_timed_out(rows))
+    consumer.kind == Kind::ListenOnly && !is_supported(rows, consumer.kind, point)
+}
+
+/// The connection whose producer the request joins, where it is to be multicast.
+fn joined(rows: &[Row], request: &OpenRequest<'_>, point: u32) -> Option<Row>
+    ensures { result ≡ joined rows.now (view_open request.now) point }
+{
+    if is_multicast(request.t_o_params.kind) {
+        group_of(rows, point)
+    } else {
+        None
+    }
+}
+
+/// How many ids an opening draws.
+pub fn drawn_ids(request: &OpenRequest<'_>, group: Option<Row>) -> u32
+    ensures value { result ≡ drawn_ids (view_open request.now) group }
+    ensures few { result ≤ 2 }
+{
+    match group {
+        Some(_) => 1,
+        None => {
+            if is_multicast(request.t_o_params.kind) {
+                2
+            } else {
+                1
+            }
+        }
+    }
+}
+
+fn is_used_up(rows: &[Row], next_id: u32, drawn: u32) -> bool
+    requires { drawn ≤ 2 }
+    ensures { result ≡ is_used_up rows.now next_id drawn }
+{
+    next_id > ID_END - drawn || (rows.len() >= MOST_ROWS && !has_timed_out(rows))
+}
+
+/// The trigger of a request, cyclic where it names none.
+pub fn served_trigger(trigger: u8) -> Trigger
+    ensures { result ≡ served_trigger (trigger_of trigger) }
+{
+    match Trigger::read(trigger) {
+        Some(trigger) => trigger,
+        None => Trigger::Cyclic,
+    }
+}
+
+/// A cyclic producer is not held back.
+pub fn served_inhibit(trigger: Trigger, inhibit: Option<u8>) -> u8
+    ensures { result ≡ served_inhibit trigger inhibit }
+{
+    match trigger {
+        Trigger::Cyclic => 0,
+        Trigger::ChangeOfState => inhibit.unwrap_or(0),
+    }
+}
+
+fn same_trigger(trigger: Trigger, state: &State) -> bool
+    ensures { result ≡ same_trigger trigger (state_trigger state.now) }
+{
+    let shared = match state {
+        State::Established(production) => production.trigger,
+        State::TimedOut => Trigger::Cyclic,
+    };
+    trigger == shared
+}
+
+fn state_inhibit(state: &State) -> u8
+    ensures { result ≡ state_inhibit state.now }
+{
+    match state {
+        State::Established(production) => production.inhibit,
+        State::TimedOut => 0,
+    }
+}
+
+fn has_api(rpi: u32, api: u32) -> bool
+    ensures { result ≡ (interval_ms rpi == api) }
+{
+    u64::from(rpi).div_ceil(1000) == u64::from(api)
+}
+
+/// The first check that a request fails against the producer that it joins.
+fn group_refusal(
+    request: &OpenRequest<'_>,
+    path: &ConnPath<'_>,
+    group: Option<Row>,
+) -> Option<Refusal>
+    ensures { result ≡ first_of (group_checks (view_open request.now) (view_path path.now) group) }
+{
+    let member = group?;
+    if !has_api(request.t_o_rpi, member.t_o_api) {
+        return Some(Refusal::PacketInterval);
+    }
+    let trigger = served_trigger(request.trigger);
+    if !same_trigger(trigger, &member.state) {
+        return Some(Refusal::Trigger);
+    }
+    if served_inhibit(trigger, path.inhibit) != state_inhibit(&member.state) {
+        return Some(Refusal::PacketInterval);
+    }
+    None
+}
+
+/// The first check that a request fails against the producer that it joins, the ids and the room.
+#[tactic(auto, unfolding(cip_tables::specs::Checks::room_check), using(crate::proofs::Chains::first_append))]
+fn room_refusal(
+    standing: Standing<'_>,
+    request: &OpenRequest<'_>,
+    path: &ConnPath<'_>,
+    group: Option<Row>,
+) -> Option<Refusal>
+    ensures { result ≡ room_check (view_standing standing.entry) (view_open request.now) (view_path path.now) group }
+{
+    if let Some(why) = group_refusal(request, path, group) {
+        return Some(why);
+    }
+    if is_used_up(standing.rows, standing.next_id, drawn_ids(request, group)) {
+        return Some(Refusal::OutOfConnections);
+    }
+    None
 }
 
 /// The first check that a request fails once its points are found.
@@ -366,12 +524,7 @@ fn points_refusal(
 ) -> Option<Refusal>
     ensures { result ≡ points_check (view_standing standing.entry) (view_open request.now) (view_path path.now) (consumer.now, input.now) }
 {
-    let Standing {
-        profile,
-        rows,
-        next_id,
-        ..
-    } = standing;
+    let Standing { profile, rows, .. } = standing;
     if has_other_length(named_len(profile.config, path.config), path.segment) {
         return Some(Refusal::ConfigurationSize);
     }
@@ -390,10 +543,31 @@ fn points_refusal(
     if consumer.kind == Kind::ListenOnly && !is_multicast(request.t_o_params.kind) {
         return Some(Refusal::ProducedType);
     }
-    if is_used_up(rows, next_id) {
-        return Some(Refusal::OutOfConnections);
+    if is_alone(rows, consumer, path.produced) {
+        return Some(Refusal::NoSupport);
     }
     None
+}
+
+/// What a request is admitted as once its points are found.
+fn admitted_points<'a>(
+    standing: Standing<'_>,
+    request: &OpenRequest<'a>,
+    path: ConnPath<'a>,
+    consumer: Consumer,
+    input: &InputPoint,
+) -> Result<Admission<'a>, Refusal>
+    ensures { Gives view_admission result (admitted_points (view_standing standing.entry) (view_open request.now) (view_path path.entry) (consumer, input.now)) }
+{
+    let group = joined(standing.rows, request, path.produced);
+    match room_refusal(standing, request, &path, group) {
+        Some(why) => Err(why),
+        None => Ok(Admission {
+            path,
+            consumer,
+            group,
+        }),
+    }
 }
 
 #[tactic(auto, unfolding(cip_tables::specs::Checks::admitted_path))]
@@ -407,7 +581,7 @@ fn admitted_path<'a>(
     let (consumer, input) = points_of(standing.profile, &path)?;
     match points_refusal(standing, request, &path, &consumer, &input) {
         Some(why) => Err(why),
-        None => Ok(Admission { path, consumer }),
+        None => admitted_points(standing, request, path, consumer, &input),
     }
 }
 

@@ -2,6 +2,8 @@
 #![tactic(auto)]
 
 mod adapter;
+mod addresses;
+mod answers;
 mod checks;
 mod rows;
 mod standing;

@@ -1,14 +1,16 @@
 //! Lists of connections.
 
-ghost use Rattle.std.specs.Prelude.{◌≡◌, ◌≤◌, vec_len, vec_capacity, ◌<◌, ◌∷◌, ◌++◌, [], find, OnOk};
+ghost use Rattle.std.specs.Prelude.{◌≡◌, ◌≤◌, vec_len, vec_capacity, ◌<◌, ◌∷◌, ◌++◌, [], find, OnOk, IfOk, map};
 ghost use Rattle.std.specs.List.{list_any, position, position_or_len, remove};
 ghost use Rattle.std.specs.Option.{option_map};
-ghost use Rattle.cip_tables.specs.Rows.{has_triad, is_timed_out, without_first};
+ghost use Rattle.cip_tables.specs.Rows.{has_triad, is_timed_out, is_forsaken, written_row, without_first};
+ghost use Rattle.cip_tables.specs.Closing.{without_triad, staying, forsaken, dropped_notice};
 ghost use Rattle.cip_tables.specs.Opening.{makes_room, triad_of, replaced_triad};
 
-use crate::checks::{MOST_ROWS, has_triad, is_timed_out};
-use cip_tables::Row;
+use crate::checks::{MOST_ROWS, has_triad, is_established, is_supported, is_timed_out};
+use cip_tables::{Kind, Notice, Production, Row, State};
 use cip_types::{OutOfMemory, Triad};
+use std::alloc::Global;
 
 fn is_known(rows: &[Row], triad: Triad) -> bool
     ensures { result ≡ list_any (has_triad triad) rows.now }
@@ -63,6 +65,91 @@ fn remove_at(rows: &mut Vec<Row>, at: usize)
 {
     if at < rows.len() {
         rows.remove(at);
+    }
+}
+
+/// The connection of a triad, in any state.
+pub fn find_row(rows: &[Row], triad: Triad) -> Option<Row>
+    ensures { result ≡ find (has_triad triad) rows.now }
+{
+    rows.iter().copied().find(|row| has_triad(row, triad))
+}
+
+/// Takes out the connection of a triad, if there is one. Takes no memory.
+#[tactic(auto, using(crate::proofs::Places::without_first_at, crate::proofs::Places::position_or))]
+fn remove_triad(rows: &mut Vec<Row>, triad: Triad)
+    ensures { rows.new.items ≡ without_triad triad rows.old.items }
+{
+    let at = place_of(rows, triad).unwrap_or(rows.len());
+    remove_at(rows, at);
+}
+
+/// The other connections.
+pub fn others(alloc: Global, rows: &[Row], triad: Triad) -> Result<Vec<Row>, OutOfMemory>
+    ensures { IfOk result (λ left. left.items ≡ without_triad triad rows.now) }
+{
+    let mut left = Vec::from_slice(alloc, rows)?;
+    remove_triad(&mut left, triad);
+    Ok(left)
+}
+
+/// Whether a connection is an established listen-only one without support.
+fn is_forsaken(rows: &[Row], row: &Row) -> bool
+    ensures { result ≡ is_forsaken rows.now row.now }
+{
+    is_established(row)
+        && row.kind == Kind::ListenOnly
+        && !is_supported(rows, row.kind, row.produced)
+}
+
+/// The connections that stay where the listeners without support go.
+pub fn staying(alloc: Global, rows: &[Row]) -> Result<Vec<Row>, OutOfMemory>
+    ensures { IfOk result (λ left. left.items ≡ staying rows.now) }
+{
+    let mut left = Vec::new(alloc);
+    for row in rows {
+        if !is_forsaken(rows, row) {
+            left.push(*row)?;
+        }
+    }
+    Ok(left)
+}
+
+/// What is told of the close of a connection, the others being left.
+pub fn closed_notices(alloc: Global, left: &[Row], triad: Triad) -> Result<Vec<Notice>, OutOfMemory>
+    ensures { IfOk result (λ notices. notices.items ≡ Notice.Closed triad ∷ map dropped_notice (forsaken left.now)) }
+{
+    let mut notices = Vec::new(alloc);
+    notices.push(Notice::Closed(triad))?;
+    for row in left {
+        if is_forsaken(left, row) {
+            notices.push(Notice::Dropped(row.triad))?;
+        }
+    }
+    Ok(notices)
+}
+
+/// An established connection's producer has new data, where the input is its own.
+fn write_row(row: &mut Row, point: u32)
+    ensures { row.new ≡ written_row point row.old }
+{
+    if row.produced == point {
+        row.state = match row.state {
+            State::Established(production) => State::Established(Production {
+                written: true,
+                ..production
+            }),
+            State::TimedOut => State::TimedOut,
+        };
+    }
+}
+
+/// The producers of an input have new data. Takes no memory.
+pub fn write_rows(rows: &mut [Row], point: u32)
+    ensures { rows.new ≡ map (written_row point) rows.old }
+{
+    for row in rows.iter_mut() {
+        write_row(row, point);
     }
 }
 

@@ -1,4 +1,8 @@
-//! Worked requests at a plain adapter.
+//! Worked requests at a plain adapter. A test is a table of requests and replies: it is proved, and one
+//! call in a loop is proved faster than many in a row.
+
+mod groups;
+mod points;
 
 use crate::PlainAdapter;
 use cip_tables::{
@@ -7,6 +11,7 @@ use cip_tables::{
 };
 use cip_types::{ConnId, Identity, Items, Node, OutOfMemory, Triad};
 use std::alloc::Global;
+use std::process::Abort;
 use std::test::*;
 
 const PEER: Node = Node(0xC0A8_0114);
@@ -30,14 +35,19 @@ const OPENED: [u8; 30] = [
     0x27, 0, 0, 0x10, 0x27, 0, 0, 0, 0,
 ];
 
-/// The refusal of a connection with this serial number.
-const fn refused(serial: u8, code: [u8; 2]) -> [u8; 16] {
+const LARGE_OPENED: [u8; 30] = [
+    0xDB, 0, 0, 0, 1, 0, 0, 0x10, 1, 0, 0, 0x20, 1, 0, 0x34, 0x12, 0x78, 0x56, 0x34, 0x12, 0x10,
+    0x27, 0, 0, 0x10, 0x27, 0, 0, 0, 0,
+];
+
+/// The refusal of a connection with this serial number and the low byte of the status under 01.
+const fn refused(serial: u8, code: u8) -> [u8; 16] {
     [
-        0xD4, 0, 1, 1, code[0], code[1], serial, 0, 0x34, 0x12, 0x78, 0x56, 0x34, 0x12, 0, 0,
+        0xD4, 0, 1, 1, code, 1, serial, 0, 0x34, 0x12, 0x78, 0x56, 0x34, 0x12, 0, 0,
     ]
 }
 
-fn profile(alloc: Global, output_len: u64) -> Result<Profile, OutOfMemory> {
+fn profile(alloc: Global, output_len: u64, config_len: u64) -> Result<Profile, OutOfMemory> {
     let output = OutputPoint {
         instance: 150,
         len: output_len,
@@ -47,6 +57,10 @@ fn profile(alloc: Global, output_len: u64) -> Result<Profile, OutOfMemory> {
     let input = InputPoint {
         instance: 100,
         len: 4,
+    };
+    let config = InputPoint {
+        instance: 151,
+        len: config_len,
     };
     Ok(Profile {
         incarnation: 0x10,
@@ -61,175 +75,198 @@ fn profile(alloc: Global, output_len: u64) -> Result<Profile, OutOfMemory> {
         },
         outputs: Items::one(alloc, output)?,
         inputs: Items::one(alloc, input)?,
-        config: Some(InputPoint {
-            instance: 151,
-            len: 0,
-        }),
+        config: Some(config),
         input_only: 152,
         listen_only: 153,
     })
 }
 
-fn adapter(alloc: Global, output_len: u64) -> Result<PlainAdapter, Fail> {
-    let config = Config::Adapter(profile(alloc, output_len)?);
+fn adapter(alloc: Global, output_len: u64, config_len: u64) -> Result<PlainAdapter, Fail> {
+    let config = Config::Adapter(profile(alloc, output_len, config_len)?);
     Ok(PlainAdapter::new(alloc, config).ok().ok_or("no adapter")?)
 }
 
-fn request(alloc: Global, bytes: &[u8]) -> Result<Event, OutOfMemory> {
+fn request(alloc: Global, peer: Node, bytes: &[u8]) -> Result<Event, OutOfMemory> {
     Ok(Event::Request {
-        peer: PEER,
+        peer,
         bytes: Items::copy_of(alloc, bytes)?,
     })
 }
 
-/// The bytes of the one frame of an answer.
+/// The bytes of the one frame of an answer, a reply to a peer.
 fn reply(outcome: &Outcome) -> &[u8] {
     match outcome {
         Ok(answer) => match answer.frames.as_slice() {
-            [frame] if frame.to == Recipient::Peer(PEER) => frame.bytes.as_slice(),
+            [frame] if matches!(frame.to, Recipient::Peer(_)) => frame.bytes.as_slice(),
             _ => &[],
         },
         Err(_) => &[],
     }
 }
 
+/// A request, by its peer and bytes, and the reply to it.
+type Case<'a> = (Node, &'a [u8], &'a [u8]);
+
+/// Steps an adapter through requests, and compares each reply.
+fn replies<R>(rt: &R, device: &mut PlainAdapter, cases: &[Case<'_>]) -> Result<(), Fail>
+where
+    R: AllocGlobal + Abort,
+{
+    for (peer, asked, wanted) in cases {
+        let outcome = device.step(&request(rt.alloc(), *peer, asked)?);
+        assert_eq!(rt; reply(&outcome), *wanted, "at {asked:?}");
+    }
+    Ok(())
+}
+
 #[test]
 fn an_owner_opens_and_is_told_its_ids(rt: HostRuntime) -> Result<(), Fail> {
-    let alloc = rt.alloc();
-    let mut device = adapter(alloc, 4)?;
-    let answer = device
-        .step(&request(alloc, &OPEN)?)
-        .ok()
-        .ok_or("no answer")?;
+    let mut device = adapter(rt.alloc(), 4, 0)?;
+    let event = request(rt.alloc(), PEER, &OPEN)?;
+    let answer = device.step(&event).ok().ok_or("no answer")?;
     let triad = Triad {
         serial: 1,
         vendor: 0x1234,
         originator: 0x1234_5678,
     };
+    let opened = [Notice::Opened(triad, ConnId(0x1000_0001))];
     assert_eq!(rt; answer.verdict, Verdict::Done);
-    assert_eq!(rt;
-        answer.notices.as_slice(),
-        [Notice::Opened(triad, ConnId(0x1000_0001))].as_slice()
-    );
-    assert_eq!(rt; answer.datagrams.as_slice().len(), 0);
+    assert_eq!(rt; answer.notices.as_slice(), opened.as_slice());
     assert_eq!(rt; reply(&Ok(answer)), OPENED.as_slice());
     Ok(())
 }
 
 #[test]
-fn a_second_owner_is_refused(rt: HostRuntime) -> Result<(), Fail> {
+fn a_run_has_an_outcome_for_each_event(rt: HostRuntime) -> Result<(), Fail> {
     let alloc = rt.alloc();
-    let mut device = adapter(alloc, 4)?;
+    let mut device = adapter(alloc, 4, 0)?;
+    let mut events = Vec::new(alloc);
+    events.push(request(alloc, PEER, &OPEN)?)?;
+    events.push(request(alloc, PEER, &OPEN)?)?;
+    let outcomes = run(alloc, &mut device, &events)?;
+    assert_eq!(rt; outcomes.len(), 2);
+    assert_eq!(rt; reply(&outcomes[0]), OPENED.as_slice());
+    assert_eq!(rt; reply(&outcomes[1]), refused(1, 0).as_slice());
+    Ok(())
+}
+
+#[test]
+fn a_second_owner_is_refused(rt: HostRuntime) -> Result<(), Fail> {
     let mut other = OPEN;
     other[12] = 2;
     other[16] = 2;
-    let mut events = Vec::new(alloc);
-    events.push(request(alloc, &OPEN)?)?;
-    events.push(request(alloc, &OPEN)?)?;
-    events.push(request(alloc, &other)?)?;
-    let outcomes = run(alloc, &mut device, &events)?;
-    assert_eq!(rt; outcomes.len(), 3);
-    assert_eq!(rt; reply(&outcomes[0]), OPENED.as_slice());
-    assert_eq!(rt; reply(&outcomes[1]), refused(1, [0, 1]).as_slice());
-    assert_eq!(rt; reply(&outcomes[2]), refused(2, [6, 1]).as_slice());
-    Ok(())
+    let in_use = refused(1, 0);
+    let owned = refused(2, 6);
+    let cases: [Case<'_>; 3] = [
+        (PEER, &OPEN, &OPENED),
+        (PEER, &OPEN, &in_use),
+        (PEER, &other, &owned),
+    ];
+    replies(&rt, &mut adapter(rt.alloc(), 4, 0)?, &cases)
 }
 
 #[test]
 fn short_and_long_requests_are_refused(rt: HostRuntime) -> Result<(), Fail> {
     let alloc = rt.alloc();
-    let mut device = adapter(alloc, 4)?;
+    let mut device = adapter(alloc, 4, 0)?;
     for len in 1..OPEN.len() {
-        let outcome = device.step(&request(alloc, &OPEN[..len])?);
+        let outcome = device.step(&request(alloc, PEER, &OPEN[..len])?);
         assert_eq!(rt; reply(&outcome), [0xD4, 0, 0x13, 0].as_slice(), "at {len}");
     }
     let mut longer = OPEN.to_vec(alloc)?;
     longer.push(0)?;
-    let outcome = device.step(&request(alloc, &longer)?);
-    assert_eq!(rt; reply(&outcome), [0xD4, 0, 0x15, 0].as_slice());
-    let empty = device.step(&request(alloc, &[])?).ok().ok_or("no answer")?;
-    assert!(rt; empty.verdict == Verdict::BadFrame && empty.frames.as_slice().is_empty());
+    let cases: [Case<'_>; 1] = [(PEER, &longer, &[0xD4, 0, 0x15, 0])];
+    replies(&rt, &mut device, &cases)
+}
+
+#[test]
+fn no_bytes_are_a_bad_frame(rt: HostRuntime) -> Result<(), Fail> {
+    let mut device = adapter(rt.alloc(), 4, 0)?;
+    let answer = device
+        .step(&request(rt.alloc(), PEER, &[])?)
+        .ok()
+        .ok_or("no answer")?;
+    assert!(rt; answer.verdict == Verdict::BadFrame && answer.frames.as_slice().is_empty());
     Ok(())
 }
 
 #[test]
 fn a_large_open_is_answered_as_one(rt: HostRuntime) -> Result<(), Fail> {
-    let alloc = rt.alloc();
-    let mut device = adapter(alloc, 4)?;
-    let mut opened = OPENED;
-    opened[0] = 0xDB;
-    let outcome = device.step(&request(alloc, &LARGE_OPEN)?);
-    assert_eq!(rt; reply(&outcome), opened.as_slice());
-    Ok(())
+    let cases: [Case<'_>; 1] = [(PEER, &LARGE_OPEN, &LARGE_OPENED)];
+    replies(&rt, &mut adapter(rt.alloc(), 4, 0)?, &cases)
 }
 
 #[test]
 fn a_long_output_needs_a_large_open(rt: HostRuntime) -> Result<(), Fail> {
-    let alloc = rt.alloc();
-    let mut device = adapter(alloc, 1_400)?;
     let mut large = LARGE_OPEN;
     large[32] = 0x7E;
     large[33] = 5;
-    let mut opened = OPENED;
-    opened[0] = 0xDB;
-    let outcome = device.step(&request(alloc, &OPEN)?);
-    assert_eq!(rt; reply(&outcome), refused(1, [0x27, 1]).as_slice());
-    let outcome = device.step(&request(alloc, &large)?);
-    assert_eq!(rt; reply(&outcome), opened.as_slice());
-    Ok(())
+    let size = refused(1, 0x27);
+    let cases: [Case<'_>; 2] = [(PEER, &OPEN, &size), (PEER, &large, &LARGE_OPENED)];
+    replies(&rt, &mut adapter(rt.alloc(), 1_400, 0)?, &cases)
 }
 
 /// The open request with a key in front of its path.
-fn keyed(alloc: Global, key: &[u8; 8]) -> Result<Event, OutOfMemory> {
+fn keyed(alloc: Global, key: &[u8; 8]) -> Result<Vec<u8>, OutOfMemory> {
     let mut bytes = Items::copy_of(alloc, &OPEN[..41])?.into_vec();
     bytes.extend_from_slice(&[9, 0x34, 4])?;
     bytes.extend_from_slice(key)?;
     bytes.extend_from_slice(&OPEN[42..])?;
-    Ok(Event::Request {
-        peer: PEER,
-        bytes: Items::from_vec(bytes),
-    })
+    Ok(bytes)
 }
 
 #[test]
 fn keys_want_this_device(rt: HostRuntime) -> Result<(), Fail> {
     let alloc = rt.alloc();
-    let mut device = adapter(alloc, 4)?;
-    let outcome = device.step(&keyed(alloc, &[2, 0, 0, 0, 0, 0, 0, 0])?);
-    assert_eq!(rt; reply(&outcome), refused(1, [0x14, 1]).as_slice());
-    let outcome = device.step(&keyed(alloc, &[1, 0, 12, 0, 7, 0, 0x82, 4])?);
-    assert_eq!(rt; reply(&outcome), refused(1, [0x16, 1]).as_slice());
-    let outcome = device.step(&keyed(alloc, &[1, 0, 12, 0, 7, 0, 2, 2])?);
-    assert_eq!(rt; reply(&outcome), refused(1, [0x16, 1]).as_slice());
-    let outcome = device.step(&keyed(alloc, &[1, 0, 12, 0, 7, 0, 0x82, 2])?);
-    assert_eq!(rt; reply(&outcome), OPENED.as_slice());
-    let outcome = adapter(alloc, 4)?.step(&keyed(alloc, &[0; 8])?);
-    assert_eq!(rt; reply(&outcome), OPENED.as_slice());
-    Ok(())
+    let vendor = keyed(alloc, &[2, 0, 0, 0, 0, 0, 0, 0])?;
+    let newer = keyed(alloc, &[1, 0, 12, 0, 7, 0, 0x82, 4])?;
+    let older = keyed(alloc, &[1, 0, 12, 0, 7, 0, 2, 2])?;
+    let compatible = keyed(alloc, &[1, 0, 12, 0, 7, 0, 0x82, 2])?;
+    let other_vendor = refused(1, 0x14);
+    let other_revision = refused(1, 0x16);
+    let cases: [Case<'_>; 4] = [
+        (PEER, &vendor, &other_vendor),
+        (PEER, &newer, &other_revision),
+        (PEER, &older, &other_revision),
+        (PEER, &compatible, &OPENED),
+    ];
+    replies(&rt, &mut adapter(alloc, 4, 0)?, &cases)
+}
+
+#[test]
+fn an_empty_key_wants_any_device(rt: HostRuntime) -> Result<(), Fail> {
+    let any = keyed(rt.alloc(), &[0; 8])?;
+    let cases: [Case<'_>; 1] = [(PEER, &any, &OPENED)];
+    replies(&rt, &mut adapter(rt.alloc(), 4, 0)?, &cases)
 }
 
 /// The open request with another trigger and an inhibit segment in front of its path.
-fn inhibited(alloc: Global, trigger: u8, inhibit: u8) -> Result<Event, OutOfMemory> {
+fn inhibited(alloc: Global, trigger: u8, inhibit: u8) -> Result<Vec<u8>, OutOfMemory> {
     let mut bytes = Items::copy_of(alloc, &OPEN[..40])?.into_vec();
     bytes.extend_from_slice(&[trigger, 5, 0x43, inhibit])?;
     bytes.extend_from_slice(&OPEN[42..])?;
-    Ok(Event::Request {
-        peer: PEER,
-        bytes: Items::from_vec(bytes),
-    })
+    Ok(bytes)
 }
 
 #[test]
 fn a_change_of_state_is_held_back_no_longer_than_the_interval(rt: HostRuntime) -> Result<(), Fail> {
     let alloc = rt.alloc();
-    let mut device = adapter(alloc, 4)?;
-    let outcome = device.step(&inhibited(alloc, 0x11, 11)?);
-    assert_eq!(rt; reply(&outcome), refused(1, [0x1B, 1]).as_slice());
-    let outcome = device.step(&inhibited(alloc, 0x21, 5)?);
-    assert_eq!(rt; reply(&outcome), refused(1, [3, 1]).as_slice());
-    let outcome = device.step(&inhibited(alloc, 0x11, 5)?);
-    assert_eq!(rt; reply(&outcome), OPENED.as_slice());
-    let outcome = adapter(alloc, 4)?.step(&inhibited(alloc, 0x01, 11)?);
-    assert_eq!(rt; reply(&outcome), OPENED.as_slice());
-    Ok(())
+    let long = inhibited(alloc, 0x11, 11)?;
+    let application = inhibited(alloc, 0x21, 5)?;
+    let short = inhibited(alloc, 0x11, 5)?;
+    let held_back = refused(1, 0x1B);
+    let trigger = refused(1, 3);
+    let cases: [Case<'_>; 3] = [
+        (PEER, &long, &held_back),
+        (PEER, &application, &trigger),
+        (PEER, &short, &OPENED),
+    ];
+    replies(&rt, &mut adapter(alloc, 4, 0)?, &cases)
+}
+
+#[test]
+fn a_cyclic_producer_is_not_held_back(rt: HostRuntime) -> Result<(), Fail> {
+    let cyclic = inhibited(rt.alloc(), 0x01, 11)?;
+    let cases: [Case<'_>; 1] = [(PEER, &cyclic, &OPENED)];
+    replies(&rt, &mut adapter(rt.alloc(), 4, 0)?, &cases)
 }

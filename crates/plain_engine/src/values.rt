@@ -3,11 +3,12 @@
 ghost use Rattle.std.specs.Prelude.{◌≡◌, ◌++◌, map, length, replicate, OnOk, IfOk, Contains, option_to_list};
 ghost use Rattle.std.specs.Option.{option_map};
 ghost use Rattle.cip_tables.specs.Profiles.{as_point};
-ghost use Rattle.cip_tables.specs.Points.{is_value_of, changed_value, put_value, bytes_at, zeros, opening_values};
+ghost use Rattle.cip_tables.specs.Points.{is_value_of, changed_value, put_value, bytes_at, zeros, opening_values, zeroed_value, acted_values, lost_values};
 ghost use Rattle.plain_engine.specs.Kept.{FitPoint, FitConfig};
 ghost use Rattle.cip_tables.specs.Opening.{configured};
 
-use cip_tables::{InputPoint, OutputPoint, PointValue, Profile};
+use crate::checks::find_output;
+use cip_tables::{Action, InputPoint, OutputPoint, PointValue, Profile};
 use cip_types::{Items, OutOfMemory};
 use std::alloc::Global;
 
@@ -112,5 +113,40 @@ pub fn configure(values: &mut [PointValue], config: Option<InputPoint>, segment:
         if let Some(segment) = segment {
             put_value(values, config.instance, segment);
         }
+    }
+}
+
+fn zero_value(value: &mut PointValue, point: u32)
+    ensures { value.new ≡ zeroed_value point value.old }
+{
+    if value.point == point {
+        value.bytes.zero();
+    }
+}
+
+fn zero_point(values: &mut [PointValue], point: u32)
+    ensures { values.new ≡ map (zeroed_value point) values.old }
+{
+    for value in values.iter_mut() {
+        zero_value(value, point);
+    }
+}
+
+/// Does an action on what a point holds.
+fn act(values: &mut [PointValue], action: Action, point: u32)
+    ensures { values.new ≡ acted_values action point values.old }
+{
+    match action {
+        Action::Hold => {}
+        Action::Zero => zero_point(values, point),
+    }
+}
+
+/// Does the fault action of an output. Takes no memory.
+pub fn lose(values: &mut [PointValue], profile: &Profile, point: u32)
+    ensures { values.new ≡ lost_values profile.now point values.old }
+{
+    if let Some(output) = find_output(profile.outputs.as_slice(), point) {
+        act(values, output.fault, output.instance);
     }
 }

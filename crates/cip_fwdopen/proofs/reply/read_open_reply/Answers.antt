@@ -1,6 +1,6 @@
 use Rattle.std.proofs.Common.{arith, sym, subst}
 use Rattle.cip_fwdopen.specs.Reply.{IsOpenReplyReading}
-use Rattle.cip_fwdopen.proofs.ReplyLaws.{reply_is_reading, one_reply}
+use Rattle.cip_fwdopen.proofs.OpenReplyLaws.{reply_is_reading, one_reply}
 use Rattle.cip_fwdopen.proofs.reply.read_open_reply.Goals as goal
 
 pub returns-clause-reading : goal.returns-clause-reading

@@ -1,4 +1,4 @@
-use Rattle.std.proofs.Common.{arith, take, vec_len, vec_capacity}
+use Rattle.std.proofs.Common.{arith}
 use Rattle.std.proofs.lemmas.List.{take_more}
 use Rattle.cip_tables.proofs.RunLemmas.{Runs_more, run_all, run_folds}
 use Rattle.cip_tables.proofs.StepLemmas.{run_sound}

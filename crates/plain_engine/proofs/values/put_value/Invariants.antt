@@ -1,6 +1,4 @@
-use Rattle.std.proofs.Common.{length}
 use Rattle.cip_tables.specs.Points.{changed_value}
-use Rattle.plain_engine.specs.Kept.{FitPoint}
 use Rattle.plain_engine.proofs.Places.{Mapped}
 use Rattle.plain_engine.proofs.values.put_value.Given as goal
 

@@ -1,0 +1,2 @@
+pub mod DatagramLaws
+pub mod HeaderLaws

@@ -1,0 +1,4 @@
+pub mod Datagram
+pub mod Reading
+pub mod Header
+pub mod Fixed

@@ -1,0 +1,18 @@
+//! Class 1 datagrams: the implicit data of connections, as bytes.
+//!
+//! Volume 2, chapter 2, common packet format, and chapter 3, class 0 and class 1 connected data.
+#![tactic(auto)]
+
+mod datagram;
+mod fixed;
+mod mode;
+mod read;
+mod write;
+
+pub use datagram::{Datagram, DatagramFault};
+pub use mode::{header, read_header};
+pub use read::read_datagram;
+pub use write::write_datagram;
+
+#[cfg(test)]
+mod tests;

@@ -1,0 +1,48 @@
+//! Writing datagrams.
+
+ghost use Rattle.std.specs.Prelude.{◌≡◌, ◌+◌, ◌≤◌, ◌++◌, length, Ok};
+ghost use Rattle.std.specs.Vec.{vec_len, vec_capacity};
+ghost use Rattle.cip_datagram.specs.Datagram.{view_datagram, datagram_text, IsDatagramText};
+ghost use Rattle.cip_datagram.specs.Reading.{datagram_reading};
+
+use crate::datagram::Datagram;
+
+/// Appends bytes for which there is room. Takes no memory.
+fn put(out: &mut Vec<u8>, bytes: &[u8])
+    requires { vec_len out.old + length bytes.now ≤ vec_capacity out.old }
+    ensures items { out.new.items ≡ out.old.items ++ bytes.now }
+    ensures len { vec_len out.new ≡ vec_len out.old + length bytes.now }
+    ensures capacity { vec_capacity out.new ≡ vec_capacity out.old }
+{
+    for byte in bytes {
+        out.push_reserved(*byte);
+    }
+}
+
+/// Appends the text of the datagram to a vector that has room for it. Takes no memory.
+///
+/// Volume 2, chapter 2, common packet format.
+pub fn write_datagram(datagram: &Datagram<'_>, out: &mut Vec<u8>)
+    requires room {
+        vec_len out.old + length (datagram_text (view_datagram datagram.now)) ≤ vec_capacity out.old
+    }
+    // The second length counts the sequence count and the data.
+    requires short { length datagram.now.«data».now ≤ 65533 }
+    ensures text { out.new.items ≡ out.old.items ++ datagram_text (view_datagram datagram.now) }
+    ensures is_text {
+        IsDatagramText (datagram_text (view_datagram datagram.now)) (view_datagram datagram.now)
+    }
+    ensures read_back {
+        datagram_reading (datagram_text (view_datagram datagram.now)) ≡ Ok (view_datagram datagram.now)
+    }
+    ensures capacity { vec_capacity out.new ≡ vec_capacity out.old }
+{
+    let len = datagram.data.len() as u16 + 2;
+    put(out, &[2, 0, 0x02, 0x80, 8, 0]);
+    put(out, &datagram.connection.0.to_le_bytes());
+    put(out, &datagram.sequence.to_le_bytes());
+    put(out, &[0xB1, 0]);
+    put(out, &len.to_le_bytes());
+    put(out, &datagram.count.to_le_bytes());
+    put(out, datagram.data);
+}

@@ -1,0 +1,86 @@
+-- A Get_Attribute_Single and replies to it (Volume 1, appendix A, Get_Attribute_Single service;
+-- chapter 2, message router request and response).
+--
+-- A request: service 0x0E, words of the path, the path, no data. Data of a success: the attribute's
+-- value, which is whatever bytes are left. Data of a failure: none.
+use Rattle.std.specs.Prelude.{◌≡◌, ◌≢◌, ◌==◌, ℕ, ◌/◌, if◌then◌else◌, List, [], ◌∷◌, length, Result, Ok, Err}
+use Rattle.cip_types.specs.declared.Fault.{Fault}
+use Rattle.cip_epath.specs.declared.path.Target.{Target}
+use Rattle.cip_epath.specs.Written.{target_text}
+use Rattle.cip_fwdopen.specs.declared.fault.ReadFault.{ReadFault}
+use Rattle.cip_fwdopen.specs.declared.fault.ReadFault.TheVariants.{TooMuch}
+use Rattle.cip_fwdopen.specs.declared.get.GetAnswer.{GetAnswer}
+use Rattle.cip_fwdopen.specs.declared.get.GetAnswer.TheVariants.{Got, Refused}
+use Rattle.cip_fwdopen.specs.declared.get.GetReply.{GetReply}
+use Rattle.cip_fwdopen.specs.Readings.{IsReadingAmong}
+use Rattle.cip_fwdopen.specs.Reply.{IsReplyText, unread_reading, reply_of}
+use Rattle.cip_fwdopen.specs.Request.{RequestFields}
+
+-- ---- requests
+
+-- the request for the target's value
+unfoldable pub get_text : Target → List ℕ
+get_text target = 0x0E ∷ length (target_text target) / 2 ∷ target_text target
+
+-- what the request for the target's value says
+abbrev pub get_request : Target → RequestFields
+get_request target = record { service = 0x0E; target = target; body = [] }
+
+-- ---- replies
+
+-- the reply that has the value
+unfoldable pub got_text : List ℕ → List ℕ
+got_text value = 0x8E ∷ 0 ∷ 0 ∷ 0 ∷ value
+
+-- what a target says, wherever a value lies in memory
+pub data Gotten : Type 0 where
+  value : List ℕ → Gotten
+  refusal : Fault → Gotten
+
+-- a reply, wherever a value lies in memory
+pub record GetFields : Type 0 where
+  pub service : ℕ
+  pub answer : Gotten
+
+-- what an answer says
+abbrev pub view_answer : GetAnswer → Gotten
+view_answer (Got bytes) = value bytes.now
+view_answer (Refused fault) = refusal fault
+
+-- what a reply says
+abbrev pub view_get : GetReply → GetFields
+view_get r = record { service = r.service; answer = view_answer r.answer }
+
+-- what the reply that has the value says
+abbrev pub got_reply : List ℕ → GetFields
+got_reply bytes = record { service = 0x8E; answer = value bytes }
+
+-- the text is the data of what a reply with the fault says; general status 0 is a success
+abbrev pub IsGottenText : Fault → List ℕ → Gotten → Type 0
+IsGottenText fault text (value bytes) = (fault.general ≡ 0) × (text ≡ bytes)
+IsGottenText fault text (refusal f) = (fault.general ≢ 0) × (f ≡ fault) × (text ≡ [])
+
+-- the text is a reply
+abbrev pub IsGetReplyText : List ℕ → GetFields → Type 0
+IsGetReplyText text r = IsReplyText IsGottenText text r.service r.answer
+
+-- the answer is a reading of the bytes as a reply
+abbrev pub IsGetReplyReading : List ℕ → Result GetFields ReadFault → Type 0
+IsGetReplyReading = IsReadingAmong IsGetReplyText
+
+-- the reading of the data of a failure
+abbrev pub refusal_reading : Fault → List ℕ → Result Gotten ReadFault
+refusal_reading fault [] = Ok (refusal fault)
+refusal_reading fault (b ∷ bytes) = Err TooMuch
+
+-- the reading of the data of a reply with the fault
+abbrev pub gotten_reading : Fault → List ℕ → Result Gotten ReadFault
+gotten_reading fault bytes = if fault.general == 0 then Ok (value bytes) else refusal_reading fault bytes
+
+-- the reply whose data was read
+abbrev pub with_gotten : ℕ → Gotten → GetFields
+with_gotten service answer = record { service = service; answer = answer }
+
+-- the reading of bytes as a reply
+unfoldable pub get_reply_reading : List ℕ → Result GetFields ReadFault
+get_reply_reading bytes = reply_of with_gotten gotten_reading (unread_reading bytes)

@@ -1,0 +1,176 @@
+//! The data of a Forward_Close, and replies to it.
+
+ghost use Rattle.std.specs.Prelude.{◌≡◌, ◌%◌, ◌≤◌, length, Result, IfOk, Ok};
+ghost use Rattle.cip_fwdopen.specs.declared.fault.ReadFault.{ReadFault};
+ghost use Rattle.cip_fwdopen.specs.declared.close.CloseReply.{CloseReply};
+ghost use Rattle.cip_fwdopen.specs.Readings.{seen};
+ghost use Rattle.cip_fwdopen.specs.Close.{CloseFields, view_close, IsCloseText, IsCloseReading, close_reading, close_text, closed_text, closed_reply, closed_reading, close_answer_reading, IsCloseReplyText, IsCloseReplyReading, close_reply_reading};
+
+use crate::fault::ReadFault;
+use crate::front::{CloseFront, ClosedFront, unread_at};
+use crate::reply::{Refused, failure_of};
+use crate::write::put_triad;
+use cip_types::fields::{put_bytes, put_u8};
+use cip_types::{Fault, OutOfMemory, Triad};
+use std::alloc::Global;
+
+/// The data of a Forward_Close.
+///
+/// Volume 1, chapter 3, Forward_Close service.
+#[derive(Clone, Copy, Debug)]
+pub struct CloseRequest<'a> {
+    /// Priority and time tick of the unconnected request.
+    pub priority_tick: u8,
+    /// Its time-out, in ticks.
+    pub ticks: u8,
+    pub triad: Triad,
+    /// The connection path's bytes. They are not read.
+    pub path: &'a [u8],
+}
+
+/// What a reply to a Forward_Close says.
+#[derive(Clone, Copy, Debug, PartialEq, Eq)]
+pub enum CloseAnswer {
+    Closed(Triad),
+    Refused(Refused),
+}
+
+/// A reply to a Forward_Close.
+///
+/// Volume 1, chapter 3, Forward_Close service, successful and unsuccessful response.
+#[derive(Clone, Copy, Debug, PartialEq, Eq)]
+pub struct CloseReply {
+    /// The reply's service byte. It is not judged.
+    pub service: u8,
+    pub answer: CloseAnswer,
+}
+
+fn whole_close(bytes: &[u8]) -> Result<CloseRequest<'_>, ReadFault>
+    ensures { seen view_close result ≡ close_reading bytes.now }
+{
+    let Some((front, rest)) = CloseFront::at(bytes) else {
+        return Err(ReadFault::NotEnough);
+    };
+    let len = 2 * usize::from(front.path_words);
+    if rest.len() < len {
+        return Err(ReadFault::NotEnough);
+    }
+    if rest.len() > len {
+        return Err(ReadFault::TooMuch);
+    }
+    Ok(CloseRequest {
+        priority_tick: front.priority_tick,
+        ticks: front.ticks,
+        triad: front.triad,
+        path: rest,
+    })
+}
+
+/// The request that the bytes are the data of. The reserved byte is not looked at.
+///
+/// NotEnough where the bytes end before the fields or the path do, TooMuch where bytes follow the
+/// path; never Path.
+///
+/// Volume 1, chapter 3, Forward_Close service.
+pub fn read_close(bytes: &[u8]) -> Result<CloseRequest<'_>, ReadFault>
+    ensures value { seen view_close result ≡ close_reading bytes.now }
+    // What is answered is a reading of the bytes.
+    ensures reading { IsCloseReading bytes.now (seen view_close result) }
+    // There is no other.
+    ensures only { (other : Result CloseFields ReadFault) → IsCloseReading bytes.now other → seen view_close result ≡ other }
+{
+    whole_close(bytes)
+}
+
+fn closed_of(bytes: &[u8]) -> Result<Triad, ReadFault>
+    ensures { result ≡ closed_reading bytes.now }
+{
+    let Some((front, rest)) = ClosedFront::at(bytes) else {
+        return Err(ReadFault::NotEnough);
+    };
+    let len = 2 * usize::from(front.application_words);
+    if rest.len() < len {
+        return Err(ReadFault::NotEnough);
+    }
+    if rest.len() > len {
+        return Err(ReadFault::TooMuch);
+    }
+    Ok(front.triad)
+}
+
+fn answer_of(fault: Fault, bytes: &[u8]) -> Result<CloseAnswer, ReadFault>
+    ensures { result ≡ close_answer_reading fault bytes.now }
+{
+    if fault.general == 0 {
+        return Ok(CloseAnswer::Closed(closed_of(bytes)?));
+    }
+    let triad = failure_of(bytes)?;
+    Ok(CloseAnswer::Refused(Refused { fault, triad }))
+}
+
+fn whole_reply(bytes: &[u8]) -> Result<CloseReply, ReadFault>
+    ensures { result ≡ close_reply_reading bytes.now }
+{
+    let Some(reply) = unread_at(bytes) else {
+        return Err(ReadFault::NotEnough);
+    };
+    let answer = answer_of(reply.fault, reply.content)?;
+    Ok(CloseReply {
+        service: reply.service,
+        answer,
+    })
+}
+
+/// The reply that the bytes are. General status 0 says that the connection is closed; an application
+/// reply is left aside. With another one the fault keeps of the additional words the first alone, and
+/// the data names the connection (8 bytes, or 10, the last two not looked at) or is empty. Neither the
+/// service nor a reserved byte is judged.
+///
+/// NotEnough where the bytes are no reply and a longer reply begins so; TooMuch where they are none,
+/// none begins so, and a reply stands in front of them; never Path.
+///
+/// Volume 1, chapter 3, Forward_Close service, successful and unsuccessful response.
+pub fn read_close_reply(bytes: &[u8]) -> Result<CloseReply, ReadFault>
+    ensures value { result ≡ close_reply_reading bytes.now }
+    // What is answered is a reading of the bytes.
+    ensures reading { IsCloseReplyReading bytes.now result }
+    // There is no other.
+    ensures only { (other : Result CloseReply ReadFault) → IsCloseReplyReading bytes.now other → result ≡ other }
+{
+    whole_reply(bytes)
+}
+
+/// The data of a Forward_Close, with the reserved byte zero. The path has to be whole words, of which
+/// there are at most 255. OutOfMemory where memory is refused, as of the other writers.
+///
+/// Volume 1, chapter 3, Forward_Close service.
+pub fn write_close(alloc: Global, request: &CloseRequest<'_>) -> Result<Vec<u8>, OutOfMemory>
+    requires whole_words { length request.now.path.now % 2 ≡ 0 }
+    requires short { length request.now.path.now ≤ 510 }
+    ensures text { IfOk result (λ v. v.items ≡ close_text (view_close request.now)) }
+    ensures is_text { IfOk result (λ v. IsCloseText v.items (view_close request.now)) }
+    ensures read_back { IfOk result (λ v. close_reading v.items ≡ Ok (view_close request.now)) }
+{
+    let mut out = Vec::new(alloc);
+    put_u8(&mut out, request.priority_tick)?;
+    put_u8(&mut out, request.ticks)?;
+    put_triad(&mut out, request.triad)?;
+    put_bytes(&mut out, &[(request.path.len() / 2) as u8, 0])?;
+    put_bytes(&mut out, request.path)?;
+    Ok(out)
+}
+
+/// The whole reply that says that a connection is closed, with no application reply.
+///
+/// Volume 1, chapter 3, Forward_Close service, successful response.
+pub fn write_closed(alloc: Global, triad: Triad) -> Result<Vec<u8>, OutOfMemory>
+    ensures text { IfOk result (λ v. v.items ≡ closed_text triad) }
+    ensures is_text { IfOk result (λ v. IsCloseReplyText v.items (closed_reply triad)) }
+    ensures read_back { IfOk result (λ v. close_reply_reading v.items ≡ Ok (closed_reply triad)) }
+{
+    let mut out = Vec::new(alloc);
+    put_bytes(&mut out, &[0xCE, 0, 0, 0])?;
+    put_triad(&mut out, triad)?;
+    put_bytes(&mut out, &[0, 0])?;
+    Ok(out)
+}

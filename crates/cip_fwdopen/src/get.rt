@@ -1,0 +1,105 @@
+//! A Get_Attribute_Single and replies to it.
+
+ghost use Rattle.std.specs.Prelude.{◌≡◌, Result, IfOk, Ok};
+ghost use Rattle.cip_fwdopen.specs.declared.fault.ReadFault.{ReadFault};
+ghost use Rattle.cip_fwdopen.specs.Readings.{seen};
+ghost use Rattle.cip_fwdopen.specs.Request.{IsRequestText, request_reading};
+ghost use Rattle.cip_fwdopen.specs.Get.{GetFields, get_text, get_request, got_text, got_reply, view_answer, view_get, gotten_reading, IsGetReplyText, IsGetReplyReading, get_reply_reading};
+
+use crate::fault::ReadFault;
+use crate::front::unread_at;
+use cip_epath::{Target, write_target};
+use cip_types::fields::put_bytes;
+use cip_types::{Fault, OutOfMemory};
+use std::alloc::Global;
+
+/// What a reply to a Get_Attribute_Single says.
+#[derive(Clone, Copy, Debug, PartialEq, Eq)]
+pub enum GetAnswer<'a> {
+    /// The attribute's value. It is not read.
+    Got(&'a [u8]),
+    Refused(Fault),
+}
+
+/// A reply to a Get_Attribute_Single.
+///
+/// Volume 1, appendix A, Get_Attribute_Single service.
+#[derive(Clone, Copy, Debug, PartialEq, Eq)]
+pub struct GetReply<'a> {
+    /// The reply's service byte. It is not judged.
+    pub service: u8,
+    pub answer: GetAnswer<'a>,
+}
+
+fn answer_of(fault: Fault, bytes: &[u8]) -> Result<GetAnswer<'_>, ReadFault>
+    ensures { seen view_answer result ≡ gotten_reading fault bytes.now }
+{
+    if fault.general == 0 {
+        return Ok(GetAnswer::Got(bytes));
+    }
+    if bytes.is_empty() {
+        return Ok(GetAnswer::Refused(fault));
+    }
+    Err(ReadFault::TooMuch)
+}
+
+fn whole_reply(bytes: &[u8]) -> Result<GetReply<'_>, ReadFault>
+    ensures { seen view_get result ≡ get_reply_reading bytes.now }
+{
+    let Some(reply) = unread_at(bytes) else {
+        return Err(ReadFault::NotEnough);
+    };
+    let answer = answer_of(reply.fault, reply.content)?;
+    Ok(GetReply {
+        service: reply.service,
+        answer,
+    })
+}
+
+/// The reply that the bytes are. With general status 0 the value is whatever stands behind the
+/// additional words. With another one the fault keeps of these the first alone, and no data follows
+/// them. Neither the service nor the reserved byte is judged.
+///
+/// NotEnough where the bytes end before the additional words do, TooMuch where data follows them in a
+/// refusal; never Path.
+///
+/// Volume 1, appendix A, Get_Attribute_Single service, and chapter 2, message router response.
+pub fn read_get_reply(bytes: &[u8]) -> Result<GetReply<'_>, ReadFault>
+    ensures value { seen view_get result ≡ get_reply_reading bytes.now }
+    // What is answered is a reading of the bytes.
+    ensures reading { IsGetReplyReading bytes.now (seen view_get result) }
+    // There is no other.
+    ensures only { (other : Result GetFields ReadFault) → IsGetReplyReading bytes.now other → seen view_get result ≡ other }
+{
+    whole_reply(bytes)
+}
+
+/// The whole request for an attribute's value, its path in the least form. OutOfMemory where memory
+/// is refused, as of the other writers.
+///
+/// Volume 1, appendix A, Get_Attribute_Single service, and chapter 2, message router request.
+pub fn write_get(alloc: Global, target: &Target) -> Result<Vec<u8>, OutOfMemory>
+    ensures text { IfOk result (λ v. v.items ≡ get_text target.now) }
+    ensures is_text { IfOk result (λ v. IsRequestText v.items (get_request target.now)) }
+    ensures read_back { IfOk result (λ v. request_reading v.items ≡ Ok (get_request target.now)) }
+{
+    let path = write_target(alloc, target)?;
+    let mut out = Vec::new(alloc);
+    put_bytes(&mut out, &[0x0E, (path.len() / 2) as u8])?;
+    put_bytes(&mut out, &path)?;
+    Ok(out)
+}
+
+/// The whole reply that has an attribute's value.
+///
+/// Volume 1, appendix A, Get_Attribute_Single service, successful response.
+pub fn write_got(alloc: Global, value: &[u8]) -> Result<Vec<u8>, OutOfMemory>
+    ensures text { IfOk result (λ v. v.items ≡ got_text value.now) }
+    ensures is_text { IfOk result (λ v. IsGetReplyText v.items (got_reply value.now)) }
+    ensures read_back { IfOk result (λ v. get_reply_reading v.items ≡ Ok (got_reply value.now)) }
+{
+    let mut out = Vec::new(alloc);
+    put_bytes(&mut out, &[0x8E, 0, 0, 0])?;
+    put_bytes(&mut out, value)?;
+    Ok(out)
+}

@@ -1,0 +1,23 @@
+-- An adapter's step is its device's.
+use Rattle.std.proofs.Common.{Result, Ok, Err, IsOk, ap}
+use Rattle.cip_tables.specs.declared.event.StepFault.{StepFault}
+use Rattle.cip_tables.specs.declared.event.StepFault.TheVariants.{OutOfMemory, TickTooLong, ClockEnd, NoSuchPoint, WrongLength, NoSuchSlot, NotAllowedNow}
+use Rattle.cip_tables.specs.declared.table.AdapterTable.{AdapterTable}
+use Rattle.cip_tables.specs.declared.table.DeviceTable.TheVariants.{Adapter}
+use Rattle.cip_tables.specs.Requests.{Next}
+use Rattle.cip_tables.specs.Step.{as_adapter}
+use Rattle.cip_tables.specs.Run.{Outcome, Follows}
+
+still_ok : (said : Result Next StepFault) → IsOk said → IsOk (as_adapter said)
+still_ok (Ok next) ok = ok
+still_ok (Err fault) ok = ok
+
+pub adapter_follows : (said : Result Next StepFault) (old : AdapterTable) (outcome : Outcome) (new : AdapterTable) → Follows said old outcome new → Follows (as_adapter said) (Adapter old) outcome (Adapter new)
+adapter_follows said old (Ok answer) new follows = ap as_adapter follows
+adapter_follows said old (Err OutOfMemory) new follows = (still_ok said follows.0, ap Adapter follows.1)
+adapter_follows said old (Err TickTooLong) new follows = (ap as_adapter follows.0, ap Adapter follows.1)
+adapter_follows said old (Err ClockEnd) new follows = (ap as_adapter follows.0, ap Adapter follows.1)
+adapter_follows said old (Err NoSuchPoint) new follows = (ap as_adapter follows.0, ap Adapter follows.1)
+adapter_follows said old (Err WrongLength) new follows = (ap as_adapter follows.0, ap Adapter follows.1)
+adapter_follows said old (Err NoSuchSlot) new follows = (ap as_adapter follows.0, ap Adapter follows.1)
+adapter_follows said old (Err NotAllowedNow) new follows = (ap as_adapter follows.0, ap Adapter follows.1)
