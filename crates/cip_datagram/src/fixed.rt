@@ -50,10 +50,8 @@ impl Fixed {
 
     /// Whether the items are those of a datagram.
     pub fn has_items(&self) -> bool
-        ensures {
-            result ≡ are_items self.now.items self.now.address self.now.address_len
-                self.now.connected self.now.len
-        }
+        ensures { result ≡ are_items self.now.items self.now.address self.now.address_len
+            self.now.connected self.now.len }
     {
         self.items == 2
             && self.address == 0x8002

@@ -46,9 +46,7 @@ pub fn read_datagram(bytes: &[u8]) -> Result<Datagram<'_>, DatagramFault>
     // What is answered is a reading of the bytes.
     ensures reading { IsDatagramReading bytes.now (seen view_datagram result) }
     // There is no other.
-    ensures only {
-        (other : Result DatagramFields DatagramFault) → IsDatagramReading bytes.now other → seen view_datagram result ≡ other
-    }
+    ensures only { (other : Result DatagramFields DatagramFault) → IsDatagramReading bytes.now other → seen view_datagram result ≡ other }
     // As a function of the bytes.
     ensures value { seen view_datagram result ≡ datagram_reading bytes.now }
 {
