@@ -1,0 +1,61 @@
+-- Encapsulation messages: what they say, their texts, and what is wrong with other bytes (Volume 2,
+-- chapter 2, encapsulation messages).
+--
+--   command          u16
+--   length           u16   of the data
+--   session handle   u32
+--   status           u32
+--   sender context   u64   sent back as it came
+--   options          u32
+--   data
+use Rattle.std.specs.Prelude.{◌≡◌, ℕ, ◌<◌, ◌^◌, List, [], ◌∷◌, ◌++◌, length, Result, Ok, Err}
+use Rattle.std.specs.Int.{Width, w16, w32, w64}
+use Rattle.cip_types.specs.Fields.{fields_text}
+use Rattle.cip_types.specs.Texts.{Lacks, Exceeds}
+use Rattle.cip_encap.specs.declared.message.MessageView.{MessageView}
+use Rattle.cip_encap.specs.declared.message.EncapFault.{EncapFault}
+use Rattle.cip_encap.specs.declared.message.EncapFault.TheVariants as fault
+
+-- a message, wherever its data lies in memory
+pub record MessageFields : Type 0 where
+  pub command : ℕ
+  pub session : ℕ
+  pub status : ℕ
+  pub context : ℕ
+  pub options : ℕ
+  pub payload : List ℕ
+
+-- the fields of a message of the program
+abbrev pub view_message : MessageView → MessageFields
+view_message m = record { command = m.command; session = m.session; status = m.status; context = m.context; options = m.options; payload = m.«data».now }
+
+-- the fields of the header
+abbrev pub header_widths : List Width
+header_widths = w16 ∷ w16 ∷ w32 ∷ w32 ∷ w64 ∷ w32 ∷ []
+
+-- the numbers of the header
+abbrev pub header_numbers : MessageFields → List ℕ
+header_numbers m = m.command ∷ length m.payload ∷ m.session ∷ m.status ∷ m.context ∷ m.options ∷ []
+
+-- the text of a message
+abbrev pub message_text : MessageFields → List ℕ
+message_text m = fields_text header_widths (header_numbers m) ++ m.payload
+
+-- each number of the message within its field
+pub record MessageFits (m : MessageFields) : Type 0 where
+  pub command : m.command < 2 ^ 16
+  pub session : m.session < 2 ^ 32
+  pub status : m.status < 2 ^ 32
+  pub context : m.context < 2 ^ 64
+  pub options : m.options < 2 ^ 32
+  pub payload : length m.payload < 2 ^ 16
+
+-- text is the text of the message
+abbrev pub IsMessageText : List ℕ → MessageFields → Type 0
+IsMessageText text m = MessageFits m × (text ≡ message_text m)
+
+-- what reading the bytes gives: a message, the front of one alone, or one with bytes behind it
+abbrev pub IsMessageReading : List ℕ → Result MessageFields EncapFault → Type 0
+IsMessageReading bytes (Ok m) = IsMessageText bytes m
+IsMessageReading bytes (Err fault.Truncated) = Lacks IsMessageText bytes
+IsMessageReading bytes (Err fault.Trailing) = Exceeds IsMessageText bytes

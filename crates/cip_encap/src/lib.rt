@@ -1,0 +1,22 @@
+//! Encapsulation: the messages of explicit messaging, the items in them, and the cutting of a stream
+//! into messages.
+//!
+//! Volume 2, chapter 2, encapsulation messages and common packet format.
+#![tactic(auto)]
+
+mod fixed;
+mod head;
+mod message;
+mod packet;
+mod read;
+mod splitter;
+mod write;
+
+pub use message::{EncapFault, MessageView};
+pub use packet::{CommonPacket, ItemFault, SocketAddress, read_items, write_items};
+pub use read::read_message;
+pub use splitter::{Message, SplitFault, Splitter};
+pub use write::write_message;
+
+#[cfg(test)]
+mod tests;

@@ -1,0 +1,146 @@
+//! The items of explicit requests and replies outside connections.
+
+ghost use Rattle.std.specs.Prelude.{◌≡◌, ◌≤◌, ◌++◌, Result, Ok, Some, OnOk, IfOk, length};
+ghost use Rattle.std.specs.Option.{option_map};
+ghost use Rattle.cip_encap.specs.declared.packet.ItemFault.{ItemFault};
+ghost use Rattle.cip_encap.specs.Packet.{PacketFields, view_packet, IsPacketText, IsPacketReading, socket_items, packet_text};
+ghost use Rattle.cip_encap.specs.Reading.{seen};
+ghost use Rattle.cip_encap.specs.PacketReading.{behind_socket, are_sockets as sockets_test, packet_reading};
+
+use crate::head::Head;
+use cip_types::fields::{put_bytes, put_u16, u16_at};
+use cip_types::{Node, OutOfMemory};
+use std::alloc::Global;
+use thiserror::Error;
+
+/// Why bytes are not the items of an explicit request or reply.
+#[derive(Clone, Copy, Debug, PartialEq, Eq, Error)]
+pub enum ItemFault {
+    /// They are not a null address item, an unconnected data item with data, and socket address items.
+    #[error("the items are not those of an explicit message")]
+    Bad,
+}
+
+/// The items of an explicit request or reply: the data of the command SendRRData.
+///
+/// Volume 2, chapter 2, common packet format.
+#[derive(Clone, Copy, Debug)]
+pub struct CommonPacket<'a> {
+    /// Seconds.
+    pub timeout: u16,
+    /// The request or reply, at least one byte.
+    pub data: &'a [u8],
+}
+
+/// Where the datagrams of a multicast connection go to.
+///
+/// Volume 2, chapter 2, socket address item.
+#[derive(Clone, Copy, Debug, PartialEq, Eq)]
+pub struct SocketAddress {
+    pub port: u16,
+    pub address: Node,
+}
+
+/// The bytes behind the socket address item at the front.
+#[tactic(auto, unfolding(crate::specs::PacketReading::behind_socket))]
+fn after_socket(bytes: &[u8]) -> Option<&[u8]>
+    ensures { option_map (λ x. x.now) result ≡ behind_socket bytes.now }
+{
+    let (kind, rest) = u16_at(bytes)?;
+    let (len, rest) = u16_at(rest)?;
+    if (kind == 0x8000 || kind == 0x8001) && len == 16 && rest.len() >= 16 {
+        let (_address, after) = rest.split_at(16);
+        Some(after)
+    } else {
+        None
+    }
+}
+
+/// Whether the bytes are so many socket address items.
+fn are_sockets(count: u16, bytes: &[u8]) -> bool
+    ensures { result ≡ sockets_test count bytes.now }
+{
+    let mut rest = bytes;
+    for done in 0..count {
+        match after_socket(rest) {
+            Some(after) => rest = after,
+            None => return false,
+        }
+    }
+    rest.is_empty()
+}
+
+/// The items of the numbers and the bytes behind them.
+#[tactic(auto, unfolding(crate::specs::PacketReading::packet_reading))]
+fn parsed(bytes: &[u8]) -> Result<CommonPacket<'_>, ItemFault>
+    ensures { seen view_packet result ≡ packet_reading bytes.now }
+{
+    let Some((head, rest)) = Head::at(bytes) else {
+        return Err(ItemFault::Bad);
+    };
+    let len = head.len as usize;
+    if !head.is_right() || rest.len() < len {
+        return Err(ItemFault::Bad);
+    }
+    let (data, sockets) = rest.split_at(len);
+    if !are_sockets(head.count - 2, sockets) {
+        return Err(ItemFault::Bad);
+    }
+    Ok(CommonPacket {
+        timeout: head.timeout,
+        data,
+    })
+}
+
+/// The items that the bytes are a text of: a null address item, an unconnected data item, whose data
+/// lies in the bytes, and socket address items, which are not kept. `Bad` for all other bytes.
+///
+/// Volume 2, chapter 2, common packet format.
+pub fn read_items(bytes: &[u8]) -> Result<CommonPacket<'_>, ItemFault>
+    // What is answered is a reading of the bytes.
+    ensures reading { IsPacketReading bytes.now (seen view_packet result) }
+    // There is no other.
+    ensures only { (other : Result PacketFields ItemFault) → IsPacketReading bytes.now other → seen view_packet result ≡ other }
+    // As a function of the bytes.
+    ensures value { seen view_packet result ≡ packet_reading bytes.now }
+{
+    parsed(bytes)
+}
+
+/// Appends a T->O socket address item.
+fn put_socket(out: &mut Vec<u8>, socket: SocketAddress) -> Result<(), OutOfMemory>
+    ensures { OnOk result (out.new.items ≡ out.old.items ++ socket_items (Some socket)) }
+{
+    put_bytes(out, &[0x01, 0x80, 16, 0, 0, 2])?;
+    put_bytes(out, &socket.port.to_be_bytes())?;
+    put_bytes(out, &socket.address.0.to_be_bytes())?;
+    put_bytes(out, &[0; 8])
+}
+
+/// The text of the items around the data of a request or reply, with timeout 0, and a T->O socket
+/// address item where there is a socket address.
+///
+/// Volume 2, chapter 2, common packet format.
+pub fn write_items(
+    alloc: Global,
+    data: &[u8],
+    socket: Option<SocketAddress>,
+) -> Result<Vec<u8>, OutOfMemory>
+    requires some { 1 ≤ length «data».now }
+    // The item's length field counts the data.
+    requires short { length «data».now ≤ 65535 }
+    ensures text { IfOk result (λ v. v.items ≡ packet_text «data».now socket) }
+    ensures is_text { IfOk result (λ v. IsPacketText v.items (record { timeout = 0; payload = «data».now })) }
+    ensures read_back { IfOk result (λ v. packet_reading v.items ≡ Ok (record { timeout = 0; payload = «data».now })) }
+{
+    let mut out = Vec::new(alloc);
+    put_bytes(&mut out, &[0, 0, 0, 0, 0, 0])?;
+    put_u16(&mut out, if socket.is_some() { 3 } else { 2 })?;
+    put_bytes(&mut out, &[0, 0, 0, 0, 0xB2, 0])?;
+    put_u16(&mut out, data.len() as u16)?;
+    put_bytes(&mut out, data)?;
+    if let Some(socket) = socket {
+        put_socket(&mut out, socket)?;
+    }
+    Ok(out)
+}
