@@ -1,5 +1,5 @@
 -- What passing the checks says.
-use Rattle.std.proofs.Common.{◌≡◌, ◌≤◌, ℕ, ◌+◌, Bool, true, false, not, find, subst, List, [], ◌∷◌, ◌++◌, ◌==◌, Option, Some, None, Result, Ok, Err, refl, arith}
+use Rattle.std.proofs.Common.{◌≡◌, ◌≤◌, ℕ, ◌+◌, Bool, true, false, cond, not, find, subst, List, [], ◌∷◌, ◌++◌, ◌==◌, Option, Some, None, Result, Ok, Err, refl, ◌∙◌, ap, arith}
 use Rattle.std.specs.List.{list_any}
 use Rattle.std.proofs.lemmas.Bool.Decides.{nat_tests}
 use Rattle.cip_tables.specs.declared.refusal.Refusal.{Refusal}
@@ -9,10 +9,12 @@ use Rattle.cip_epath.specs.Reading.{path_reading}
 use Rattle.cip_netparams.specs.Rate.{interval_ms}
 use Rattle.cip_fwdopen.specs.Open.{OpenFields}
 use Rattle.cip_tables.specs.declared.row.Row.{Row}
+use Rattle.cip_tables.specs.declared.profile.InputPoint.{InputPoint}
 use Rattle.cip_tables.specs.declared.profile.Profile.{Profile}
+use Rattle.cip_tables.specs.declared.admission.Consumer.{Consumer}
 use Rattle.cip_tables.specs.Profiles.{is_at}
 use Rattle.cip_tables.specs.Rows.{holds_triad}
-use Rattle.cip_tables.specs.Checks.{Check, check, first_of, unless, and_then, found_or, readable_path, connection_check, connection_checks, path_check, path_checks, consumer_of, is_known_config, named_len, has_other_length, is_unserved, are_intervals, Standing, points_check, points_checks, points_of, Points, shaped_path, admitted_path, verdict, Admitted, is_owned, is_used_up, is_alone, joined, drawn_ids, group_checks, room_check, room_checks, admitted_points}
+use Rattle.cip_tables.specs.Checks.{Check, check, first_of, unless, and_then, found_or, readable_path, connection_check, connection_checks, path_check, path_checks, consumer_of, is_known_config, is_multicast, named_len, has_other_length, is_unserved, are_intervals, Standing, points_check, points_checks, points_of, Points, shaped_path, admitted_path, verdict, Admitted, is_owned, is_used_up, is_alone, joined, drawn_ids, group_checks, room_check, room_checks, admitted_points}
 
 -- each check passes
 abbrev pub AllPass : List Check → Type 0
@@ -59,6 +61,7 @@ pub record IsAdmitted (at : Standing) (request : OpenFields) (admitted : Admitte
   pub are_intervals : not (are_intervals request) ≡ false
   pub segment_fits : has_other_length (named_len at.profile.config admitted.path.config) admitted.path.segment ≡ false
   pub config_is_known : not (is_known_config at.profile.config admitted.path.config) ≡ false
+  pub consumer_is : consumer_of at.profile admitted.path.consumed ≡ Some admitted.consumer
   pub output_is_free : is_owned at.rows admitted.consumer admitted.path.consumed ≡ false
   pub is_supported : is_alone at.rows admitted.consumer admitted.path.produced ≡ false
   pub group_is : admitted.group ≡ joined at.rows request admitted.path.produced
@@ -93,6 +96,22 @@ config_passes profile path points e =
     let b = unless_ok (path_check profile path) path a.0 a.1 in
     check_passes _ _ (all_pass (path_checks profile path) b.0).1.0
 
+found_is : {A : Type 0} (found : Option A) (why : Refusal) (x : A) → found_or found why ≡ Ok x → found ≡ Some x
+found_is None why x e = cc
+found_is (Some y) why x e = ap Some (done_is y x e)
+
+first_is : (consumer : Consumer) (input : InputPoint) (points : Points) → ◌≡◌ {A = Result Points Refusal} (Ok (consumer, input)) (Ok points) → consumer ≡ points.0
+first_is consumer input points e = cc
+
+consumer_passes : (profile : Profile) (path : PathFields) (points : Points) → points_of profile path ≡ Ok points → consumer_of profile path.consumed ≡ Some points.0
+consumer_passes profile path points e =
+    let a = then_ok (unless (path_check profile path) path) (λ p. and_then (found_or (consumer_of profile p.consumed) refusal.ConsumedPath) (λ consumer. and_then (found_or (find (is_at p.produced) profile.inputs) refusal.ProducedPath) (λ input. Ok (consumer, input)))) points e in
+    let u = unless_ok (path_check profile path) path a.0 a.1 in
+    let b = then_ok (found_or (consumer_of profile a.0.consumed) refusal.ConsumedPath) (λ consumer. and_then (found_or (find (is_at a.0.produced) profile.inputs) refusal.ProducedPath) (λ input. Ok (consumer, input))) points a.2 in
+    let c = then_ok (found_or (find (is_at a.0.produced) profile.inputs) refusal.ProducedPath) (λ input. Ok (b.0, input)) points b.2 in
+    let found : consumer_of profile a.0.consumed ≡ Some points.0 = found_is (consumer_of profile a.0.consumed) refusal.ConsumedPath b.0 b.1 ∙ ap Some (first_is b.0 c.0 points c.2) in
+    ap (λ (p : PathFields). consumer_of profile p.consumed) u.1 ∙ found
+
 same_number : (a b : ℕ) → not (a == b) ≡ false → a ≡ b
 same_number a b h = grind (arith, nat_tests)
 
@@ -114,6 +133,7 @@ room_passes at request path group none =
 record PathPasses (at : Standing) (request : OpenFields) (admitted : Admitted) : Type 0 where
   fits : has_other_length (named_len at.profile.config admitted.path.config) admitted.path.segment ≡ false
   known : not (is_known_config at.profile.config admitted.path.config) ≡ false
+  consumer : consumer_of at.profile admitted.path.consumed ≡ Some admitted.consumer
   free : is_owned at.rows admitted.consumer admitted.path.consumed ≡ false
   supported : is_alone at.rows admitted.consumer admitted.path.produced ≡ false
   group : admitted.group ≡ joined at.rows request admitted.path.produced
@@ -130,7 +150,7 @@ path_passes at request path admitted e =
     let p = points_pass at request path a.0 u.0 in
     let room = room_passes at request path (joined at.rows request path.produced) d.0 in
     let made : PathPasses at request (record { path = path; consumer = a.0.0; group = joined at.rows request path.produced }) =
-    record { fits = p.fits; known = config_passes at.profile path a.0 a.1; free = p.free; supported = p.supported; group = refl; room = room } in
+    record { fits = p.fits; known = config_passes at.profile path a.0 a.1; consumer = consumer_passes at.profile path a.0 a.1; free = p.free; supported = p.supported; group = refl; room = room } in
     subst (PathPasses at request) d.1 (subst (λ (points : Points). PathPasses at request (record { path = path; consumer = points.0; group = joined at.rows request path.produced })) u.1 made)
 
 pub admitted_is : (at : Standing) (request : OpenFields) (admitted : Admitted) → verdict at request ≡ Ok admitted → IsAdmitted at request admitted
@@ -148,6 +168,7 @@ admitted_is at request admitted e =
       are_intervals = q.intervals;
       segment_fits = p.fits;
       config_is_known = p.known;
+      consumer_is = p.consumer;
       output_is_free = p.free;
       is_supported = p.supported;
       group_is = p.group;
@@ -157,3 +178,7 @@ admitted_is at request admitted e =
 
 pub ids_left : (rows : List Row) (next_id drawn : ℕ) → is_used_up rows next_id drawn ≡ false → next_id + drawn ≤ 16777216
 ids_left rows next_id drawn free = grind (arith, nat_tests)
+
+pub draws_some : (request : OpenFields) (group : Option Row) → 1 ≤ drawn_ids request group
+draws_some request None = elim (is_multicast request.t_o_params.kind) as (λ b. 1 ≤ cond b 2 1) [ true ↦ omega arith | false ↦ omega arith ]
+draws_some request (Some member) = omega arith

@@ -1,10 +1,8 @@
--- The connections of one multicast producer share it, whatever is taken out, filtered out, appended or written.
-use Rattle.std.proofs.Common.{◌≡◌, ℕ, ◌==◌, Bool, true, false, cond, ◌&&◌, List, [], ◌∷◌, ◌++◌, map, filter, find, Option, Some, None, refl, sym, ◌∙◌, ap, subst, arith}
+-- The connections of one multicast producer share it, whatever is taken out, filtered out or appended.
+use Rattle.std.proofs.Common.{◌≡◌, ℕ, ◌==◌, Bool, true, false, cond, ◌&&◌, List, [], ◌∷◌, ◌++◌, filter, find, Option, Some, None, refl, sym, ◌∙◌, subst, arith}
 use Rattle.std.proofs.lemmas.Bool.Decides.{nat_tests}
 use Rattle.cip_tables.specs.declared.row.Row.{Row}
-use Rattle.cip_tables.specs.declared.row.State.{State}
-use Rattle.cip_tables.specs.declared.row.State.TheVariants.{Established, TimedOut}
-use Rattle.cip_tables.specs.Rows.{lives, is_established, is_member, without_first, written_state, written_row}
+use Rattle.cip_tables.specs.Rows.{is_established, is_member, without_first}
 use Rattle.cip_tables.specs.Sound.{SharesProducer, Agree, AllAgree, GroupsAgree}
 
 agree_without : (p : Row → Bool) (row : Row) (rows : List Row) → AllAgree row rows → AllAgree row (without_first p rows)
@@ -79,7 +77,7 @@ MembersShare point m (row ∷ rows) = (is_member point row ≡ true → SharesPr
 shares_back : (a b : Row) → SharesProducer a b → SharesProducer b a
 shares_back a b s = record { id = sym s.id; api = sym s.api; state = sym s.state }
 
-produced_is : (point : ℕ) (row : Row) → is_member point row ≡ true → row.produced ≡ point
+pub produced_is : (point : ℕ) (row : Row) → is_member point row ≡ true → row.produced ≡ point
 produced_is point row is =
     let a = and_parts (is_established row) (row.multicast && row.produced == point) is in
     let b = and_parts row.multicast (row.produced == point) a.1 in
@@ -159,59 +157,3 @@ all_fit rows new (is_joiner m found shares) agree = joiner_fits rows new m share
 
 pub groups_opened : (p : Row → Bool) (rows : List Row) (new : Row) → Joins rows new → GroupsAgree rows → GroupsAgree (without_first p rows ++ new ∷ [])
 groups_opened p rows new joins agree = groups_append (without_first p rows) new (groups_without p rows agree) (fit_without p rows new (all_fit rows new joins agree))
-
--- ---- an input is written
-
-lives_written : (state : State) → lives (written_state state) ≡ lives state
-lives_written (Established production) = refl
-lives_written TimedOut = refl
-
--- what a write leaves of a connection
-pub record IsLike (row row' : Row) : Type 0 where
-  pub lives : lives row'.state ≡ lives row.state
-  pub kind : row'.kind ≡ row.kind
-  pub multicast : row'.multicast ≡ row.multicast
-  pub produced : row'.produced ≡ row.produced
-  pub consumed : row'.consumed ≡ row.consumed
-  pub triad : row'.triad ≡ row.triad
-  pub o_t_id : row'.o_t_id ≡ row.o_t_id
-  pub opening : row'.opening ≡ row.opening
-  pub t_o_id : row'.t_o_id ≡ row.t_o_id
-  pub t_o_api : row'.t_o_api ≡ row.t_o_api
-
-pub written_like : (point : ℕ) (row : Row) → IsLike row (written_row point row)
-written_like point row =
-    elim (row.produced == point) as (λ b. IsLike row (cond b (record row { state = written_state row.state }) row)) [
-      | true ↦ record { lives = lives_written row.state; kind = refl; multicast = refl; produced = refl; consumed = refl; triad = refl; o_t_id = refl; opening = refl; t_o_id = refl; t_o_api = refl }
-      | false ↦ record { lives = refl; kind = refl; multicast = refl; produced = refl; consumed = refl; triad = refl; o_t_id = refl; opening = refl; t_o_id = refl; t_o_api = refl }
-    ]
-
-member_like : (point : ℕ) (row row' : Row) → IsLike row row' → is_member point row' ≡ is_member point row
-member_like point row row' like = rw (like.lives, like.multicast, like.produced) refl
-
-written_same : (point : ℕ) (a b : Row) → a.produced ≡ b.produced → a.state ≡ b.state → (written_row point a).state ≡ (written_row point b).state
-written_same point a b produced state = same_state (a.produced == point) (b.produced == point) a b (ap (λ (n : ℕ). n == point) produced) state where
-  same_state : (x y : Bool) (a b : Row) → x ≡ y → a.state ≡ b.state → (cond x (record a { state = written_state a.state }) a).state ≡ (cond y (record b { state = written_state b.state }) b).state
-  same_state true true a b e state = ap written_state state
-  same_state true false a b e state = absurd cc
-  same_state false true a b e state = absurd cc
-  same_state false false a b e state = state
-
-agree_written : (point : ℕ) (a b : Row) → Agree a b → Agree (written_row point a) (written_row point b)
-agree_written point a b agree = λ here there.
-    let la = written_like point a in
-    let lb = written_like point b in
-    let place = la.produced in
-    let here' : is_member a.produced a ≡ true = sym (member_like a.produced a (written_row point a) la) ∙ subst (λ (n : ℕ). is_member n (written_row point a) ≡ true) place here in
-    let there' : is_member a.produced b ≡ true = sym (member_like a.produced b (written_row point b) lb) ∙ subst (λ (n : ℕ). is_member n (written_row point b) ≡ true) place there in
-    let s = agree here' there' in
-    let same = sym (produced_is a.produced b there') in
-    record { id = la.t_o_id ∙ s.id ∙ sym lb.t_o_id; api = la.t_o_api ∙ s.api ∙ sym lb.t_o_api; state = written_same point a b same s.state }
-
-all_written : (point : ℕ) (row : Row) (rows : List Row) → AllAgree row rows → AllAgree (written_row point row) (map (written_row point) rows)
-all_written point row [] agree = tt
-all_written point row (other ∷ rows) agree = (agree_written point row other agree.0, all_written point row rows agree.1)
-
-pub groups_written : (point : ℕ) (rows : List Row) → GroupsAgree rows → GroupsAgree (map (written_row point) rows)
-groups_written point [] agree = tt
-groups_written point (row ∷ rows) agree = (all_written point row rows agree.0, groups_written point rows agree.1)

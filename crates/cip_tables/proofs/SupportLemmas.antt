@@ -1,5 +1,5 @@
--- No listener is left without support, whatever makes room, is appended, closed or written.
-use Rattle.std.proofs.Common.{◌≡◌, ℕ, Bool, true, false, cond, not, ◌||◌, ◌&&◌, List, [], ◌∷◌, ◌++◌, map, filter, refl, ◌∙◌, ap, inl, inr}
+-- No listener is left without support, whatever makes room, is appended or closed.
+use Rattle.std.proofs.Common.{◌≡◌, ℕ, Bool, true, false, cond, not, ◌||◌, ◌&&◌, List, [], ◌∷◌, ◌++◌, filter, refl, ◌∙◌, ap, inl, inr}
 use Rattle.std.specs.List.{list_any}
 use Rattle.std.proofs.lemmas.Bool.{cases_Bool}
 use Rattle.std.proofs.lemmas.List.Folds.{list_any-append}
@@ -7,11 +7,10 @@ use Rattle.cip_types.specs.declared.names.Triad.{Triad}
 use Rattle.cip_tables.specs.declared.row.Row.{Row}
 use Rattle.cip_tables.specs.declared.row.Kind.{Kind}
 use Rattle.cip_tables.specs.declared.row.Kind.TheVariants.{ExclusiveOwner, InputOnly, ListenOnly}
-use Rattle.cip_tables.specs.Rows.{is_listener, lives, is_established, is_timed_out, has_triad, holds_triad, same_kind, is_member, supports, is_supported, is_forsaken, without_first, written_row}
+use Rattle.cip_tables.specs.Rows.{is_listener, is_established, is_timed_out, has_triad, holds_triad, same_kind, is_member, supports, is_supported, is_forsaken, without_first}
 use Rattle.cip_tables.specs.Closing.{stays, staying}
 use Rattle.cip_tables.specs.Sound.{ListenersAreSupported}
 use Rattle.cip_tables.proofs.SoundLemmas.{or_false, room_by}
-use Rattle.cip_tables.proofs.GroupLemmas.{IsLike, written_like}
 
 and_parts : (a b : Bool) → (a && b) ≡ true → (a ≡ true) × (b ≡ true)
 and_parts true b h = (refl, h)
@@ -32,7 +31,7 @@ not_false false h = absurd cc
 -- ---- one that does not live makes room
 
 -- what passes the test does not live
-Gone : (Row → Bool) → List Row → Type 0
+pub Gone : (Row → Bool) → List Row → Type 0
 Gone p [] = Unit {0}
 Gone p (row ∷ rows) = (p row ≡ true → is_established row ≡ false) × Gone p rows
 
@@ -56,7 +55,7 @@ unfolding Gone
 gone_none [] = tt
 gone_none (row ∷ rows) = (λ out. absurd cc, gone_none rows)
 
-gone_room : (b c : Bool) (triad : Triad) (rows : List Row) → list_any (holds_triad triad) rows ≡ false → Gone (room_by b c triad) rows
+pub gone_room : (b c : Bool) (triad : Triad) (rows : List Row) → list_any (holds_triad triad) rows ≡ false → Gone (room_by b c triad) rows
 gone_room true c triad rows none = gone_triad triad rows none
 gone_room false true triad rows none = gone_timed_out rows
 gone_room false false triad rows none = gone_none rows
@@ -71,7 +70,7 @@ kept_step true q row rows without lives gone rest =
     ]
 kept_step false q row rows without lives gone rest = ap (λ (x : Bool). q row || x) rest
 
-any_kept : (p q : Row → Bool) (rows : List Row) → ((r : Row) → q r ≡ true → is_established r ≡ true) → Gone p rows → list_any q (without_first p rows) ≡ list_any q rows
+pub any_kept : (p q : Row → Bool) (rows : List Row) → ((r : Row) → q r ≡ true → is_established r ≡ true) → Gone p rows → list_any q (without_first p rows) ≡ list_any q rows
 unfolding Gone
 any_kept p q [] lives gone = refl
 any_kept p q (row ∷ rows) lives gone = kept_step (p row) q row rows (without_first p rows) lives gone.0 (any_kept p q rows lives gone.1)
@@ -192,26 +191,3 @@ staying_supported all (row ∷ rows) = staying_step (stays all row) all row (fil
 
 pub listeners_staying : (rows : List Row) → ListenersAreSupported (staying rows)
 listeners_staying rows = staying_supported rows rows
-
--- ---- an input is written
-
-supports_like : (kind : Kind) (point : ℕ) (row row' : Row) → IsLike row row' → supports kind point row' ≡ supports kind point row
-supports_like kind point row row' like = rw (like.lives, like.multicast, like.produced, like.kind) refl
-
-supported_written : (place : ℕ) (rows : List Row) (kind : Kind) (point : ℕ) → is_supported (map (written_row place) rows) kind point ≡ is_supported rows kind point
-supported_written place [] kind point = refl
-supported_written place (row ∷ rows) kind point = rw (supports_like kind point row (written_row place row) (written_like place row), supported_written place rows kind point) refl
-
-forsaken_like : (place : ℕ) (all : List Row) (row : Row) → is_forsaken (map (written_row place) all) (written_row place row) ≡ is_forsaken all row
-forsaken_like place all row =
-    let like = written_like place row in
-    like_step (written_row place row) row like.lives like.kind like.produced (supported_written place all row.kind row.produced) where
-      like_step : (r' r : Row) → lives r'.state ≡ lives r.state → r'.kind ≡ r.kind → r'.produced ≡ r.produced → is_supported (map (written_row place) all) r.kind r.produced ≡ is_supported all r.kind r.produced → is_forsaken (map (written_row place) all) r' ≡ is_forsaken all r
-      like_step r' r a b c d = rw (a, b, c, d) refl
-
-all_written : (place : ℕ) (all rows : List Row) → list_any (is_forsaken (map (written_row place) all)) (map (written_row place) rows) ≡ list_any (is_forsaken all) rows
-all_written place all [] = refl
-all_written place all (row ∷ rows) = rw (forsaken_like place all row, all_written place all rows) refl
-
-pub listeners_written : (place : ℕ) (rows : List Row) → ListenersAreSupported rows → ListenersAreSupported (map (written_row place) rows)
-listeners_written place rows supported = all_written place rows rows ∙ supported

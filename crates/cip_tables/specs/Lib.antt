@@ -1,5 +1,7 @@
 pub mod Profiles
 pub mod Points
+pub mod Order
+pub mod Shapes
 pub mod Rows
 pub mod Refusals
 pub mod Checks
@@ -8,7 +10,12 @@ pub mod Closing
 pub mod Asking
 pub mod Replies
 pub mod Requests
+pub mod Datagrams
+pub mod Productions
+pub mod Ticks
 pub mod Step
 pub mod Run
 pub mod Sound
+pub mod Whole
+pub mod Scratch
 pub mod News

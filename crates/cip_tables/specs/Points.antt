@@ -57,3 +57,13 @@ fault_values (Some output) values = acted_values output.fault output.instance va
 -- the values after the fault action of an output
 abbrev pub lost_values : Profile → ℕ → List PointValue → List PointValue
 lost_values profile point values = fault_values (find (is_output_at point) profile.outputs) values
+
+-- ---- an output whose owner is idle
+
+abbrev pub idle_action_values : Option OutputPoint → List PointValue → List PointValue
+idle_action_values None values = values
+idle_action_values (Some output) values = acted_values output.idle output.instance values
+
+-- the values after the idle action of an output
+abbrev pub idle_values : Profile → ℕ → List PointValue → List PointValue
+idle_values profile point values = idle_action_values (find (is_output_at point) profile.outputs) values

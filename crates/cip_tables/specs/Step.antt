@@ -1,7 +1,8 @@
 -- One event at a device's table.
-use Rattle.std.specs.Prelude.{ℕ, ◌==◌, length, map, find, if◌then◌else◌, List, [], Option, Some, None, Result, Ok, Err}
+use Rattle.std.specs.Prelude.{ℕ, ◌==◌, length, map, find, if◌then◌else◌, Bool, List, [], Option, Some, None, Result, Ok, Err}
+use Rattle.std.specs.List.{list_any}
 use Rattle.cip_tables.specs.declared.event.Event.{Event}
-use Rattle.cip_tables.specs.declared.event.Event.TheVariants.{Request, Write, Read}
+use Rattle.cip_tables.specs.declared.event.Event.TheVariants.{Request, Datagram, Write, Read, Tick}
 use Rattle.cip_tables.specs.declared.event.Answer.{Answer}
 use Rattle.cip_tables.specs.declared.event.StepFault.{StepFault}
 use Rattle.cip_tables.specs.declared.event.StepFault.TheVariants as fault
@@ -18,6 +19,9 @@ use Rattle.cip_tables.specs.declared.profile.ProfileFault.{ProfileFault}
 use Rattle.cip_tables.specs.Points.{opening_values, put_value, bytes_at}
 use Rattle.cip_tables.specs.Rows.{written_row}
 use Rattle.cip_tables.specs.Requests.{Next, requested, plain_answer}
+use Rattle.cip_tables.specs.Datagrams.{received}
+use Rattle.cip_tables.specs.Productions.{is_prompt, prompt_sendings, prompt_row}
+use Rattle.cip_tables.specs.Ticks.{tick}
 
 -- an answer and the device's table after it
 abbrev pub DeviceNext : Type 0
@@ -43,10 +47,21 @@ written_table t point bytes = record t {
   values = put_value point bytes t.values;
 }
 
+-- each change-of-state producer of the input has produced, or is due when it may
+unfoldable pub prompt_table : AdapterTable → ℕ → AdapterTable
+prompt_table t point = record t { rows = map (prompt_row t.clock point) t.rows }
+
+-- what the change-of-state producers send at once
+abbrev pub write_answer : AdapterTable → ℕ → List ℕ → Answer
+write_answer written point bytes = record (plain_answer Done) { datagrams = prompt_sendings written.clock point bytes written.rows }
+
+abbrev pub written : AdapterTable → ℕ → List ℕ → Next
+written t point bytes = (write_answer t point bytes, prompt_table t point)
+
 abbrev pub write_of : AdapterTable → ℕ → List ℕ → Option InputPoint → Result Next StepFault
 write_of t point bytes None = Err fault.NoSuchPoint
 write_of t point bytes (Some input) =
-    if length bytes == input.len then Ok (plain_answer Done, written_table t point bytes) else Err fault.WrongLength
+    if length bytes == input.len then Ok (written (written_table t point bytes) point bytes) else Err fault.WrongLength
 
 -- other bytes for an input
 unfoldable pub write : AdapterTable → ℕ → List ℕ → Result Next StepFault
@@ -55,8 +70,10 @@ write t point bytes = write_of t point bytes (find (is_at point) t.profile.input
 -- Either the first fault, the table staying, or an answer and the next table. Want of memory is never named.
 abbrev pub adapter_step : AdapterTable → Event → Result Next StepFault
 adapter_step t (Request peer bytes) = Ok (requested t peer bytes)
+adapter_step t (Datagram peer bytes) = Ok (received t peer bytes)
 adapter_step t (Write point bytes) = write t point bytes
 adapter_step t (Read point) = read t point
+adapter_step t (Tick ms) = tick t ms
 
 abbrev pub as_adapter : Result Next StepFault → Result DeviceNext StepFault
 as_adapter (Ok next) = Ok (next.0, Adapter next.1)
@@ -85,3 +102,7 @@ config_fault (config.Adapter profile) = profile_fault profile
 -- what a point of a device holds
 abbrev pub bytes_in : DeviceTable → ℕ → Option (List ℕ)
 bytes_in (Adapter t) point = bytes_at t.values point
+
+-- a write of the input makes a change-of-state producer produce at once
+abbrev pub produces_at_once : DeviceTable → ℕ → Bool
+produces_at_once (Adapter t) point = list_any (is_prompt t.clock point) t.rows

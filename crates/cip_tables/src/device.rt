@@ -1,15 +1,17 @@
 //! What a device is, and runs of one.
 
-ghost use Rattle.std.specs.Prelude.{◌≡◌, ◌≢◌, ◌↔◌, Err, None, Some, Result, filter, IfOk, IfErr, OnErr, IsErr};
+ghost use Rattle.std.specs.Prelude.{◌≡◌, ◌≢◌, ◌↔◌, false, Ok, Err, None, Some, Result, filter, IfOk, IfErr, OnErr, IsErr};
 ghost use Rattle.cip_tables.specs.declared.table.DeviceTable.{DeviceTable};
-ghost use Rattle.cip_tables.specs.Step.{step, opening_table, config_fault, bytes_in};
+ghost use Rattle.cip_tables.specs.Step.{step, opening_table, config_fault, bytes_in, produces_at_once};
+ghost use Rattle.cip_tables.specs.Requests.{plain_answer};
 ghost use Rattle.cip_tables.specs.Run.{Follows, Runs, found_memory, outcomes_of, performed, table_after};
 ghost use Rattle.cip_tables.specs.Sound.{IsSoundDevice};
 ghost use Rattle.cip_tables.specs.News.{IsRefusedAs};
 
-use crate::event::{Event, NewFault, Outcome, StepFault};
+use crate::copy::TableCopy;
+use crate::event::{Delivery, Event, NewFault, Outcome, StepFault, Verdict};
 use crate::table::Config;
-use cip_types::OutOfMemory;
+use cip_types::{Node, OutOfMemory};
 use std::alloc::Global;
 
 /// A device, which contracts see as the table of its connections.
@@ -30,16 +32,25 @@ pub trait Device {
     fn step(&mut self, event: &Event) -> Outcome
         ensures { Follows (step (table self.old) event.now) (table self.old) result (table self.new) };
 
-    /// Sets what an input holds, as the event Write does, and gives the same answer. Takes no memory.
+    /// A class 1 datagram of a peer, as the event Datagram: it always answers, and takes no memory.
+    fn deliver(&mut self, peer: Node, bytes: &[u8]) -> Delivery
+        ensures { step (table self.old) (Event.Datagram peer bytes.now) ≡ Ok (plain_answer (Verdict.Delivered result), table self.new) };
+
+    /// Sets what an input holds, as the event Write does, and gives the same answer. Takes memory only
+    /// where a change-of-state producer of the input produces at once.
     fn write_point(&mut self, point: u32, bytes: &[u8]) -> Outcome
         ensures step { Follows (step (table self.old) (Event.Write point bytes.now)) (table self.old) result (table self.new) }
-        ensures no_memory { result ≢ Err StepFault.OutOfMemory };
+        ensures no_memory { produces_at_once (table self.old) point ≡ false → result ≢ Err StepFault.OutOfMemory };
 
     /// What an output, an input or the configuration holds. Takes no memory. The one fault is
     /// `NoSuchPoint`.
     fn read_point(&self, point: u32) -> Result<&[u8], StepFault>
         ensures found { IfOk result (λ bytes. bytes_in (table self.now) point ≡ Some bytes.now) }
         ensures none { IfErr result (λ fault. (fault ≡ StepFault.NoSuchPoint) × (bytes_in (table self.now) point ≡ None)) };
+
+    /// The present table. Want of memory is the only fault.
+    fn copy(&self) -> Result<TableCopy, OutOfMemory>
+        ensures { IfOk result (λ copy. copy ≡ table self.now) };
 }
 
 /// Steps a device through events, in order. Room for all outcomes is made first: where that is refused,

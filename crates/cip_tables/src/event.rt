@@ -11,10 +11,14 @@ use thiserror::Error;
 pub enum Event {
     /// A peer sends a request to the message router.
     Request { peer: Node, bytes: Items<u8> },
+    /// A peer sends a class 1 datagram.
+    Datagram { peer: Node, bytes: Items<u8> },
     /// The application sets what an input holds.
     Write { point: u32, bytes: Items<u8> },
     /// The application asks what a point holds.
     Read { point: u32 },
+    /// Milliseconds pass, at most 60,000.
+    Tick { ms: u32 },
 }
 
 /// Whom a frame goes to.
@@ -41,6 +45,30 @@ pub struct Sending {
     pub bytes: Items<u8>,
 }
 
+/// What became of a datagram. The first that holds, from the last of these to the first: it is
+/// `Malformed`, then of an `UnknownId`, then of a `WrongSize`, then `Old`; otherwise it is accepted.
+///
+/// Volume 1, chapter 3, class 1 transport and run/idle; Volume 2, chapter 2, sequenced address item.
+#[derive(Clone, Copy, Debug, PartialEq, Eq)]
+pub enum Delivery {
+    /// It was accepted, and its run-mode data stand at the output.
+    Applied,
+    /// It was accepted, and the idle action of the output was done.
+    Idle,
+    /// It was accepted on a connection without O->T data.
+    Heartbeat,
+    /// It was accepted, and its data are those of the last accepted one.
+    Duplicate,
+    /// Its number is not newer than the last accepted one.
+    Old,
+    /// No established connection of the peer has its connection id.
+    UnknownId,
+    /// It has not the connection's size.
+    WrongSize,
+    /// Its bytes are no datagram.
+    Malformed,
+}
+
 /// What became of an event.
 #[derive(Debug, PartialEq, Drop)]
 pub enum Verdict {
@@ -50,6 +78,8 @@ pub enum Verdict {
     BadFrame,
     /// The bytes that a point holds.
     Value(Items<u8>),
+    /// What became of a datagram.
+    Delivered(Delivery),
 }
 
 /// What happened to a connection.
@@ -59,6 +89,8 @@ pub enum Notice {
     Opened(Triad, ConnId),
     /// A connection was closed by its originator, or by another peer.
     Closed(Triad),
+    /// No datagram of the originator came before the deadline of the connection.
+    Expired(Triad),
     /// A listen-only connection lost its last support.
     Dropped(Triad),
     /// A timed-out connection made room for a new one.

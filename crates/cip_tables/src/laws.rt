@@ -2,6 +2,8 @@
 //! nothing: its contract is the law.
 
 ghost use Rattle.std.specs.Prelude.{◌≤◌, length};
+ghost use Rattle.cip_tables.specs.Scratch.{OutputsAreFromScratch};
+ghost use Rattle.cip_tables.specs.Whole.{TablesAreWhole};
 ghost use Rattle.cip_tables.specs.Sound.{OverEveryRun, HasOneOwner, TriadsDiffer, IdsDiffer, IdsAreDrawn, ListenersAreSupported, GroupsAgree};
 
 /// An output has at most one established exclusive owner.
@@ -39,4 +41,17 @@ pub fn listeners_are_supported()
 /// and equal productions.
 pub fn groups_share_one_production()
     ensures { OverEveryRun (λ t. GroupsAgree t.rows) }
+{}
+
+/// Every table that a run of a faultless profile reaches is whole: each of these laws holds of it, each point
+/// holds as many bytes as the profile says, each exclusive owner consumes an output, and packet intervals,
+/// multipliers, productions and the clock are within their limits.
+pub fn tables_are_whole()
+    ensures { TablesAreWhole }
+{}
+
+/// What each output holds is what the last event that touched it left there: an owner's newest accepted
+/// run-mode data, the idle action, or the fault action at the loss of the owner; zeros where no event did.
+pub fn outputs_are_from_scratch()
+    ensures { OutputsAreFromScratch }
 {}

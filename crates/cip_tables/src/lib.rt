@@ -4,6 +4,7 @@
 
 mod admission;
 mod asked;
+mod copy;
 mod device;
 mod event;
 pub mod laws;
@@ -16,9 +17,11 @@ mod table;
 
 pub use admission::{Admission, Consumer};
 pub use asked::{Asked, read_asked};
+pub use copy::TableCopy;
 pub use device::{Device, run};
 pub use event::{
-    Answer, Event, Frame, NewFault, Notice, Outcome, Recipient, Sending, StepFault, Verdict,
+    Answer, Delivery, Event, Frame, NewFault, Notice, Outcome, Recipient, Sending, StepFault,
+    Verdict,
 };
 pub use profile::{Action, InputPoint, OutputPoint, Profile, ProfileFault};
 pub use refusal::{Refusal, Status};

@@ -1,8 +1,11 @@
 //! Profiles and what is wrong with them, requests by what they ask, and replies.
 
+ghost use Rattle.std.specs.Prelude.{◌≡◌, IfOk};
+ghost use Rattle.cip_tables.specs.Whole.{next_id_of};
+
 use crate::*;
 use cip_fwdopen::Opened;
-use cip_types::{ConnId, Identity, Items, Node, OutOfMemory, Triad};
+use cip_types::{ConnId, Identity, Items, Ms, Node, OutOfMemory, Triad};
 use std::alloc::Global;
 use std::test::*;
 
@@ -175,5 +178,90 @@ fn replies_are_written_whole(rt: HostRuntime) -> Result<(), Fail> {
     assert_eq!(rt; bytes.as_slice(), [0x8E, 0, 0, 0, 1, 2].as_slice());
     let bytes = Reply::Closed(triad).write(rt.alloc())?;
     assert_eq!(rt; bytes.len(), 14);
+    Ok(())
+}
+
+#[test]
+fn configurations_are_copied(rt: HostRuntime) -> Result<(), Fail> {
+    let whole = profile(rt.alloc())?;
+    assert_eq!(rt; whole.copy(rt.alloc())?, whole);
+    let made = Config::Adapter(whole);
+    assert_eq!(rt; made.copy(rt.alloc())?, made);
+    Ok(())
+}
+
+#[test]
+fn events_are_copied(rt: HostRuntime) -> Result<(), Fail> {
+    let peer = Node(0xC0A8_0114);
+    for event in [
+        Event::Request {
+            peer,
+            bytes: Items::one(rt.alloc(), 1)?,
+        },
+        Event::Datagram {
+            peer,
+            bytes: Items::one(rt.alloc(), 2)?,
+        },
+        Event::Write {
+            point: 100,
+            bytes: Items::one(rt.alloc(), 3)?,
+        },
+        Event::Read { point: 150 },
+        Event::Tick { ms: 60_000 },
+    ] {
+        assert_eq!(rt; event.copy(rt.alloc())?, event);
+    }
+    Ok(())
+}
+
+/// An adapter of one input with one byte, to which nothing has happened.
+fn fresh(alloc: Global) -> Result<TableCopy, Fail>
+    ensures { IfOk result (λ copy. next_id_of copy ≡ 1) }
+{
+    let input = InputPoint {
+        instance: 100,
+        len: 1,
+    };
+    let profile = Profile {
+        incarnation: 0x10,
+        node: Node(0xC0A8_010A),
+        mask: 0xFFFF_FF00,
+        identity: Identity {
+            vendor: 1,
+            device_type: 12,
+            product: 7,
+            major: 2,
+            minor: 3,
+        },
+        outputs: Items::new(alloc),
+        inputs: Items::one(alloc, input)?,
+        config: None,
+        input_only: 152,
+        listen_only: 153,
+    };
+    profile.check()?;
+    let value = PointValue {
+        point: 100,
+        bytes: Items::one(alloc, 0)?,
+    };
+    Ok(TableCopy::adapter(AdapterTable {
+        profile,
+        rows: Items::new(alloc),
+        values: Items::one(alloc, value)?,
+        clock: Ms(0),
+        next_id: 1,
+    }))
+}
+
+#[test]
+fn tables_go_on_with_a_later_counter(rt: HostRuntime) -> Result<(), Fail> {
+    let copy = fresh(rt.alloc())?;
+    assert!(rt; copy.same(&fresh(rt.alloc())?));
+    let DeviceTable::Adapter(table) = copy.table();
+    assert_eq!(rt; table.next_id, 1);
+    let later = copy.with_next_id(16_777_216);
+    let DeviceTable::Adapter(table) = later.table();
+    assert_eq!(rt; table.next_id, 16_777_216);
+    assert!(rt; !later.same(&fresh(rt.alloc())?));
     Ok(())
 }

@@ -1,14 +1,16 @@
 //! The order of sequence numbers.
 
 ghost use Rattle.std.specs.Prelude.{◌≡◌, ◌↔◌, IsTrue};
-ghost use Rattle.cip_types.specs.Circle.{IsNewer};
+ghost use Rattle.cip_types.specs.Circle.{IsNewer, is_newer};
 
 /// Whether sequence number `a` of a sequenced address item is newer than `b`: ahead of it on the
 /// circle of 32-bit numbers, by less than half of the circle.
 ///
 /// Volume 2, chapter 2, sequenced address item.
 pub fn newer32(a: u32, b: u32) -> bool
-    ensures { IsTrue result ↔ IsNewer a b }
+    ensures newer { IsTrue result ↔ IsNewer a b }
+    // The same as a test.
+    ensures value { result ≡ is_newer a b }
 {
     a.wrapping_sub(b).cast_signed() > 0
 }

@@ -1,4 +1,5 @@
 mod EventLines
+mod EventWords
 mod FormLines
 mod Limits
 mod LineWords

@@ -11,7 +11,7 @@ use Rattle.std.proofs.lemmas.Str.Pattern.{IsSplitOnceResult, split_parts}
 use Rattle.eip_line.specs.declared.words.LineFault.{LineFault}
 use Rattle.eip_line.specs.declared.words.LineFault.TheVariants.{Bad, OutOfMemory}
 use Rattle.eip_line.specs.Words.{words_of, Fits, SpellsBytes}
-use Rattle.eip_line.specs.Fields.{TakesAs, TakesBytes}
+use Rattle.eip_line.specs.Fields.{TakesAs, TakesBytes, EndsInBytes}
 
 no_space : (line : List ℕ) → ((i : ℕ) → i < length line → get_or line i 0 ≢ 32) → All (λ byte. eqb byte 32 ≡ false) line
 no_space line none = All-from_get_or (λ byte. eqb byte 32 ≡ false) line 0 (λ i below. let apart = none i below in grind (arith, nat_tests))
@@ -33,6 +33,11 @@ pub takes_bytes : (old new : List (List ℕ)) (word : List ℕ) (r : Result (Lis
 takes_bytes old new word (Ok bytes) is spelled bad = (word, (is, spelled))
 takes_bytes old new word (Err Bad) is spelled bad = λ other rest bytes spells same. let equal : other ≡ word = cc in bad refl bytes (subst (λ w. SpellsBytes w bytes) equal spells)
 takes_bytes old new word (Err OutOfMemory) is spelled bad = tt
+
+-- a word that spells no bytes is no last word either
+pub last_refused : (old new : List (List ℕ)) (fault : LineFault) → TakesBytes old new (Err fault) → EndsInBytes old (Err fault)
+last_refused old new Bad none = λ word bytes spells. none word [] bytes spells
+last_refused old new OutOfMemory none = tt
 
 pub narrowed : {E : Type 0} (bits : ℕ) (old new : List (List ℕ)) (n : ℕ) (r : Result ℕ E) (r' : Result ℕ LineFault) → ((m : ℕ) → m < 2 ^ bits → m < 2 ^ 64) → TakesAs (Fits 64) decimal old new (Ok n) → OkIff r (n < 2 ^ bits) n → MatchResult r (λ m. r' ≡ Ok m) (λ _. IsErrAnd r' (λ fault. fault ≡ Bad)) → TakesAs (Fits bits) decimal old new r'
 narrowed bits old new n (Ok m) r' small read h is = rw is (rw h.1 (h.0, read.1))

@@ -29,3 +29,14 @@ abbrev pub TakesBytes : List (List ℕ) → List (List ℕ) → Result (List ℕ
 TakesBytes old new (Ok bytes) = (word : List ℕ) × ((old ≡ word ∷ new) × SpellsBytes word bytes)
 TakesBytes old new (Err Bad) = (word : List ℕ) (rest : List (List ℕ)) (bytes : List ℕ) → SpellsBytes word bytes → old ≢ word ∷ rest
 TakesBytes old new (Err OutOfMemory) = Unit {0}
+
+-- One word is left, and is read as the bytes that it spells, or the line is bad.
+abbrev pub EndsInBytes : List (List ℕ) → Result (List ℕ) LineFault → Type 0
+EndsInBytes old (Ok bytes) = (word : List ℕ) × ((old ≡ word ∷ []) × SpellsBytes word bytes)
+EndsInBytes old (Err Bad) = (word : List ℕ) (bytes : List ℕ) → SpellsBytes word bytes → old ≢ word ∷ []
+EndsInBytes old (Err OutOfMemory) = Unit {0}
+
+-- One word is left, and is read as the value that is written so, or no value is and the line is bad.
+abbrev pub EndsAs : {A : Type 0} → (A → Type 0) → (A → List ℕ) → List (List ℕ) → Result A LineFault → Type 0
+EndsAs IsValue written old (Ok value) = IsValue value × (old ≡ written value ∷ [])
+EndsAs {A} IsValue written old (Err fault) = (fault ≡ Bad) × ((value : A) → IsValue value → old ≢ written value ∷ [])

@@ -7,9 +7,9 @@ use Rattle.cip_tables.specs.declared.profile.OutputPoint.{OutputPoint}
 use Rattle.cip_tables.specs.declared.profile.InputPoint.{InputPoint}
 use Rattle.cip_tables.specs.declared.profile.Profile.{Profile}
 use Rattle.cip_tables.specs.declared.event.Event.{Event}
-use Rattle.cip_tables.specs.declared.event.Event.TheVariants.{Request, Write, Read}
+use Rattle.cip_tables.specs.declared.event.Event.TheVariants.{Request, Datagram, Write, Read, Tick}
 use Rattle.eip_line.specs.declared.words.LineFault.{LineFault}
-use Rattle.eip_line.specs.declared.words.LineFault.TheVariants.{Bad}
+use Rattle.eip_line.specs.declared.words.LineFault.TheVariants.{Bad, OutOfMemory}
 use Rattle.eip_line.specs.declared.profile_lines.AdapterLine.{AdapterLine}
 use Rattle.eip_line.specs.declared.profile_lines.HeartbeatLine.{HeartbeatLine}
 use Rattle.eip_line.specs.Lines.{told_lines}
@@ -57,11 +57,29 @@ heartbeat_line profile = line_of (codes "heartbeat ") (heartbeat_words (record {
 abbrev pub profile_lines : Profile → List (List ℕ)
 profile_lines profile = adapter_line profile ∷ (map output_line profile.outputs ++ (map input_line profile.inputs ++ (config_lines profile.config ++ heartbeat_line profile ∷ [])))
 
--- a line tells an event; bytes may be spelled by digits of either case
+-- EVENTS
+
+-- the words are a keyword, one word more, and digits of either case that spell the bytes
+abbrev pub AreBytesWords : List ℕ → List ℕ → List (List ℕ) → List ℕ → Type 0
+AreBytesWords keyword name words bytes = (digits : List ℕ) × ((words ≡ keyword ∷ name ∷ digits ∷ []) × SpellsBytes digits bytes)
+
+-- The words of a line tell an event: its keyword, and what it carries. Addresses and numbers have 32 bits.
+abbrev pub AreEventWords : List (List ℕ) → Event → Type 0
+AreEventWords words (Request peer bytes) = Fits 32 peer.0 × AreBytesWords (codes "request") (node_word peer) words bytes
+AreEventWords words (Datagram peer bytes) = Fits 32 peer.0 × AreBytesWords (codes "datagram") (node_word peer) words bytes
+AreEventWords words (Write point bytes) = Fits 32 point × AreBytesWords (codes "write") (decimal point) words bytes
+AreEventWords words (Read point) = Fits 32 point × (words ≡ codes "read" ∷ decimal point ∷ [])
+AreEventWords words (Tick ms) = Fits 32 ms × (words ≡ codes "tick" ∷ decimal ms ∷ [])
+
+-- a line tells an event
 abbrev pub TellsEvent : List ℕ → Event → Type 0
-TellsEvent line (Request peer bytes) = (digits : List ℕ) × ((line ≡ line_of (codes "request ") (node_word peer ∷ digits ∷ [])) × SpellsBytes digits bytes)
-TellsEvent line (Write point bytes) = ⊥
-TellsEvent line (Read point) = ⊥
+TellsEvent line event = AreEventWords (words_of line) event
+
+-- The words tell the event, or they tell none and the line is bad.
+abbrev pub ReadsEvent : List (List ℕ) → Result Event LineFault → Type 0
+ReadsEvent words (Ok event) = AreEventWords words event
+ReadsEvent words (Err Bad) = (event : Event) → ¬ (AreEventWords words event)
+ReadsEvent words (Err OutOfMemory) = Unit {0}
 
 -- VALUES
 

@@ -11,10 +11,12 @@ use Rattle.cip_tables.specs.declared.event.Frame.{Frame}
 use Rattle.cip_tables.specs.declared.event.Recipient.{Recipient}
 use Rattle.cip_tables.specs.declared.event.Recipient.TheVariants.{Stream, Peer}
 use Rattle.cip_tables.specs.declared.event.Sending.{Sending}
+use Rattle.cip_tables.specs.declared.event.Delivery.{Delivery}
+use Rattle.cip_tables.specs.declared.event.Delivery.TheVariants.{Applied, Idle, Heartbeat, Duplicate, Old, UnknownId, WrongSize, Malformed}
 use Rattle.cip_tables.specs.declared.event.Verdict.{Verdict}
-use Rattle.cip_tables.specs.declared.event.Verdict.TheVariants.{Done, BadFrame, Value}
+use Rattle.cip_tables.specs.declared.event.Verdict.TheVariants.{Done, BadFrame, Value, Delivered}
 use Rattle.cip_tables.specs.declared.event.Notice.{Notice}
-use Rattle.cip_tables.specs.declared.event.Notice.TheVariants.{Opened, Closed, Dropped, Replaced}
+use Rattle.cip_tables.specs.declared.event.Notice.TheVariants.{Opened, Closed, Expired, Dropped, Replaced}
 use Rattle.cip_tables.specs.declared.event.StepFault.{StepFault}
 use Rattle.cip_tables.specs.declared.event.StepFault.TheVariants.{OutOfMemory, TickTooLong, ClockEnd, NoSuchPoint, WrongLength, NoSuchSlot, NotAllowedNow}
 use Rattle.cip_tables.specs.Run.{Outcome}
@@ -32,11 +34,23 @@ fault_word WrongLength = codes "WrongLength"
 fault_word NoSuchSlot = codes "NoSuchSlot"
 fault_word NotAllowedNow = codes "NotAllowedNow"
 
+-- what became of a datagram
+abbrev pub delivery_word : Delivery → List ℕ
+delivery_word Applied = codes "applied"
+delivery_word Idle = codes "idle"
+delivery_word Heartbeat = codes "heartbeat"
+delivery_word Duplicate = codes "duplicate"
+delivery_word Old = codes "old"
+delivery_word UnknownId = codes "unknown"
+delivery_word WrongSize = codes "wrong-size"
+delivery_word Malformed = codes "malformed"
+
 -- what became of an event
 abbrev pub verdict_words : Verdict → List ℕ
 verdict_words Done = codes "done"
 verdict_words BadFrame = codes "bad-frame"
 verdict_words (Value bytes) = codes "value " ++ bytes_word bytes
+verdict_words (Delivered delivery) = delivery_word delivery
 
 -- the addresses of nodes, parted by commas; a dash for none
 abbrev pub nodes_word : List Node → List ℕ
@@ -67,6 +81,7 @@ sending_line number sending = decimal number ++ (codes " send " ++ (node_word se
 abbrev pub notice_words : Notice → List ℕ
 notice_words (Opened triad id) = codes "opened " ++ (triad_words triad ++ (codes " " ++ id_word id))
 notice_words (Closed triad) = codes "closed " ++ triad_words triad
+notice_words (Expired triad) = codes "expired " ++ triad_words triad
 notice_words (Dropped triad) = codes "dropped " ++ triad_words triad
 notice_words (Replaced triad) = codes "replaced " ++ triad_words triad
 

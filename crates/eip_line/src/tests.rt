@@ -11,6 +11,14 @@ const PROFILE: &str =
 const OPEN: &str =
     "request 192.168.1.20 5402200624010A0E0000000001000020010034127856341202000000102700000A481027000006480104200424972C962c64\n";
 
+/// What the first event of a trace prints where it is this open.
+const OPENED: &str =
+    "1 done\n1 reply 192.168.1.20 d40000000100001001000020010034127856341210270000102700000000\n1 note opened 1 4660 305419896 10000001\n";
+
+/// A datagram of that owner: number 1, count 1, run mode, the data 11 22 33 44.
+const RUN_DATA: &str =
+    "datagram 192.168.1.20 0200028008000100001001000000b1000a0001000100000011223344\n";
+
 /// A reader whose every read fails.
 #[derive(Drop)]
 struct Unreadable;
@@ -64,20 +72,94 @@ fn after_profile(alloc: Global, lines: &str) -> Result<String, AllocError> {
     format!(in alloc; "{PROFILE}{lines}")
 }
 
-#[test]
-fn first_open_is_answered(rt: HostRuntime) -> Result<(), Fail> {
+/// Shows that `eip_line step` on the common profile and these lines ends with status 0, prints this, and
+/// tells nothing on standard error.
+fn shows<R: AllocGlobal>(rt: &R, lines: &str, told: &str) -> Result<(), Fail> {
+    let input = after_profile(rt.alloc(), lines)?;
     let mut out = Vec::new(rt.alloc());
     let mut err = Vec::new(rt.alloc());
-    let input = after_profile(rt.alloc(), OPEN)?;
     let mut reader = input.as_bytes();
     let words = ["eip_line", "step"];
-    let status = program(&rt, words.as_slice(), &mut reader, &mut out, &mut err);
-    let told =
-        "1 done\n1 reply 192.168.1.20 d40000000100001001000020010034127856341210270000102700000000\n1 note opened 1 4660 305419896 10000001\n";
-    assert_eq!(rt; status, 0);
-    assert!(rt; out.as_slice() == told.as_bytes());
-    assert!(rt; err.is_empty());
+    let status = program(rt, words.as_slice(), &mut reader, &mut out, &mut err);
+    if status != 0 || !err.is_empty() {
+        Err("another status, or a complaint")?;
+    }
+    if out.as_slice() != told.as_bytes() {
+        Err("another output")?;
+    }
     Ok(())
+}
+
+/// Shows the same of an owner's open and these lines after it.
+fn shows_after_open<R: AllocGlobal>(rt: &R, lines: &str, told: &str) -> Result<(), Fail> {
+    let lines = format!(in rt.alloc(); "{OPEN}{lines}")?;
+    let told = format!(in rt.alloc(); "{OPENED}{told}")?;
+    shows(rt, lines.as_str(), told.as_str())
+}
+
+#[test]
+fn open_data_read_and_tick_are_told(rt: HostRuntime) -> Result<(), Fail> {
+    let lines = format!(in rt.alloc(); "{RUN_DATA}read 150\ntick 1\n")?;
+    let told =
+        "2 applied\n3 value 11223344\n4 done\n4 send 192.168.1.20 192.168.1.20 0200028008000100002001000000b1000600010000000000\n";
+    shows_after_open(&rt, lines.as_str(), told)
+}
+
+#[test]
+fn accepted_datagrams_are_told_by_their_effect(rt: HostRuntime) -> Result<(), Fail> {
+    let same_count =
+        "datagram 192.168.1.20 0200028008000100001002000000b1000a0001000100000055667788\n";
+    let idle = "datagram 192.168.1.20 0200028008000100001003000000b1000a0002000000000055667788\n";
+    let lines = format!(in rt.alloc(); "{RUN_DATA}{same_count}read 150\n{idle}read 150\n")?;
+    let told = "2 applied\n3 duplicate\n4 value 11223344\n5 idle\n6 value 00000000\n";
+    shows_after_open(&rt, lines.as_str(), told)
+}
+
+#[test]
+fn refused_datagrams_are_told_by_their_fault(rt: HostRuntime) -> Result<(), Fail> {
+    let of_another_peer =
+        "datagram 192.168.1.21 0200028008000100001002000000b1000a0002000100000055667788\n";
+    let without_data = "datagram 192.168.1.20 0200028008000100001002000000b1000600020001000000\n";
+    let lines = format!(in rt.alloc();
+        "{RUN_DATA}{RUN_DATA}{of_another_peer}{without_data}datagram 192.168.1.20 -\n"
+    )?;
+    let told = "2 applied\n3 old\n4 unknown\n5 wrong-size\n6 malformed\n";
+    shows_after_open(&rt, lines.as_str(), told)
+}
+
+#[test]
+fn heartbeats_are_told(rt: HostRuntime) -> Result<(), Fail> {
+    let lines =
+        "request 192.168.1.20 5402200624010a0e00000000000000000500341278563412020000001027000002481027000006280104200424972c982c64\ndatagram 192.168.1.20 0200028008000100001001000000b10002000100\n";
+    let told =
+        "1 done\n1 reply 192.168.1.20 d40000000100001002000010050034127856341210270000102700000000\n1 note opened 5 4660 305419896 10000001\n2 heartbeat\n";
+    shows(&rt, lines, told)
+}
+
+#[test]
+fn written_bytes_are_read(rt: HostRuntime) -> Result<(), Fail> {
+    shows(
+        &rt,
+        "write 100 A1b2C3d4\nread 100\nread 151\n",
+        "1 done\n2 value a1b2c3d4\n3 value -\n",
+    )
+}
+
+#[test]
+fn points_and_ticks_that_are_none_are_faults(rt: HostRuntime) -> Result<(), Fail> {
+    shows(
+        &rt,
+        "read 152\nread 4294967295\nwrite 150 00000000\nwrite 100 -\ntick 60001\ntick 4294967295\ntick 60000\ntick 0\n",
+        "1 fault NoSuchPoint\n2 fault NoSuchPoint\n3 fault NoSuchPoint\n4 fault WrongLength\n5 fault TickTooLong\n6 fault TickTooLong\n7 done\n8 done\n",
+    )
+}
+
+#[test]
+fn time_out_and_reconnect_are_told(rt: HostRuntime) -> Result<(), Fail> {
+    let lines = format!(in rt.alloc(); "tick 9999\ntick 1\n{OPEN}")?;
+    let told =
+        "2 done\n2 send 192.168.1.20 192.168.1.20 0200028008000100002001000000b1000600010000000000\n3 done\n3 note expired 1 4660 305419896\n4 done\n4 reply 192.168.1.20 d40000000200001001000020010034127856341210270000102700000000\n4 note replaced 1 4660 305419896\n4 note opened 1 4660 305419896 10000002\n";
+    shows_after_open(&rt, lines.as_str(), told)
 }
 
 #[test]
@@ -165,12 +247,46 @@ fn lines_after_the_profile_are_told_bad(rt: HostRuntime) -> Result<(), Fail> {
         ("request 192.168.1.256 00\n", "bad line 6\n"),
         ("request 192.168.1.20 00\r\n", "bad line 6\n"),
         ("request 192.168.1.20 0g\n", "bad line 6\n"),
-        ("tick 1\n", "bad line 6\n"),
+        ("step 1\n", "bad line 6\n"),
     ];
     for (lines, told) in cases {
         let input = after_profile(rt.alloc(), lines)?;
         let err = complaint(&rt, input.as_bytes())?;
         assert!(rt; err.as_slice() == told.as_bytes(), "at {lines}");
+    }
+    Ok(())
+}
+
+#[test]
+fn other_words_behind_a_keyword_are_bad_lines(rt: HostRuntime) -> Result<(), Fail> {
+    let lines = [
+        "datagram 192.168.1.20\n",
+        "datagram 150 00\n",
+        "datagram 192.168.1.20 00 00\n",
+        "write 100\n",
+        "write 100 0\n",
+        "write 192.168.1.20 00\n",
+        "write 4294967296 00\n",
+        "read\n",
+        "read 0150\n",
+        "read +150\n",
+        "read 4294967296\n",
+        "read 150 00\n",
+        "tick\n",
+        "tick \n",
+        "tick  1\n",
+        "tick 1 \n",
+        "tick 01\n",
+        "tick -1\n",
+        "tick 4294967296\n",
+        "Tick 1\n",
+        "ticks 1\n",
+        " tick 1\n",
+    ];
+    for line in lines {
+        let input = after_profile(rt.alloc(), line)?;
+        let err = complaint(&rt, input.as_bytes())?;
+        assert!(rt; err.as_slice() == b"bad line 6\n".as_slice(), "at {line}");
     }
     Ok(())
 }

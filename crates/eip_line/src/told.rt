@@ -2,9 +2,11 @@
 
 ghost use Rattle.std.specs.Prelude.{◌≡◌, IfOk, OnOk, All, string_bytes, flat_map, codes, ◌++◌};
 ghost use Rattle.eip_line.specs.Words.{node_word, bytes_word};
-ghost use Rattle.eip_line.specs.Told.{fault_word, verdict_words, nodes_word, triad_words, id_word, recipient_words, frame_line, sending_line, notice_words, notice_line, answer_text, fault_line, outcome_text, outcomes_text, FoundMemory};
+ghost use Rattle.eip_line.specs.Told.{fault_word, delivery_word, verdict_words, nodes_word, triad_words, id_word, recipient_words, frame_line, sending_line, notice_words, notice_line, answer_text, fault_line, outcome_text, outcomes_text, FoundMemory};
 
-use cip_tables::{Answer, Frame, Notice, Outcome, Recipient, Sending, StepFault, Verdict};
+use cip_tables::{
+    Answer, Delivery, Frame, Notice, Outcome, Recipient, Sending, StepFault, Verdict,
+};
 use cip_types::{ConnId, Node, OutOfMemory, Triad};
 use std::alloc::{AllocError, Global};
 use std::net::Ipv4Addr;
@@ -82,6 +84,23 @@ fn verdict_told(alloc: Global, verdict: &Verdict) -> Result<String, AllocError>
             let bytes = bytes_told(alloc, bytes.as_slice())?;
             format!(in alloc; "value {bytes}")
         }
+        Verdict::Delivered(delivery) => String::from_str(alloc, delivery_name(*delivery)),
+    }
+}
+
+/// The word for what became of a datagram.
+fn delivery_name(delivery: Delivery) -> &'static str
+    ensures { result.now ≡ delivery_word delivery }
+{
+    match delivery {
+        Delivery::Applied => "applied",
+        Delivery::Idle => "idle",
+        Delivery::Heartbeat => "heartbeat",
+        Delivery::Duplicate => "duplicate",
+        Delivery::Old => "old",
+        Delivery::UnknownId => "unknown",
+        Delivery::WrongSize => "wrong-size",
+        Delivery::Malformed => "malformed",
     }
 }
 
@@ -166,6 +185,10 @@ fn notice_words_told(alloc: Global, notice: Notice) -> Result<String, AllocError
         Notice::Closed(triad) => {
             let triad = triad_told(alloc, triad)?;
             format!(in alloc; "closed {triad}")
+        }
+        Notice::Expired(triad) => {
+            let triad = triad_told(alloc, triad)?;
+            format!(in alloc; "expired {triad}")
         }
         Notice::Dropped(triad) => {
             let triad = triad_told(alloc, triad)?;

@@ -60,7 +60,7 @@ pub struct Words<'a> {
 impl<'a> Words<'a> {
     ghost use Rattle.std.specs.Prelude.{decimal};
     ghost use Rattle.eip_line.specs.Words.{Fits, words_of, node_word, action_word};
-    ghost use Rattle.eip_line.specs.Fields.{unread_words, TakesWord, TakesAs, TakesBytes};
+    ghost use Rattle.eip_line.specs.Fields.{unread_words, TakesWord, TakesAs, TakesBytes, EndsInBytes, EndsAs};
 
     /// All words of a line.
     pub fn of(line: &'a str) -> Words<'a>
@@ -133,6 +133,24 @@ impl<'a> Words<'a> {
         ensures { TakesBytes (unread_words self.old) (unread_words self.new) result }
     {
         read_bytes(alloc, self.word()?)
+    }
+
+    /// The last word as bytes.
+    pub fn last_bytes(&mut self, alloc: Global) -> Result<Items<u8>, LineFault>
+        ensures { EndsInBytes (unread_words self.old) result }
+    {
+        let bytes = self.bytes(alloc)?;
+        self.end()?;
+        Ok(bytes)
+    }
+
+    /// The last word as a number of 32 bits.
+    pub fn last_u32(&mut self) -> Result<u32, LineFault>
+        ensures { EndsAs (Fits 32) decimal (unread_words self.old) result }
+    {
+        let number = self.u32()?;
+        self.end()?;
+        Ok(number)
     }
 
     /// The end of the line.

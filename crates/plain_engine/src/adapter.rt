@@ -1,37 +1,50 @@
 //! An adapter over plain lists.
 
-ghost use Rattle.std.specs.Prelude.{◌≡◌, ◌≢◌, ◌+◌, ◌∷◌, [], Ok, Err, Result, IfOk, ◌<◌, ◌≤◌, IsTrue, length};
-ghost use Rattle.std.specs.Option.{option_map};
+ghost use Rattle.std.specs.Prelude.{◌≡◌, ◌≢◌, ◌+◌, ◌^◌, ◌∷◌, [], Ok, Err, Some, None, Result, IfOk, IfErr, ◌<◌, ◌≤◌, IsTrue, false, find, length};
+ghost use Rattle.std.specs.Option.{option_map, ForSome};
 ghost use Rattle.cip_epath.specs.Path.{view_path};
 ghost use Rattle.cip_fwdopen.specs.Open.{view_open};
 ghost use Rattle.cip_fwdopen.specs.Close.{view_close};
 ghost use Rattle.cip_netparams.specs.Rate.{is_interval};
 ghost use Rattle.cip_tables.specs.Replies.{view_reply, HasStatus};
 ghost use Rattle.cip_tables.specs.Checks.{standing, verdict, view_admission, drawn_ids};
-ghost use Rattle.cip_tables.specs.Opening.{opened_row, opened_production, opened_state, opened_t_o_id, connection_id};
+ghost use Rattle.cip_tables.specs.Opening.{opened_row, opened_production, opened_state, opened_t_o_id, connection_id, configured};
 ghost use Rattle.cip_tables.specs.Requests.{requested, replied, reply_frame, admitted_open, served_open, router_refusal, known_close, served_close, served_assembly, is_value_attribute};
 ghost use Rattle.cip_tables.specs.Closing.{closed_values};
-ghost use Rattle.cip_tables.specs.Step.{write, read};
+ghost use Rattle.cip_datagram.specs.Datagram.{view_datagram};
+ghost use Rattle.cip_datagram.specs.Header.{header_at};
+ghost use Rattle.cip_tables.specs.Datagrams.{is_for, row_delivery, is_accepted, run_data, fed_values, fed_table, delivered, found_datagram, received};
+ghost use Rattle.cip_tables.specs.Productions.{is_prompt};
+ghost use Rattle.cip_tables.specs.Ticks.{clocked_table, elapsed, expired_values, tick};
+ghost use Rattle.cip_tables.specs.Points.{put_value};
+ghost use Rattle.cip_tables.specs.Shapes.{len_of};
+ghost use Rattle.cip_tables.specs.Whole.{IsWhole};
+ghost use Rattle.cip_tables.specs.Step.{write, read, written_table, prompt_table, write_answer, written};
 ghost use Rattle.cip_tables.specs.Run.{Follows};
+ghost use Rattle.assembly_set.specs.Assemblies.{config_len, is_output, write_fault};
+ghost use Rattle.std.specs.List.{list_any};
 
 use crate::addresses::address_of;
-use crate::answers::{opened_reply, opening_notices, plain_answer, reply_answer};
-use crate::checks::{
-    admit, drawn_ids, drives, find_input, is_multicast, served_inhibit, served_trigger, stored,
-};
-use crate::rows::{
-    append_row, closed_notices, find_row, make_room, others, replaced, staying, write_rows,
-};
-use crate::standing::Standing;
-use crate::values::{configure, find_value, lose, opening_values, put_value};
+use crate::answers::{opened_reply, opening_notices, plain_answer, reply_answer, told_answer};
+use assembly_set::AssemblySet;
+use cip_datagram::{Datagram, read_datagram, read_header};
 use cip_epath::ConnPath;
 use cip_fwdopen::{CloseRequest, OpenRequest};
 use cip_netparams::{api_of, timeout_of};
 use cip_tables::{
-    Admission, Answer, Asked, Config, Device, Event, NewFault, Outcome, PointValue, Production,
-    Profile, Refusal, Reply, Row, State, Status, StepFault, Verdict, read_asked,
+    AdapterTable, Admission, Answer, Asked, Config, Delivery, Device, DeviceTable, Event, NewFault,
+    Outcome, Production, Refusal, Reply, Row, State, Status, StepFault, TableCopy, Verdict,
+    read_asked,
 };
 use cip_types::{ConnId, Items, Ms, Node, OutOfMemory};
+use connection_rows::{
+    accept_rows, append_row, closed_notices, copied, due_sendings, expired, expiry_notices, faded,
+    find_row, find_target, is_prompted, judge, make_room, others, produced_rows, prompt_sendings,
+    prompted_rows, replaced, staying, write_and_prompt_rows, written_rows,
+};
+use open_checks::{
+    Standing, admit, drawn_ids, drives, is_multicast, served_inhibit, served_trigger, stored,
+};
 use std::alloc::Global;
 use std::marker::Model;
 
@@ -40,6 +53,11 @@ const FIRST_WATCHDOG: u64 = 10_000;
 
 /// What the incarnation counts in a connection id.
 const INCARNATION: u32 = 1 << 24;
+
+/// The longest tick, and the end of the clock, in milliseconds.
+const LONGEST_TICK: u32 = 60_000;
+
+const CLOCK_END: u64 = 1 << 48;
 
 /// The service that reads an attribute, and the attribute that is an assembly's value.
 const GET_ATTRIBUTE_SINGLE: u8 = 0x0E;
@@ -52,36 +70,34 @@ const VALUE: u32 = 3;
 #[derive(Drop)]
 pub struct PlainAdapter {
     alloc: Global,
-    profile: Profile,
+    assemblies: AssemblySet,
     rows: Vec<Row>,
-    values: Vec<PointValue>,
     clock: Ms,
     next_id: u32,
 }
 
 impl Model for PlainAdapter {
     ghost use Rattle.cip_tables.specs.declared.table.AdapterTable.{AdapterTable};
-    ghost use Rattle.plain_engine.specs.Kept.{IsKept};
+    ghost use Rattle.cip_tables.specs.Whole.{IsWhole};
 
     ghost Value = { AdapterTable };
 
-    ghost view = { λ a. record { profile = a.profile; rows = a.rows.items; values = a.values.items; clock = a.clock; next_id = a.next_id } };
+    ghost view = { λ a. record { profile = a.assemblies.profile; rows = a.rows.items; values = a.assemblies.values; clock = a.clock; next_id = a.next_id } };
 
-    ghost invariant = { λ a. IsKept a.profile a.values.items a.clock.0 };
+    ghost invariant = { λ a. IsWhole (record { profile = a.assemblies.profile; rows = a.rows.items; values = a.assemblies.values; clock = a.clock; next_id = a.next_id }) };
 }
 
 // OPENING
 
 impl PlainAdapter {
-    ghost use Rattle.plain_engine.specs.Views.{view_standing};
+    ghost use Rattle.open_checks.specs.Views.{view_standing};
 
     fn standing(&self) -> Standing<'_>
         ensures { view_standing result ≡ standing self.now }
     {
         Standing {
-            profile: &self.profile,
+            assemblies: &self.assemblies,
             rows: &self.rows,
-            values: &self.values,
             next_id: self.next_id,
         }
     }
@@ -98,7 +114,7 @@ impl PlainAdapter {
             count: 0,
             written: true,
             due: self.clock,
-            address: address_of(&self.profile, peer, kind, path.produced),
+            address: address_of(self.assemblies.profile(), peer, kind, path.produced),
             trigger,
             inhibit: served_inhibit(trigger, path.inhibit),
             last: None,
@@ -119,7 +135,7 @@ impl PlainAdapter {
         requires { counter ≤ 16777215 }
         ensures { result ≡ connection_id self.now.profile counter }
     {
-        ConnId(u32::from(self.profile.incarnation) * INCARNATION + counter)
+        ConnId(u32::from(self.assemblies.profile().incarnation) * INCARNATION + counter)
     }
 
     /// The T->O id of a connection that is opened.
@@ -185,11 +201,7 @@ impl PlainAdapter {
         let reply = Reply::Opened(large, opened_reply(&row));
         let answer = reply_answer(self.alloc, peer, &reply, notices)?;
         make_room(&mut self.rows)?;
-        configure(
-            &mut self.values,
-            self.profile.config,
-            stored(&admission.path),
-        );
+        configure(&mut self.assemblies, stored(&admission.path));
         append_row(&mut self.rows, row);
         self.next_id += drawn_ids(request, admission.group);
         Ok(answer)
@@ -237,7 +249,7 @@ impl PlainAdapter {
         let notices = closed_notices(self.alloc, &left, row.triad)?;
         let staying = staying(self.alloc, &left)?;
         let answer = reply_answer(self.alloc, peer, &Reply::Closed(row.triad), notices)?;
-        lose_owner(&mut self.values, &self.profile, row);
+        lose_owner(&mut self.assemblies, row);
         self.rows = staying;
         Ok(answer)
     }
@@ -269,7 +281,7 @@ impl PlainAdapter {
     ) -> Outcome
         ensures { Follows (Ok (replied peer (served_assembly self.old service instance attribute body.now))) self.old result self.new }
     {
-        let Some(value) = find_value(&self.values, instance) else {
+        let Ok(value) = self.assemblies.read(instance) else {
             return self.refuse(peer, service, Status::PathDestination);
         };
         if service != GET_ATTRIBUTE_SINGLE {
@@ -301,24 +313,193 @@ impl PlainAdapter {
     }
 }
 
+// DATAGRAMS
+
+impl PlainAdapter {
+    /// The connection that a datagram is for has accepted it: its data stand at the output, or the idle
+    /// action is done, as its delivery says.
+    #[tactic(auto, unfolding(cip_tables::specs::Datagrams::fed_table))]
+    fn feed(&mut self, peer: Node, datagram: &Datagram<'_>, row: &Row, delivery: Delivery)
+        requires found { find (is_for peer datagram.now.connection.0) self.old.rows ≡ Some row.now }
+        requires judged { row_delivery self.old.profile row.now (view_datagram datagram.now) ≡ delivery }
+        ensures { self.new ≡ fed_table self.old peer (view_datagram datagram.now) row.now delivery }
+    {
+        feed_values(&mut self.assemblies, row.consumed, datagram, delivery);
+        accept_rows(&mut self.rows, self.clock, peer, datagram);
+    }
+
+    /// A datagram of a peer.
+    fn receive_datagram(&mut self, peer: Node, datagram: &Datagram<'_>) -> Delivery
+        ensures { found_datagram self.old peer (view_datagram datagram.now) (find (is_for peer datagram.now.connection.0) self.old.rows) ≡ delivered result self.new }
+    {
+        let Some(row) = find_target(&self.rows, peer, datagram.connection) else {
+            return Delivery::UnknownId;
+        };
+        let delivery = judge(&self.assemblies, &row, datagram);
+        if is_accepted(delivery) {
+            self.feed(peer, datagram, &row, delivery);
+        }
+        delivery
+    }
+
+    /// The bytes of a datagram of a peer.
+    #[tactic(auto, unfolding(cip_tables::specs::Datagrams::received))]
+    fn receive(&mut self, peer: Node, bytes: &[u8]) -> Delivery
+        ensures { received self.old peer bytes.now ≡ delivered result self.new }
+    {
+        match read_datagram(bytes) {
+            Ok(datagram) => self.receive_datagram(peer, &datagram),
+            Err(_) => Delivery::Malformed,
+        }
+    }
+}
+
+fn is_accepted(delivery: Delivery) -> bool
+    ensures { result ≡ is_accepted delivery }
+{
+    match delivery {
+        Delivery::Applied | Delivery::Idle | Delivery::Heartbeat | Delivery::Duplicate => true,
+        Delivery::Old | Delivery::UnknownId | Delivery::WrongSize | Delivery::Malformed => false,
+    }
+}
+
+/// The data behind a run/idle header.
+fn run_data<'a>(datagram: &Datagram<'a>) -> &'a [u8]
+    ensures { result.now ≡ run_data (header_at (view_datagram datagram.now).payload) }
+{
+    match read_header(datagram.data) {
+        Some((_, data)) => data,
+        None => &[],
+    }
+}
+
+/// What a datagram with this delivery does to the output of its connection. Takes no memory.
+fn feed_values(
+    assemblies: &mut AssemblySet,
+    point: u32,
+    datagram: &Datagram<'_>,
+    delivery: Delivery,
+)
+    requires output { delivery ≡ Delivery.Applied → IsTrue (is_output assemblies.old.profile point) }
+    requires right_length { delivery ≡ Delivery.Applied → len_of assemblies.old.profile point ≡ Some (length (run_data (header_at (view_datagram datagram.now).payload))) }
+    ensures { assemblies.new ≡ record assemblies.old { values = fed_values assemblies.old.profile point (view_datagram datagram.now) delivery assemblies.old.values } }
+{
+    match delivery {
+        Delivery::Applied => assemblies.apply(point, run_data(datagram)),
+        Delivery::Idle => assemblies.idle(point),
+        Delivery::Heartbeat | Delivery::Duplicate => {}
+        Delivery::Old | Delivery::UnknownId | Delivery::WrongSize | Delivery::Malformed => {}
+    }
+}
+
+// TIME
+
+impl PlainAdapter {
+    /// Goes on at another time with other connections, some having timed out.
+    fn pass(&mut self, clock: Ms, gone: &[Row], left: Vec<Row>)
+        requires { IsWhole (record self.old { rows = left.items; values = expired_values self.old.profile gone.now self.old.values; clock = clock }) }
+        ensures { self.new ≡ record self.old { rows = left.items; values = expired_values self.old.profile gone.now self.old.values; clock = clock } }
+    {
+        lose_owners(&mut self.assemblies, gone);
+        self.clock = clock;
+        self.rows = left;
+    }
+
+    /// Milliseconds pass that do not lead past the end of the clock.
+    #[tactic(auto, unfolding(cip_tables::specs::Ticks::clocked_table, cip_tables::specs::Ticks::expired_table, cip_tables::specs::Ticks::produced_table))]
+    fn elapse(&mut self, ms: u32) -> Outcome
+        requires { self.old.clock.0 + ms ≤ 2 ^ 48 }
+        ensures { Follows (Ok (elapsed (clocked_table self.old ms))) self.old result self.new }
+    {
+        let clock = Ms(self.clock.0 + u64::from(ms));
+        let gone = expired(self.alloc, &self.rows, clock)?;
+        let faded = faded(self.alloc, &self.rows, clock)?;
+        let notices = expiry_notices(self.alloc, &gone, &faded)?;
+        let left = staying(self.alloc, &faded)?;
+        let datagrams = due_sendings(self.alloc, &left, &self.assemblies, clock)?;
+        self.pass(clock, &gone, produced_rows(left, clock));
+        Ok(told_answer(self.alloc, datagrams, notices))
+    }
+
+    /// Milliseconds pass.
+    #[tactic(auto, unfolding(cip_tables::specs::Ticks::tick))]
+    fn tick(&mut self, ms: u32) -> Outcome
+        ensures { Follows (tick self.old ms) self.old result self.new }
+    {
+        if ms > LONGEST_TICK {
+            return Err(StepFault::TickTooLong);
+        }
+        if self.clock.0 + u64::from(ms) > CLOCK_END {
+            return Err(StepFault::ClockEnd);
+        }
+        self.elapse(ms)
+    }
+}
+
+/// Does the fault action of each output that one of the connections drives. Takes no memory.
+fn lose_owners(assemblies: &mut AssemblySet, gone: &[Row])
+    ensures { assemblies.new ≡ record assemblies.old { values = expired_values assemblies.old.profile gone.now assemblies.old.values } }
+{
+    for row in gone {
+        lose_owner(assemblies, row);
+    }
+}
+
 // POINTS
 
 impl PlainAdapter {
+    /// Sets what an input holds, where no producer produces at once.
+    #[tactic(auto, unfolding(cip_tables::specs::Step::written_table, cip_tables::specs::Step::prompt_table))]
+    fn write_quietly(&mut self, point: u32, bytes: &[u8]) -> Outcome
+        requires input { write_fault self.old.profile point (length bytes.now) ≡ None }
+        requires quiet { list_any (is_prompt self.old.clock point) self.old.rows ≡ false }
+        ensures answer { result ≡ Ok (write_answer (written_table self.old point bytes.now) point bytes.now) }
+        ensures table { self.new ≡ prompt_table (written_table self.old point bytes.now) point }
+    {
+        let _written = self.assemblies.write(point, bytes);
+        write_and_prompt_rows(&mut self.rows, self.clock, point);
+        Ok(plain_answer(self.alloc, Verdict::Done))
+    }
+
+    /// Puts other bytes at an input, and goes on with other connections.
+    fn put(&mut self, point: u32, bytes: &[u8], rows: Vec<Row>)
+        requires input { write_fault self.old.profile point (length bytes.now) ≡ None }
+        requires whole { IsWhole (record self.old { rows = rows.items; values = put_value point bytes.now self.old.values }) }
+        ensures { self.new ≡ record self.old { rows = rows.items; values = put_value point bytes.now self.old.values } }
+    {
+        let _written = self.assemblies.write(point, bytes);
+        self.rows = rows;
+    }
+
+    /// Sets what an input holds, and its change-of-state producers produce.
+    #[tactic(auto, unfolding(cip_tables::specs::Step::written_table, cip_tables::specs::Step::prompt_table))]
+    fn write_promptly(&mut self, point: u32, bytes: &[u8]) -> Outcome
+        requires input { write_fault self.old.profile point (length bytes.now) ≡ None }
+        requires short { length bytes.now ≤ 1400 }
+        ensures { Follows (Ok (written (written_table self.old point bytes.now) point bytes.now)) self.old result self.new }
+    {
+        let rows = written_rows(self.alloc, &self.rows, point)?;
+        let datagrams = prompt_sendings(self.alloc, &rows, self.clock, point, bytes)?;
+        self.put(point, bytes, prompted_rows(rows, self.clock, point));
+        Ok(told_answer(self.alloc, datagrams, Vec::new(self.alloc)))
+    }
+
     /// Sets what an input holds.
-    #[tactic(auto, unfolding(cip_tables::specs::Step::write, cip_tables::specs::Step::written_table))]
+    #[tactic(auto, unfolding(cip_tables::specs::Step::write))]
     fn write(&mut self, point: u32, bytes: &[u8]) -> Outcome
         ensures step { Follows (write self.old point bytes.now) self.old result self.new }
-        ensures no_memory { result ≢ Err StepFault.OutOfMemory }
+        ensures no_memory { list_any (is_prompt self.old.clock point) self.old.rows ≡ false → result ≢ Err StepFault.OutOfMemory }
     {
-        let Some(input) = find_input(self.profile.inputs.as_slice(), point) else {
+        let Some(input) = self.assemblies.input(point) else {
             return Err(StepFault::NoSuchPoint);
         };
         if bytes.len() as u64 != input.len {
             return Err(StepFault::WrongLength);
         }
-        put_value(&mut self.values, point, bytes);
-        write_rows(&mut self.rows, point);
-        Ok(plain_answer(self.alloc, Verdict::Done))
+        if is_prompted(&self.rows, self.clock, point) {
+            return self.write_promptly(point, bytes);
+        }
+        self.write_quietly(point, bytes)
     }
 
     /// What a point holds.
@@ -326,10 +507,7 @@ impl PlainAdapter {
     fn read(&mut self, point: u32) -> Outcome
         ensures { Follows (read self.old point) self.old result self.new }
     {
-        let Some(value) = find_value(&self.values, point) else {
-            return Err(StepFault::NoSuchPoint);
-        };
-        let value = Items::copy_of(self.alloc, value)?;
+        let value = Items::copy_of(self.alloc, self.assemblies.read(point)?)?;
         Ok(plain_answer(self.alloc, Verdict::Value(value)))
     }
 }
@@ -343,12 +521,23 @@ fn is_value_attribute(attribute: Option<u32>) -> bool
     }
 }
 
-/// The fault action, where the connection drove an output. Takes no memory.
-fn lose_owner(values: &mut [PointValue], profile: &Profile, row: &Row)
-    ensures { values.new ≡ closed_values profile.now row.now values.old }
+/// Stores a data segment at the configuration, where there is one to store. Takes no memory.
+#[tactic(auto, using(crate::proofs::Admitted::configured_none))]
+fn configure(assemblies: &mut AssemblySet, segment: Option<&[u8]>)
+    requires { ForSome (option_map (λ lent. lent.now) segment) (λ bytes. config_len assemblies.old.profile ≡ Some (length bytes)) }
+    ensures { assemblies.new ≡ record assemblies.old { values = configured assemblies.old.profile.config (option_map (λ lent. lent.now) segment.entry) assemblies.old.values } }
+{
+    if let Some(segment) = segment {
+        assemblies.configure(segment);
+    }
+}
+
+/// Does the fault action of the output that a connection drives, if it drives one. Takes no memory.
+fn lose_owner(assemblies: &mut AssemblySet, row: &Row)
+    ensures { assemblies.new ≡ record assemblies.old { values = closed_values assemblies.old.profile row.now assemblies.old.values } }
 {
     if drives(row, row.consumed) {
-        lose(values, profile, row.consumed);
+        assemblies.lose(row.consumed);
     }
 }
 
@@ -360,12 +549,11 @@ impl Device for PlainAdapter {
     fn new(alloc: Global, config: Config) -> Result<Self, NewFault> {
         let Config::Adapter(profile) = config;
         profile.check()?;
-        let values = opening_values(alloc, &profile)?;
+        let assemblies = AssemblySet::new(alloc, &profile)?;
         Ok(PlainAdapter {
             alloc,
-            profile,
+            assemblies,
             rows: Vec::new(alloc),
-            values,
             clock: Ms(0),
             next_id: 1,
         })
@@ -375,9 +563,19 @@ impl Device for PlainAdapter {
     fn step(&mut self, event: &Event) -> Outcome {
         match event {
             Event::Request { peer, bytes } => self.request(*peer, bytes.as_slice()),
+            Event::Datagram { peer, bytes } => {
+                let delivery = self.receive(*peer, bytes.as_slice());
+                Ok(plain_answer(self.alloc, Verdict::Delivered(delivery)))
+            }
             Event::Write { point, bytes } => self.write(*point, bytes.as_slice()),
             Event::Read { point } => self.read(*point),
+            Event::Tick { ms } => self.tick(*ms),
         }
+    }
+
+    #[tactic(auto, unfolding(cip_tables::specs::Step::step))]
+    fn deliver(&mut self, peer: Node, bytes: &[u8]) -> Delivery {
+        self.receive(peer, bytes)
     }
 
     #[tactic(auto, unfolding(cip_tables::specs::Step::step), using(cip_tables::proofs::FollowLemmas::adapter_follows))]
@@ -386,6 +584,36 @@ impl Device for PlainAdapter {
     }
 
     fn read_point(&self, point: u32) -> Result<&[u8], StepFault> {
-        find_value(&self.values, point).ok_or(StepFault::NoSuchPoint)
+        Ok(self.assemblies.read(point)?)
+    }
+
+    fn copy(&self) -> Result<TableCopy, OutOfMemory> {
+        Ok(TableCopy::adapter(AdapterTable {
+            profile: self.assemblies.profile().copy(self.alloc)?,
+            rows: Items::copy_of(self.alloc, &self.rows)?,
+            values: self.assemblies.copy_values(self.alloc)?,
+            clock: self.clock,
+            next_id: self.next_id,
+        }))
+    }
+}
+
+impl PlainAdapter {
+    ghost use Rattle.cip_tables.specs.declared.table.DeviceTable.TheVariants.{Adapter};
+
+    /// The adapter whose table is the copied one. Want of memory is the only fault.
+    pub fn from_copy(alloc: Global, copy: &TableCopy) -> Result<Self, NewFault>
+        ensures table { IfOk result (λ adapter. Adapter adapter ≡ copy.now) }
+        ensures fault { IfErr result (λ fault. fault ≡ NewFault.OutOfMemory) }
+    {
+        let DeviceTable::Adapter(table) = copy.table();
+        let assemblies = AssemblySet::holding(alloc, &table.profile, table.values.as_slice())?;
+        Ok(PlainAdapter {
+            alloc,
+            assemblies,
+            rows: copied(alloc, table.rows.as_slice())?,
+            clock: table.clock,
+            next_id: table.next_id,
+        })
     }
 }

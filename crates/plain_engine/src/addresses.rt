@@ -5,10 +5,10 @@ ghost use Rattle.std.specs.List.{position, position_or_len};
 ghost use Rattle.cip_tables.specs.Profiles.{is_at, host_id};
 ghost use Rattle.cip_tables.specs.Opening.{multicast_address, address_of};
 
-use crate::checks::is_multicast;
 use cip_netparams::ConnectionType;
 use cip_tables::{InputPoint, Profile};
 use cip_types::Node;
+use open_checks::is_multicast;
 
 /// The first multicast address of all, 239.192.1.0.
 const FIRST_MULTICAST: u64 = 0xEFC0_0100;
@@ -19,7 +19,7 @@ fn input_position(inputs: &[InputPoint], point: u32) -> Option<usize>
     inputs.iter().position(|input| input.instance == point)
 }
 
-#[tactic(auto, using(crate::proofs::Places::position_or, crate::proofs::Places::place_bound))]
+#[tactic(auto, using(connection_rows::proofs::Places::position_or, connection_rows::proofs::Places::place_bound))]
 fn place_of_input(inputs: &[InputPoint], point: u32) -> usize
     ensures value { result ≡ position_or_len (is_at point) inputs.now }
     ensures bound { result ≤ length inputs.now }

@@ -6,7 +6,7 @@ ghost use Rattle.cip_tables.specs.Opening.{opened_reply, replaced_notices};
 ghost use Rattle.cip_tables.specs.Requests.{plain_answer, reply_frame};
 
 use cip_fwdopen::Opened;
-use cip_tables::{Answer, Frame, Notice, Recipient, Reply, Row, Verdict};
+use cip_tables::{Answer, Frame, Notice, Recipient, Reply, Row, Sending, Verdict};
 use cip_types::{Items, Node, OutOfMemory, Triad};
 use std::alloc::Global;
 
@@ -19,6 +19,18 @@ pub fn plain_answer(alloc: Global, verdict: Verdict) -> Answer
         datagrams: Items::new(alloc),
         verdict,
         notices: Items::new(alloc),
+    }
+}
+
+/// An answer with datagrams and notices. Takes no memory.
+pub fn told_answer(alloc: Global, datagrams: Vec<Sending>, notices: Vec<Notice>) -> Answer
+    ensures { result ≡ record { frames = []; datagrams = datagrams.items; verdict = Verdict.Done; notices = notices.items } }
+{
+    Answer {
+        frames: Items::new(alloc),
+        datagrams: Items::from_vec(datagrams),
+        verdict: Verdict::Done,
+        notices: Items::from_vec(notices),
     }
 }
 

@@ -4,10 +4,6 @@
 mod adapter;
 mod addresses;
 mod answers;
-mod checks;
-mod rows;
-mod standing;
-mod values;
 
 pub use adapter::PlainAdapter;
 

@@ -1,13 +1,15 @@
 //! Worked requests at a plain adapter. A test is a table of requests and replies: it is proved, and one
 //! call in a loop is proved faster than many in a row.
 
+mod data;
 mod groups;
 mod points;
+mod times;
 
 use crate::PlainAdapter;
 use cip_tables::{
-    Action, Config, Device, Event, InputPoint, Notice, Outcome, OutputPoint, Profile, Recipient,
-    Verdict, run,
+    Action, Config, Delivery, Device, Event, InputPoint, Notice, Outcome, OutputPoint, Profile,
+    Recipient, Verdict, run,
 };
 use cip_types::{ConnId, Identity, Items, Node, OutOfMemory, Triad};
 use std::alloc::Global;
@@ -15,6 +17,8 @@ use std::process::Abort;
 use std::test::*;
 
 const PEER: Node = Node(0xC0A8_0114);
+
+const OTHER: Node = Node(0xC0A8_0115);
 
 /// An exclusive owner of output 150 for input 100, at 10 ms.
 const OPEN: [u8; 50] = [
@@ -45,6 +49,64 @@ const fn refused(serial: u8, code: u8) -> [u8; 16] {
     [
         0xD4, 0, 1, 1, code, 1, serial, 0, 0x34, 0x12, 0x78, 0x56, 0x34, 0x12, 0, 0,
     ]
+}
+
+/// Input only, multicast, of input 100 at 10 ms.
+const GATHER: [u8; 50] = [
+    0x54, 2, 0x20, 6, 0x24, 1, 0x0A, 0x0E, 0, 0, 0, 0, 0, 0, 0, 0, 5, 0, 0x34, 0x12, 0x78, 0x56,
+    0x34, 0x12, 2, 0, 0, 0, 0x10, 0x27, 0, 0, 2, 0x48, 0x10, 0x27, 0, 0, 6, 0x28, 1, 4, 0x20, 4,
+    0x24, 0x97, 0x2C, 0x98, 0x2C, 0x64,
+];
+
+/// Listen only, of another originator, with serial number 6.
+const LISTEN: [u8; 50] = [
+    0x54, 2, 0x20, 6, 0x24, 1, 0x0A, 0x0E, 0, 0, 0, 0, 0, 0, 0, 0, 6, 0, 0x34, 0x12, 0x79, 0x56,
+    0x34, 0x12, 2, 0, 0, 0, 0x10, 0x27, 0, 0, 2, 0x48, 0x10, 0x27, 0, 0, 6, 0x28, 1, 4, 0x20, 4,
+    0x24, 0x97, 0x2C, 0x99, 0x2C, 0x64,
+];
+
+/// The close of the connection of serial number 5.
+const CLOSE: [u8; 26] = [
+    0x4E, 2, 0x20, 6, 0x24, 1, 0x0A, 0x0E, 5, 0, 0x34, 0x12, 0x78, 0x56, 0x34, 0x12, 4, 0, 0x20, 4,
+    0x24, 0x97, 0x2C, 0x98, 0x2C, 0x64,
+];
+
+const CLOSED: [u8; 14] = [
+    0xCE, 0, 0, 0, 5, 0, 0x34, 0x12, 0x78, 0x56, 0x34, 0x12, 0, 0,
+];
+
+/// The owner's datagram with this number, count and run/idle header.
+const fn incoming(number: u8, count: u8, header: u8, data: [u8; 4]) -> [u8; 28] {
+    let [a, b, c, d] = data;
+    [
+        2, 0, 2, 0x80, 8, 0, 1, 0, 0, 0x10, number, 0, 0, 0, 0xB1, 0, 0x0A, 0, count, 0, header, 0,
+        0, 0, a, b, c, d,
+    ]
+}
+
+/// The datagram of this number and count that goes out to the owner.
+const fn outgoing(number: u8, count: u8, data: [u8; 4]) -> [u8; 24] {
+    let [a, b, c, d] = data;
+    [
+        2, 0, 2, 0x80, 8, 0, 1, 0, 0, 0x20, number, 0, 0, 0, 0xB1, 0, 6, 0, count, 0, a, b, c, d,
+    ]
+}
+
+const fn triad(serial: u16, originator: u32) -> Triad {
+    Triad {
+        serial,
+        vendor: 0x1234,
+        originator,
+    }
+}
+
+/// The multicast request with another serial number and T->O packet interval.
+const fn gather(serial: u8, low: u8, high: u8) -> [u8; 50] {
+    let mut bytes = GATHER;
+    bytes[16] = serial;
+    bytes[34] = low;
+    bytes[35] = high;
+    bytes
 }
 
 fn profile(alloc: Global, output_len: u64, config_len: u64) -> Result<Profile, OutOfMemory> {
@@ -117,6 +179,58 @@ where
         assert_eq!(rt; reply(&outcome), *wanted, "at {asked:?}");
     }
     Ok(())
+}
+
+/// A datagram, by its peer and bytes, and what becomes of it.
+type Sent<'a> = (Node, &'a [u8], Delivery);
+
+/// Gives an adapter datagrams, and compares what becomes of each.
+fn deliveries<R>(rt: &R, device: &mut PlainAdapter, cases: &[Sent<'_>]) -> Result<(), Fail>
+where
+    R: AllocGlobal + Abort,
+{
+    for (peer, bytes, wanted) in cases {
+        assert_eq!(rt; device.deliver(*peer, bytes), *wanted, "at {bytes:?}");
+    }
+    Ok(())
+}
+
+/// The bytes of the datagram of an answer, if it has one: no bytes, if it has none.
+fn produced(outcome: &Outcome) -> Option<&[u8]> {
+    match outcome {
+        Ok(answer) => match answer.datagrams.as_slice() {
+            [] => Some(&[]),
+            [sending] => Some(sending.bytes.as_slice()),
+            _ => None,
+        },
+        Err(_) => None,
+    }
+}
+
+/// Milliseconds that pass, and the bytes of the datagram that then goes out, if one does.
+type Pass<'a> = (u32, &'a [u8]);
+
+/// Steps an adapter through ticks, and compares each datagram.
+fn passes<R>(rt: &R, device: &mut PlainAdapter, cases: &[Pass<'_>]) -> Result<(), Fail>
+where
+    R: AllocGlobal + Abort,
+{
+    for (ms, wanted) in cases {
+        let outcome = device.step(&Event::Tick { ms: *ms });
+        assert_eq!(rt; produced(&outcome), Some(*wanted), "at {ms}");
+    }
+    Ok(())
+}
+
+/// An adapter with a connection that its owner opened.
+fn owned<R>(rt: &R) -> Result<PlainAdapter, Fail>
+where
+    R: AllocGlobal + Abort,
+{
+    let mut device = adapter(rt.alloc(), 4, 0)?;
+    let cases: [Case<'_>; 1] = [(PEER, &OPEN, &OPENED)];
+    replies(rt, &mut device, &cases)?;
+    Ok(device)
 }
 
 #[test]

@@ -2,46 +2,12 @@
 
 use super::*;
 
-const OTHER: Node = Node(0xC0A8_0115);
-
-/// Input only, multicast, of input 100 at 10 ms.
-const GATHER: [u8; 50] = [
-    0x54, 2, 0x20, 6, 0x24, 1, 0x0A, 0x0E, 0, 0, 0, 0, 0, 0, 0, 0, 5, 0, 0x34, 0x12, 0x78, 0x56,
-    0x34, 0x12, 2, 0, 0, 0, 0x10, 0x27, 0, 0, 2, 0x48, 0x10, 0x27, 0, 0, 6, 0x28, 1, 4, 0x20, 4,
-    0x24, 0x97, 0x2C, 0x98, 0x2C, 0x64,
-];
-
-/// Listen only, of another originator, with serial number 6.
-const LISTEN: [u8; 50] = [
-    0x54, 2, 0x20, 6, 0x24, 1, 0x0A, 0x0E, 0, 0, 0, 0, 0, 0, 0, 0, 6, 0, 0x34, 0x12, 0x79, 0x56,
-    0x34, 0x12, 2, 0, 0, 0, 0x10, 0x27, 0, 0, 2, 0x48, 0x10, 0x27, 0, 0, 6, 0x28, 1, 4, 0x20, 4,
-    0x24, 0x97, 0x2C, 0x99, 0x2C, 0x64,
-];
-
-/// The close of the connection of serial number 5.
-const CLOSE: [u8; 26] = [
-    0x4E, 2, 0x20, 6, 0x24, 1, 0x0A, 0x0E, 5, 0, 0x34, 0x12, 0x78, 0x56, 0x34, 0x12, 4, 0, 0x20, 4,
-    0x24, 0x97, 0x2C, 0x98, 0x2C, 0x64,
-];
-
-const CLOSED: [u8; 14] = [
-    0xCE, 0, 0, 0, 5, 0, 0x34, 0x12, 0x78, 0x56, 0x34, 0x12, 0, 0,
-];
-
 /// The reply that opens this serial number, with the counter of its O->T id and the T->O id 0x10000002.
 const fn gathered(serial: u8, counter: u8, originator: u8) -> [u8; 30] {
     [
         0xD4, 0, 0, 0, counter, 0, 0, 0x10, 2, 0, 0, 0x10, serial, 0, 0x34, 0x12, originator, 0x56,
         0x34, 0x12, 0x10, 0x27, 0, 0, 0x10, 0x27, 0, 0, 0, 0,
     ]
-}
-
-const fn triad(serial: u16, originator: u32) -> Triad {
-    Triad {
-        serial,
-        vendor: 0x1234,
-        originator,
-    }
 }
 
 #[test]
@@ -64,15 +30,6 @@ fn listener_is_dropped_with_its_last_supporter(rt: HostRuntime) -> Result<(), Fa
     ];
     let cases: [Case<'_>; 1] = [(OTHER, &LISTEN, &alone)];
     replies(&rt, &mut device, &cases)
-}
-
-/// The multicast request with another serial number and T->O packet interval.
-const fn gather(serial: u8, low: u8, high: u8) -> [u8; 50] {
-    let mut bytes = GATHER;
-    bytes[16] = serial;
-    bytes[34] = low;
-    bytes[35] = high;
-    bytes
 }
 
 #[test]

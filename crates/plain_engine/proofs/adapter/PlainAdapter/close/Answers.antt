@@ -1,16 +1,13 @@
-use Rattle.std.proofs.Common.{◌≡◌, length, ◌∙◌}
-use Rattle.plain_engine.proofs.Lengths.{lengths_closed, written_back}
+use Rattle.std.proofs.Common.{rules, ◌≡◌}
+use Rattle.cip_tables.specs.declared.table.AdapterTable.{AdapterTable}
+use Rattle.cip_tables.specs.Closing.{closed_table}
+use Rattle.cip_tables.proofs.WholeSteps.{whole_closed}
+use Rattle.plain_engine.proofs.Kept.{whole_by}
 use Rattle.plain_engine.proofs.adapter.PlainAdapter.close.Goals as goal
 
 pub invariant_of-self : goal.invariant_of-self
+unfolding closed_table
 invariant_of-self c =
-    let fields = c.self.inside in
-    let same : length c.lose_owner.new.values ≡ fields.values.len = c.lose_owner.auto.values ∙ c.deref_mut.ensures.len in
-    record {
-      clock_in_range = c.self.invariant.clock_in_range;
-      lengths =
-          rw (written_back fields.values.len fields.values.items c.lose_owner.new.values same, c.lose_owner.ensures, c.deref_mut.ensures.value)
-          (lengths_closed fields.profile c.args.row.now fields.values.items c.self.invariant.lengths);
-      found = c.self.invariant.found;
-      few = c.self.invariant.few;
-    }
+    let own = c.self.inside in
+    let t : AdapterTable = record { profile = own.assemblies.profile; rows = own.rows.items; values = own.assemblies.values; clock = own.clock; next_id = own.next_id } in
+    whole_by (closed_table t c.args.row.now) _ (search rules) (whole_closed t c.args.row.now c.self.invariant)

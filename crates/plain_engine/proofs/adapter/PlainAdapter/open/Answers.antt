@@ -1,54 +1,55 @@
-use Rattle.std.proofs.Common.{rules, ◌≡◌, ◌+◌, ◌≤◌, ap, length, ◌∙◌}
+use Rattle.std.proofs.Common.{rules, ◌+◌, ◌≤◌, ap}
 use Rattle.cip_tables.specs.declared.row.Row.{Row}
-use Rattle.cip_tables.specs.Opening.{opened_row}
-use Rattle.plain_engine.proofs.Admitted.{is_timed, interval_fits, stores}
-use Rattle.plain_engine.proofs.Lengths.{written_back}
+use Rattle.cip_tables.specs.declared.table.AdapterTable.{AdapterTable}
+use Rattle.cip_fwdopen.specs.Open.{view_open}
+use Rattle.cip_tables.specs.Checks.{view_admission}
+use Rattle.cip_tables.proofs.WholeSteps.{whole_opened}
+use Rattle.cip_tables.specs.Opening.{opened_row, opened_table}
+use Rattle.cip_tables.proofs.WholeLemmas.{is_timed, interval_fits}
+use Rattle.plain_engine.proofs.Admitted.{stored_fits}
 use Rattle.plain_engine.proofs.adapter.PlainAdapter.open.Goals as goal
 
 pub row_of-row-requires-clause-o_t : goal.row_of-row-requires-clause-o_t
-row_of-row-requires-clause-o_t c = (is_timed _ _ _ c.requires).o_t
+row_of-row-requires-clause-o_t c = (is_timed c.args.self.now _ _ c.requires).o_t
 
 pub row_of-row-requires-clause-t_o : goal.row_of-row-requires-clause-t_o
-row_of-row-requires-clause-t_o c = (is_timed _ _ _ c.requires).t_o
+row_of-row-requires-clause-t_o c = (is_timed c.args.self.now _ _ c.requires).t_o
 
 pub row_of-row-requires-clause-waits : goal.row_of-row-requires-clause-waits
-row_of-row-requires-clause-waits c = (is_timed _ _ _ c.requires).waits
+row_of-row-requires-clause-waits c = (is_timed c.args.self.now _ _ c.requires).waits
 
 pub row_of-row-requires-clause-left : goal.row_of-row-requires-clause-left
-row_of-row-requires-clause-left c = (is_timed _ _ _ c.requires).left
+row_of-row-requires-clause-left c = (is_timed c.args.self.now _ _ c.requires).left
 
 pub row_of-row-requires-clause-draws : goal.row_of-row-requires-clause-draws
-row_of-row-requires-clause-draws c = (is_timed _ _ _ c.requires).draws
+row_of-row-requires-clause-draws c = (is_timed c.args.self.now _ _ c.requires).draws
 
 pub opened_reply-requires-clause-o_t : goal.opened_reply-requires-clause-o_t
 unfolding opened_row
-opened_reply-requires-clause-o_t c = let e = ap (λ (row : Row). row.o_t_api) c.row_of-row.ensures in rw e (interval_fits _ (is_timed _ _ _ c.requires).o_t)
+opened_reply-requires-clause-o_t c = let e = ap (λ (row : Row). row.o_t_api) c.row_of-row.ensures in rw e (interval_fits _ (is_timed c.args.self.now _ _ c.requires).o_t)
 
 pub opened_reply-requires-clause-t_o : goal.opened_reply-requires-clause-t_o
 unfolding opened_row
-opened_reply-requires-clause-t_o c = let e = ap (λ (row : Row). row.t_o_api) c.row_of-row.ensures in rw e (interval_fits _ (is_timed _ _ _ c.requires).t_o)
+opened_reply-requires-clause-t_o c = let e = ap (λ (row : Row). row.t_o_api) c.row_of-row.ensures in rw e (interval_fits _ (is_timed c.args.self.now _ _ c.requires).t_o)
 
 pub configure-requires : goal.configure-requires
 configure-requires c =
     let admitted = rw (← c.self.view_is) at c.requires in
-    rw (c.stored.ensures, c.deref_mut.ensures.value) (stores _ _ _ admitted c.self.invariant.found c.self.invariant.lengths).0
+    rw c.stored.ensures (stored_fits _ _ _ admitted)
 
 pub overflow_add-self : goal.overflow_add-self
 overflow_add-self c =
     let admitted = rw (← c.self.view_is) at c.requires in
-    let sum : c.self.inside.next_id + c.drawn_ids.result ≤ 16777216 = rw c.drawn_ids.ensures.value (is_timed _ _ _ admitted).left in
+    let own = c.self.inside in
+    let t : AdapterTable = record { profile = own.assemblies.profile; rows = own.rows.items; values = own.assemblies.values; clock = own.clock; next_id = own.next_id } in
+    let sum : c.self.inside.next_id + c.drawn_ids.result ≤ 16777216 = rw c.drawn_ids.ensures.value (is_timed t _ _ admitted).left in
     search rules
 
 pub invariant_of-self-2 : goal.invariant_of-self-2
+unfolding opened_table
 invariant_of-self-2 c =
+    let own = c.self.inside in
+    let t : AdapterTable = record { profile = own.assemblies.profile; rows = own.rows.items; values = own.assemblies.values; clock = own.clock; next_id = own.next_id } in
     let admitted = rw (← c.self.view_is) at c.requires in
-    let fields = c.self.inside in
-    let same : length c.configure.new.values ≡ fields.values.len = c.configure.auto.values ∙ c.deref_mut.ensures.len in
-    record {
-      clock_in_range = c.self.invariant.clock_in_range;
-      lengths =
-          rw (written_back fields.values.len fields.values.items c.configure.new.values same, c.configure.ensures, c.stored.ensures, c.deref_mut.ensures.value)
-          (stores _ _ _ admitted c.self.invariant.found c.self.invariant.lengths).1;
-      found = c.self.invariant.found;
-      few = c.self.invariant.few;
-    }
+    let opened = whole_opened t c.args.peer (view_open c.args.request.now) (view_admission c.args.admission.now) admitted c.self.invariant in
+    rw (c.configure.ensures, c.stored.ensures, c.append_row.ensures, c.make_room.ensures.same, c.row_of-row.ensures, ← c.self.view_is, c.drawn_ids.ensures.value) opened

@@ -1,0 +1,6 @@
+use Rattle.cip_tables.specs.Points.{zeroed_value}
+use Rattle.assembly_set.proofs.Places.{Mapped}
+use Rattle.assembly_set.proofs.values.zero_point.Given as goal
+
+abbrev pub invariant-loop-value : goal.invariant-loop-value
+invariant-loop-value l = Mapped (zeroed_value l.point) l.initial.values l.values l.value-index

@@ -1,0 +1,192 @@
+-- What each effect on a table keeps, each step keeps, and so each run.
+use Rattle.std.proofs.Common.{◌≡◌, ◌≤◌, ℕ, ◌+◌, ◌^◌, ◌==◌, nat_lt, Bool, true, false, cond, not, List, [], ◌∷◌, length, find, Option, Some, None, Result, Ok, Err, refl, sym, subst, arith}
+use Rattle.std.proofs.lemmas.Bool.{eqb-true}
+use Rattle.std.proofs.lemmas.Bool.Decides.{nat_tests}
+use Rattle.cip_types.specs.declared.names.Node.{Node}
+use Rattle.cip_types.specs.declared.names.Triad.{Triad}
+use Rattle.cip_fwdopen.specs.Open.{OpenFields}
+use Rattle.cip_fwdopen.specs.Close.{CloseFields}
+use Rattle.cip_datagram.specs.declared.datagram.DatagramFault.{DatagramFault}
+use Rattle.cip_datagram.specs.Datagram.{DatagramFields}
+use Rattle.cip_datagram.specs.Reading.{datagram_reading}
+use Rattle.cip_tables.specs.declared.event.Delivery.{Delivery}
+use Rattle.cip_tables.specs.declared.event.Event.{Event}
+use Rattle.cip_tables.specs.declared.event.Event.TheVariants.{Request, Datagram, Write, Read, Tick}
+use Rattle.cip_tables.specs.declared.event.StepFault.{StepFault}
+use Rattle.cip_tables.specs.declared.event.StepFault.TheVariants.{OutOfMemory, TickTooLong, ClockEnd, NoSuchPoint, WrongLength, NoSuchSlot, NotAllowedNow}
+use Rattle.cip_tables.specs.declared.profile.InputPoint.{InputPoint}
+use Rattle.cip_tables.specs.declared.refusal.Refusal.{Refusal}
+use Rattle.cip_tables.specs.declared.refusal.Status.TheVariants as status
+use Rattle.cip_tables.specs.declared.row.Row.{Row}
+use Rattle.cip_tables.specs.declared.table.AdapterTable.{AdapterTable}
+use Rattle.cip_tables.specs.declared.table.DeviceTable.{DeviceTable}
+use Rattle.cip_tables.specs.declared.table.DeviceTable.TheVariants.{Adapter}
+use Rattle.cip_tables.specs.Profiles.{is_at}
+use Rattle.cip_tables.specs.Points.{bytes_at}
+use Rattle.cip_tables.specs.Rows.{has_triad}
+use Rattle.cip_tables.specs.Checks.{Admitted, standing, verdict}
+use Rattle.cip_tables.specs.Opening.{opened_row, opened_table}
+use Rattle.cip_tables.specs.Closing.{closed_table}
+use Rattle.cip_tables.specs.Replies.{got}
+use Rattle.cip_tables.specs.Asking.{AskedFields, nothing, refused, closing, assembly, opening, asked_reading}
+use Rattle.cip_tables.specs.Requests.{Next, served_open, judged_open, admitted_open, served_close, close_of, served_assembly, assembly_of, get_of, is_value_attribute, router_refusal, answered, requested}
+use Rattle.cip_tables.specs.Datagrams.{delivered, found_datagram, datagram_of, received, row_delivery, is_accepted, fed_table, is_for}
+use Rattle.cip_tables.specs.Ticks.{longest_tick, clock_end, clocked_table, expired_table, produced_table, elapsed, tick}
+use Rattle.cip_tables.specs.Step.{DeviceNext, as_adapter, adapter_step, step, read, read_of, write, write_of, written_table, prompt_table, written}
+use Rattle.cip_tables.specs.Run.{Outcome, Follows, Runs}
+
+-- ---- a request changes nothing, opens a connection, or closes one
+
+pub record RequestsDo (R : AdapterTable → AdapterTable → Type 0) : Type 0 where
+  pub stays : (t : AdapterTable) → R t t
+  pub opened : (t : AdapterTable) (peer : Node) (request : OpenFields) (admitted : Admitted) → verdict (standing t) request ≡ Ok admitted → R t (opened_table t request (opened_row t peer request admitted) admitted)
+  pub closed : (t : AdapterTable) (triad : Triad) (row : Row) → find (has_triad triad) t.rows ≡ Some row → R t (closed_table t row)
+
+does_judged : (R : AdapterTable → AdapterTable → Type 0) → RequestsDo R → (t : AdapterTable) (peer : Node) (large : Bool) (request : OpenFields) (judged : Result Admitted Refusal) → verdict (standing t) request ≡ judged → R t (judged_open t peer large request judged).table
+unfolding admitted_open
+does_judged R does t peer large request (Err why) is = does.stays t
+does_judged R does t peer large request (Ok admitted) is = does.opened t peer request admitted is
+
+does_close : (R : AdapterTable → AdapterTable → Type 0) → RequestsDo R → (t : AdapterTable) (request : CloseFields) (found : Option Row) → find (has_triad request.triad) t.rows ≡ found → R t (close_of t request found).table
+does_close R does t request None is = does.stays t
+does_close R does t request (Some row) is = does.closed t request.triad row is
+
+does_get : (R : AdapterTable → AdapterTable → Type 0) → RequestsDo R → (t : AdapterTable) (service : ℕ) (attribute : Option ℕ) (body value : List ℕ) → R t (get_of t service attribute body value).table
+does_get R does t service attribute body value = get_step (not (service == 0x0E)) (not (is_value_attribute attribute)) (not (length body == 0)) where
+  get_step : (a b c : Bool) → R t (cond a (router_refusal t service status.Service) (cond b (router_refusal t service status.Attribute) (cond c (router_refusal t service status.TooMuchData) (record { reply = got value; notices = []; table = t })))).table
+  get_step true b c = does.stays t
+  get_step false true c = does.stays t
+  get_step false false true = does.stays t
+  get_step false false false = does.stays t
+
+does_assembly : (R : AdapterTable → AdapterTable → Type 0) → RequestsDo R → (t : AdapterTable) (service : ℕ) (attribute : Option ℕ) (body : List ℕ) (found : Option (List ℕ)) → R t (assembly_of t service attribute body found).table
+does_assembly R does t service attribute body None = does.stays t
+does_assembly R does t service attribute body (Some value) = does_get R does t service attribute body value
+
+pub answered_does : (R : AdapterTable → AdapterTable → Type 0) → RequestsDo R → (t : AdapterTable) (peer : Node) (asked : AskedFields) → R t (answered t peer asked).1
+unfolding served_open served_close served_assembly
+answered_does R does t peer nothing = does.stays t
+answered_does R does t peer (refused service why) = does.stays t
+answered_does R does t peer (closing request) = does_close R does t request (find (has_triad request.triad) t.rows) refl
+answered_does R does t peer (assembly service instance attribute body) = does_assembly R does t service attribute body (bytes_at t.values instance)
+answered_does R does t peer (opening large request) = does_judged R does t peer large request (verdict (standing t) request) refl
+
+-- ---- a step that gives an answer
+
+pub next_is : (x y : Next) → ◌≡◌ {A = Result Next StepFault} (Ok x) (Ok y) → x ≡ y
+next_is x y h = cc
+
+-- a write that is done is one of an input, of its length
+pub record IsWrite (t : AdapterTable) (point : ℕ) (bytes : List ℕ) (next : Next) : Type 0 where
+  pub input : InputPoint
+  pub found : find (is_at point) t.profile.inputs ≡ Some input
+  pub long : length bytes ≡ input.len
+  pub said : written (written_table t point bytes) point bytes ≡ next
+
+write_by : (t : AdapterTable) (point : ℕ) (bytes : List ℕ) (found : Option InputPoint) (next : Next) → find (is_at point) t.profile.inputs ≡ found → write_of t point bytes found ≡ Ok next → IsWrite t point bytes next
+write_by t point bytes None next there is = absurd cc
+write_by t point bytes (Some input) next there is = write_step (length bytes == input.len) refl is where
+  write_step : (b : Bool) → (length bytes == input.len) ≡ b → ◌≡◌ {A = Result Next StepFault} (cond b (Ok (written (written_table t point bytes) point bytes)) (Err WrongLength)) (Ok next) → IsWrite t point bytes next
+  write_step true long is = record { input = input; found = there; long = eqb-true _ _ long; said = next_is _ _ is }
+  write_step false long is = absurd cc
+
+pub write_is : (t : AdapterTable) (point : ℕ) (bytes : List ℕ) (next : Next) → write t point bytes ≡ Ok next → IsWrite t point bytes next
+unfolding write
+write_is t point bytes next is = write_by t point bytes (find (is_at point) t.profile.inputs) next refl is
+
+-- a tick that is done does not pass the end of the clock
+pub record IsTick (t : AdapterTable) (ms : ℕ) (next : Next) : Type 0 where
+  pub in_time : t.clock.0 + ms ≤ 2 ^ 48
+  pub said : elapsed (clocked_table t ms) ≡ next
+
+in_time_by : (end time : ℕ) → nat_lt end time ≡ false → time ≤ end
+in_time_by end time late = grind (arith, nat_tests)
+
+tick_step : (a b : Bool) (t : AdapterTable) (ms : ℕ) (next : Next) → nat_lt clock_end (t.clock.0 + ms) ≡ b → ◌≡◌ {A = Result Next StepFault} (cond a (Err TickTooLong) (cond b (Err ClockEnd) (Ok (elapsed (clocked_table t ms))))) (Ok next) → IsTick t ms next
+tick_step true b t ms next late is = absurd cc
+tick_step false true t ms next late is = absurd cc
+tick_step false false t ms next late is = record { in_time = in_time_by clock_end (t.clock.0 + ms) late; said = next_is _ _ is }
+
+pub tick_is : (t : AdapterTable) (ms : ℕ) (next : Next) → tick t ms ≡ Ok next → IsTick t ms next
+unfolding tick
+tick_is t ms next is = tick_step (nat_lt longest_tick ms) (nat_lt clock_end (t.clock.0 + ms)) t ms next refl is
+
+-- ---- what each effect keeps
+
+pub record EffectsKeep (P : AdapterTable → Type 0) : Type 0 where
+  pub opened : (t : AdapterTable) (peer : Node) (request : OpenFields) (admitted : Admitted) → verdict (standing t) request ≡ Ok admitted → P t → P (opened_table t request (opened_row t peer request admitted) admitted)
+  pub closed : (t : AdapterTable) (row : Row) → P t → P (closed_table t row)
+  pub written : (t : AdapterTable) (point : ℕ) (bytes : List ℕ) (input : InputPoint) → find (is_at point) t.profile.inputs ≡ Some input → length bytes ≡ input.len → P t → P (prompt_table (written_table t point bytes) point)
+  pub fed : (t : AdapterTable) (peer : Node) (d : DatagramFields) (row : Row) (delivery : Delivery) → row_delivery t.profile row d ≡ delivery → find (is_for peer d.connection) t.rows ≡ Some row → P t → P (fed_table t peer d row delivery)
+  pub elapsed : (t : AdapterTable) (ms : ℕ) → t.clock.0 + ms ≤ 2 ^ 48 → P t → P (produced_table (expired_table (clocked_table t ms)))
+
+requests_keep : (P : AdapterTable → Type 0) → EffectsKeep P → RequestsDo (λ t next. P t → P next)
+requests_keep P keep = record { stays = λ t holds. holds; opened = keep.opened; closed = λ t triad row found holds. keep.closed t row holds }
+
+keeps_judged : (P : AdapterTable → Type 0) (b : Bool) (t fed : AdapterTable) (delivery : Delivery) → P t → P fed → P (cond b (delivered delivery fed) (delivered delivery t)).1
+keeps_judged P true t fed delivery holds fed_holds = fed_holds
+keeps_judged P false t fed delivery holds fed_holds = holds
+
+keeps_found : (P : AdapterTable → Type 0) → EffectsKeep P → (t : AdapterTable) (peer : Node) (d : DatagramFields) (found : Option Row) → find (is_for peer d.connection) t.rows ≡ found → P t → P (found_datagram t peer d found).1
+keeps_found P keep t peer d None is holds = holds
+keeps_found P keep t peer d (Some row) is holds =
+    let delivery = row_delivery t.profile row d in
+    keeps_judged P (is_accepted delivery) t (fed_table t peer d row delivery) delivery holds (keep.fed t peer d row delivery refl is holds)
+
+keeps_datagram : (P : AdapterTable → Type 0) → EffectsKeep P → (t : AdapterTable) (peer : Node) (reading : Result DatagramFields DatagramFault) → P t → P (datagram_of t peer reading).1
+keeps_datagram P keep t peer (Err fault) holds = holds
+keeps_datagram P keep t peer (Ok d) holds = keeps_found P keep t peer d (find (is_for peer d.connection) t.rows) refl holds
+
+keeps_write : (P : AdapterTable → Type 0) → EffectsKeep P → (t : AdapterTable) (point : ℕ) (bytes : List ℕ) (next : Next) → IsWrite t point bytes next → P t → P next.1
+keeps_write P keep t point bytes next is holds = subst (λ (n : Next). P n.1) is.said (keep.written t point bytes is.input is.found is.long holds)
+
+keeps_tick : (P : AdapterTable → Type 0) → EffectsKeep P → (t : AdapterTable) (ms : ℕ) (next : Next) → IsTick t ms next → P t → P next.1
+keeps_tick P keep t ms next is holds = subst (λ (n : Next). P n.1) is.said (keep.elapsed t ms is.in_time holds)
+
+keeps_read : (P : AdapterTable → Type 0) (t : AdapterTable) (found : Option (List ℕ)) (next : Next) → read_of t found ≡ Ok next → P t → P next.1
+keeps_read P t None next is holds = absurd cc
+keeps_read P t (Some bytes) next is holds = subst (λ (n : Next). P n.1) (next_is _ _ is) holds
+
+pub adapter_keeps : (P : AdapterTable → Type 0) → EffectsKeep P → (t : AdapterTable) (event : Event) (next : Next) → adapter_step t event ≡ Ok next → P t → P next.1
+unfolding requested received read
+adapter_keeps P keep t (Request peer bytes) next is holds = subst (λ (n : Next). P n.1) (next_is _ _ is) (answered_does (λ t next. P t → P next) (requests_keep P keep) t peer (asked_reading bytes) holds)
+adapter_keeps P keep t (Datagram peer bytes) next is holds = subst (λ (n : Next). P n.1) (next_is _ _ is) (keeps_datagram P keep t peer (datagram_reading bytes) holds)
+adapter_keeps P keep t (Write point bytes) next is holds = keeps_write P keep t point bytes next (write_is t point bytes next is) holds
+adapter_keeps P keep t (Read point) next is holds = keeps_read P t (bytes_at t.values point) next is holds
+adapter_keeps P keep t (Tick ms) next is holds = keeps_tick P keep t ms next (tick_is t ms next is) holds
+
+-- ---- a device
+
+abbrev pub InDevice : (AdapterTable → Type 0) → DeviceTable → Type 0
+InDevice P (Adapter t) = P t
+
+pub ok_is : (x y : DeviceNext) → ◌≡◌ {A = Result DeviceNext StepFault} (Ok x) (Ok y) → x ≡ y
+ok_is x y h = cc
+
+device_keeps : (P : AdapterTable → Type 0) (said : Result Next StepFault) (next : DeviceNext) → as_adapter said ≡ Ok next → ((n : Next) → said ≡ Ok n → P n.1) → InDevice P next.1
+device_keeps P (Ok n) next is holds = subst (λ (d : DeviceNext). InDevice P d.1) (ok_is _ _ is) (holds n refl)
+device_keeps P (Err fault) next is holds = absurd cc
+
+step_keeps : (P : AdapterTable → Type 0) → EffectsKeep P → (t : DeviceTable) (event : Event) (next : DeviceNext) → step t event ≡ Ok next → InDevice P t → InDevice P next.1
+unfolding step
+step_keeps P keep (Adapter t) event next is holds = device_keeps P (adapter_step t event) next is (λ n said. adapter_keeps P keep t event n said holds)
+
+stays_so : (P : AdapterTable → Type 0) (old new : DeviceTable) → new ≡ old → InDevice P old → InDevice P new
+stays_so P old new stays holds = subst (InDevice P) (sym stays) holds
+
+pub follows_keeps : (P : AdapterTable → Type 0) → EffectsKeep P → (t : DeviceTable) (event : Event) (outcome : Outcome) (new : DeviceTable) → Follows (step t event) t outcome new → InDevice P t → InDevice P new
+follows_keeps P keep t event (Ok answer) new follows holds = step_keeps P keep t event (answer, new) follows holds
+follows_keeps P keep t event (Err OutOfMemory) new follows holds = stays_so P t new follows.1 holds
+follows_keeps P keep t event (Err TickTooLong) new follows holds = stays_so P t new follows.1 holds
+follows_keeps P keep t event (Err ClockEnd) new follows holds = stays_so P t new follows.1 holds
+follows_keeps P keep t event (Err NoSuchPoint) new follows holds = stays_so P t new follows.1 holds
+follows_keeps P keep t event (Err WrongLength) new follows holds = stays_so P t new follows.1 holds
+follows_keeps P keep t event (Err NoSuchSlot) new follows holds = stays_so P t new follows.1 holds
+follows_keeps P keep t event (Err NotAllowedNow) new follows holds = stays_so P t new follows.1 holds
+
+pub run_keeps : (P : AdapterTable → Type 0) → EffectsKeep P → (old : DeviceTable) (events : List Event) (outcomes : List Outcome) (new : DeviceTable) → Runs old events outcomes new → InDevice P old → InDevice P new
+run_keeps P keep old [] [] new ran holds = stays_so P old new ran holds
+run_keeps P keep old [] (outcome ∷ outcomes) new ran holds = absurd ran
+run_keeps P keep old (event ∷ events) [] new ran holds = absurd ran
+run_keeps P keep old (event ∷ events) (outcome ∷ outcomes) new ran holds =
+    run_keeps P keep ran.0 events outcomes new ran.2 (follows_keeps P keep old event outcome ran.0 ran.1 holds)

@@ -1,0 +1,6 @@
+use Rattle.cip_tables.specs.Ticks.{expired_row}
+use Rattle.assembly_set.proofs.Places.{Mapped}
+use Rattle.connection_rows.proofs.expiries.expire_rows.Given as goal
+
+abbrev pub invariant-loop-row : goal.invariant-loop-row
+invariant-loop-row l = Mapped (expired_row l.clock) l.initial.rows l.rows l.row-index

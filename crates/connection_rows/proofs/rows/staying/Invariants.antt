@@ -1,0 +1,6 @@
+use Rattle.std.proofs.Common.{◌≡◌, take, filter}
+use Rattle.cip_tables.specs.Closing.{stays}
+use Rattle.connection_rows.proofs.rows.staying.Given as goal
+
+abbrev pub invariant-loop-row : goal.invariant-loop-row
+invariant-loop-row l = l.left.items ≡ filter (stays l.rows) (take l.row-index l.rows)

@@ -1,0 +1,6 @@
+use Rattle.cip_tables.specs.Rows.{written_row}
+use Rattle.assembly_set.proofs.Places.{Mapped}
+use Rattle.connection_rows.proofs.rows.write_rows.Given as goal
+
+abbrev pub invariant-loop-row : goal.invariant-loop-row
+invariant-loop-row l = Mapped (written_row l.point) l.initial.rows l.rows l.row-index

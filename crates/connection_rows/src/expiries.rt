@@ -1,0 +1,92 @@
+//! Connections that time out.
+
+ghost use Rattle.std.specs.Prelude.{◌≡◌, ◌++◌, map, filter, IfOk};
+ghost use Rattle.cip_tables.specs.Closing.{forsaken, dropped_notice};
+ghost use Rattle.cip_tables.specs.Ticks.{has_expired, expired, expired_row, expired_rows, expired_notice};
+
+use crate::order::{By, sorted};
+use crate::rows::{copied, is_forsaken};
+use cip_tables::{Notice, Row, State};
+use cip_types::{Ms, OutOfMemory};
+use open_checks::is_established;
+use std::alloc::Global;
+
+/// Whether a connection is established, and its deadline has come.
+fn has_expired(row: &Row, clock: Ms) -> bool
+    ensures { result ≡ has_expired clock row.now }
+{
+    is_established(row) && row.deadline.0 <= clock.0
+}
+
+/// The connections whose deadline has come, by their deadlines and then in the order of openings.
+///
+/// Volume 1, chapter 3, inactivity watchdog.
+pub fn expired(alloc: Global, rows: &[Row], clock: Ms) -> Result<Vec<Row>, OutOfMemory>
+    ensures { IfOk result (λ gone. gone.items ≡ expired clock rows.now) }
+{
+    let gone = expiring(alloc, rows, clock)?;
+    sorted(alloc, &gone, By::Deadline)
+}
+
+fn expiring(alloc: Global, rows: &[Row], clock: Ms) -> Result<Vec<Row>, OutOfMemory>
+    ensures { IfOk result (λ gone. gone.items ≡ filter (has_expired clock) rows.now) }
+{
+    let mut gone = Vec::new(alloc);
+    for row in rows {
+        if has_expired(row, clock) {
+            gone.push(*row)?;
+        }
+    }
+    Ok(gone)
+}
+
+fn expire_row(row: &mut Row, clock: Ms)
+    ensures { row.new ≡ expired_row clock row.old }
+{
+    if has_expired(row, clock) {
+        row.state = State::TimedOut;
+    }
+}
+
+fn expire_rows(rows: &mut [Row], clock: Ms)
+    ensures { rows.new ≡ expired_rows clock rows.old }
+{
+    for row in rows.iter_mut() {
+        expire_row(row, clock);
+    }
+}
+
+/// The connections once those whose deadline has come have timed out.
+///
+/// Volume 1, chapter 3, inactivity watchdog.
+pub fn faded(alloc: Global, rows: &[Row], clock: Ms) -> Result<Vec<Row>, OutOfMemory>
+    ensures { IfOk result (λ left. left.items ≡ expired_rows clock rows.now) }
+{
+    let mut left = copied(alloc, rows)?;
+    expire_rows(&mut left, clock);
+    Ok(left)
+}
+
+/// What is told of connections that time out, in this order, and then of the listen-only ones among those
+/// left that are dropped.
+pub fn expiry_notices(alloc: Global, gone: &[Row], left: &[Row]) -> Result<Vec<Notice>, OutOfMemory>
+    ensures { IfOk result (λ notices. notices.items ≡ map expired_notice gone.now ++ map dropped_notice (forsaken left.now)) }
+{
+    let mut notices = expired_notices(alloc, gone)?;
+    for row in left {
+        if is_forsaken(left, row) {
+            notices.push(Notice::Dropped(row.triad))?;
+        }
+    }
+    Ok(notices)
+}
+
+fn expired_notices(alloc: Global, gone: &[Row]) -> Result<Vec<Notice>, OutOfMemory>
+    ensures { IfOk result (λ notices. notices.items ≡ map expired_notice gone.now) }
+{
+    let mut notices = Vec::new(alloc);
+    for row in gone {
+        notices.push(Notice::Expired(row.triad))?;
+    }
+    Ok(notices)
+}

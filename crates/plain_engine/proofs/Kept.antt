@@ -1,0 +1,141 @@
+-- What the engine keeps, by the effects of the table.
+use Rattle.std.proofs.Common.{◌≡◌, ℕ, Bool, true, false, cond, ◌||◌, ◌&&◌, ◌==◌, List, [], ◌∷◌, ◌++◌, map, take, drop, filter, length, find, Option, Some, None, refl, sym, ◌∙◌, ap, subst}
+use Rattle.std.specs.Prelude.{IsTrue, Result, Ok, Err, OnOk}
+use Rattle.std.specs.Result.{result_err}
+use Rattle.assembly_set.specs.declared.fault.PointFault.{PointFault}
+use Rattle.std.specs.List.{list_any}
+use Rattle.cip_types.specs.declared.names.Node.{Node}
+use Rattle.cip_types.specs.declared.names.Ms.{Ms}
+use Rattle.cip_datagram.specs.Datagram.{DatagramFields}
+use Rattle.cip_datagram.specs.Header.{header_at}
+use Rattle.cip_tables.specs.declared.event.Delivery.{Delivery}
+use Rattle.cip_tables.specs.declared.event.Delivery.TheVariants.{Applied}
+use Rattle.cip_tables.specs.declared.profile.InputPoint.{InputPoint}
+use Rattle.cip_tables.specs.declared.profile.Profile.{Profile}
+use Rattle.cip_tables.specs.declared.row.Row.{Row}
+use Rattle.cip_tables.specs.declared.row.State.{State}
+use Rattle.cip_tables.specs.declared.row.State.TheVariants.{Established, TimedOut}
+use Rattle.cip_tables.specs.declared.table.AdapterTable.{AdapterTable}
+use Rattle.cip_tables.specs.Profiles.{is_at}
+use Rattle.cip_tables.specs.Shapes.{len_of}
+use Rattle.cip_tables.specs.Rows.{written_state, written_row}
+use Rattle.cip_tables.specs.Order.{differs, first_of_each, in_order}
+use Rattle.cip_tables.specs.Closing.{stays, staying}
+use Rattle.cip_tables.specs.Datagrams.{is_for, row_delivery, run_data}
+use Rattle.cip_tables.specs.Productions.{shares_producer, leaders, by_producer, state_is_prompt, is_prompt, prompt_leaders, prompt_sendings, prompt_row}
+use Rattle.cip_tables.specs.Ticks.{expired_row, expired_rows}
+use Rattle.cip_tables.specs.Whole.{RowsFit, IsWhole}
+use Rattle.cip_tables.specs.Whole.{ConsumesOutput}
+use Rattle.cip_tables.proofs.EachLemmas.{each_found}
+use Rattle.cip_tables.proofs.FedLemmas.{applied_fits, applied_output}
+use Rattle.cip_tables.proofs.WholeLemmas.{fits_filter, fits_map, fits_expired, fits_written}
+use Rattle.assembly_set.proofs.Shaping.{written_back}
+use Rattle.std.proofs.lemmas.List.{length-map}
+use Rattle.assembly_set.specs.declared.fault.PointFault.TheVariants.{WrongLength}
+use Rattle.assembly_set.specs.Assemblies.{is_output, input_fault, write_fault}
+use Rattle.std.proofs.lemmas.Bool.{eqb-true}
+
+-- a table that is equal to a whole one is whole
+pub whole_by : (t t' : AdapterTable) → t' ≡ t → IsWhole t → IsWhole t'
+whole_by t t' same whole = subst IsWhole (sym same) whole
+
+-- a slice of rows that are changed in place, each by f, written back
+pub rows_by : (f : Row → Row) (n : ℕ) (rows lent new : List Row) → lent ≡ rows → length lent ≡ n → new ≡ map f lent → take n (new ++ drop (length new) rows) ≡ map f rows
+rows_by f n rows lent new same long is =
+    written_back n rows new (ap (length {A = Row}) is ∙ length-map lent f ∙ long) ∙ is ∙ ap (map f) same
+
+-- the same of rows whose input is written
+pub written_back_rows : (n : ℕ) (rows lent new : List Row) (clock : Ms) (point : ℕ) → lent ≡ rows → length lent ≡ n → new ≡ map (prompt_row clock point) (map (written_row point) lent) → take n (new ++ drop (length new) rows) ≡ map (prompt_row clock point) (map (written_row point) rows)
+written_back_rows n rows lent new clock point same long is =
+    written_back n rows new (ap (length {A = Row}) is ∙ length-map (map (written_row point) lent) (prompt_row clock point) ∙ length-map lent (written_row point) ∙ long)
+    ∙ is ∙ ap (λ (l : List Row). map (prompt_row clock point) (map (written_row point) l)) same
+
+-- ---- a datagram is applied
+
+-- an output is there for the data
+pub feeds_output : (t : AdapterTable) (peer : Node) (d : DatagramFields) (row : Row) (delivery : Delivery) → find (is_for peer d.connection) t.rows ≡ Some row → row_delivery t.profile row d ≡ delivery → IsWhole t → delivery ≡ Applied → IsTrue (is_output t.profile row.consumed)
+feeds_output t peer d row delivery found is whole applied =
+    applied_output t.profile row d (each_found (ConsumesOutput t.profile) (is_for peer d.connection) t.rows row found whole.consume) (is ∙ applied)
+
+-- and is as long as they are
+pub feeds_len : (t : AdapterTable) (peer : Node) (d : DatagramFields) (row : Row) (delivery : Delivery) → find (is_for peer d.connection) t.rows ≡ Some row → row_delivery t.profile row d ≡ delivery → IsWhole t → delivery ≡ Applied → len_of t.profile row.consumed ≡ Some (length (run_data (header_at d.payload)))
+feeds_len t peer d row delivery found is whole applied =
+    applied_fits t.profile row d (each_found (ConsumesOutput t.profile) (is_for peer d.connection) t.rows row found whole.consume) (is ∙ applied)
+
+-- ---- rows within their limits
+
+pub fits_left : (clock : Ms) (profile : Profile) (rows : List Row) → RowsFit profile rows → RowsFit profile (staying (expired_rows clock rows))
+fits_left clock profile rows fit =
+    let faded = expired_rows clock rows in
+    fits_filter (stays (expired_rows clock rows)) profile faded (fits_map (expired_row clock) profile (fits_expired clock profile) rows fit)
+
+pub fits_flagged : (point : ℕ) (profile : Profile) (rows : List Row) → RowsFit profile rows → RowsFit profile (map (written_row point) rows)
+fits_flagged point profile rows fit = fits_map (written_row point) profile (fits_written point profile) rows fit
+
+-- ---- a write without prompt producers
+
+or_false : (a b : Bool) → (a || b) ≡ false → (a ≡ false) × (b ≡ false)
+or_false true b h = absurd cc
+or_false false b h = (refl, h)
+
+-- an input that there is, and bytes as many as it has
+pub record IsInput (profile : Profile) (point len : ℕ) : Type 0 where
+  pub input : InputPoint
+  pub found : find (is_at point) profile.inputs ≡ Some input
+  pub long : len ≡ input.len
+
+no_fault : (b : Bool) (input : InputPoint) → cond b None (Some WrongLength) ≡ None → b ≡ true
+no_fault true input none = refl
+no_fault false input none = absurd cc
+
+input_by : (profile : Profile) (point len : ℕ) (found : Option InputPoint) → find (is_at point) profile.inputs ≡ found → input_fault found len ≡ None → IsInput profile point len
+input_by profile point len None is none = absurd cc
+input_by profile point len (Some input) is none = record { input = input; found = is; long = eqb-true _ _ (no_fault (len == input.len) input none) }
+
+pub is_input : (profile : Profile) (point len : ℕ) → write_fault profile point len ≡ None → IsInput profile point len
+is_input profile point len none = input_by profile point len (find (is_at point) profile.inputs) refl none
+
+-- what holds where there is no fault
+pub without_fault : {P : Type 0} (given : Result (Unit {0}) PointFault) → result_err given ≡ None → OnOk given P → P
+without_fault (Ok done) none holds = holds
+without_fault (Err fault) none holds = absurd cc
+
+-- a write leaves open whether a producer is prompt
+prompt_written : (clock : Ms) (state : State) → state_is_prompt clock (written_state state) ≡ state_is_prompt clock state
+prompt_written clock (Established production) = refl
+prompt_written clock TimedOut = refl
+
+prompt_step : (b : Bool) (clock : Ms) (point : ℕ) (row : Row) → is_prompt clock point (cond b (record row { state = written_state row.state }) row) ≡ is_prompt clock point row
+prompt_step true clock point row = ap (λ b. row.produced == point && b) (prompt_written clock row.state)
+prompt_step false clock point row = refl
+
+any_written : (clock : Ms) (point : ℕ) (rows : List Row) → list_any (is_prompt clock point) (map (written_row point) rows) ≡ list_any (is_prompt clock point) rows
+any_written clock point [] = refl
+any_written clock point (row ∷ rows) = rw (prompt_step (row.produced == point) clock point row) (ap (λ b. is_prompt clock point row || b) (any_written clock point rows))
+
+any_filter : (p q : Row → Bool) (rows : List Row) → list_any q rows ≡ false → list_any q (filter p rows) ≡ false
+any_filter p q [] none = refl
+any_filter p q (row ∷ rows) none =
+    let parts = or_false (q row) (list_any q rows) none in
+    filter_step (p row) (any_filter p q rows parts.1) where
+      filter_step : (b : Bool) → list_any q (filter p rows) ≡ false → list_any q (cond b (row ∷ filter p rows) (filter p rows)) ≡ false
+      filter_step true rest = rw (or_false (q row) (list_any q rows) none).0 rest
+      filter_step false rest = rest
+
+any_leader : (q : Row → Bool) (rows : List Row) → list_any q rows ≡ false → list_any q (leaders rows) ≡ false
+any_leader q [] none = refl
+any_leader q (row ∷ rows) none =
+    let parts = or_false (q row) (list_any q rows) none in
+    rw parts.0 (any_filter (differs shares_producer row) q (leaders rows) (any_leader q rows parts.1))
+
+none_passes : (q : Row → Bool) (rows : List Row) → list_any q rows ≡ false → filter q rows ≡ []
+none_passes q [] none = refl
+none_passes q (row ∷ rows) none =
+    let parts = or_false (q row) (list_any q rows) none in
+    rw parts.0 (none_passes q rows parts.1)
+
+-- so where none was prompt before, nothing is sent
+pub nothing_prompt : (clock : Ms) (point : ℕ) (bytes : List ℕ) (rows : List Row) → list_any (is_prompt clock point) rows ≡ false → prompt_sendings clock point bytes (map (written_row point) rows) ≡ []
+nothing_prompt clock point bytes rows none =
+    let none_written = any_written clock point rows ∙ none in
+    rw (none_passes (is_prompt clock point) (leaders (map (written_row point) rows)) (any_leader (is_prompt clock point) (map (written_row point) rows) none_written)) refl

@@ -1,0 +1,6 @@
+use Rattle.std.proofs.Common.{◌≤◌, length}
+use Rattle.cip_tables.proofs.Limits.{few_inputs}
+use Rattle.plain_engine.proofs.adapter.PlainAdapter.production.Goals as goal
+
+pub address_of-requires : goal.address_of-requires
+address_of-requires c = rw c.profile.ensures.value (few_inputs c.self.inside.assemblies.profile c.profile.ensures.sound.faultless)

@@ -1,0 +1,20 @@
+use Rattle.std.proofs.Common.{◌≡◌, ◌∙◌, ap, sym}
+use Rattle.cip_tables.specs.declared.table.AdapterTable.{AdapterTable}
+use Rattle.cip_tables.specs.Step.{written_table, prompt_table}
+use Rattle.cip_tables.proofs.WholeSteps.{whole_written}
+use Rattle.plain_engine.proofs.Kept.{is_input, fits_flagged}
+use Rattle.plain_engine.proofs.adapter.PlainAdapter.write_promptly.Goals as goal
+
+pub prompted_rows-requires-clause-fit : goal.prompted_rows-requires-clause-fit
+prompted_rows-requires-clause-fit c = (c.self.inside.assemblies.profile, rw (c.in_ok-rows.ensures, c.deref.ensures.value) (fits_flagged c.args.point c.self.inside.assemblies.profile c.self.inside.rows.items c.self.invariant.fits))
+
+pub put-requires-clause-whole : goal.put-requires-clause-whole
+unfolding written_table prompt_table
+put-requires-clause-whole c =
+    let own = c.self.inside in
+    let t : AdapterTable = record { profile = own.assemblies.profile; rows = own.rows.items; values = own.assemblies.values; clock = own.clock; next_id = own.next_id } in
+    let asked = rw (← c.self.view_is) at c.requires in
+    let input = is_input t.profile c.args.point _ asked.input in
+    let written = whole_written t c.args.point c.args.bytes.now input.input input.found input.long c.self.invariant in
+    let same_clock = ap (λ (x : AdapterTable). x.clock) (c.put.view_is ∙ sym c.self.view_is) in
+    rw (← c.self.view_is, c.prompted_rows.ensures, same_clock, c.in_ok-rows.ensures, c.deref.ensures.value) written

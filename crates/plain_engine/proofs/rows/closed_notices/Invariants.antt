@@ -1,8 +1,0 @@
-use Rattle.std.proofs.Common.{◌≡◌, ◌∷◌, take, filter, map}
-use Rattle.cip_tables.specs.declared.event.Notice.TheVariants.{Closed}
-use Rattle.cip_tables.specs.Rows.{is_forsaken}
-use Rattle.cip_tables.specs.Closing.{dropped_notice}
-use Rattle.plain_engine.proofs.rows.closed_notices.Given as goal
-
-abbrev pub invariant-loop-row : goal.invariant-loop-row
-invariant-loop-row l = l.notices.items ≡ Closed l.fn.triad ∷ map dropped_notice (filter (is_forsaken l.left) (take l.row-index l.left))

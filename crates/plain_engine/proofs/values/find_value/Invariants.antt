@@ -1,6 +1,0 @@
-use Rattle.std.proofs.Common.{◌≡◌, drop}
-use Rattle.cip_tables.specs.Points.{bytes_at}
-use Rattle.plain_engine.proofs.values.find_value.Given as goal
-
-abbrev pub invariant-loop-value : goal.invariant-loop-value
-invariant-loop-value l = bytes_at (drop l.value-index l.values) l.point ≡ bytes_at l.values l.point

@@ -1,7 +1,0 @@
-use Rattle.std.proofs.Common.{◌≡◌, ◌++◌, take, map}
-use Rattle.cip_tables.specs.Profiles.{as_point}
-use Rattle.cip_tables.specs.Points.{zeros}
-use Rattle.plain_engine.proofs.values.push_outputs.Given as goal
-
-abbrev pub invariant-loop-output : goal.invariant-loop-output
-invariant-loop-output l = l.values.items ≡ l.fn.values.items ++ map zeros (map as_point (take l.output-index l.outputs))
