@@ -164,33 +164,6 @@ const fn single(serial: u8) -> [u8; 50] {
     bytes
 }
 
-#[test]
-fn timed_out_connection_makes_room(rt: HostRuntime) -> Result<(), Fail> {
-    let alloc = rt.alloc();
-    let mut device = adapter(alloc, 4, 0)?;
-    opens(&rt, &mut device, PEER, &single(100))?;
-    let _first = device.step(&Event::Tick { ms: 1 });
-    for serial in 101..164 {
-        opens(&rt, &mut device, PEER, &single(serial))?;
-    }
-    let full: [Case<'_>; 1] = [(PEER, &single(164), &refused(164, 0x13))];
-    replies(&rt, &mut device, &full)?;
-    let answer = device
-        .step(&Event::Tick { ms: 9_999 })
-        .ok()
-        .ok_or("no answer")?;
-    let expired = [Notice::Expired(triad(100, 0x1234_5678))];
-    assert_eq!(rt; answer.notices.as_slice(), expired.as_slice());
-    let last = request(alloc, PEER, &single(164))?;
-    let answer = device.step(&last).ok().ok_or("no answer")?;
-    let made = [
-        Notice::Replaced(triad(100, 0x1234_5678)),
-        Notice::Opened(triad(164, 0x1234_5678), ConnId(0x1000_0041)),
-    ];
-    assert_eq!(rt; answer.notices.as_slice(), made.as_slice());
-    Ok(())
-}
-
 // COPIES
 
 fn from_copy(alloc: Global, copy: &TableCopy) -> Result<PlainAdapter, Fail> {
