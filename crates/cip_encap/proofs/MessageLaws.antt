@@ -6,13 +6,14 @@ use Rattle.std.specs.List.{AllByRecursion}
 use Rattle.std.proofs.lemmas.Bool.{cases_Bool, ltb-true, ltb-false, le-ltb}
 use Rattle.std.proofs.lemmas.List.{take-append-drop, length-append, length-take, length-drop, append-nil, length-replicate}
 use Rattle.std.proofs.lemmas.Nat.{le_bytes_8, from_le_bytes-to_le_bytes_8}
-use Rattle.cip_types.specs.Fields.{fields_text, AreFields, fields_at}
+use Rattle.std.specs.Option.{option_map}
+use Rattle.cip_types.specs.Fields.{Finds, fields_text, AreFields, fields_at}
 use Rattle.cip_types.specs.Texts.{Lacks, Exceeds, IsPrefixFree, Tailed, IsTailedText}
 use Rattle.cip_types.proofs.FieldLaws.{IsBytes, IsWide, wide16, wide32, fields_taken, fields_again, fields_lack, fields_tabulated}
 use Rattle.cip_types.proofs.TextLaws.{tailed_free, whole_lacks, whole_exceeds, lacks_exceeds}
 use Rattle.cip_encap.specs.declared.message.EncapFault.{EncapFault}
 use Rattle.cip_encap.specs.declared.message.EncapFault.TheVariants as fault
-use Rattle.cip_encap.specs.Message.{MessageFields, header_widths, header_numbers, message_text, MessageFits, IsMessageText, IsMessageReading}
+use Rattle.cip_encap.specs.Message.{MessageFields, header_widths, header_numbers, message_text, MessageFits, IsMessageText, IsMessageReading, IsHeaderReading}
 use Rattle.cip_encap.specs.Reading.{sized_reading, parts_reading, found_reading, message_reading}
 
 wide64 : IsWide w64
@@ -30,6 +31,35 @@ wide = (wide16, (wide16, (wide32, (wide32, (wide64, (wide32, tt))))))
 -- the header is of 24 bytes
 pub length-header : (ns : List ℕ) → AreFields header_widths ns → length (fields_text header_widths ns) ≡ 24
 length-header ns are = subst (λ (x : List ℕ). length (fields_text header_widths x) ≡ 24) (fields_tabulated header_widths 6 ns refl are) refl
+
+-- ---- headers
+
+-- what a function found is what the reading gives
+pub finds_is : {X Y : Type 0} (view : X → Y) (result : Option X) (reading : Option Y) → Finds view result reading → reading ≡ option_map view result
+finds_is view None reading is = is
+finds_is view (Some x) reading is = is
+
+header_found : (t : List ℕ) (found : Option Tailed) → IsBytes t → fields_at header_widths t ≡ found → IsHeaderReading t found
+header_found t None fits e =
+    let c = fields_lack header_widths wide t fits e in
+    omega (arith, ap length c.whole, length-append t c.more, length-header c.ns c.are, c.some)
+header_found t (Some x) fits e =
+    let taken = fields_taken header_widths wide t x.0 x.1 fits e in
+    (taken.1, taken.0.parts)
+
+-- the reading of the front is one
+pub header_reading_is : (t : List ℕ) → IsBytes t → IsHeaderReading t (fields_at header_widths t)
+header_reading_is t fits = header_found t (fields_at header_widths t) fits refl
+
+-- too few bytes begin with none
+no_header_in : (t : List ℕ) (found : Option Tailed) → length t < 24 → IsHeaderReading t found → found ≡ None
+no_header_in t None short is = refl
+no_header_in t (Some x) short is = absurd (omega (arith, ap length is.1, length-append (fields_text header_widths x.0) x.1, length-header x.0 is.0, short))
+
+-- and there is no other
+pub one_header_reading : (t : List ℕ) → IsBytes t → (other : Option Tailed) → IsHeaderReading t other → fields_at header_widths t ≡ other
+one_header_reading t fits None short = no_header_in t (fields_at header_widths t) short (header_reading_is t fits)
+one_header_reading t fits (Some x) is = ap (fields_at header_widths) is.1 ∙ fields_again header_widths wide x.0 x.1 is.0
 
 -- ---- a message's numbers are within their fields
 

@@ -1,6 +1,6 @@
 pub mod Message
 pub mod Reading
-pub mod Fixed
+pub mod Head
 pub mod Stream
 pub mod Packet
 pub mod PacketReading

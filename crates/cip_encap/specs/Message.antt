@@ -8,10 +8,11 @@
 --   sender context   u64   sent back as it came
 --   options          u32
 --   data
-use Rattle.std.specs.Prelude.{◌≡◌, ℕ, ◌<◌, ◌^◌, List, [], ◌∷◌, ◌++◌, length, Result, Ok, Err}
+use Rattle.std.specs.Prelude.{◌≡◌, ℕ, ◌<◌, ◌^◌, List, [], ◌∷◌, ◌++◌, length, Option, Some, None, Result, Ok, Err}
 use Rattle.std.specs.Int.{Width, w16, w32, w64}
-use Rattle.cip_types.specs.Fields.{fields_text}
-use Rattle.cip_types.specs.Texts.{Lacks, Exceeds}
+use Rattle.cip_types.specs.Fields.{fields_text, AreFields}
+use Rattle.cip_types.specs.Texts.{Lacks, Exceeds, Tailed}
+use Rattle.cip_encap.specs.declared.header.MessageHeader.{MessageHeader}
 use Rattle.cip_encap.specs.declared.message.MessageView.{MessageView}
 use Rattle.cip_encap.specs.declared.message.EncapFault.{EncapFault}
 use Rattle.cip_encap.specs.declared.message.EncapFault.TheVariants as fault
@@ -59,3 +60,18 @@ abbrev pub IsMessageReading : List ℕ → Result MessageFields EncapFault → T
 IsMessageReading bytes (Ok m) = IsMessageText bytes m
 IsMessageReading bytes (Err fault.Truncated) = Lacks IsMessageText bytes
 IsMessageReading bytes (Err fault.Trailing) = Exceeds IsMessageText bytes
+
+-- ---- headers, whatever follows them
+
+-- the numbers of a header of the program
+abbrev pub view_header : MessageHeader → List ℕ
+view_header h = h.command ∷ h.len ∷ h.session ∷ h.status ∷ h.context ∷ h.options ∷ []
+
+-- these, and the bytes behind them
+abbrev pub headed : MessageHeader → List ℕ → Tailed
+headed h rest = (view_header h, rest)
+
+-- what the front of the bytes says: the numbers of a header, with the bytes behind them, or too few bytes for one
+abbrev pub IsHeaderReading : List ℕ → Option Tailed → Type 0
+IsHeaderReading bytes None = length bytes < 24
+IsHeaderReading bytes (Some x) = AreFields header_widths x.0 × (bytes ≡ fields_text header_widths x.0 ++ x.1)

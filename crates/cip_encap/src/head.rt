@@ -20,7 +20,7 @@ pub struct Head {
 impl Head {
     ghost use Rattle.cip_encap.specs.Packet.{packet_widths};
     ghost use Rattle.cip_encap.specs.PacketReading.{are_heads};
-    ghost use Rattle.cip_encap.specs.Fixed.{head_numbers};
+    ghost use Rattle.cip_encap.specs.Head.{head_numbers};
 
     /// The numbers at the front, and the bytes after them.
     pub fn at(bytes: &[u8]) -> Option<(Head, &[u8])>

@@ -4,14 +4,15 @@
 //! Volume 2, chapter 2, encapsulation messages and common packet format.
 #![tactic(auto)]
 
-mod fixed;
 mod head;
+mod header;
 mod message;
 mod packet;
 mod read;
 mod splitter;
 mod write;
 
+pub use header::{MessageHeader, read_message_header};
 pub use message::{EncapFault, MessageView};
 pub use packet::{CommonPacket, ItemFault, SocketAddress, read_items, write_items};
 pub use read::read_message;

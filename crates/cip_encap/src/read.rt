@@ -5,7 +5,7 @@ ghost use Rattle.cip_encap.specs.declared.message.EncapFault.{EncapFault};
 ghost use Rattle.cip_encap.specs.Message.{MessageFields, view_message, IsMessageReading};
 ghost use Rattle.cip_encap.specs.Reading.{seen, message_reading};
 
-use crate::fixed::Fixed;
+use crate::header::header_at;
 use crate::message::{EncapFault, MessageView};
 
 /// The message of the header and the bytes behind it.
@@ -13,10 +13,10 @@ use crate::message::{EncapFault, MessageView};
 fn parsed(bytes: &[u8]) -> Result<MessageView<'_>, EncapFault>
     ensures { seen view_message result ≡ message_reading bytes.now }
 {
-    let Some((fixed, data)) = Fixed::at(bytes) else {
+    let Some((header, data)) = header_at(bytes) else {
         return Err(EncapFault::Truncated);
     };
-    let len = fixed.len as usize;
+    let len = header.len as usize;
     if data.len() < len {
         return Err(EncapFault::Truncated);
     }
@@ -24,11 +24,11 @@ fn parsed(bytes: &[u8]) -> Result<MessageView<'_>, EncapFault>
         return Err(EncapFault::Trailing);
     }
     Ok(MessageView {
-        command: fixed.command,
-        session: fixed.session,
-        status: fixed.status,
-        context: fixed.context,
-        options: fixed.options,
+        command: header.command,
+        session: header.session,
+        status: header.status,
+        context: header.context,
+        options: header.options,
         data,
     })
 }

@@ -43,6 +43,23 @@ fn faults_of_messages_are_told_apart(rt: HostRuntime) {
 }
 
 #[test]
+fn a_header_is_read_though_its_length_is_wrong(rt: HostRuntime) -> Result<(), Fail> {
+    let (header, behind) = read_message_header(&REGISTER[..27]).ok_or("a header")?;
+    let right = MessageHeader {
+        command: 0x65,
+        len: 4,
+        session: 0,
+        status: 0,
+        context: 0x0807_0605_0403_0201,
+        options: 0,
+    };
+    assert_eq!(rt; header, right);
+    assert_eq!(rt; behind, [1, 0, 0].as_slice());
+    assert!(rt; read_message_header(&REGISTER[..23]).is_none());
+    Ok(())
+}
+
+#[test]
 fn a_message_is_written(rt: HostRuntime) -> Result<(), Fail> {
     let message = MessageView {
         command: 0x65,

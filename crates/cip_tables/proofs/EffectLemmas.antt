@@ -1,80 +1,37 @@
 -- What each effect on a table keeps, each step keeps, and so each run.
-use Rattle.std.proofs.Common.{◌≡◌, ◌≤◌, ℕ, ◌+◌, ◌^◌, ◌==◌, nat_lt, Bool, true, false, cond, not, List, [], ◌∷◌, length, find, Option, Some, None, Result, Ok, Err, refl, sym, subst, arith}
+use Rattle.std.proofs.Common.{◌≡◌, ◌≤◌, ℕ, ◌+◌, ◌^◌, ◌==◌, nat_lt, Bool, true, false, cond, List, [], ◌∷◌, length, find, Option, Some, None, Result, Ok, Err, refl, sym, subst, arith}
 use Rattle.std.proofs.lemmas.Bool.{eqb-true}
 use Rattle.std.proofs.lemmas.Bool.Decides.{nat_tests}
 use Rattle.cip_types.specs.declared.names.Node.{Node}
-use Rattle.cip_types.specs.declared.names.Triad.{Triad}
 use Rattle.cip_fwdopen.specs.Open.{OpenFields}
-use Rattle.cip_fwdopen.specs.Close.{CloseFields}
 use Rattle.cip_datagram.specs.declared.datagram.DatagramFault.{DatagramFault}
 use Rattle.cip_datagram.specs.Datagram.{DatagramFields}
 use Rattle.cip_datagram.specs.Reading.{datagram_reading}
 use Rattle.cip_tables.specs.declared.event.Delivery.{Delivery}
 use Rattle.cip_tables.specs.declared.event.Event.{Event}
-use Rattle.cip_tables.specs.declared.event.Event.TheVariants.{Request, Datagram, Write, Read, Tick}
+use Rattle.cip_tables.specs.declared.event.Event.TheVariants.{Request, StreamOpened, Frame, StreamCut, Datagram, Write, Read, Tick}
 use Rattle.cip_tables.specs.declared.event.StepFault.{StepFault}
 use Rattle.cip_tables.specs.declared.event.StepFault.TheVariants.{OutOfMemory, TickTooLong, ClockEnd, NoSuchPoint, WrongLength, NoSuchSlot, NotAllowedNow}
 use Rattle.cip_tables.specs.declared.profile.InputPoint.{InputPoint}
-use Rattle.cip_tables.specs.declared.refusal.Refusal.{Refusal}
-use Rattle.cip_tables.specs.declared.refusal.Status.TheVariants as status
 use Rattle.cip_tables.specs.declared.row.Row.{Row}
 use Rattle.cip_tables.specs.declared.table.AdapterTable.{AdapterTable}
 use Rattle.cip_tables.specs.declared.table.DeviceTable.{DeviceTable}
 use Rattle.cip_tables.specs.declared.table.DeviceTable.TheVariants.{Adapter}
 use Rattle.cip_tables.specs.Profiles.{is_at}
 use Rattle.cip_tables.specs.Points.{bytes_at}
-use Rattle.cip_tables.specs.Rows.{has_triad}
 use Rattle.cip_tables.specs.Checks.{Admitted, standing, verdict}
 use Rattle.cip_tables.specs.Opening.{opened_row, opened_table}
 use Rattle.cip_tables.specs.Closing.{closed_table}
-use Rattle.cip_tables.specs.Replies.{got}
-use Rattle.cip_tables.specs.Asking.{AskedFields, nothing, refused, closing, assembly, opening, asked_reading}
-use Rattle.cip_tables.specs.Requests.{Next, served_open, judged_open, admitted_open, served_close, close_of, served_assembly, assembly_of, get_of, is_value_attribute, router_refusal, answered, requested}
+use Rattle.cip_tables.specs.Asking.{asked_reading}
+use Rattle.cip_tables.specs.Requests.{Next, requested}
+use Rattle.cip_tables.specs.Streams.{is_taken, with_stream, without_stream, registered_table}
 use Rattle.cip_tables.specs.Datagrams.{delivered, found_datagram, datagram_of, received, row_delivery, is_accepted, fed_table, is_for}
 use Rattle.cip_tables.specs.Ticks.{longest_tick, clock_end, clocked_table, expired_table, produced_table, elapsed, tick}
 use Rattle.cip_tables.specs.Step.{DeviceNext, as_adapter, adapter_step, step, read, read_of, write, write_of, written_table, prompt_table, written}
 use Rattle.cip_tables.specs.Run.{Outcome, Follows, Runs}
-
--- ---- a request changes nothing, opens a connection, or closes one
-
-pub record RequestsDo (R : AdapterTable → AdapterTable → Type 0) : Type 0 where
-  pub stays : (t : AdapterTable) → R t t
-  pub opened : (t : AdapterTable) (peer : Node) (request : OpenFields) (admitted : Admitted) → verdict (standing t) request ≡ Ok admitted → R t (opened_table t request (opened_row t peer request admitted) admitted)
-  pub closed : (t : AdapterTable) (triad : Triad) (row : Row) → find (has_triad triad) t.rows ≡ Some row → R t (closed_table t row)
-
-does_judged : (R : AdapterTable → AdapterTable → Type 0) → RequestsDo R → (t : AdapterTable) (peer : Node) (large : Bool) (request : OpenFields) (judged : Result Admitted Refusal) → verdict (standing t) request ≡ judged → R t (judged_open t peer large request judged).table
-unfolding admitted_open
-does_judged R does t peer large request (Err why) is = does.stays t
-does_judged R does t peer large request (Ok admitted) is = does.opened t peer request admitted is
-
-does_close : (R : AdapterTable → AdapterTable → Type 0) → RequestsDo R → (t : AdapterTable) (request : CloseFields) (found : Option Row) → find (has_triad request.triad) t.rows ≡ found → R t (close_of t request found).table
-does_close R does t request None is = does.stays t
-does_close R does t request (Some row) is = does.closed t request.triad row is
-
-does_get : (R : AdapterTable → AdapterTable → Type 0) → RequestsDo R → (t : AdapterTable) (service : ℕ) (attribute : Option ℕ) (body value : List ℕ) → R t (get_of t service attribute body value).table
-does_get R does t service attribute body value = get_step (not (service == 0x0E)) (not (is_value_attribute attribute)) (not (length body == 0)) where
-  get_step : (a b c : Bool) → R t (cond a (router_refusal t service status.Service) (cond b (router_refusal t service status.Attribute) (cond c (router_refusal t service status.TooMuchData) (record { reply = got value; notices = []; table = t })))).table
-  get_step true b c = does.stays t
-  get_step false true c = does.stays t
-  get_step false false true = does.stays t
-  get_step false false false = does.stays t
-
-does_assembly : (R : AdapterTable → AdapterTable → Type 0) → RequestsDo R → (t : AdapterTable) (service : ℕ) (attribute : Option ℕ) (body : List ℕ) (found : Option (List ℕ)) → R t (assembly_of t service attribute body found).table
-does_assembly R does t service attribute body None = does.stays t
-does_assembly R does t service attribute body (Some value) = does_get R does t service attribute body value
-
-pub answered_does : (R : AdapterTable → AdapterTable → Type 0) → RequestsDo R → (t : AdapterTable) (peer : Node) (asked : AskedFields) → R t (answered t peer asked).1
-unfolding served_open served_close served_assembly
-answered_does R does t peer nothing = does.stays t
-answered_does R does t peer (refused service why) = does.stays t
-answered_does R does t peer (closing request) = does_close R does t request (find (has_triad request.triad) t.rows) refl
-answered_does R does t peer (assembly service instance attribute body) = does_assembly R does t service attribute body (bytes_at t.values instance)
-answered_does R does t peer (opening large request) = does_judged R does t peer large request (verdict (standing t) request) refl
+use Rattle.cip_tables.proofs.RequestLemmas.{RequestsDo, answered_does, frame_does, next_is, IsStreamed, streamed_is, cut_does}
 
 -- ---- a step that gives an answer
-
-pub next_is : (x y : Next) → ◌≡◌ {A = Result Next StepFault} (Ok x) (Ok y) → x ≡ y
-next_is x y h = cc
 
 -- a write that is done is one of an input, of its length
 pub record IsWrite (t : AdapterTable) (point : ℕ) (bytes : List ℕ) (next : Next) : Type 0 where
@@ -119,9 +76,18 @@ pub record EffectsKeep (P : AdapterTable → Type 0) : Type 0 where
   pub written : (t : AdapterTable) (point : ℕ) (bytes : List ℕ) (input : InputPoint) → find (is_at point) t.profile.inputs ≡ Some input → length bytes ≡ input.len → P t → P (prompt_table (written_table t point bytes) point)
   pub fed : (t : AdapterTable) (peer : Node) (d : DatagramFields) (row : Row) (delivery : Delivery) → row_delivery t.profile row d ≡ delivery → find (is_for peer d.connection) t.rows ≡ Some row → P t → P (fed_table t peer d row delivery)
   pub elapsed : (t : AdapterTable) (ms : ℕ) → t.clock.0 + ms ≤ 2 ^ 48 → P t → P (produced_table (expired_table (clocked_table t ms)))
+  pub streamed : (t : AdapterTable) (number : ℕ) (peer : Node) → is_taken t.streams number ≡ false → P t → P (with_stream t number peer)
+  pub unstreamed : (t : AdapterTable) (number : ℕ) → P t → P (without_stream t number)
+  pub registered : (t : AdapterTable) (number : ℕ) → P t → P (registered_table t number)
 
 requests_keep : (P : AdapterTable → Type 0) → EffectsKeep P → RequestsDo (λ t next. P t → P next)
-requests_keep P keep = record { stays = λ t holds. holds; opened = keep.opened; closed = λ t triad row found holds. keep.closed t row holds }
+requests_keep P keep = record {
+  stays = λ t holds. holds;
+  opened = keep.opened;
+  closed = λ t triad row found holds. keep.closed t row holds;
+  unstreamed = keep.unstreamed;
+  registered = keep.registered;
+}
 
 keeps_judged : (P : AdapterTable → Type 0) (b : Bool) (t fed : AdapterTable) (delivery : Delivery) → P t → P fed → P (cond b (delivered delivery fed) (delivered delivery t)).1
 keeps_judged P true t fed delivery holds fed_holds = fed_holds
@@ -143,6 +109,9 @@ keeps_write P keep t point bytes next is holds = subst (λ (n : Next). P n.1) is
 keeps_tick : (P : AdapterTable → Type 0) → EffectsKeep P → (t : AdapterTable) (ms : ℕ) (next : Next) → IsTick t ms next → P t → P next.1
 keeps_tick P keep t ms next is holds = subst (λ (n : Next). P n.1) is.said (keep.elapsed t ms is.in_time holds)
 
+keeps_streamed : (P : AdapterTable → Type 0) → EffectsKeep P → (t : AdapterTable) (number : ℕ) (peer : Node) (next : Next) → IsStreamed t number peer next → P t → P next.1
+keeps_streamed P keep t number peer next is holds = subst (λ (n : Next). P n.1) is.said (keep.streamed t number peer is.free holds)
+
 keeps_read : (P : AdapterTable → Type 0) (t : AdapterTable) (found : Option (List ℕ)) (next : Next) → read_of t found ≡ Ok next → P t → P next.1
 keeps_read P t None next is holds = absurd cc
 keeps_read P t (Some bytes) next is holds = subst (λ (n : Next). P n.1) (next_is _ _ is) holds
@@ -150,6 +119,9 @@ keeps_read P t (Some bytes) next is holds = subst (λ (n : Next). P n.1) (next_i
 pub adapter_keeps : (P : AdapterTable → Type 0) → EffectsKeep P → (t : AdapterTable) (event : Event) (next : Next) → adapter_step t event ≡ Ok next → P t → P next.1
 unfolding requested received read
 adapter_keeps P keep t (Request peer bytes) next is holds = subst (λ (n : Next). P n.1) (next_is _ _ is) (answered_does (λ t next. P t → P next) (requests_keep P keep) t peer (asked_reading bytes) holds)
+adapter_keeps P keep t (StreamOpened number peer) next is holds = keeps_streamed P keep t number peer next (streamed_is t number peer next is) holds
+adapter_keeps P keep t (Frame number bytes) next is holds = frame_does (λ t next. P t → P next) (requests_keep P keep) t number bytes next is holds
+adapter_keeps P keep t (StreamCut number) next is holds = cut_does (λ t next. P t → P next) (requests_keep P keep) t number next is holds
 adapter_keeps P keep t (Datagram peer bytes) next is holds = subst (λ (n : Next). P n.1) (next_is _ _ is) (keeps_datagram P keep t peer (datagram_reading bytes) holds)
 adapter_keeps P keep t (Write point bytes) next is holds = keeps_write P keep t point bytes next (write_is t point bytes next is) holds
 adapter_keeps P keep t (Read point) next is holds = keeps_read P t (bytes_at t.values point) next is holds

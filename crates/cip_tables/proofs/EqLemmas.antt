@@ -21,6 +21,7 @@ use Rattle.cip_tables.specs.declared.profile.OutputPoint.{OutputPoint}
 use Rattle.cip_tables.specs.declared.profile.InputPoint.{InputPoint}
 use Rattle.cip_tables.specs.declared.profile.Profile.{Profile}
 use Rattle.cip_tables.specs.declared.table.PointValue.{PointValue}
+use Rattle.cip_tables.specs.declared.table.Stream.{Stream}
 use Rattle.cip_tables.specs.declared.table.AdapterTable.{AdapterTable}
 use Rattle.cip_tables.specs.declared.table.DeviceTable.{DeviceTable}
 use Rattle.cip_types.specs.contracts.names.MsPartialEq.TheImpl as ms
@@ -39,6 +40,7 @@ use Rattle.cip_tables.specs.contracts.row.ProductionPartialEq.TheImpl as product
 use Rattle.cip_tables.specs.contracts.row.AcceptedPartialEq.TheImpl as accepted
 use Rattle.cip_tables.specs.contracts.row.RowPartialEq.TheImpl as row
 use Rattle.cip_tables.specs.contracts.table.PointValuePartialEq.TheImpl as value
+use Rattle.cip_tables.specs.contracts.table.StreamPartialEq.TheImpl as stream
 use Rattle.cip_tables.specs.contracts.table.AdapterTablePartialEq.TheImpl as adapter
 use Rattle.cip_tables.specs.contracts.table.DeviceTablePartialEq.TheImpl as device
 
@@ -143,6 +145,9 @@ profile_decides a b =
     (Decides-and _ _ (Decides-eqb a.input_only b.input_only)
     (Decides-eqb a.listen_only b.listen_only)))))))))
 
+stream_decides : (a b : Stream) → Decides ((stream.ghosts).eq a b) (a ≡ b)
+stream_decides a b = search rules
+
 adapter_decides : (a b : AdapterTable) → Decides ((adapter.ghosts).eq a b) (a ≡ b)
 adapter_decides a b =
     Decides-like ((adapter.ghosts).eq a b) (λ p. search rules) (λ e. search rules)
@@ -150,7 +155,8 @@ adapter_decides a b =
     (Decides-and _ _ (pointwise_decides row_decides a.rows b.rows)
     (Decides-and _ _ (pointwise_decides value_decides a.values b.values)
     (Decides-and _ _ (ms_decides a.clock b.clock)
-    (Decides-eqb a.next_id b.next_id)))))
+    (Decides-and _ _ (Decides-eqb a.next_id b.next_id)
+    (pointwise_decides stream_decides a.streams b.streams))))))
 
 -- two tables that pass the test are equal, and equal tables pass it
 pub device_decides : (a b : DeviceTable) → Decides ((device.ghosts).eq a b) (a ≡ b)

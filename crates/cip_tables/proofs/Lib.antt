@@ -7,8 +7,12 @@ pub mod GroupLemmas
 pub mod SupportLemmas
 pub mod LikeLemmas
 pub mod FadeLemmas
+pub mod StreamLemmas
+pub mod FrameLemmas
+pub mod FrameSamples
 pub mod OrderLemmas
 pub mod EachLemmas
+pub mod RequestLemmas
 pub mod EffectLemmas
 pub mod StepLemmas
 pub mod WholeLemmas
@@ -16,6 +20,7 @@ pub mod WholeSteps
 pub mod Shaping
 pub mod Fitting
 pub mod Limits
+pub mod ReplyLemmas
 pub mod ValueLemmas
 pub mod DriverLemmas
 pub mod ConsumerLemmas

@@ -1,5 +1,5 @@
 -- A faultless profile has few points, and short ones.
-use Rattle.std.proofs.Common.{◌≡◌, ◌≤◌, ℕ, Bool, true, false, cond, not, nat_le, ◌&&◌, ◌==◌, ◌%◌, List, [], ◌∷◌, ◌++◌, length, map, find, Option, Some, None, option_to_list, sym, ◌∙◌, ap, subst, arith}
+use Rattle.std.proofs.Common.{◌≡◌, ◌≤◌, ℕ, Bool, true, false, cond, List, [], ◌∷◌, ◌++◌, length, map, find, Option, Some, None, option_to_list, sym, ◌∙◌, ap, subst, arith}
 use Rattle.std.specs.List.{list_all}
 use Rattle.std.specs.Option.{option_map}
 use Rattle.std.proofs.lemmas.Bool.{not-false, and_parts}
@@ -10,8 +10,8 @@ use Rattle.cip_tables.specs.declared.profile.OutputPoint.{OutputPoint}
 use Rattle.cip_tables.specs.declared.table.PointValue.{PointValue}
 use Rattle.cip_tables.specs.Profiles.{is_at, is_output_at, as_point, profile_fault, profile_tests, are_few, are_long_enough, has_output_len, has_input_len, has_config_len}
 use Rattle.cip_tables.specs.Points.{data_points, bytes_at}
-use Rattle.cip_tables.specs.Shapes.{IsShaped, len_in, len_of}
-use Rattle.cip_tables.proofs.Shaping.{AllPass, all_pass}
+use Rattle.cip_tables.specs.Shapes.{IsShaped, len_in}
+use Rattle.cip_tables.proofs.Shaping.{all_pass}
 use Rattle.cip_tables.proofs.Fitting.{length_is}
 
 few_by : (profile : Profile) → are_few profile ≡ true → length profile.inputs ≤ 8

@@ -15,6 +15,7 @@ use Rattle.cip_tables.specs.Points.{data_points, bytes_at}
 use Rattle.cip_tables.specs.Requests.{Next}
 use Rattle.cip_tables.specs.Opening.{opened_table}
 use Rattle.cip_tables.specs.Closing.{closed_table}
+use Rattle.cip_tables.specs.Streams.{with_stream, without_stream, registered_table}
 use Rattle.cip_tables.specs.Datagrams.{fed_table}
 use Rattle.cip_tables.specs.Ticks.{clocked_table, expired_table, produced_table}
 use Rattle.cip_tables.specs.Step.{DeviceNext, as_adapter, adapter_step, step, adapter_table, written_table, prompt_table, bytes_in}
@@ -34,13 +35,16 @@ abbrev pub HasProfile : Profile → AdapterTable → Type 0
 HasProfile profile t = t.profile ≡ profile
 
 profile_stays : (profile : Profile) → EffectsKeep (HasProfile profile)
-unfolding opened_table closed_table written_table prompt_table fed_table clocked_table expired_table produced_table
+unfolding opened_table closed_table written_table prompt_table fed_table clocked_table expired_table produced_table with_stream without_stream registered_table
 profile_stays profile = record {
   opened = λ t peer request admitted is same. same;
   closed = λ t row same. same;
   written = λ t point bytes input found long same. same;
   fed = λ t peer d row delivery is found same. same;
   elapsed = λ t ms in_time same. same;
+  streamed = λ t number peer free same. same;
+  unstreamed = λ t number same. same;
+  registered = λ t number same. same;
 }
 
 -- what a device's step leaves at the outputs of its profile

@@ -9,7 +9,7 @@ use Rattle.cip_datagram.specs.Reading.{datagram_reading}
 use Rattle.cip_tables.specs.declared.event.Delivery.{Delivery}
 use Rattle.cip_tables.specs.declared.event.Delivery.TheVariants.{Applied, Idle, Heartbeat, Duplicate, Old, UnknownId, WrongSize, Malformed}
 use Rattle.cip_tables.specs.declared.event.Event.{Event}
-use Rattle.cip_tables.specs.declared.event.Event.TheVariants.{Request, Datagram, Write, Read, Tick}
+use Rattle.cip_tables.specs.declared.event.Event.TheVariants.{Request, StreamOpened, Frame, StreamCut, Datagram, Write, Read, Tick}
 use Rattle.cip_tables.specs.declared.event.StepFault.{StepFault}
 use Rattle.cip_tables.specs.declared.profile.InputPoint.{InputPoint}
 use Rattle.cip_tables.specs.declared.profile.OutputPoint.{OutputPoint}
@@ -33,8 +33,9 @@ use Rattle.cip_tables.proofs.ValueLemmas.{put_beside}
 use Rattle.cip_tables.proofs.DriverLemmas.{same_owner}
 use Rattle.cip_tables.proofs.LikeLemmas.{any_driver_kept, written_keeps, prompt_keeps, fed_keeps}
 use Rattle.cip_tables.proofs.FedLemmas.{fed_value}
-use Rattle.cip_tables.proofs.EffectLemmas.{next_is, IsWrite, write_is, IsTick, tick_is}
-use Rattle.cip_tables.proofs.ServedLemmas.{unlost, loses_nothing, loses_answered}
+use Rattle.cip_tables.proofs.RequestLemmas.{answered_does, frame_does, next_is, IsStreamed, streamed_is, cut_does}
+use Rattle.cip_tables.proofs.EffectLemmas.{IsWrite, write_is, IsTick, tick_is}
+use Rattle.cip_tables.proofs.ServedLemmas.{LosesOnly, unlost, loses_nothing, loses_with, requests_lose}
 use Rattle.cip_tables.proofs.ExpiryLemmas.{one_expired, owner_expired, expired_value}
 
 -- what an event leaves at each output
@@ -130,10 +131,16 @@ leaves_read : (t : AdapterTable) (point : ℕ) (found : Option (List ℕ)) (next
 leaves_read t point None next is = absurd cc
 leaves_read t point (Some bytes) next is = subst (λ (n : Next). Leaves t (Read point) n.1) (next_is _ _ is) (loses_nothing t)
 
+leaves_streamed : (t : AdapterTable) (number : ℕ) (peer : Node) (next : Next) → IsStreamed t number peer next → Leaves t (StreamOpened number peer) next.1
+leaves_streamed t number peer next is = subst (λ (n : Next). Leaves t (StreamOpened number peer) n.1) is.said (loses_with t number peer)
+
 -- each event that has a step
 pub adapter_leaves : (t : AdapterTable) (event : Event) (next : Next) → adapter_step t event ≡ Ok next → IsWhole t → Leaves t event next.1
 unfolding requested received read
-adapter_leaves t (Request peer bytes) next is whole = subst (λ (n : Next). Leaves t (Request peer bytes) n.1) (next_is _ _ is) (loses_answered t peer (asked_reading bytes) whole)
+adapter_leaves t (Request peer bytes) next is whole = subst (λ (n : Next). Leaves t (Request peer bytes) n.1) (next_is _ _ is) (answered_does (λ t next. IsWhole t → LosesOnly t next) requests_lose t peer (asked_reading bytes) whole)
+adapter_leaves t (StreamOpened number peer) next is whole = leaves_streamed t number peer next (streamed_is t number peer next is)
+adapter_leaves t (Frame number bytes) next is whole = frame_does (λ t next. IsWhole t → LosesOnly t next) requests_lose t number bytes next is whole
+adapter_leaves t (StreamCut number) next is whole = cut_does (λ t next. IsWhole t → LosesOnly t next) requests_lose t number next is whole
 adapter_leaves t (Datagram peer bytes) next is whole =
     subst (λ (n : Next). Leaves t (Datagram peer bytes) n.1) (next_is _ _ is)
     (leaves_datagram t (datagram_of t peer (datagram_reading bytes)).1 peer bytes (feeds_read t peer (datagram_reading bytes) whole.shaped))
@@ -147,6 +154,9 @@ untouched point t = rw (same_owner point t.rows t.rows refl) refl
 -- and one that has none touches nothing
 pub fault_touches_none : (point : ℕ) (t : AdapterTable) (event : Event) (fault : StepFault) → adapter_step t event ≡ Err fault → touched point (Adapter t) event (Adapter t) ≡ None
 fault_touches_none point t (Request peer bytes) fault is = untouched point t
+fault_touches_none point t (StreamOpened number peer) fault is = untouched point t
+fault_touches_none point t (Frame number bytes) fault is = untouched point t
+fault_touches_none point t (StreamCut number) fault is = untouched point t
 fault_touches_none point t (Datagram peer bytes) fault is = absurd cc
 fault_touches_none point t (Write other bytes) fault is = untouched point t
 fault_touches_none point t (Read other) fault is = untouched point t

@@ -1,4 +1,4 @@
--- A request touches no output but by the loss of its owner.
+-- A request or a frame touches no output but by the loss of its owner.
 use Rattle.std.proofs.Common.{◌≡◌, ◌≤◌, ℕ, ◌==◌, nat_le, Bool, true, false, cond, ◌&&◌, List, [], ◌∷◌, ◌++◌, length, find, Option, Some, None, Ok, refl, sym, subst, arith}
 use Rattle.std.specs.Option.{unwrap_or}
 use Rattle.std.specs.List.{list_any}
@@ -18,8 +18,7 @@ use Rattle.cip_tables.specs.Rows.{is_established, is_owner, has_triad, drives, d
 use Rattle.cip_tables.specs.Checks.{Admitted, standing, verdict, stored}
 use Rattle.cip_tables.specs.Opening.{makes_room, opened_row, configured, opened_table}
 use Rattle.cip_tables.specs.Closing.{without_triad, staying, closed_values, closed_table}
-use Rattle.cip_tables.specs.Asking.{AskedFields}
-use Rattle.cip_tables.specs.Requests.{answered}
+use Rattle.cip_tables.specs.Streams.{with_stream, without_stream, registered_table}
 use Rattle.cip_tables.specs.Shapes.{IsShaped}
 use Rattle.cip_tables.specs.Whole.{IsWhole}
 use Rattle.cip_tables.specs.Scratch.{left_lost, is_lost, lost}
@@ -28,7 +27,7 @@ use Rattle.cip_tables.proofs.Shaping.{configuration_no_output}
 use Rattle.cip_tables.proofs.Fitting.{output_length}
 use Rattle.cip_tables.proofs.ValueLemmas.{put_beside, lost_at, lost_beside}
 use Rattle.cip_tables.proofs.DriverLemmas.{same_owner, owner_opened, owner_stays, owner_closed}
-use Rattle.cip_tables.proofs.EffectLemmas.{RequestsDo, answered_does}
+use Rattle.cip_tables.proofs.RequestLemmas.{RequestsDo}
 
 -- each output holds what the loss of its owner leaves there
 abbrev pub LosesOnly : AdapterTable → AdapterTable → Type 0
@@ -104,14 +103,29 @@ loses_closed : (t : AdapterTable) (triad : Triad) (row : Row) → find (has_tria
 unfolding closed_table
 loses_closed t triad row found whole = λ point output held is holds. loses_by (drives point row) t triad row point output held refl (whole.sound.one_owner point) whole.shaped found is holds
 
--- ---- a request
+-- ---- streams
 
--- each request loses owners at most
-pub loses_answered : (t : AdapterTable) (peer : Node) (asked : AskedFields) → IsWhole t → LosesOnly t (answered t peer asked).1
-loses_answered t peer asked whole = answered_does (λ t next. IsWhole t → LosesOnly t next) requests_lose t peer asked whole where
-  requests_lose : RequestsDo (λ t next. IsWhole t → LosesOnly t next)
-  requests_lose = record {
-    stays = λ t whole. loses_nothing t;
-    opened = λ t peer request admitted e whole. loses_opened t peer request admitted e whole.shaped;
-    closed = λ t triad row found whole. loses_closed t triad row found whole;
-  }
+-- a stream that opens, one that ends, and a session that begins touch no output
+pub loses_with : (t : AdapterTable) (number : ℕ) (peer : Node) → LosesOnly t (with_stream t number peer)
+unfolding with_stream
+loses_with t number peer = loses_nothing t
+
+loses_without : (t : AdapterTable) (number : ℕ) → LosesOnly t (without_stream t number)
+unfolding without_stream
+loses_without t number = loses_nothing t
+
+loses_registered : (t : AdapterTable) (number : ℕ) → LosesOnly t (registered_table t number)
+unfolding registered_table
+loses_registered t number = loses_nothing t
+
+-- ---- requests and frames
+
+-- each of them loses owners at most
+pub requests_lose : RequestsDo (λ t next. IsWhole t → LosesOnly t next)
+requests_lose = record {
+  stays = λ t whole. loses_nothing t;
+  opened = λ t peer request admitted e whole. loses_opened t peer request admitted e whole.shaped;
+  closed = λ t triad row found whole. loses_closed t triad row found whole;
+  unstreamed = λ t number whole. loses_without t number;
+  registered = λ t number whole. loses_registered t number;
+}

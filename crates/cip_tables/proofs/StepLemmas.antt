@@ -1,14 +1,16 @@
 -- Each effect keeps the table sound, and so do each step and each run.
-use Rattle.std.proofs.Common.{◌≡◌, ℕ, ◌+◌, Bool, true, false, not, find, ◌&&◌, nat_lt, nat_le, ◌==◌, List, [], length, map, Option, Some, None, Ok, refl, sym, ◌∙◌, ap, subst, arith, length-append}
+use Rattle.std.proofs.Common.{◌≡◌, ◌≤◌, ℕ, ◌+◌, Bool, true, false, not, find, filter, ◌&&◌, nat_lt, nat_le, ◌==◌, List, [], ◌∷◌, ◌++◌, length, map, Option, Some, None, Ok, refl, sym, ◌∙◌, ap, subst, arith, length-append}
 use Rattle.std.specs.List.{list_any}
 use Rattle.std.proofs.lemmas.Bool.{and_parts}
 use Rattle.std.proofs.lemmas.Bool.Decides.{nat_tests}
-use Rattle.cip_types.specs.declared.names.Node.{Node}
 use Rattle.std.proofs.lemmas.List.{length-map}
+use Rattle.cip_types.specs.declared.names.Node.{Node}
 use Rattle.cip_types.specs.declared.names.Triad.{Triad}
 use Rattle.cip_netparams.specs.Rate.{interval_ms}
 use Rattle.cip_epath.specs.Path.{PathFields}
 use Rattle.cip_fwdopen.specs.Open.{OpenFields}
+use Rattle.cip_datagram.specs.Datagram.{DatagramFields}
+use Rattle.cip_tables.specs.declared.event.Delivery.{Delivery}
 use Rattle.cip_tables.specs.declared.event.Event.{Event}
 use Rattle.cip_tables.specs.declared.row.Row.{Row}
 use Rattle.cip_tables.specs.declared.admission.Consumer.{Consumer}
@@ -17,26 +19,27 @@ use Rattle.cip_tables.specs.declared.table.Config.{Config}
 use Rattle.cip_tables.specs.declared.table.Config.TheVariants as config
 use Rattle.cip_tables.specs.declared.table.DeviceTable.{DeviceTable}
 use Rattle.cip_tables.specs.declared.table.DeviceTable.TheVariants.{Adapter}
+use Rattle.cip_tables.specs.declared.table.PointValue.{PointValue}
+use Rattle.cip_tables.specs.declared.table.Stream.{Stream}
 use Rattle.cip_tables.specs.Rows.{without_first, drives, drivers, written_row, is_established, is_owner, is_listener, has_triad, holds_triad, is_member, is_supported}
 use Rattle.cip_tables.specs.Checks.{Admitted, standing, verdict, is_owned, is_multicast, group_of, joined, drawn_ids}
 use Rattle.cip_tables.specs.Opening.{opened_row, opened_table, opened_state, opened_t_o_id}
 use Rattle.cip_tables.specs.Closing.{closed_table, stays}
 use Rattle.cip_tables.specs.Points.{put_value}
+use Rattle.cip_tables.specs.Streams.{is_other_stream, is_taken, new_stream, with_stream, without_stream, registered_stream, registered_table}
 use Rattle.cip_tables.specs.Datagrams.{fed_row, fed_values, fed_table}
-use Rattle.cip_datagram.specs.Datagram.{DatagramFields}
-use Rattle.cip_tables.specs.declared.event.Delivery.{Delivery}
-use Rattle.cip_tables.specs.declared.table.PointValue.{PointValue}
+use Rattle.cip_tables.specs.Productions.{due_row, prompt_row}
+use Rattle.cip_tables.specs.Ticks.{clocked_table, expired_row, expired_rows, expired_table, produced_table}
 use Rattle.cip_tables.specs.Step.{opening_table, written_table, prompt_table}
 use Rattle.cip_tables.specs.Run.{Outcome, Runs}
-use Rattle.cip_tables.specs.Sound.{IsSound, IsSoundDevice, OverEveryRun}
+use Rattle.cip_tables.specs.Sound.{IsSound, IsSoundDevice, StreamsDiffer, OverEveryRun}
 use Rattle.cip_tables.proofs.CheckLemmas.{HasSameApi, IsAdmitted, admitted_is, draws_some, ids_left}
 use Rattle.cip_tables.proofs.EffectLemmas.{EffectsKeep, run_keeps}
 use Rattle.cip_tables.proofs.GroupLemmas.{Joins, is_single, is_first, is_joiner, groups_opened, groups_without, groups_filter}
 use Rattle.cip_tables.proofs.SupportLemmas.{listeners_opened, listeners_staying}
 use Rattle.cip_tables.proofs.LikeLemmas.{Keeps, count_kept, triads_kept, ids_kept, drawn_kept, listeners_kept, groups_kept, written_keeps, fed_keeps, due_keeps, prompt_keeps}
 use Rattle.cip_tables.proofs.FadeLemmas.{count_expired, triads_expired, ids_expired, drawn_expired, groups_expired}
-use Rattle.cip_tables.specs.Productions.{due_row, prompt_row}
-use Rattle.cip_tables.specs.Ticks.{clocked_table, expired_row, expired_rows, expired_table, produced_table}
+use Rattle.cip_tables.proofs.StreamLemmas.{has_room, few_with, few_left, differ_with, differ_left, differ_registered}
 use Rattle.cip_tables.proofs.SoundLemmas.{or_false, room_by, length_opened, any_opened, drivers_opened, count_without, filter_none, triads_append, triads_without, ids_append, ids_without, IsDrawn, drawn_new, drawn_append, drawn_without, length_without_le, length_filter_le, count_filter, triads_filter, ids_filter, drawn_filter}
 
 free_output : (rows : List Row) (consumer : Consumer) (consumed point : ℕ) → is_owned rows consumer consumed ≡ false → (is_owner consumer.kind && consumed == point) ≡ true → drivers point rows ≡ []
@@ -118,6 +121,8 @@ opened_sound t request admitted row is ok sound =
       listeners_are_supported = listeners_opened b c row.triad t.rows row held alone sound.listeners_are_supported;
       groups_agree = groups_opened (room_by b c row.triad) t.rows row (joins_of t request admitted row is ok) sound.groups_agree;
       ids_are_left = ids_left t.rows t.next_id (drawn_ids request admitted.group) ok.not_used_up;
+      few_streams = sound.few_streams;
+      streams_differ = sound.streams_differ;
     }
 
 pub sound_opened : (t : AdapterTable) (peer : Node) (request : OpenFields) (admitted : Admitted) → verdict (standing t) request ≡ Ok admitted → IsSound t → IsSound (opened_table t request (opened_row t peer request admitted) admitted)
@@ -137,6 +142,8 @@ sound_closed t row sound =
       listeners_are_supported = listeners_staying left;
       groups_agree = groups_filter (stays left) left (groups_without (has_triad row.triad) t.rows sound.groups_agree);
       ids_are_left = sound.ids_are_left;
+      few_streams = sound.few_streams;
+      streams_differ = sound.streams_differ;
     }
 
 -- the rows are changed into rows like them, and the values and the clock in any way
@@ -150,6 +157,8 @@ sound_kept f keeps t values sound = record {
   listeners_are_supported = listeners_kept f keeps t.rows sound.listeners_are_supported;
   groups_agree = groups_kept f keeps t.rows sound.groups_agree;
   ids_are_left = sound.ids_are_left;
+  few_streams = sound.few_streams;
+  streams_differ = sound.streams_differ;
 }
 
 sound_put : (t : AdapterTable) (point : ℕ) (bytes : List ℕ) → IsSound t → IsSound (written_table t point bytes)
@@ -168,7 +177,7 @@ sound_fed t peer d row delivery sound = sound_kept (fed_row t.clock peer d) (fed
 
 sound_clocked : (t : AdapterTable) (ms : ℕ) → IsSound t → IsSound (clocked_table t ms)
 unfolding clocked_table
-sound_clocked t ms sound = record { few = sound.few; one_owner = sound.one_owner; triads_differ = sound.triads_differ; ids_differ = sound.ids_differ; ids_are_drawn = sound.ids_are_drawn; listeners_are_supported = sound.listeners_are_supported; groups_agree = sound.groups_agree; ids_are_left = sound.ids_are_left }
+sound_clocked t ms sound = record { few = sound.few; one_owner = sound.one_owner; triads_differ = sound.triads_differ; ids_differ = sound.ids_differ; ids_are_drawn = sound.ids_are_drawn; listeners_are_supported = sound.listeners_are_supported; groups_agree = sound.groups_agree; ids_are_left = sound.ids_are_left; few_streams = sound.few_streams; streams_differ = sound.streams_differ }
 
 sound_expired : (t : AdapterTable) → IsSound t → IsSound (expired_table t)
 unfolding expired_table
@@ -184,6 +193,8 @@ sound_expired t sound =
       listeners_are_supported = listeners_staying left;
       groups_agree = groups_filter (stays left) left (groups_expired t.clock t.rows sound.groups_agree);
       ids_are_left = sound.ids_are_left;
+      few_streams = sound.few_streams;
+      streams_differ = sound.streams_differ;
     }
 
 sound_produced : (t : AdapterTable) → IsSound t → IsSound (produced_table t)
@@ -193,6 +204,40 @@ sound_produced t sound = sound_kept (due_row t.clock) (due_keeps t.clock) t t.va
 pub sound_elapsed : (t : AdapterTable) (ms : ℕ) → IsSound t → IsSound (produced_table (expired_table (clocked_table t ms)))
 sound_elapsed t ms sound = sound_produced (expired_table (clocked_table t ms)) (sound_expired (clocked_table t ms) (sound_clocked t ms sound))
 
+-- ---- streams
+
+sound_streams : (t : AdapterTable) (streams : List Stream) → length streams ≤ 16 → StreamsDiffer streams → IsSound t → IsSound (record t { streams = streams })
+sound_streams t streams few differ sound = record {
+  few = sound.few;
+  one_owner = sound.one_owner;
+  triads_differ = sound.triads_differ;
+  ids_differ = sound.ids_differ;
+  ids_are_drawn = sound.ids_are_drawn;
+  listeners_are_supported = sound.listeners_are_supported;
+  groups_agree = sound.groups_agree;
+  ids_are_left = sound.ids_are_left;
+  few_streams = few;
+  streams_differ = differ;
+}
+
+pub sound_with : (t : AdapterTable) (number : ℕ) (peer : Node) → is_taken t.streams number ≡ false → IsSound t → IsSound (with_stream t number peer)
+unfolding with_stream
+sound_with t number peer free sound =
+    let has = has_room t.streams number free in
+    sound_streams t (t.streams ++ new_stream number peer ∷ []) (few_with t.streams (new_stream number peer) has.room) (differ_with t.streams (new_stream number peer) sound.streams_differ has.free) sound
+
+pub sound_without : (t : AdapterTable) (number : ℕ) → IsSound t → IsSound (without_stream t number)
+unfolding without_stream
+sound_without t number sound =
+    sound_streams t (filter (is_other_stream number) t.streams) (omega (arith, few_left (is_other_stream number) t.streams, sound.few_streams)) (differ_left (is_other_stream number) t.streams sound.streams_differ) sound
+
+pub sound_registered : (t : AdapterTable) (number : ℕ) → IsSound t → IsSound (registered_table t number)
+unfolding registered_table
+sound_registered t number sound =
+    sound_streams t (map (registered_stream number) t.streams) (rw length-map sound.few_streams) (differ_registered number t.streams sound.streams_differ) sound
+
+-- ---- each effect
+
 sound_effects : EffectsKeep IsSound
 sound_effects = record {
   opened = sound_opened;
@@ -200,13 +245,16 @@ sound_effects = record {
   written = λ t point bytes input found long sound. sound_written t point bytes sound;
   fed = λ t peer d row delivery is found sound. sound_fed t peer d row delivery sound;
   elapsed = λ t ms in_time sound. sound_elapsed t ms sound;
+  streamed = sound_with;
+  unstreamed = sound_without;
+  registered = sound_registered;
 }
 
 pub run_sound : (old : DeviceTable) (events : List Event) (outcomes : List Outcome) (new : DeviceTable) → Runs old events outcomes new → IsSoundDevice old → IsSoundDevice new
 run_sound old events outcomes new ran sound = run_keeps IsSound sound_effects old events outcomes new ran sound
 
 pub fresh_sound : (made : Config) → IsSoundDevice (opening_table made)
-fresh_sound (config.Adapter profile) = record { few = omega arith; one_owner = λ point. omega arith; triads_differ = tt; ids_differ = tt; ids_are_drawn = tt; listeners_are_supported = refl; groups_agree = tt; ids_are_left = omega arith }
+fresh_sound (config.Adapter profile) = record { few = omega arith; one_owner = λ point. omega arith; triads_differ = tt; ids_differ = tt; ids_are_drawn = tt; listeners_are_supported = refl; groups_agree = tt; ids_are_left = omega arith; few_streams = omega arith; streams_differ = tt }
 
 -- every table that a run from a fresh device reaches is sound
 pub reached_sound : OverEveryRun IsSound

@@ -182,6 +182,8 @@ whole_later t counter later last whole =
         listeners_are_supported = sound.listeners_are_supported;
         groups_agree = sound.groups_agree;
         ids_are_left = last;
+        few_streams = sound.few_streams;
+        streams_differ = sound.streams_differ;
       };
       shaped = whole.shaped;
       consume = whole.consume;

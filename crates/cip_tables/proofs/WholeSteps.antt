@@ -1,5 +1,5 @@
 -- Each effect keeps a table whole, and so do each step and each run.
-use Rattle.std.proofs.Common.{◌≡◌, ◌≤◌, ℕ, ◌+◌, ◌^◌, List, length, map, find, Some, None, Ok, refl, arith}
+use Rattle.std.proofs.Common.{◌≡◌, ◌≤◌, ℕ, ◌+◌, ◌^◌, false, List, length, map, find, Some, None, Ok, refl, arith}
 use Rattle.cip_types.specs.declared.names.Ms.{Ms}
 use Rattle.cip_types.specs.declared.names.Node.{Node}
 use Rattle.cip_fwdopen.specs.Open.{OpenFields}
@@ -17,6 +17,7 @@ use Rattle.cip_tables.specs.Rows.{has_triad, without_first, written_row}
 use Rattle.cip_tables.specs.Checks.{Admitted, standing, verdict, stored}
 use Rattle.cip_tables.specs.Opening.{makes_room, opened_row, opened_table}
 use Rattle.cip_tables.specs.Closing.{without_triad, stays, staying, closed_table}
+use Rattle.cip_tables.specs.Streams.{is_taken, with_stream, without_stream, registered_table}
 use Rattle.cip_tables.specs.Datagrams.{is_for, row_delivery, fed_row, fed_table}
 use Rattle.cip_tables.specs.Productions.{due_row, prompt_row}
 use Rattle.cip_tables.specs.Ticks.{clocked_table, expired, expired_row, expired_rows, expired_table, produced_table}
@@ -30,7 +31,7 @@ use Rattle.cip_tables.proofs.EachLemmas.{each_without, each_filter, each_append,
 use Rattle.cip_tables.proofs.ConsumerLemmas.{consume_kept, consume_expired, admitted_consumes}
 use Rattle.cip_tables.proofs.FedLemmas.{shaped_fed}
 use Rattle.cip_tables.proofs.EffectLemmas.{EffectsKeep, adapter_keeps, run_keeps}
-use Rattle.cip_tables.proofs.StepLemmas.{sound_opened, sound_closed, sound_written, sound_fed, sound_elapsed, fresh_sound}
+use Rattle.cip_tables.proofs.StepLemmas.{sound_opened, sound_closed, sound_written, sound_fed, sound_elapsed, sound_with, sound_without, sound_registered, fresh_sound}
 use Rattle.cip_tables.proofs.WholeLemmas.{fits_without, fits_filter, fits_append, fits_map, fits_written, fits_expired, fits_due, fits_prompt, fits_fed, fits_opened}
 
 pub whole_opened : (t : AdapterTable) (peer : Node) (request : OpenFields) (admitted : Admitted) → verdict (standing t) request ≡ Ok admitted → IsWhole t → IsWhole (opened_table t request (opened_row t peer request admitted) admitted)
@@ -96,8 +97,29 @@ whole_elapsed t ms in_time whole =
       clock = in_time;
     }
 
+pub whole_with : (t : AdapterTable) (number : ℕ) (peer : Node) → is_taken t.streams number ≡ false → IsWhole t → IsWhole (with_stream t number peer)
+unfolding with_stream
+whole_with t number peer free whole = record { sound = sound_with t number peer free whole.sound; shaped = whole.shaped; consume = whole.consume; fits = whole.fits; clock = whole.clock }
+
+pub whole_without : (t : AdapterTable) (number : ℕ) → IsWhole t → IsWhole (without_stream t number)
+unfolding without_stream
+whole_without t number whole = record { sound = sound_without t number whole.sound; shaped = whole.shaped; consume = whole.consume; fits = whole.fits; clock = whole.clock }
+
+pub whole_registered : (t : AdapterTable) (number : ℕ) → IsWhole t → IsWhole (registered_table t number)
+unfolding registered_table
+whole_registered t number whole = record { sound = sound_registered t number whole.sound; shaped = whole.shaped; consume = whole.consume; fits = whole.fits; clock = whole.clock }
+
 pub whole_effects : EffectsKeep IsWhole
-whole_effects = record { opened = whole_opened; closed = whole_closed; written = whole_written; fed = whole_fed; elapsed = whole_elapsed }
+whole_effects = record {
+  opened = whole_opened;
+  closed = whole_closed;
+  written = whole_written;
+  fed = whole_fed;
+  elapsed = whole_elapsed;
+  streamed = whole_with;
+  unstreamed = whole_without;
+  registered = whole_registered;
+}
 
 pub whole_step : (t : AdapterTable) (event : Event) (next : Next) → adapter_step t event ≡ Ok next → IsWhole t → IsWhole next.1
 whole_step t event next is whole = adapter_keeps IsWhole whole_effects t event next is whole

@@ -10,6 +10,9 @@ pub mod Closing
 pub mod Asking
 pub mod Replies
 pub mod Requests
+pub mod Streams
+pub mod Commands
+pub mod Encapsulation
 pub mod Datagrams
 pub mod Productions
 pub mod Ticks

@@ -22,7 +22,7 @@ use Rattle.cip_tables.specs.declared.profile.Profile.{Profile}
 use Rattle.cip_tables.specs.declared.row.Row.{Row}
 use Rattle.cip_tables.specs.declared.row.Production.{Production}
 use Rattle.cip_tables.specs.declared.row.State.{State}
-use Rattle.cip_tables.specs.declared.row.State.TheVariants.{Established}
+use Rattle.cip_tables.specs.declared.row.State.TheVariants.{Established, TimedOut}
 use Rattle.cip_tables.specs.declared.table.PointValue.{PointValue}
 use Rattle.cip_tables.specs.declared.table.AdapterTable.{AdapterTable}
 use Rattle.cip_tables.specs.Profiles.{host_id, is_at}
@@ -143,6 +143,15 @@ opened_reply row = record {
   o_t_api = 1000 * row.o_t_api;
   t_o_api = 1000 * row.t_o_api;
 }
+
+-- where the datagrams of a producer go
+abbrev pub state_address : State → Option Node
+state_address (Established production) = Some production.address
+state_address TimedOut = None
+
+-- the address of a multicast connection's datagrams
+abbrev pub opened_address : Row → Option Node
+opened_address row = if row.multicast then state_address row.state else None
 
 abbrev pub replaced_notices : Option Triad → List Notice
 replaced_notices None = []

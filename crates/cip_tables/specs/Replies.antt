@@ -1,6 +1,6 @@
 -- What is replied to a request, and its bytes (Volume 1, chapter 2, message router reply format, and
 -- chapter 3, Connection Manager; appendix A, Get_Attribute_Single).
-use Rattle.std.specs.Prelude.{ℕ, ◌≢◌, Bool, Option, List}
+use Rattle.std.specs.Prelude.{ℕ, ◌≢◌, ◌≤◌, Bool, Option, List, length}
 use Rattle.cip_types.specs.declared.names.Triad.{Triad}
 use Rattle.cip_types.specs.declared.names.Fault.{Fault}
 use Rattle.cip_fwdopen.specs.declared.reply.Opened.{Opened}
@@ -35,3 +35,10 @@ HasStatus (opened large o) = Unit {0}
 HasStatus (closed triad) = Unit {0}
 HasStatus (got value) = Unit {0}
 HasStatus (refused service fault triad) = fault.general ≢ 0
+
+-- a value that is replied has at most 1,400 bytes, the most that a point holds
+abbrev pub GetsFew : ReplyFields → Type 0
+GetsFew (opened large o) = Unit {0}
+GetsFew (closed triad) = Unit {0}
+GetsFew (got value) = length value ≤ 1400
+GetsFew (refused service fault triad) = Unit {0}

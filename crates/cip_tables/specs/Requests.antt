@@ -24,13 +24,15 @@ use Rattle.cip_tables.specs.declared.refusal.Refusal.{Refusal}
 use Rattle.cip_tables.specs.declared.refusal.Status.{Status}
 use Rattle.cip_tables.specs.Refusals.{refusal_fault, status_fault}
 use Rattle.cip_tables.specs.Checks.{Admitted, standing, verdict}
-use Rattle.cip_tables.specs.Opening.{opened_row, opened_table, opened_reply, opened_notices}
+use Rattle.cip_tables.specs.Opening.{opened_row, opened_table, opened_reply, opened_address, opened_notices}
 
 -- WHAT IS REPLIED
 
--- the reply to a request, what happened to connections, and the table after it
+-- the reply to a request, the multicast address of a connection that it opened, what happened to
+-- connections, and the table after it
 pub record Served : Type 0 where
   pub reply : ReplyFields
+  pub address : Option Node
   pub notices : List Notice
   pub table : AdapterTable
 
@@ -43,6 +45,7 @@ open_service true = 0x5B
 abbrev pub refused_open : AdapterTable → Bool → OpenFields → Refusal → Served
 refused_open t large request why = record {
   reply = replies.refused (open_service large) (refusal_fault why) (Some request.triad);
+  address = None;
   notices = [];
   table = t;
 }
@@ -52,6 +55,7 @@ admitted_open t peer large request admitted =
     let row = opened_row t peer request admitted in
     record {
       reply = opened large (opened_reply row);
+      address = opened_address row;
       notices = opened_notices t.rows row;
       table = opened_table t request row admitted;
     }
@@ -68,6 +72,7 @@ served_open t peer large request = judged_open t peer large request (verdict (st
 abbrev pub unknown_close : AdapterTable → CloseFields → Served
 unknown_close t request = record {
   reply = replies.refused 0x4E (refusal_fault refusal.NotFound) (Some request.triad);
+  address = None;
   notices = [];
   table = t;
 }
@@ -75,6 +80,7 @@ unknown_close t request = record {
 abbrev pub known_close : AdapterTable → Row → Served
 known_close t row = record {
   reply = closed row.triad;
+  address = None;
   notices = closed_notices t.rows row;
   table = closed_table t row;
 }
@@ -88,7 +94,7 @@ unfoldable pub served_close : AdapterTable → CloseFields → Served
 served_close t request = close_of t request (find (has_triad request.triad) t.rows)
 
 abbrev pub router_refusal : AdapterTable → ℕ → Status → Served
-router_refusal t service why = record { reply = replies.refused service (status_fault why) None; notices = []; table = t }
+router_refusal t service why = record { reply = replies.refused service (status_fault why) None; address = None; notices = []; table = t }
 
 -- the attribute that is the value of an assembly
 abbrev pub is_value_attribute : Option ℕ → Bool
@@ -101,7 +107,7 @@ get_of t service attribute body value =
     if not (service == 0x0E) then router_refusal t service status.Service
     else (if not (is_value_attribute attribute) then router_refusal t service status.Attribute
     else (if not (length body == 0) then router_refusal t service status.TooMuchData
-    else record { reply = got value; notices = []; table = t }))
+    else record { reply = got value; address = None; notices = []; table = t }))
 
 abbrev pub assembly_of : AdapterTable → ℕ → Option ℕ → List ℕ → Option (List ℕ) → Served
 assembly_of t service attribute body None = router_refusal t service status.PathDestination
@@ -110,6 +116,14 @@ assembly_of t service attribute body (Some value) = get_of t service attribute b
 -- a service of an assembly instance
 unfoldable pub served_assembly : AdapterTable → ℕ → ℕ → Option ℕ → List ℕ → Served
 served_assembly t service instance attribute body = assembly_of t service attribute body (bytes_at t.values instance)
+
+-- what is served of a request, where there is one
+abbrev pub served : AdapterTable → Node → AskedFields → Option Served
+served t peer nothing = None
+served t peer (refused service why) = Some (router_refusal t service why)
+served t peer (closing request) = Some (served_close t request)
+served t peer (assembly service instance attribute body) = Some (served_assembly t service instance attribute body)
+served t peer (opening large request) = Some (served_open t peer large request)
 
 -- THE ANSWER
 
@@ -135,13 +149,11 @@ replied peer served = (
 abbrev pub plain_answer : Verdict → Answer
 plain_answer verdict = record { frames = []; datagrams = []; verdict = verdict; notices = [] }
 
-abbrev pub answered : AdapterTable → Node → AskedFields → Next
-answered t peer nothing = (plain_answer BadFrame, t)
-answered t peer (refused service why) = replied peer (router_refusal t service why)
-answered t peer (closing request) = replied peer (served_close t request)
-answered t peer (assembly service instance attribute body) = replied peer (served_assembly t service instance attribute body)
-answered t peer (opening large request) = replied peer (served_open t peer large request)
+-- the answer to a request of a peer, or to no request
+abbrev pub answered : AdapterTable → Node → Option Served → Next
+answered t peer None = (plain_answer BadFrame, t)
+answered t peer (Some s) = replied peer s
 
 -- a request of a peer
 unfoldable pub requested : AdapterTable → Node → List ℕ → Next
-requested t peer bytes = answered t peer (asked_reading bytes)
+requested t peer bytes = answered t peer (served t peer (asked_reading bytes))

@@ -10,7 +10,7 @@ use Rattle.cip_datagram.specs.Reading.{datagram_reading}
 use Rattle.cip_tables.specs.declared.event.Delivery.{Delivery}
 use Rattle.cip_tables.specs.declared.event.Delivery.TheVariants.{Applied, Idle, Heartbeat, Duplicate, Old, UnknownId, WrongSize, Malformed}
 use Rattle.cip_tables.specs.declared.event.Event.{Event}
-use Rattle.cip_tables.specs.declared.event.Event.TheVariants.{Request, Datagram, Write, Read, Tick}
+use Rattle.cip_tables.specs.declared.event.Event.TheVariants.{Request, StreamOpened, Frame, StreamCut, Datagram, Write, Read, Tick}
 use Rattle.cip_tables.specs.declared.profile.Action.{Action}
 use Rattle.cip_tables.specs.declared.profile.Action.TheVariants.{Hold, Zero}
 use Rattle.cip_tables.specs.declared.profile.OutputPoint.{OutputPoint}
@@ -74,6 +74,9 @@ read_fed point t peer (Ok d) = fed_by point t.profile d (find (is_for peer d.con
 -- what the data of an event leave at an output
 abbrev pub fed : ℕ → AdapterTable → Event → Option (List ℕ)
 fed point t (Request peer bytes) = None
+fed point t (StreamOpened stream peer) = None
+fed point t (Frame stream bytes) = None
+fed point t (StreamCut stream) = None
 fed point t (Datagram peer bytes) = read_fed point t peer (datagram_reading bytes)
 fed point t (Write other bytes) = None
 fed point t (Read other) = None

@@ -5,12 +5,14 @@ use Rattle.cip_types.specs.declared.names.ConnId.{ConnId}
 use Rattle.cip_tables.specs.declared.event.Event.{Event}
 use Rattle.cip_tables.specs.declared.profile.Profile.{Profile}
 use Rattle.cip_tables.specs.declared.row.Row.{Row}
+use Rattle.cip_tables.specs.declared.table.Stream.{Stream}
 use Rattle.cip_tables.specs.declared.table.AdapterTable.{AdapterTable}
 use Rattle.cip_tables.specs.declared.table.DeviceTable.{DeviceTable}
 use Rattle.cip_tables.specs.declared.table.DeviceTable.TheVariants.{Adapter}
 use Rattle.cip_tables.specs.declared.table.Config.{Config}
 use Rattle.cip_tables.specs.Rows.{has_triad, drivers, is_forsaken, is_member}
 use Rattle.cip_tables.specs.Opening.{connection_id}
+use Rattle.cip_tables.specs.Streams.{is_stream}
 use Rattle.cip_tables.specs.Step.{opening_table}
 use Rattle.cip_tables.specs.Run.{Outcome, Runs}
 
@@ -59,6 +61,11 @@ abbrev pub GroupsAgree : List Row → Type 0
 GroupsAgree [] = Unit {0}
 GroupsAgree (row ∷ rows) = AllAgree row rows × GroupsAgree rows
 
+-- no two open streams have one number
+abbrev pub StreamsDiffer : List Stream → Type 0
+StreamsDiffer [] = Unit {0}
+StreamsDiffer (stream ∷ streams) = (list_any (is_stream stream.number) streams ≡ false) × StreamsDiffer streams
+
 pub record IsSound (t : AdapterTable) : Type 0 where
   pub few : length t.rows ≤ 64
   pub one_owner : HasOneOwner t.rows
@@ -68,6 +75,8 @@ pub record IsSound (t : AdapterTable) : Type 0 where
   pub listeners_are_supported : ListenersAreSupported t.rows
   pub groups_agree : GroupsAgree t.rows
   pub ids_are_left : t.next_id ≤ 16777216
+  pub few_streams : length t.streams ≤ 16
+  pub streams_differ : StreamsDiffer t.streams
 
 abbrev pub IsSoundDevice : DeviceTable → Type 0
 IsSoundDevice (Adapter t) = IsSound t

@@ -2,7 +2,7 @@
 use Rattle.std.specs.Prelude.{ℕ, ◌==◌, length, map, find, if◌then◌else◌, Bool, List, [], Option, Some, None, Result, Ok, Err}
 use Rattle.std.specs.List.{list_any}
 use Rattle.cip_tables.specs.declared.event.Event.{Event}
-use Rattle.cip_tables.specs.declared.event.Event.TheVariants.{Request, Datagram, Write, Read, Tick}
+use Rattle.cip_tables.specs.declared.event.Event.TheVariants.{Request, StreamOpened, Frame, StreamCut, Datagram, Write, Read, Tick}
 use Rattle.cip_tables.specs.declared.event.Answer.{Answer}
 use Rattle.cip_tables.specs.declared.event.StepFault.{StepFault}
 use Rattle.cip_tables.specs.declared.event.StepFault.TheVariants as fault
@@ -19,6 +19,8 @@ use Rattle.cip_tables.specs.declared.profile.ProfileFault.{ProfileFault}
 use Rattle.cip_tables.specs.Points.{opening_values, put_value, bytes_at}
 use Rattle.cip_tables.specs.Rows.{written_row}
 use Rattle.cip_tables.specs.Requests.{Next, requested, plain_answer}
+use Rattle.cip_tables.specs.Streams.{stream_opened, stream_cut}
+use Rattle.cip_tables.specs.Encapsulation.{frame}
 use Rattle.cip_tables.specs.Datagrams.{received}
 use Rattle.cip_tables.specs.Productions.{is_prompt, prompt_sendings, prompt_row}
 use Rattle.cip_tables.specs.Ticks.{tick}
@@ -70,6 +72,9 @@ write t point bytes = write_of t point bytes (find (is_at point) t.profile.input
 -- Either the first fault, the table staying, or an answer and the next table. Want of memory is never named.
 abbrev pub adapter_step : AdapterTable → Event → Result Next StepFault
 adapter_step t (Request peer bytes) = Ok (requested t peer bytes)
+adapter_step t (StreamOpened stream peer) = stream_opened t stream peer
+adapter_step t (Frame stream bytes) = frame t stream bytes
+adapter_step t (StreamCut stream) = stream_cut t stream
 adapter_step t (Datagram peer bytes) = Ok (received t peer bytes)
 adapter_step t (Write point bytes) = write t point bytes
 adapter_step t (Read point) = read t point
@@ -82,7 +87,7 @@ as_adapter (Err fault) = Err fault
 unfoldable pub step : DeviceTable → Event → Result DeviceNext StepFault
 step (Adapter t) event = as_adapter (adapter_step t event)
 
--- the table of a fresh adapter: no connections, zeros at all points, clock 0, the first id
+-- the table of a fresh adapter: no connections, zeros at all points, clock 0, the first id, no streams
 abbrev pub adapter_table : Profile → AdapterTable
 adapter_table profile = record {
   profile = profile;
@@ -90,6 +95,7 @@ adapter_table profile = record {
   values = opening_values profile;
   clock = record { 0 = 0 };
   next_id = 1;
+  streams = [];
 }
 
 abbrev pub opening_table : Config → DeviceTable

@@ -125,6 +125,15 @@ impl Event {
                 peer: *peer,
                 bytes: Items::copy_of(alloc, bytes.as_slice())?,
             },
+            Event::StreamOpened { stream, peer } => Event::StreamOpened {
+                stream: *stream,
+                peer: *peer,
+            },
+            Event::Frame { stream, bytes } => Event::Frame {
+                stream: *stream,
+                bytes: Items::copy_of(alloc, bytes.as_slice())?,
+            },
+            Event::StreamCut { stream } => Event::StreamCut { stream: *stream },
             Event::Datagram { peer, bytes } => Event::Datagram {
                 peer: *peer,
                 bytes: Items::copy_of(alloc, bytes.as_slice())?,

@@ -11,6 +11,12 @@ use thiserror::Error;
 pub enum Event {
     /// A peer sends a request to the message router.
     Request { peer: Node, bytes: Items<u8> },
+    /// A peer opens a stream, which is to have this number.
+    StreamOpened { stream: u16, peer: Node },
+    /// The bytes of one encapsulation message come over a stream.
+    Frame { stream: u16, bytes: Items<u8> },
+    /// A stream breaks, or its peer ends it.
+    StreamCut { stream: u16 },
     /// A peer sends a class 1 datagram.
     Datagram { peer: Node, bytes: Items<u8> },
     /// The application sets what an input holds.
@@ -74,7 +80,7 @@ pub enum Delivery {
 pub enum Verdict {
     /// It was dealt with.
     Done,
-    /// Its bytes are too few to be answered.
+    /// Its bytes are too few to be answered, or it is a message without a reply whose length field is wrong.
     BadFrame,
     /// The bytes that a point holds.
     Value(Items<u8>),
@@ -82,7 +88,7 @@ pub enum Verdict {
     Delivered(Delivery),
 }
 
-/// What happened to a connection.
+/// What happened to a connection or a stream.
 #[derive(Clone, Copy, Debug, PartialEq, Eq)]
 pub enum Notice {
     /// A connection was opened, with this O->T id.
@@ -95,10 +101,12 @@ pub enum Notice {
     Dropped(Triad),
     /// A timed-out connection made room for a new one.
     Replaced(Triad),
+    /// The stream of this number ended with its session.
+    StreamClosed(u16),
 }
 
 /// What a device answers to an event: frames, datagrams, what became of the event, and what happened to
-/// connections, each in order.
+/// connections and streams, each in order.
 #[derive(Debug, PartialEq, Drop)]
 pub struct Answer {
     pub frames: Items<Frame>,

@@ -4,7 +4,7 @@
 ghost use Rattle.std.specs.Prelude.{◌≤◌, length};
 ghost use Rattle.cip_tables.specs.Scratch.{OutputsAreFromScratch};
 ghost use Rattle.cip_tables.specs.Whole.{TablesAreWhole};
-ghost use Rattle.cip_tables.specs.Sound.{OverEveryRun, HasOneOwner, TriadsDiffer, IdsDiffer, IdsAreDrawn, ListenersAreSupported, GroupsAgree};
+ghost use Rattle.cip_tables.specs.Sound.{OverEveryRun, HasOneOwner, TriadsDiffer, IdsDiffer, IdsAreDrawn, ListenersAreSupported, GroupsAgree, StreamsDiffer};
 
 /// An output has at most one established exclusive owner.
 pub fn at_most_one_owner()
@@ -41,6 +41,16 @@ pub fn listeners_are_supported()
 /// and equal productions.
 pub fn groups_share_one_production()
     ensures { OverEveryRun (λ t. GroupsAgree t.rows) }
+{}
+
+/// There are at most 16 open streams.
+pub fn at_most_16_streams()
+    ensures { OverEveryRun (λ t. length t.streams ≤ 16) }
+{}
+
+/// No two open streams have one number.
+pub fn streams_are_distinct()
+    ensures { OverEveryRun (λ t. StreamsDiffer t.streams) }
 {}
 
 /// Every table that a run of a faultless profile reaches is whole: each of these laws holds of it, each point

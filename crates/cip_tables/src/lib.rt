@@ -4,6 +4,7 @@
 
 mod admission;
 mod asked;
+mod command;
 mod copy;
 mod device;
 mod event;
@@ -17,6 +18,7 @@ mod table;
 
 pub use admission::{Admission, Consumer};
 pub use asked::{Asked, read_asked};
+pub use command::{Command, EncapStatus};
 pub use copy::TableCopy;
 pub use device::{Device, run};
 pub use event::{
@@ -27,7 +29,7 @@ pub use profile::{Action, InputPoint, OutputPoint, Profile, ProfileFault};
 pub use refusal::{Refusal, Status};
 pub use reply::Reply;
 pub use row::{Accepted, Kind, Production, Row, State};
-pub use table::{AdapterTable, Config, DeviceTable, PointValue};
+pub use table::{AdapterTable, Config, DeviceTable, PointValue, Stream};
 
 #[cfg(test)]
 mod tests;

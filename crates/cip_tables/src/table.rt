@@ -2,7 +2,7 @@
 
 use crate::profile::Profile;
 use crate::row::Row;
-use cip_types::{Items, Ms};
+use cip_types::{Items, Ms, Node};
 
 /// The bytes of a point.
 #[derive(Debug, PartialEq, Drop)]
@@ -11,8 +11,19 @@ pub struct PointValue {
     pub bytes: Items<u8>,
 }
 
-/// An adapter: its profile, its connections in opening order, what its points hold, its clock, and the
-/// counter part of the next connection id.
+/// A stream of a peer that is open: its number, whose it is, and whether a session is registered on it.
+///
+/// Volume 2, chapter 2, encapsulation sessions.
+#[derive(Clone, Copy, Debug, PartialEq, Eq)]
+pub struct Stream {
+    pub number: u16,
+    pub peer: Node,
+    pub registered: bool,
+}
+
+/// An adapter: its profile, its connections in opening order, what its points hold, its clock, the
+/// counter part of the next connection id, and the streams that are open, in the order in which they were
+/// opened.
 #[derive(Debug, PartialEq, Drop)]
 pub struct AdapterTable {
     pub profile: Profile,
@@ -20,6 +31,7 @@ pub struct AdapterTable {
     pub values: Items<PointValue>,
     pub clock: Ms,
     pub next_id: u32,
+    pub streams: Items<Stream>,
 }
 
 /// The table of a device of any kind.

@@ -1,4 +1,4 @@
-//! Profiles and what is wrong with them, requests by what they ask, and replies.
+//! Profiles and what is wrong with them, requests and commands by what they ask, and replies.
 
 ghost use Rattle.std.specs.Prelude.{◌≡◌, IfOk};
 ghost use Rattle.cip_tables.specs.Whole.{next_id_of};
@@ -150,6 +150,15 @@ fn the_router_refuses_by_itself(rt: HostRuntime) {
     );
     assert_eq!(rt; Status::PathDestination.code(), 5);
     assert_eq!(rt; Refusal::Ownership.code(), 0x0106);
+}
+
+#[test]
+fn commands_and_statuses_have_the_standards_numbers(rt: HostRuntime) {
+    assert_eq!(rt; Command::of(0x0000), Command::Nop);
+    assert_eq!(rt; Command::of(0x006F), Command::SendRrData);
+    assert_eq!(rt; Command::of(0x0063), Command::Other);
+    assert_eq!(rt; EncapStatus::InvalidCommand.code(), 1);
+    assert_eq!(rt; EncapStatus::InvalidSession.code(), 0x64);
 }
 
 #[test]

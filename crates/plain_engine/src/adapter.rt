@@ -1,15 +1,19 @@
 //! An adapter over plain lists.
 
+mod streams;
+
 ghost use Rattle.std.specs.Prelude.{◌≡◌, ◌≢◌, ◌+◌, ◌^◌, ◌∷◌, [], Ok, Err, Some, None, Result, IfOk, IfErr, ◌<◌, ◌≤◌, IsTrue, false, find, length};
 ghost use Rattle.std.specs.Option.{option_map, ForSome};
 ghost use Rattle.cip_epath.specs.Path.{view_path};
 ghost use Rattle.cip_fwdopen.specs.Open.{view_open};
 ghost use Rattle.cip_fwdopen.specs.Close.{view_close};
 ghost use Rattle.cip_netparams.specs.Rate.{is_interval};
-ghost use Rattle.cip_tables.specs.Replies.{view_reply, HasStatus};
+ghost use Rattle.cip_tables.specs.Replies.{view_reply};
 ghost use Rattle.cip_tables.specs.Checks.{standing, verdict, view_admission, drawn_ids};
 ghost use Rattle.cip_tables.specs.Opening.{opened_row, opened_production, opened_state, opened_t_o_id, connection_id, configured};
-ghost use Rattle.cip_tables.specs.Requests.{requested, replied, reply_frame, admitted_open, served_open, router_refusal, known_close, served_close, served_assembly, is_value_attribute};
+ghost use Rattle.cip_tables.specs.Asking.{asked_reading};
+ghost use Rattle.cip_tables.specs.Requests.{requested, served, admitted_open, served_open, router_refusal, known_close, served_close, served_assembly, is_value_attribute};
+ghost use Rattle.device_answers.specs.Routes.{peer_of, routed, routed_answer, IsWritable};
 ghost use Rattle.cip_tables.specs.Closing.{closed_values};
 ghost use Rattle.cip_datagram.specs.Datagram.{view_datagram};
 ghost use Rattle.cip_datagram.specs.Header.{header_at};
@@ -24,8 +28,6 @@ ghost use Rattle.cip_tables.specs.Run.{Follows};
 ghost use Rattle.assembly_set.specs.Assemblies.{config_len, is_output, write_fault};
 ghost use Rattle.std.specs.List.{list_any};
 
-use crate::addresses::address_of;
-use crate::answers::{opened_reply, opening_notices, plain_answer, reply_answer, told_answer};
 use assembly_set::AssemblySet;
 use cip_datagram::{Datagram, read_datagram, read_header};
 use cip_epath::ConnPath;
@@ -33,7 +35,7 @@ use cip_fwdopen::{CloseRequest, OpenRequest};
 use cip_netparams::{api_of, timeout_of};
 use cip_tables::{
     AdapterTable, Admission, Answer, Asked, Config, Delivery, Device, DeviceTable, Event, NewFault,
-    Outcome, Production, Refusal, Reply, Row, State, Status, StepFault, TableCopy, Verdict,
+    Outcome, Production, Refusal, Reply, Row, State, Status, StepFault, Stream, TableCopy, Verdict,
     read_asked,
 };
 use cip_types::{ConnId, Items, Ms, Node, OutOfMemory};
@@ -44,6 +46,10 @@ use connection_rows::{
 };
 use open_checks::{
     Standing, admit, drawn_ids, drives, is_multicast, served_inhibit, served_trigger, stored,
+};
+use device_answers::{
+    Route, address_of, opened_address, opened_reply, opening_notices, plain_answer, reply_answer,
+    told_answer, unserved_answer,
 };
 use std::alloc::Global;
 use std::marker::Model;
@@ -74,6 +80,7 @@ pub struct PlainAdapter {
     rows: Vec<Row>,
     clock: Ms,
     next_id: u32,
+    streams: Vec<Stream>,
 }
 
 impl Model for PlainAdapter {
@@ -82,9 +89,9 @@ impl Model for PlainAdapter {
 
     ghost Value = { AdapterTable };
 
-    ghost view = { λ a. record { profile = a.assemblies.profile; rows = a.rows.items; values = a.assemblies.values; clock = a.clock; next_id = a.next_id } };
+    ghost view = { λ a. record { profile = a.assemblies.profile; rows = a.rows.items; values = a.assemblies.values; clock = a.clock; next_id = a.next_id; streams = a.streams.items } };
 
-    ghost invariant = { λ a. IsWhole (record { profile = a.assemblies.profile; rows = a.rows.items; values = a.assemblies.values; clock = a.clock; next_id = a.next_id }) };
+    ghost invariant = { λ a. IsWhole (record { profile = a.assemblies.profile; rows = a.rows.items; values = a.assemblies.values; clock = a.clock; next_id = a.next_id; streams = a.streams.items }) };
 }
 
 // OPENING
@@ -188,18 +195,18 @@ impl PlainAdapter {
     #[tactic(auto, unfolding(cip_tables::specs::Requests::admitted_open, cip_tables::specs::Opening::opened_table))]
     fn open(
         &mut self,
-        peer: Node,
+        route: Route,
         large: bool,
         request: &OpenRequest<'_>,
         admission: &Admission<'_>,
     ) -> Outcome
         requires { verdict (standing self.old) (view_open request.now) ≡ Ok (view_admission admission.now) }
-        ensures { Follows (Ok (replied peer (admitted_open self.old peer large (view_open request.now) (view_admission admission.now)))) self.old result self.new }
+        ensures { Follows (Ok (routed self.old route (Some (admitted_open self.old (peer_of route) large (view_open request.now) (view_admission admission.now))))) self.old result self.new }
     {
-        let row = self.row_of(peer, request, admission);
+        let row = self.row_of(route.peer(), request, admission);
         let notices = opening_notices(self.alloc, replaced(&self.rows, row.triad), &row)?;
         let reply = Reply::Opened(large, opened_reply(&row));
-        let answer = reply_answer(self.alloc, peer, &reply, notices)?;
+        let answer = reply_answer(self.alloc, route, &reply, opened_address(&row), notices)?;
         make_room(&mut self.rows)?;
         configure(&mut self.assemblies, stored(&admission.path));
         append_row(&mut self.rows, row);
@@ -209,15 +216,15 @@ impl PlainAdapter {
 
     /// A Forward_Open of either size.
     #[tactic(auto, unfolding(cip_tables::specs::Requests::served_open))]
-    fn forward_open(&mut self, peer: Node, large: bool, request: &OpenRequest<'_>) -> Outcome
-        ensures { Follows (Ok (replied peer (served_open self.old peer large (view_open request.now)))) self.old result self.new }
+    fn forward_open(&mut self, route: Route, large: bool, request: &OpenRequest<'_>) -> Outcome
+        ensures { Follows (Ok (routed self.old route (Some (served_open self.old (peer_of route) large (view_open request.now))))) self.old result self.new }
     {
         match admit(self.standing(), request) {
-            Ok(admission) => self.open(peer, large, request, &admission),
+            Ok(admission) => self.open(route, large, request, &admission),
             Err(why) => {
                 let service = if large { 0x5B } else { 0x54 };
                 let reply = Reply::Refused(service, why.fault(), Some(request.triad));
-                Ok(self.reply(peer, reply)?)
+                Ok(self.reply(route, reply)?)
             }
         }
     }
@@ -226,29 +233,30 @@ impl PlainAdapter {
 // OTHER REQUESTS
 
 impl PlainAdapter {
-    fn reply(&self, peer: Node, reply: Reply<'_>) -> Result<Answer, OutOfMemory>
-        requires { HasStatus (view_reply reply) }
-        ensures { IfOk result (λ answer. answer ≡ record { frames = reply_frame peer (view_reply reply.entry) ∷ []; datagrams = []; verdict = Verdict.Done; notices = [] }) }
+    fn reply(&self, route: Route, reply: Reply<'_>) -> Result<Answer, OutOfMemory>
+        requires { IsWritable (view_reply reply) }
+        ensures { IfOk result (λ answer. answer ≡ routed_answer route (view_reply reply.entry) None []) }
     {
-        reply_answer(self.alloc, peer, &reply, Vec::new(self.alloc))
+        reply_answer(self.alloc, route, &reply, None, Vec::new(self.alloc))
     }
 
     /// A request that the message router refuses.
-    fn refuse(&mut self, peer: Node, service: u8, why: Status) -> Outcome
-        ensures { Follows (Ok (replied peer (router_refusal self.old service why))) self.old result self.new }
+    fn refuse(&mut self, route: Route, service: u8, why: Status) -> Outcome
+        ensures { Follows (Ok (routed self.old route (Some (router_refusal self.old service why)))) self.old result self.new }
     {
-        Ok(self.reply(peer, Reply::Refused(service, why.fault(), None))?)
+        Ok(self.reply(route, Reply::Refused(service, why.fault(), None))?)
     }
 
     /// The close of a connection.
     #[tactic(auto, unfolding(cip_tables::specs::Closing::closed_table))]
-    fn close(&mut self, peer: Node, row: &Row) -> Outcome
-        ensures { Follows (Ok (replied peer (known_close self.old row.now))) self.old result self.new }
+    fn close(&mut self, route: Route, row: &Row) -> Outcome
+        ensures { Follows (Ok (routed self.old route (Some (known_close self.old row.now)))) self.old result self.new }
     {
         let left = others(self.alloc, &self.rows, row.triad)?;
         let notices = closed_notices(self.alloc, &left, row.triad)?;
         let staying = staying(self.alloc, &left)?;
-        let answer = reply_answer(self.alloc, peer, &Reply::Closed(row.triad), notices)?;
+        let reply = Reply::Closed(row.triad);
+        let answer = reply_answer(self.alloc, route, &reply, None, notices)?;
         lose_owner(&mut self.assemblies, row);
         self.rows = staying;
         Ok(answer)
@@ -256,15 +264,15 @@ impl PlainAdapter {
 
     /// A Forward_Close.
     #[tactic(auto, unfolding(cip_tables::specs::Requests::served_close))]
-    fn forward_close(&mut self, peer: Node, request: &CloseRequest<'_>) -> Outcome
-        ensures { Follows (Ok (replied peer (served_close self.old (view_close request.now)))) self.old result self.new }
+    fn forward_close(&mut self, route: Route, request: &CloseRequest<'_>) -> Outcome
+        ensures { Follows (Ok (routed self.old route (Some (served_close self.old (view_close request.now))))) self.old result self.new }
     {
         match find_row(&self.rows, request.triad) {
-            Some(row) => self.close(peer, &row),
+            Some(row) => self.close(route, &row),
             None => {
                 let fault = Refusal::NotFound.fault();
                 let reply = Reply::Refused(0x4E, fault, Some(request.triad));
-                Ok(self.reply(peer, reply)?)
+                Ok(self.reply(route, reply)?)
             }
         }
     }
@@ -273,43 +281,50 @@ impl PlainAdapter {
     #[tactic(auto, unfolding(cip_tables::specs::Requests::served_assembly))]
     fn assembly(
         &mut self,
-        peer: Node,
+        route: Route,
         service: u8,
         instance: u32,
         attribute: Option<u32>,
         body: &[u8],
     ) -> Outcome
-        ensures { Follows (Ok (replied peer (served_assembly self.old service instance attribute body.now))) self.old result self.new }
+        ensures { Follows (Ok (routed self.old route (Some (served_assembly self.old service instance attribute body.now)))) self.old result self.new }
     {
         let Ok(value) = self.assemblies.read(instance) else {
-            return self.refuse(peer, service, Status::PathDestination);
+            return self.refuse(route, service, Status::PathDestination);
         };
         if service != GET_ATTRIBUTE_SINGLE {
-            return self.refuse(peer, service, Status::Service);
+            return self.refuse(route, service, Status::Service);
         }
         if !is_value_attribute(attribute) {
-            return self.refuse(peer, service, Status::Attribute);
+            return self.refuse(route, service, Status::Attribute);
         }
         if !body.is_empty() {
-            return self.refuse(peer, service, Status::TooMuchData);
+            return self.refuse(route, service, Status::TooMuchData);
         }
-        Ok(self.reply(peer, Reply::Got(value))?)
+        Ok(self.reply(route, Reply::Got(value))?)
+    }
+
+    /// A request that comes on a route, or bytes that are none.
+    fn serve(&mut self, route: Route, bytes: &[u8]) -> Outcome
+        ensures { Follows (Ok (routed self.old route (served self.old (peer_of route) (asked_reading bytes.now)))) self.old result self.new }
+    {
+        match read_asked(bytes) {
+            Asked::Nothing => Ok(unserved_answer(self.alloc, route)?),
+            Asked::Refused(service, why) => self.refuse(route, service, why),
+            Asked::Closing(request) => self.forward_close(route, &request),
+            Asked::Assembly(service, instance, attribute, body) => {
+                self.assembly(route, service, instance, attribute, body)
+            }
+            Asked::Opening(large, request) => self.forward_open(route, large, &request),
+        }
     }
 
     /// A request of a peer.
-    #[tactic(auto, unfolding(cip_tables::specs::Requests::requested))]
+    #[tactic(auto, unfolding(cip_tables::specs::Requests::requested), using(device_answers::proofs::RouteLemmas::routed_to_peer))]
     fn request(&mut self, peer: Node, bytes: &[u8]) -> Outcome
         ensures { Follows (Ok (requested self.old peer bytes.now)) self.old result self.new }
     {
-        match read_asked(bytes) {
-            Asked::Nothing => Ok(plain_answer(self.alloc, Verdict::BadFrame)),
-            Asked::Refused(service, why) => self.refuse(peer, service, why),
-            Asked::Closing(request) => self.forward_close(peer, &request),
-            Asked::Assembly(service, instance, attribute, body) => {
-                self.assembly(peer, service, instance, attribute, body)
-            }
-            Asked::Opening(large, request) => self.forward_open(peer, large, &request),
-        }
+        self.serve(Route::Peer(peer), bytes)
     }
 }
 
@@ -556,6 +571,7 @@ impl Device for PlainAdapter {
             rows: Vec::new(alloc),
             clock: Ms(0),
             next_id: 1,
+            streams: Vec::new(alloc),
         })
     }
 
@@ -563,6 +579,9 @@ impl Device for PlainAdapter {
     fn step(&mut self, event: &Event) -> Outcome {
         match event {
             Event::Request { peer, bytes } => self.request(*peer, bytes.as_slice()),
+            Event::StreamOpened { stream, peer } => self.open_stream(*stream, *peer),
+            Event::Frame { stream, bytes } => self.frame(*stream, bytes.as_slice()),
+            Event::StreamCut { stream } => self.cut_stream(*stream),
             Event::Datagram { peer, bytes } => {
                 let delivery = self.receive(*peer, bytes.as_slice());
                 Ok(plain_answer(self.alloc, Verdict::Delivered(delivery)))
@@ -594,6 +613,7 @@ impl Device for PlainAdapter {
             values: self.assemblies.copy_values(self.alloc)?,
             clock: self.clock,
             next_id: self.next_id,
+            streams: Items::copy_of(self.alloc, &self.streams)?,
         }))
     }
 }
@@ -614,6 +634,7 @@ impl PlainAdapter {
             rows: copied(alloc, table.rows.as_slice())?,
             clock: table.clock,
             next_id: table.next_id,
+            streams: Vec::from_slice(alloc, table.streams.as_slice())?,
         })
     }
 }

@@ -2,8 +2,6 @@
 #![tactic(auto)]
 
 mod adapter;
-mod addresses;
-mod answers;
 
 pub use adapter::PlainAdapter;
 

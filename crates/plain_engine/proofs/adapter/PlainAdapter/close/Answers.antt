@@ -9,5 +9,5 @@ pub invariant_of-self : goal.invariant_of-self
 unfolding closed_table
 invariant_of-self c =
     let own = c.self.inside in
-    let t : AdapterTable = record { profile = own.assemblies.profile; rows = own.rows.items; values = own.assemblies.values; clock = own.clock; next_id = own.next_id } in
+    let t : AdapterTable = record { profile = own.assemblies.profile; rows = own.rows.items; values = own.assemblies.values; clock = own.clock; next_id = own.next_id; streams = own.streams.items } in
     whole_by (closed_table t c.args.row.now) _ (search rules) (whole_closed t c.args.row.now c.self.invariant)

@@ -12,7 +12,7 @@ pub pass-requires : goal.pass-requires
 unfolding clocked_table expired_table produced_table
 pass-requires c =
     let own = c.self.inside in
-    let t : AdapterTable = record { profile = own.assemblies.profile; rows = own.rows.items; values = own.assemblies.values; clock = own.clock; next_id = own.next_id } in
+    let t : AdapterTable = record { profile = own.assemblies.profile; rows = own.rows.items; values = own.assemblies.values; clock = own.clock; next_id = own.next_id; streams = own.streams.items } in
     let asked = rw (← c.self.view_is) at c.requires in
     let left = whole_elapsed t c.args.ms asked c.self.invariant in
     rw (← c.self.view_is, c.produced_rows.ensures, c.in_ok-left.ensures, c.deref-5.ensures.value, c.in_ok-faded.ensures, c.deref-2.ensures.value, c.deref-7.ensures.value, c.in_ok-gone.ensures, c.deref.ensures.value, c.from.ensures) left

@@ -41,7 +41,7 @@ pub overflow_add-self : goal.overflow_add-self
 overflow_add-self c =
     let admitted = rw (← c.self.view_is) at c.requires in
     let own = c.self.inside in
-    let t : AdapterTable = record { profile = own.assemblies.profile; rows = own.rows.items; values = own.assemblies.values; clock = own.clock; next_id = own.next_id } in
+    let t : AdapterTable = record { profile = own.assemblies.profile; rows = own.rows.items; values = own.assemblies.values; clock = own.clock; next_id = own.next_id; streams = own.streams.items } in
     let sum : c.self.inside.next_id + c.drawn_ids.result ≤ 16777216 = rw c.drawn_ids.ensures.value (is_timed t _ _ admitted).left in
     search rules
 
@@ -49,7 +49,7 @@ pub invariant_of-self-2 : goal.invariant_of-self-2
 unfolding opened_table
 invariant_of-self-2 c =
     let own = c.self.inside in
-    let t : AdapterTable = record { profile = own.assemblies.profile; rows = own.rows.items; values = own.assemblies.values; clock = own.clock; next_id = own.next_id } in
+    let t : AdapterTable = record { profile = own.assemblies.profile; rows = own.rows.items; values = own.assemblies.values; clock = own.clock; next_id = own.next_id; streams = own.streams.items } in
     let admitted = rw (← c.self.view_is) at c.requires in
-    let opened = whole_opened t c.args.peer (view_open c.args.request.now) (view_admission c.args.admission.now) admitted c.self.invariant in
+    let opened = whole_opened t (peer_of c.args.route) (view_open c.args.request.now) (view_admission c.args.admission.now) admitted c.self.invariant in
     rw (c.configure.ensures, c.stored.ensures, c.append_row.ensures, c.make_room.ensures.same, c.row_of-row.ensures, ← c.self.view_is, c.drawn_ids.ensures.value) opened

@@ -12,7 +12,7 @@ pub invariant_of-self : goal.invariant_of-self
 unfolding written_table prompt_table
 invariant_of-self c =
     let own = c.self.inside in
-    let t : AdapterTable = record { profile = own.assemblies.profile; rows = own.rows.items; values = own.assemblies.values; clock = own.clock; next_id = own.next_id } in
+    let t : AdapterTable = record { profile = own.assemblies.profile; rows = own.rows.items; values = own.assemblies.values; clock = own.clock; next_id = own.next_id; streams = own.streams.items } in
     let asked = rw (← c.self.view_is) at c.requires in
     let input = is_input t.profile c.args.point _ asked.input in
     let written = whole_written t c.args.point c.args.bytes.now input.input input.found input.long c.self.invariant in

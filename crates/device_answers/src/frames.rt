@@ -1,0 +1,46 @@
+//! What a frame says.
+
+ghost use Rattle.std.specs.Prelude.{◌≡◌};
+ghost use Rattle.std.specs.Str.{bytes_eq};
+ghost use Rattle.cip_tables.specs.Encapsulation.{frame_reading, protocol_text};
+ghost use Rattle.device_answers.specs.Routes.{view_frame};
+
+use crate::replies::PROTOCOL;
+use crate::routes::Echo;
+use cip_encap::{read_message, read_message_header};
+
+/// The bytes of a frame, by what they say.
+///
+/// Volume 2, chapter 2, encapsulation messages.
+#[derive(Clone, Copy, Debug)]
+pub enum FrameView<'a> {
+    /// Too few bytes for a header.
+    Headless,
+    /// A header whose length field is not the length of the bytes behind it.
+    Misfit(Echo),
+    /// A whole message, with its data.
+    Whole(Echo, &'a [u8]),
+}
+
+/// What the bytes of a frame say. Status and options of a request are not looked at.
+#[tactic(auto, using(cip_tables::proofs::FrameLemmas::whole_reads, cip_tables::proofs::FrameLemmas::misfit_reads, cip_tables::proofs::FrameLemmas::headless_reads))]
+pub fn read_frame(bytes: &[u8]) -> FrameView<'_>
+    ensures { view_frame result ≡ frame_reading bytes.now }
+{
+    match read_message(bytes) {
+        Ok(message) => FrameView::Whole(Echo::of_message(&message), message.data),
+        Err(_) => match read_message_header(bytes) {
+            Some((header, _rest)) => FrameView::Misfit(Echo::of_header(&header)),
+            None => FrameView::Headless,
+        },
+    }
+}
+
+/// Whether the data of RegisterSession ask for protocol version 1, without option flags.
+///
+/// Volume 2, chapter 2, RegisterSession.
+pub fn is_protocol(body: &[u8]) -> bool
+    ensures { result ≡ bytes_eq body.now protocol_text }
+{
+    body == PROTOCOL.as_slice()
+}

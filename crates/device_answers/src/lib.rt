@@ -1,0 +1,24 @@
+//! Answers that are made before anything changes: replies to peers, and over the streams of their frames.
+//!
+//! Volume 2, chapter 2, encapsulation messages and common packet format.
+#![tactic(auto)]
+
+mod addresses;
+mod answers;
+mod frames;
+mod replies;
+mod routes;
+mod streams;
+
+pub use addresses::address_of;
+pub use answers::{
+    frame_answer, opened_address, opened_reply, opening_notices, plain_answer, reply_answer,
+    told_answer, unserved_answer,
+};
+pub use frames::{FrameView, is_protocol, read_frame};
+pub use replies::{FrameReply, write_frame_reply};
+pub use routes::{Echo, Route};
+pub use streams::{drop_stream, find_stream, has_session, is_taken, mark_registered, session_of};
+
+#[cfg(test)]
+mod tests;

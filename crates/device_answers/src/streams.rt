@@ -1,0 +1,63 @@
+//! Lists of open streams.
+
+ghost use Rattle.std.specs.Prelude.{◌≡◌, filter, find, map};
+ghost use Rattle.cip_tables.specs.Streams.{is_stream, is_other_stream, is_taken, session_of, has_session, registered_stream};
+
+use cip_tables::Stream;
+
+/// The most streams that are open at once.
+const MOST_STREAMS: usize = 16;
+
+/// The stream of a number, where it is open.
+pub fn find_stream(streams: &[Stream], number: u16) -> Option<Stream>
+    ensures { result ≡ find (is_stream number) streams.now }
+{
+    streams.iter().copied().find(|stream| stream.number == number)
+}
+
+/// Whether no stream of this number can be opened: one is open, or 16 are.
+pub fn is_taken(streams: &[Stream], number: u16) -> bool
+    ensures { result ≡ is_taken streams.now number }
+{
+    streams.iter().any(|stream| stream.number == number) || streams.len() >= MOST_STREAMS
+}
+
+/// The handle of a stream's session.
+///
+/// Volume 2, chapter 2, RegisterSession.
+pub fn session_of(stream: &Stream) -> u32
+    ensures { result ≡ session_of stream.now }
+{
+    u32::from(stream.number) + 1
+}
+
+/// Whether a session is registered on the stream, and this is its handle.
+pub fn has_session(stream: &Stream, session: u32) -> bool
+    ensures { result ≡ has_session stream.now session }
+{
+    stream.registered && session == session_of(stream)
+}
+
+/// Takes a stream out of the list, if it is there. Takes no memory.
+pub fn drop_stream(streams: &mut Vec<Stream>, number: u16)
+    ensures { streams.new.items ≡ filter (is_other_stream number) streams.old.items }
+{
+    streams.retain(|stream| stream.number != number);
+}
+
+fn mark(streams: &mut [Stream], number: u16)
+    ensures { streams.new ≡ map (registered_stream number) streams.old }
+{
+    for stream in streams.iter_mut() {
+        if stream.number == number {
+            stream.registered = true;
+        }
+    }
+}
+
+/// A session is registered on the stream of this number. Takes no memory.
+pub fn mark_registered(streams: &mut Vec<Stream>, number: u16)
+    ensures { streams.new.items ≡ map (registered_stream number) streams.old.items }
+{
+    mark(streams, number);
+}
