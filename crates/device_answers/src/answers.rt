@@ -122,6 +122,15 @@ pub fn unserved_answer(alloc: Global, route: Route) -> Result<Answer, OutOfMemor
         }
     }
 }
+/// The answer where a stream ended with its session. Want of memory is the only fault.
+pub fn ended_answer(alloc: Global, number: u16) -> Result<Answer, OutOfMemory>
+    ensures { IfOk result (λ answer. answer ≡ record { frames = []; datagrams = []; verdict = Verdict.Done; notices = Notice.StreamClosed number ∷ [] }) }
+{
+    let mut notices = Vec::new(alloc);
+    notices.push(Notice::StreamClosed(number))?;
+    Ok(told_answer(alloc, Vec::new(alloc), notices))
+}
+
 /// What is told of an opening: the connection that makes room, and the new one.
 pub fn opening_notices(
     alloc: Global,

@@ -12,13 +12,16 @@ mod streams;
 
 pub use addresses::address_of;
 pub use answers::{
-    frame_answer, opened_address, opened_reply, opening_notices, plain_answer, reply_answer,
-    told_answer, unserved_answer,
+    ended_answer, frame_answer, opened_address, opened_reply, opening_notices, plain_answer,
+    reply_answer, told_answer, unserved_answer,
 };
 pub use frames::{FrameView, is_protocol, read_frame};
 pub use replies::{FrameReply, write_frame_reply};
 pub use routes::{Echo, Route};
-pub use streams::{drop_stream, find_stream, has_session, is_taken, mark_registered, session_of};
+pub use streams::{
+    add_stream, copied_streams, drop_stream, find_stream, has_session, is_taken, mark_registered,
+    session_of,
+};
 
 #[cfg(test)]
 mod tests;

@@ -1,25 +1,40 @@
 //! Lists of open streams.
 
-ghost use Rattle.std.specs.Prelude.{◌≡◌, filter, find, map};
+ghost use Rattle.std.specs.Prelude.{◌≡◌, ◌∷◌, ◌++◌, [], IfOk, OnOk, OnErr, filter, find, map};
+ghost use Rattle.std.specs.List.{list_any};
 ghost use Rattle.cip_tables.specs.Streams.{is_stream, is_other_stream, is_taken, session_of, has_session, registered_stream};
 
 use cip_tables::Stream;
+use cip_types::OutOfMemory;
+use std::alloc::Global;
 
 /// The most streams that are open at once.
 const MOST_STREAMS: usize = 16;
+
+fn is_stream(stream: &Stream, number: u16) -> bool
+    ensures { result ≡ is_stream number stream.now }
+{
+    stream.number == number
+}
 
 /// The stream of a number, where it is open.
 pub fn find_stream(streams: &[Stream], number: u16) -> Option<Stream>
     ensures { result ≡ find (is_stream number) streams.now }
 {
-    streams.iter().copied().find(|stream| stream.number == number)
+    streams.iter().copied().find(|stream| is_stream(stream, number))
+}
+
+fn is_open(streams: &[Stream], number: u16) -> bool
+    ensures { result ≡ list_any (is_stream number) streams.now }
+{
+    streams.iter().any(|stream| is_stream(stream, number))
 }
 
 /// Whether no stream of this number can be opened: one is open, or 16 are.
 pub fn is_taken(streams: &[Stream], number: u16) -> bool
     ensures { result ≡ is_taken streams.now number }
 {
-    streams.iter().any(|stream| stream.number == number) || streams.len() >= MOST_STREAMS
+    is_open(streams, number) || streams.len() >= MOST_STREAMS
 }
 
 /// The handle of a stream's session.
@@ -38,20 +53,42 @@ pub fn has_session(stream: &Stream, session: u32) -> bool
     stream.registered && session == session_of(stream)
 }
 
+/// Adds a stream, the last one. Where room for it is refused, the list stays.
+pub fn add_stream(streams: &mut Vec<Stream>, stream: Stream) -> Result<(), OutOfMemory>
+    ensures ok { OnOk result (streams.new.items ≡ streams.old.items ++ stream ∷ []) }
+    ensures err { OnErr result (streams.new.items ≡ streams.old.items) }
+{
+    streams.push(stream)?;
+    Ok(())
+}
+
+/// The same streams once more.
+pub fn copied_streams(alloc: Global, streams: &[Stream]) -> Result<Vec<Stream>, OutOfMemory>
+    ensures { IfOk result (λ copy. copy.items ≡ streams.now) }
+{
+    Ok(Vec::from_slice(alloc, streams)?)
+}
+
 /// Takes a stream out of the list, if it is there. Takes no memory.
 pub fn drop_stream(streams: &mut Vec<Stream>, number: u16)
     ensures { streams.new.items ≡ filter (is_other_stream number) streams.old.items }
 {
-    streams.retain(|stream| stream.number != number);
+    streams.retain(|stream| !is_stream(stream, number));
+}
+
+fn register(stream: &mut Stream, number: u16)
+    ensures { stream.new ≡ registered_stream number stream.old }
+{
+    if stream.number == number {
+        stream.registered = true;
+    }
 }
 
 fn mark(streams: &mut [Stream], number: u16)
     ensures { streams.new ≡ map (registered_stream number) streams.old }
 {
     for stream in streams.iter_mut() {
-        if stream.number == number {
-            stream.registered = true;
-        }
+        register(stream, number);
     }
 }
 

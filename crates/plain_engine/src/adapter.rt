@@ -48,7 +48,7 @@ use open_checks::{
     Standing, admit, drawn_ids, drives, is_multicast, served_inhibit, served_trigger, stored,
 };
 use device_answers::{
-    Route, address_of, opened_address, opened_reply, opening_notices, plain_answer, reply_answer,
+    Route, address_of, copied_streams, opened_address, opened_reply, opening_notices, plain_answer, reply_answer,
     told_answer, unserved_answer,
 };
 use std::alloc::Global;
@@ -634,7 +634,7 @@ impl PlainAdapter {
             rows: copied(alloc, table.rows.as_slice())?,
             clock: table.clock,
             next_id: table.next_id,
-            streams: Vec::from_slice(alloc, table.streams.as_slice())?,
+            streams: copied_streams(alloc, table.streams.as_slice())?,
         })
     }
 }

@@ -1,21 +1,22 @@
 //! Streams of peers, and the messages that come over them.
 
 ghost use Rattle.std.specs.Prelude.{◌≡◌, ◌∷◌, [], Ok, IfOk, Some};
+ghost use Rattle.cip_tables.specs.declared.event.Notice.TheVariants.{StreamClosed};
+ghost use Rattle.cip_tables.specs.declared.event.Verdict.TheVariants.{Done};
 ghost use Rattle.cip_tables.specs.Encapsulation.{frame, misfit_answer, framed, refusal, handled, session_begun, register_session, unregister_session, send_rr_data};
-ghost use Rattle.cip_tables.specs.Streams.{stream_opened, stream_cut, without_stream};
+ghost use Rattle.cip_tables.specs.Streams.{stream_opened, stream_cut, without_stream, registered_table};
 ghost use Rattle.cip_tables.specs.Commands.{command_of};
 ghost use Rattle.cip_tables.specs.Run.{Follows};
 ghost use Rattle.device_answers.specs.Routes.{view_echo, view_frame_reply, IsWritableFrame, framed_answer};
 
 use super::PlainAdapter;
 use cip_encap::read_items;
-use cip_tables::{
-    Answer, Command, EncapStatus, Notice, Outcome, StepFault, Stream, Verdict,
-};
+use cip_tables::{Answer, Command, EncapStatus, Outcome, StepFault, Stream, Verdict};
 use cip_types::{Node, OutOfMemory};
 use device_answers::{
-    Echo, FrameReply, FrameView, Route, drop_stream, find_stream, frame_answer, has_session,
-    is_protocol, is_taken, mark_registered, plain_answer, read_frame, session_of, told_answer,
+    Echo, FrameReply, FrameView, Route, add_stream, drop_stream, ended_answer, find_stream,
+    frame_answer, has_session, is_protocol, is_taken, mark_registered, plain_answer, read_frame,
+    session_of,
 };
 
 // STREAMS
@@ -29,23 +30,24 @@ impl PlainAdapter {
         if is_taken(&self.streams, number) {
             return Err(StepFault::NotAllowedNow);
         }
-        self.streams.push(Stream {
+        let stream = Stream {
             number,
             peer,
             registered: false,
-        })?;
+        };
+        add_stream(&mut self.streams, stream)?;
         Ok(plain_answer(self.alloc, Verdict::Done))
     }
 
     /// A stream breaks, or its peer ends it.
-    #[tactic(auto, unfolding(cip_tables::specs::Streams::stream_cut, cip_tables::specs::Streams::without_stream))]
+    #[tactic(auto, unfolding(cip_tables::specs::Streams::stream_cut))]
     pub fn cut_stream(&mut self, number: u16) -> Outcome
         ensures { Follows (stream_cut self.old number) self.old result self.new }
     {
         let Some(stream) = find_stream(&self.streams, number) else {
             return Err(StepFault::NotAllowedNow);
         };
-        drop_stream(&mut self.streams, stream.number);
+        self.drop_stream(stream.number);
         Ok(plain_answer(self.alloc, Verdict::Done))
     }
 }
@@ -53,6 +55,22 @@ impl PlainAdapter {
 // SESSIONS
 
 impl PlainAdapter {
+    /// The stream is not open any more.
+    #[tactic(auto, unfolding(cip_tables::specs::Streams::without_stream))]
+    fn drop_stream(&mut self, number: u16)
+        ensures { self.new ≡ without_stream self.old number }
+    {
+        drop_stream(&mut self.streams, number);
+    }
+
+    /// A session is registered on the stream.
+    #[tactic(auto, unfolding(cip_tables::specs::Streams::registered_table))]
+    fn mark_registered(&mut self, number: u16)
+        ensures { self.new ≡ registered_table self.old number }
+    {
+        mark_registered(&mut self.streams, number);
+    }
+
     fn tell(&self, number: u16, echo: Echo, reply: &FrameReply<'_>) -> Result<Answer, OutOfMemory>
         requires { IsWritableFrame (view_frame_reply reply.now) }
         ensures { IfOk result (λ answer. answer ≡ framed_answer number (view_echo echo) (view_frame_reply reply.now) []) }
@@ -68,13 +86,12 @@ impl PlainAdapter {
     }
 
     /// A session begins.
-    #[tactic(auto, unfolding(cip_tables::specs::Streams::registered_table))]
     fn begin_session(&mut self, stream: &Stream, echo: Echo) -> Outcome
         ensures { Follows (Ok (framed stream.now.number (view_echo echo) (session_begun self.old stream.now))) self.old result self.new }
     {
         let reply = FrameReply::Registered(session_of(stream));
         let answer = self.tell(stream.number, echo, &reply)?;
-        mark_registered(&mut self.streams, stream.number);
+        self.mark_registered(stream.number);
         Ok(answer)
     }
 
@@ -95,14 +112,12 @@ impl PlainAdapter {
     }
 
     /// A session ends, and its stream with it.
-    #[tactic(auto, unfolding(cip_tables::specs::Streams::without_stream))]
     fn end_session(&mut self, number: u16) -> Outcome
-        ensures { Follows (Ok (record { frames = []; datagrams = []; verdict = Verdict.Done; notices = Notice.StreamClosed number ∷ [] }, without_stream self.old number)) self.old result self.new }
+        ensures { Follows (Ok (record { frames = []; datagrams = []; verdict = Done; notices = StreamClosed number ∷ [] }, without_stream self.old number)) self.old result self.new }
     {
-        let mut notices = Vec::new(self.alloc);
-        notices.push(Notice::StreamClosed(number))?;
-        drop_stream(&mut self.streams, number);
-        Ok(told_answer(self.alloc, Vec::new(self.alloc), notices))
+        let answer = ended_answer(self.alloc, number)?;
+        self.drop_stream(number);
+        Ok(answer)
     }
 
     /// UnRegisterSession.

@@ -6,6 +6,7 @@ use Rattle.cip_tables.specs.Checks.{view_admission}
 use Rattle.cip_tables.proofs.WholeSteps.{whole_opened}
 use Rattle.cip_tables.specs.Opening.{opened_row, opened_table}
 use Rattle.cip_tables.proofs.WholeLemmas.{is_timed, interval_fits}
+use Rattle.device_answers.specs.Routes.{peer_of}
 use Rattle.plain_engine.proofs.Admitted.{stored_fits}
 use Rattle.plain_engine.proofs.adapter.PlainAdapter.open.Goals as goal
 
@@ -52,4 +53,4 @@ invariant_of-self-2 c =
     let t : AdapterTable = record { profile = own.assemblies.profile; rows = own.rows.items; values = own.assemblies.values; clock = own.clock; next_id = own.next_id; streams = own.streams.items } in
     let admitted = rw (← c.self.view_is) at c.requires in
     let opened = whole_opened t (peer_of c.args.route) (view_open c.args.request.now) (view_admission c.args.admission.now) admitted c.self.invariant in
-    rw (c.configure.ensures, c.stored.ensures, c.append_row.ensures, c.make_room.ensures.same, c.row_of-row.ensures, ← c.self.view_is, c.drawn_ids.ensures.value) opened
+    rw (c.configure.ensures, c.stored.ensures, c.append_row.ensures, c.make_room.ensures.same, c.row_of-row.ensures, c.peer.ensures, ← c.self.view_is, c.drawn_ids.ensures.value) opened

@@ -1,0 +1,12 @@
+use Rattle.std.proofs.Common.{rules, ◌≡◌}
+use Rattle.cip_tables.specs.declared.table.AdapterTable.{AdapterTable}
+use Rattle.cip_tables.specs.Streams.{without_stream}
+use Rattle.cip_tables.proofs.WholeSteps.{whole_without}
+use Rattle.plain_engine.proofs.adapter.PlainAdapter.drop_stream.Goals as goal
+
+pub invariant_of-self : goal.invariant_of-self
+unfolding without_stream
+invariant_of-self c =
+    let own = c.self.inside in
+    let t : AdapterTable = record { profile = own.assemblies.profile; rows = own.rows.items; values = own.assemblies.values; clock = own.clock; next_id = own.next_id; streams = own.streams.items } in
+    rw c.drop_stream.ensures (whole_without t c.args.number c.self.invariant)

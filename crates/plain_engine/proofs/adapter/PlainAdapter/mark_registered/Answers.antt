@@ -1,0 +1,12 @@
+use Rattle.std.proofs.Common.{rules, ◌≡◌}
+use Rattle.cip_tables.specs.declared.table.AdapterTable.{AdapterTable}
+use Rattle.cip_tables.specs.Streams.{registered_table}
+use Rattle.cip_tables.proofs.WholeSteps.{whole_registered}
+use Rattle.plain_engine.proofs.adapter.PlainAdapter.mark_registered.Goals as goal
+
+pub invariant_of-self : goal.invariant_of-self
+unfolding registered_table
+invariant_of-self c =
+    let own = c.self.inside in
+    let t : AdapterTable = record { profile = own.assemblies.profile; rows = own.rows.items; values = own.assemblies.values; clock = own.clock; next_id = own.next_id; streams = own.streams.items } in
+    rw c.mark_registered.ensures (whole_registered t c.args.number c.self.invariant)

@@ -1,0 +1,12 @@
+use Rattle.std.proofs.Common.{rules, ◌≡◌}
+use Rattle.cip_tables.specs.declared.table.AdapterTable.{AdapterTable}
+use Rattle.cip_tables.specs.Streams.{with_stream}
+use Rattle.cip_tables.proofs.WholeSteps.{whole_with}
+use Rattle.plain_engine.proofs.adapter.PlainAdapter.open_stream.Goals as goal
+
+pub invariant_of-self-2 : goal.invariant_of-self-2
+unfolding with_stream
+invariant_of-self-2 c =
+    let own = c.self.inside in
+    let t : AdapterTable = record { profile = own.assemblies.profile; rows = own.rows.items; values = own.assemblies.values; clock = own.clock; next_id = own.next_id; streams = own.streams.items } in
+    rw c.in_ok-add_stream.ensures.ok (whole_with t c.args.number c.args.peer (rw (← c.deref.ensures.value, ← c.is_taken.ensures) c.if-is_taken.false) c.self.invariant)
