@@ -21,7 +21,10 @@ fn is_stream(stream: &Stream, number: u16) -> bool
 pub fn find_stream(streams: &[Stream], number: u16) -> Option<Stream>
     ensures { result ≡ find (is_stream number) streams.now }
 {
-    streams.iter().copied().find(|stream| is_stream(stream, number))
+    streams
+        .iter()
+        .copied()
+        .find(|stream| is_stream(stream, number))
 }
 
 fn is_open(streams: &[Stream], number: u16) -> bool

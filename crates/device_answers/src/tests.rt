@@ -98,8 +98,14 @@ fn a_group_has_an_address(rt: HostRuntime) -> Result<(), Fail> {
         input_only: 152,
         listen_only: 153,
     };
-    assert_eq!(rt; address_of(&profile, PEER, ConnectionType::Multicast, 100), GROUP);
-    assert_eq!(rt; address_of(&profile, PEER, ConnectionType::PointToPoint, 100), PEER);
+    assert_eq!(rt;
+        address_of(&profile, PEER, ConnectionType::Multicast, 100),
+        GROUP
+    );
+    assert_eq!(rt;
+        address_of(&profile, PEER, ConnectionType::PointToPoint, 100),
+        PEER
+    );
     Ok(())
 }
 
@@ -107,7 +113,10 @@ fn a_group_has_an_address(rt: HostRuntime) -> Result<(), Fail> {
 fn an_opening_is_told(rt: HostRuntime) -> Result<(), Fail> {
     let opened = Notice::Opened(TRIAD, ConnId(0x1000_0001));
     let told = opening_notices(rt.alloc(), Some(TRIAD), &row(true))?;
-    assert_eq!(rt; told.as_slice(), [Notice::Replaced(TRIAD), opened].as_slice());
+    assert_eq!(rt;
+        told.as_slice(),
+        [Notice::Replaced(TRIAD), opened].as_slice()
+    );
     assert_eq!(rt; opened_address(&row(true)), Some(GROUP));
     assert_eq!(rt; opened_address(&row(false)), None);
     let wanted = Opened {
@@ -127,7 +136,10 @@ fn answers_without_bytes(rt: HostRuntime) -> Result<(), Fail> {
     let plain = plain_answer(alloc, Verdict::BadFrame);
     assert!(rt; plain.verdict == Verdict::BadFrame && plain.frames.as_slice().is_empty());
     let ended = ended_answer(alloc, 3)?;
-    assert_eq!(rt; ended.notices.as_slice(), [Notice::StreamClosed(3)].as_slice());
+    assert_eq!(rt;
+        ended.notices.as_slice(),
+        [Notice::StreamClosed(3)].as_slice()
+    );
     let bad = unserved_answer(alloc, Route::Peer(PEER))?;
     assert!(rt; bad == plain);
     Ok(())
@@ -157,8 +169,8 @@ fn a_reply_goes_over_its_stream(rt: HostRuntime) -> Result<(), Fail> {
         return Err("not one frame".into());
     };
     let wanted = [
-        0x6F, 0, 41, 0, 1, 0, 0, 0, 0, 0, 0, 0, 2, 0, 0, 0, 0, 0, 0, 0, 0, 0, 0, 0, 0, 0, 0, 0, 0, 0,
-        3, 0, 0, 0, 0, 0, 0xB2, 0, 5, 0, 0x8E, 0, 0, 0, 9, 1, 0x80, 16, 0, 0, 2, 8, 0xAE, 0xEF,
+        0x6F, 0, 41, 0, 1, 0, 0, 0, 0, 0, 0, 0, 2, 0, 0, 0, 0, 0, 0, 0, 0, 0, 0, 0, 0, 0, 0, 0, 0,
+        0, 3, 0, 0, 0, 0, 0, 0xB2, 0, 5, 0, 0x8E, 0, 0, 0, 9, 1, 0x80, 16, 0, 0, 2, 8, 0xAE, 0xEF,
         0xC0, 2, 0x20, 0, 0, 0, 0, 0, 0, 0, 0,
     ];
     assert_eq!(rt; route.peer(), PEER);
@@ -177,7 +189,10 @@ fn data_without_a_request_are_refused(rt: HostRuntime) -> Result<(), Fail> {
     let wanted = [
         0x6F, 0, 0, 0, 1, 0, 0, 0, 3, 0, 0, 0, 2, 0, 0, 0, 0, 0, 0, 0, 0, 0, 0, 0,
     ];
-    assert_eq!(rt; write_frame_reply(alloc, ECHO, &refused)?.as_slice(), wanted.as_slice());
+    assert_eq!(rt;
+        write_frame_reply(alloc, ECHO, &refused)?.as_slice(),
+        wanted.as_slice()
+    );
     Ok(())
 }
 
@@ -189,9 +204,9 @@ fn services_are_listed(rt: HostRuntime) -> Result<(), Fail> {
         context: 0,
     };
     let wanted = [
-        4, 0, 0x1A, 0, 0, 0, 0, 0, 0, 0, 0, 0, 0, 0, 0, 0, 0, 0, 0, 0, 0, 0, 0, 0, 1, 0, 0, 1, 0x14,
-        0, 1, 0, 0x20, 1, 0x43, 0x6F, 0x6D, 0x6D, 0x75, 0x6E, 0x69, 0x63, 0x61, 0x74, 0x69, 0x6F,
-        0x6E, 0x73, 0, 0,
+        4, 0, 0x1A, 0, 0, 0, 0, 0, 0, 0, 0, 0, 0, 0, 0, 0, 0, 0, 0, 0, 0, 0, 0, 0, 1, 0, 0, 1,
+        0x14, 0, 1, 0, 0x20, 1, 0x43, 0x6F, 0x6D, 0x6D, 0x75, 0x6E, 0x69, 0x63, 0x61, 0x74, 0x69,
+        0x6F, 0x6E, 0x73, 0, 0,
     ];
     let written = write_frame_reply(rt.alloc(), echo, &FrameReply::Services)?;
     assert_eq!(rt; written.as_slice(), wanted.as_slice());
@@ -249,6 +264,9 @@ fn a_session_is_that_of_its_stream(rt: HostRuntime) -> Result<(), Fail> {
     assert!(rt; has_session(&stream(3, true), 4) && !has_session(&stream(3, true), 5));
     assert!(rt; !has_session(&stream(3, false), 4));
     mark_registered(&mut streams, 7);
-    assert_eq!(rt; streams.as_slice(), [stream(7, true), stream(3, true)].as_slice());
+    assert_eq!(rt;
+        streams.as_slice(),
+        [stream(7, true), stream(3, true)].as_slice()
+    );
     Ok(())
 }

@@ -44,12 +44,12 @@ use connection_rows::{
     find_row, find_target, is_prompted, judge, make_room, others, produced_rows, prompt_sendings,
     prompted_rows, replaced, staying, write_and_prompt_rows, written_rows,
 };
+use device_answers::{
+    Route, address_of, copied_streams, opened_address, opened_reply, opening_notices, plain_answer,
+    reply_answer, told_answer, unserved_answer,
+};
 use open_checks::{
     Standing, admit, drawn_ids, drives, is_multicast, served_inhibit, served_trigger, stored,
-};
-use device_answers::{
-    Route, address_of, copied_streams, opened_address, opened_reply, opening_notices, plain_answer, reply_answer,
-    told_answer, unserved_answer,
 };
 use std::alloc::Global;
 use std::marker::Model;
