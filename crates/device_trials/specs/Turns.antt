@@ -4,7 +4,8 @@ use Rattle.cip_types.specs.declared.names.Node.{Node}
 use Rattle.cip_tables.specs.declared.event.Event.{Event}
 use Rattle.cip_tables.specs.declared.event.Event.TheVariants as event
 use Rattle.cip_tables.specs.declared.event.Frame.{Frame}
-use Rattle.cip_tables.specs.declared.event.Recipient.TheVariants.{Peer}
+use Rattle.cip_tables.specs.declared.event.Recipient.TheVariants.{Peer, Stream}
+use Rattle.cip_tables.specs.declared.event.Recipient.{Recipient}
 use Rattle.cip_tables.specs.declared.event.Sending.{Sending}
 use Rattle.cip_tables.specs.declared.event.Verdict.TheVariants as verdict
 use Rattle.cip_tables.specs.Requests.{plain_answer}
@@ -22,6 +23,9 @@ Turn = Deed × Said
 -- what happens, as an event
 abbrev pub event_of : Deed → Event
 event_of (deed.Request peer lent) = event.Request peer lent.now
+event_of (deed.StreamOpened stream peer) = event.StreamOpened stream peer
+event_of (deed.Frame stream lent) = event.Frame stream lent.now
+event_of (deed.StreamCut stream) = event.StreamCut stream
 event_of (deed.Datagram peer lent) = event.Datagram peer lent.now
 event_of (deed.Write point lent) = event.Write point lent.now
 event_of (deed.Read point) = event.Read point
@@ -31,13 +35,14 @@ event_of (deed.Tick ms) = event.Tick ms
 abbrev pub sending_of : Sent → Sending
 sending_of sent = record { address = sent.0; nodes = sent.1.now; bytes = sent.2.now }
 
--- the one frame of a reply
-abbrev pub reply_frames : Node → List ℕ → List Frame
-reply_frames peer bytes = (record { to = Peer peer; bytes = bytes }) ∷ []
+-- the one frame of an answer
+abbrev pub one_frame : Recipient → List ℕ → List Frame
+one_frame to bytes = (record { to = to; bytes = bytes }) ∷ []
 
 -- what is to be answered, as an outcome: these frames, datagrams and notices, and no others
 abbrev pub outcome_of : Said → Outcome
-outcome_of (said.Reply peer bytes notices) = Ok (record (plain_answer verdict.Done) { frames = reply_frames peer bytes.now; notices = notices.now })
+outcome_of (said.Reply peer bytes notices) = Ok (record (plain_answer verdict.Done) { frames = one_frame (Peer peer) bytes.now; notices = notices.now })
+outcome_of (said.Frame stream bytes notices) = Ok (record (plain_answer verdict.Done) { frames = one_frame (Stream stream) bytes.now; notices = notices.now })
 outcome_of (said.Sends sent notices) = Ok (record (plain_answer verdict.Done) { datagrams = map sending_of sent.now; notices = notices.now })
 outcome_of (said.Delivered delivery) = Ok (plain_answer (verdict.Delivered delivery))
 outcome_of (said.Value bytes) = Ok (plain_answer (verdict.Value bytes.now))

@@ -10,6 +10,7 @@ pub mod groups;
 pub mod opens;
 mod player;
 pub mod points;
+pub mod sessions;
 pub mod times;
 mod trial;
 mod turn;

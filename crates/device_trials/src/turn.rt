@@ -2,7 +2,7 @@
 
 ghost use Rattle.std.specs.Prelude.{◌≡◌, IfOk, map};
 ghost use Rattle.cip_tables.specs.Requests.{plain_answer};
-ghost use Rattle.device_trials.specs.Turns.{event_of, sending_of, reply_frames, outcome_of};
+ghost use Rattle.device_trials.specs.Turns.{event_of, sending_of, one_frame, outcome_of};
 
 use cip_tables::{
     Answer, Delivery, Event, Frame, Notice, Outcome, Recipient, Sending, StepFault, Verdict,
@@ -15,6 +15,12 @@ use std::alloc::Global;
 pub enum Deed<'a> {
     /// A peer sends a request to the message router.
     Request(Node, &'a [u8]),
+    /// A peer opens a stream of this number.
+    StreamOpened(u16, Node),
+    /// The bytes of a message come over a stream.
+    Frame(u16, &'a [u8]),
+    /// A stream breaks.
+    StreamCut(u16),
     /// A peer sends a class 1 datagram.
     Datagram(Node, &'a [u8]),
     /// The application sets what an input holds.
@@ -34,7 +40,9 @@ pub struct Sent<'a>(pub Node, pub &'a [Node], pub &'a [u8]);
 pub enum Said<'a> {
     /// A reply to a peer, and what happened to connections.
     Reply(Node, &'a [u8], &'a [Notice]),
-    /// Datagrams, and what happened to connections.
+    /// A frame over a stream, and what happened to connections.
+    Frame(u16, &'a [u8], &'a [Notice]),
+    /// Datagrams, and what happened to connections and streams.
     Sends(&'a [Sent<'a>], &'a [Notice]),
     /// What became of a datagram.
     Delivered(Delivery),
@@ -59,6 +67,12 @@ impl Deed<'_> {
                 peer,
                 bytes: Items::copy_of(alloc, bytes)?,
             },
+            Deed::StreamOpened(stream, peer) => Event::StreamOpened { stream, peer },
+            Deed::Frame(stream, bytes) => Event::Frame {
+                stream,
+                bytes: Items::copy_of(alloc, bytes)?,
+            },
+            Deed::StreamCut(stream) => Event::StreamCut { stream },
             Deed::Datagram(peer, bytes) => Event::Datagram {
                 peer,
                 bytes: Items::copy_of(alloc, bytes)?,
@@ -95,11 +109,11 @@ fn sendings(alloc: Global, sent: &[Sent<'_>]) -> Result<Items<Sending>, OutOfMem
     Ok(Items::from_vec(sendings))
 }
 
-fn reply(alloc: Global, peer: Node, bytes: &[u8]) -> Result<Items<Frame>, OutOfMemory>
-    ensures { IfOk result (λ frames. frames ≡ reply_frames peer bytes.now) }
+fn frames(alloc: Global, to: Recipient, bytes: &[u8]) -> Result<Items<Frame>, OutOfMemory>
+    ensures { IfOk result (λ frames. frames ≡ one_frame to bytes.now) }
 {
     let frame = Frame {
-        to: Recipient::Peer(peer),
+        to,
         bytes: Items::copy_of(alloc, bytes)?,
     };
     Items::one(alloc, frame)
@@ -124,7 +138,12 @@ impl Said<'_> {
     {
         match *self {
             Said::Reply(peer, bytes, notices) => Ok(Ok(Answer {
-                frames: reply(alloc, peer, bytes)?,
+                frames: frames(alloc, Recipient::Peer(peer), bytes)?,
+                notices: Items::copy_of(alloc, notices)?,
+                ..plain(alloc, Verdict::Done)
+            })),
+            Said::Frame(stream, bytes, notices) => Ok(Ok(Answer {
+                frames: frames(alloc, Recipient::Stream(stream), bytes)?,
                 notices: Items::copy_of(alloc, notices)?,
                 ..plain(alloc, Verdict::Done)
             })),

@@ -8,9 +8,10 @@ use cip_tables::{
 };
 use cip_types::Items;
 use device_trials::bytes::{DATA, FIRST, HELD, OPEN, OPENED, OUTPUT, PEER};
+use device_trials::sessions::REGISTER;
 use device_trials::{
     Deed, Said, Trial, Turn, common_profile, copies, crowd, deliveries, groups, opens, play,
-    points, times,
+    points, sessions, times,
 };
 use std::alloc::Global;
 use std::process::Abort;
@@ -54,9 +55,19 @@ fn times_go_as_told(rt: HostRuntime) -> Result<(), Fail> {
 }
 
 #[test]
+fn sessions_go_as_told(rt: HostRuntime) -> Result<(), Fail> {
+    passes(&rt, &sessions::TRIALS)
+}
+
+#[test]
 fn a_timed_out_connection_makes_room_among_64(rt: HostRuntime) -> Result<(), Fail> {
     passes(&rt, &crowd::TRIALS)
 }
+
+/// The reply to a RegisterSession whose length field is wrong.
+const MISFIT: [u8; 24] = [
+    0x65, 0, 0, 0, 0, 0, 0, 0, 0x65, 0, 0, 0, 1, 2, 3, 4, 5, 6, 7, 8, 0, 0, 0, 0,
+];
 
 fn adapter(alloc: Global) -> Result<PlainAdapter, Fail> {
     let profile = common_profile(alloc, OUTPUT, 0)?;
@@ -79,6 +90,23 @@ fn every_shorter_request_is_refused(rt: HostRuntime) -> Result<(), Fail> {
         let short = Deed::Request(PEER, &OPEN[..len]);
         let refused = Said::Reply(PEER, &[0xD4, 0, 0x13, 0], &[]);
         goes(&rt, &mut device, &[(short, refused)])?;
+    }
+    Ok(())
+}
+
+#[test]
+fn every_shorter_frame_is_refused(rt: HostRuntime) -> Result<(), Fail> {
+    let mut device = adapter(rt.alloc())?;
+    let opened = (Deed::StreamOpened(0, PEER), Said::Sends(&[], &[]));
+    goes(&rt, &mut device, &[opened])?;
+    for len in 0..REGISTER.len() {
+        let short = Deed::Frame(0, &REGISTER[..len]);
+        let said = if len < 24 {
+            Said::BadFrame
+        } else {
+            Said::Frame(0, &MISFIT, &[])
+        };
+        goes(&rt, &mut device, &[(short, said)])?;
     }
     Ok(())
 }
