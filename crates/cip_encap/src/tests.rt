@@ -7,6 +7,13 @@ const REGISTER: [u8; 28] = [
     0x65, 0, 4, 0, 0, 0, 0, 0, 0, 0, 0, 0, 1, 2, 3, 4, 5, 6, 7, 8, 0, 0, 0, 0, 1, 0, 0, 0,
 ];
 
+/// A message no two of whose fields are alike: length 2, session 0x11223344, status 0x55667788, sender
+/// context 0x0807060504030201, options 0x99AABBCC.
+const FIELDS: [u8; 26] = [
+    0x6F, 0, 2, 0, 0x44, 0x33, 0x22, 0x11, 0x88, 0x77, 0x66, 0x55, 1, 2, 3, 4, 5, 6, 7, 8, 0xCC,
+    0xBB, 0xAA, 0x99, 0xFE, 0xED,
+];
+
 /// The reply to a Forward_Open.
 const REPLY: [u8; 30] = [
     0xD4, 0, 0, 0, 1, 0, 0, 0x10, 2, 0, 0, 0x10, 5, 0, 0x34, 0x12, 0x78, 0x56, 0x34, 0x12, 0x10,
@@ -75,6 +82,32 @@ fn a_message_is_written(rt: HostRuntime) -> Result<(), Fail> {
 }
 
 #[test]
+fn each_field_stands_at_its_place(rt: HostRuntime) -> Result<(), Fail> {
+    let message = MessageView {
+        command: 0x6F,
+        session: 0x1122_3344,
+        status: 0x5566_7788,
+        context: 0x0807_0605_0403_0201,
+        options: 0x99AA_BBCC,
+        data: &[0xFE, 0xED],
+    };
+    let text = write_message(rt.alloc(), &message)?;
+    assert_eq!(rt; text.as_slice(), FIELDS.as_slice());
+    let (header, behind) = read_message_header(&FIELDS).ok_or("a header")?;
+    let right = MessageHeader {
+        command: 0x6F,
+        len: 2,
+        session: 0x1122_3344,
+        status: 0x5566_7788,
+        context: 0x0807_0605_0403_0201,
+        options: 0x99AA_BBCC,
+    };
+    assert_eq!(rt; header, right);
+    assert_eq!(rt; behind, [0xFE, 0xED].as_slice());
+    Ok(())
+}
+
+#[test]
 fn items_are_read(rt: HostRuntime) -> Result<(), Fail> {
     let packet = read_items(&ITEMS)?;
     assert_eq!(rt; packet.timeout, 0);
@@ -115,12 +148,18 @@ fn a_cut_message_comes_with_its_last_piece(rt: HostRuntime) -> Result<(), Fail> 
 
 #[test]
 fn a_piece_may_hold_more_than_a_message(rt: HostRuntime) -> Result<(), Fail> {
-    let mut piece = [0; 60];
+    let mut piece = [0; 64];
     piece[..28].copy_from_slice(&REGISTER);
-    piece[28..56].copy_from_slice(&REGISTER);
+    piece[28..54].copy_from_slice(&FIELDS);
+    piece[54..].copy_from_slice(&REGISTER[..10]);
     let mut splitter = Splitter::new(rt.alloc());
-    assert_eq!(rt; splitter.feed(&piece)?.len(), 2);
-    assert_eq!(rt; splitter.feed(&[0; 20])?.len(), 1);
+    let two = splitter.feed(&piece)?;
+    assert_eq!(rt; two.len(), 2);
+    assert_eq!(rt; two[0].as_slice(), REGISTER.as_slice());
+    assert_eq!(rt; two[1].as_slice(), FIELDS.as_slice());
+    let one = splitter.feed(&REGISTER[10..])?;
+    assert_eq!(rt; one.len(), 1);
+    assert_eq!(rt; one[0].as_slice(), REGISTER.as_slice());
     Ok(())
 }
 
