@@ -1,7 +1,5 @@
 //! The worked trials at a plain adapter, its calls beside `step`, and copies.
 
-ghost use Rattle.std.specs.Prelude.{◌≡◌, IfOk};
-
 use crate::PlainAdapter;
 use cip_tables::{
     Config, Delivery, Device, DeviceTable, Event, StepFault, TableCopy, Verdict, run,
@@ -124,17 +122,31 @@ fn a_run_has_an_outcome_for_each_event(rt: HostRuntime) -> Result<(), Fail> {
     Ok(())
 }
 
-#[test]
-fn datagrams_reads_and_writes_need_no_event(rt: HostRuntime) -> Result<(), Fail> {
-    let mut device = adapter(rt.alloc())?;
-    goes(&rt, &mut device, &opens::TRIALS[0].turns)?;
-    assert_eq!(rt; device.deliver(PEER, &FIRST), Delivery::Applied);
-    assert_eq!(rt; device.read_point(150), Ok(HELD.as_slice()));
-    assert!(rt; device.write_point(100, &DATA).is_ok());
-    assert_eq!(rt; device.read_point(100), Ok(DATA.as_slice()));
-    assert!(rt; device.write_point(100, &[5]) == Err(StepFault::WrongLength));
-    assert_eq!(rt; device.read_point(152), Err(StepFault::NoSuchPoint));
+/// What a point holds.
+fn holds<'a, R>(rt: &R, device: &'a PlainAdapter, point: u32, wanted: &'a [u8]) -> Result<(), Fail>
+where
+    R: AllocGlobal + Abort,
+{
+    assert_eq!(rt; device.read_point(point), Ok(wanted));
     Ok(())
+}
+
+#[test]
+fn a_datagram_needs_no_event(rt: HostRuntime) -> Result<(), Fail> {
+    let mut device = adapter(rt.alloc())?;
+    goes(&rt, &mut device, &copies::BEFORE)?;
+    assert_eq!(rt; device.deliver(PEER, &FIRST), Delivery::Applied);
+    holds(&rt, &device, 150, &HELD)
+}
+
+#[test]
+fn reads_and_writes_need_no_event(rt: HostRuntime) -> Result<(), Fail> {
+    let mut device = adapter(rt.alloc())?;
+    assert!(rt; device.write_point(100, &DATA).is_ok());
+    assert!(rt; device.write_point(100, &[5]) == Err(StepFault::WrongLength));
+    assert!(rt; device.write_point(150, &[5]) == Err(StepFault::NoSuchPoint));
+    assert!(rt; device.read_point(152) == Err(StepFault::NoSuchPoint));
+    holds(&rt, &device, 100, &DATA)
 }
 
 // COPIES
@@ -142,7 +154,7 @@ fn datagrams_reads_and_writes_need_no_event(rt: HostRuntime) -> Result<(), Fail>
 #[test]
 fn a_tick_too_long_changes_nothing(rt: HostRuntime) -> Result<(), Fail> {
     let mut device = adapter(rt.alloc())?;
-    goes(&rt, &mut device, &opens::TRIALS[0].turns)?;
+    goes(&rt, &mut device, &copies::BEFORE)?;
     let before = device.copy()?;
     let long = Deed::Tick(60_001);
     goes(
