@@ -164,8 +164,7 @@ fn time_out_and_reconnect_are_told(rt: HostRuntime) -> Result<(), Fail> {
 
 #[test]
 fn streams_and_sessions_are_told(rt: HostRuntime) -> Result<(), Fail> {
-    let register =
-        "frame 3 65000400000000000000000001020304050607080000000001000000\n";
+    let register = "frame 3 65000400000000000000000001020304050607080000000001000000\n";
     let unregister = "frame 3 660000000400000000000000000000000000000000000000\n";
     let lines = format!(in rt.alloc();
         "stream 3 192.168.1.20\nstream 3 192.168.1.21\nframe 3 -\n{register}{unregister}cut 3\nstream 3 192.168.1.20\ncut 3\nframe 3 00\n"

@@ -1,6 +1,6 @@
 //! The lines of a trace.
 
-ghost use Rattle.std.specs.Prelude.{◌≡◌, ◌<◌, ◌+◌, ◌-◌, ◌^◌, ◌∷◌, min, length, position, IfSome, OnSome};
+ghost use Rattle.std.specs.Prelude.{◌≡◌, ◌<◌, ◌+◌, ◌-◌, ◌^◌, ◌∷◌, min, length, position, [], IfSome, IfNone, OnSome};
 ghost use Rattle.eip_trace.specs.Lines.{is_line_feed, is_skipped, parts_of};
 
 use crate::words::LineFault;
@@ -65,6 +65,7 @@ impl<'a> Lines<'a> {
     /// Reads one line, up to its LF.
     fn take_line(&mut self) -> Option<&'a [u8]>
         ensures line { IfSome result (λ line. parts_of (unread self.old) ≡ line.now ∷ parts_of (unread self.new)) }
+        ensures cut_off { IfNone result (parts_of (unread self.old) ≡ unread self.old ∷ []) }
         ensures shorter { OnSome result (length (unread self.new) < length (unread self.old)) }
         ensures counted { line_number self.new ≡ min (line_number self.old + 1) (2 ^ 64 - 1) }
     {
