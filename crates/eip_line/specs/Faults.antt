@@ -1,23 +1,14 @@
--- Which fault of a line, or of a run, an error of a part of it is.
+-- Which fault of a run an error of a part of it is.
 use Rattle.std.specs.Prelude.{◌≡◌, Option, Some, None}
 use Rattle.std.specs.Option.{option_map}
-use Rattle.hex.specs.declared.error.FromHexError.{FromHexError}
-use Rattle.hex.specs.declared.error.FromHexError.TheVariants as hex
 use Rattle.cip_tables.specs.declared.profile.ProfileFault.{ProfileFault}
 use Rattle.cip_tables.specs.declared.event.NewFault.{NewFault}
 use Rattle.cip_tables.specs.declared.event.NewFault.TheVariants as new
 use Rattle.cip_tables.specs.Profiles.{fault_number}
-use Rattle.eip_line.specs.declared.words.LineFault.{LineFault}
-use Rattle.eip_line.specs.declared.words.LineFault.TheVariants as line
-use Rattle.eip_line.specs.declared.trace.TraceFault.{TraceFault}
-use Rattle.eip_line.specs.declared.trace.TraceFault.TheVariants as trace
+use Rattle.eip_trace.specs.declared.trace.TraceFault.{TraceFault}
+use Rattle.eip_trace.specs.declared.trace.TraceFault.TheVariants as trace
 use Rattle.eip_line.specs.declared.program.ProgramFault.{ProgramFault}
 use Rattle.eip_line.specs.declared.program.ProgramFault.TheVariants as program
-
--- what is no hexadecimal text is a bad line
-abbrev pub line_fault_of : FromHexError → LineFault
-line_fault_of hex.OutOfMemory = line.OutOfMemory
-line_fault_of _ = line.Bad
 
 abbrev pub program_fault_of_trace : TraceFault → ProgramFault
 program_fault_of_trace (trace.BadLine number) = program.BadLine number

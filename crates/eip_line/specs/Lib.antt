@@ -1,7 +1,2 @@
 pub mod Faults
-pub mod Fields
-pub mod Forms
-pub mod Lines
 pub mod Printed
-pub mod Told
-pub mod Words

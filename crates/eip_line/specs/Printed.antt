@@ -7,8 +7,8 @@ use Rattle.cip_tables.specs.declared.table.Config.TheVariants.{Adapter}
 use Rattle.cip_tables.specs.declared.table.DeviceTable.{DeviceTable}
 use Rattle.cip_tables.specs.Step.{opening_table}
 use Rattle.cip_tables.specs.Run.{Outcome, Runs}
-use Rattle.eip_line.specs.Forms.{IsTrace}
-use Rattle.eip_line.specs.Told.{outcomes_text}
+use Rattle.eip_trace.specs.Forms.{IsTrace}
+use Rattle.eip_trace.specs.Told.{outcomes_text}
 
 -- the text tells the outcomes of the events, one after the other, at a fresh adapter of the profile
 abbrev pub IsToldRun : Profile → List Event → List ℕ → Type 0

@@ -2,13 +2,7 @@
 #![tactic(auto)]
 
 mod commands;
-mod event_lines;
-mod lines;
-mod profile_lines;
 mod program;
-mod told;
-mod trace;
-mod words;
 
 pub use program::program;
 use std::env;

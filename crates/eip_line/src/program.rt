@@ -5,13 +5,12 @@ ghost use Rattle.std.specs.Io.KnownBytes.{Appends};
 ghost use Rattle.cip_tables.specs.Profiles.{profile_fault};
 ghost use Rattle.eip_line.specs.Printed.{IsToldRun, PrintsRun};
 ghost use Rattle.eip_line.specs.Faults.{IsRefused};
-ghost use Rattle.eip_line.specs.Forms.{IsTrace};
+ghost use Rattle.eip_trace.specs.Forms.{IsTrace};
 
 use crate::commands::{Misuse, Task, read_task};
-use crate::told::all_lines;
-use crate::trace::{Trace, TraceFault, read_trace};
 use cip_tables::{Config, Device, NewFault, run};
 use cip_types::OutOfMemory;
+use eip_trace::{Trace, TraceFault, all_lines, read_trace};
 use plain_engine::PlainAdapter;
 use std::alloc::Global;
 use std::convert::AsStr;

