@@ -1,17 +1,8 @@
-//! Worked trials of devices: tables of what happens at a device and of what it is to answer, and a player
-//! that tells the first answer that is another.
+//! Trials of devices: what happens at a device and what it is to answer, and a player that tells the first
+//! answer that is another.
 #![tactic(auto)]
 
-pub mod bytes;
-pub mod copies;
-pub mod crowd;
-pub mod deliveries;
-pub mod groups;
-pub mod opens;
 mod player;
-pub mod points;
-pub mod sessions;
-pub mod times;
 mod trial;
 mod turn;
 

@@ -1,9 +1,36 @@
 //! Turns as events and as outcomes. That a play tells the first difference is shown at devices, above.
 
-use crate::bytes::*;
 use crate::{Deed, Said, Sent, common_profile};
-use cip_tables::{Event, Notice, Recipient, StepFault, Verdict};
+use cip_tables::{Action, Event, Notice, OutputPoint, Recipient, StepFault, Verdict};
+use cip_types::{ConnId, Node, Triad};
 use std::test::*;
+
+const PEER: Node = Node(0xC0A8_0114);
+
+const OTHER: Node = Node(0xC0A8_0115);
+
+const GROUP: Node = Node(0xEFC0_0220);
+
+const FIRST: [u8; 2] = [7, 8];
+
+const OPENED: [u8; 3] = [0xD4, 0, 0];
+
+const DATA: [u8; 4] = [5, 6, 7, 8];
+
+const OWNER: Triad = Triad {
+    serial: 1,
+    vendor: 0x1234,
+    originator: 0x1234_5678,
+};
+
+const OWNER_OPENED: Notice = Notice::Opened(OWNER, ConnId(0x1000_0001));
+
+const OUTPUT: OutputPoint = OutputPoint {
+    instance: 150,
+    len: 4,
+    idle: Action::Zero,
+    fault: Action::Zero,
+};
 
 #[test]
 fn a_deed_is_an_event(rt: HostRuntime) -> Result<(), Fail> {

@@ -19,10 +19,10 @@ use Rattle.cip_tables.specs.declared.table.AdapterTable.{AdapterTable}
 use Rattle.cip_tables.specs.Profiles.{is_at}
 use Rattle.cip_tables.specs.Shapes.{len_of}
 use Rattle.cip_tables.specs.Rows.{written_state, written_row}
-use Rattle.cip_tables.specs.Order.{differs, first_of_each, in_order}
+use Rattle.cip_tables.specs.Order.{differs}
 use Rattle.cip_tables.specs.Closing.{stays, staying}
 use Rattle.cip_tables.specs.Datagrams.{is_for, row_delivery, run_data}
-use Rattle.cip_tables.specs.Productions.{shares_producer, leaders, by_producer, state_is_prompt, is_prompt, prompt_leaders, prompt_sendings, prompt_row}
+use Rattle.cip_tables.specs.Productions.{shares_producer, leaders, state_is_prompt, is_prompt, prompt_sendings, prompt_row}
 use Rattle.cip_tables.specs.Ticks.{expired_row, expired_rows}
 use Rattle.cip_tables.specs.Whole.{RowsFit, IsWhole}
 use Rattle.cip_tables.specs.Whole.{ConsumesOutput}

@@ -1,4 +1,4 @@
-use Rattle.std.proofs.Common.{rules, ◌≡◌}
+use Rattle.std.proofs.Common.{rules}
 use Rattle.cip_tables.specs.declared.table.AdapterTable.{AdapterTable}
 use Rattle.cip_tables.specs.Closing.{closed_table}
 use Rattle.cip_tables.proofs.WholeSteps.{whole_closed}

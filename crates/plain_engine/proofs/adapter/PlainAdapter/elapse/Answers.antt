@@ -1,4 +1,3 @@
-use Rattle.std.proofs.Common.{◌≡◌}
 use Rattle.cip_tables.specs.declared.table.AdapterTable.{AdapterTable}
 use Rattle.cip_tables.specs.Ticks.{clocked_table, expired_table, produced_table}
 use Rattle.cip_tables.proofs.WholeSteps.{whole_elapsed}

@@ -1,4 +1,3 @@
-use Rattle.std.proofs.Common.{◌≡◌}
 use Rattle.cip_tables.specs.declared.table.AdapterTable.{AdapterTable}
 use Rattle.cip_datagram.specs.Datagram.{view_datagram}
 use Rattle.cip_tables.specs.Datagrams.{fed_row, fed_table}

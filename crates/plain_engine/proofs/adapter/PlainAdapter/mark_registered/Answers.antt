@@ -1,4 +1,3 @@
-use Rattle.std.proofs.Common.{rules, ◌≡◌}
 use Rattle.cip_tables.specs.declared.table.AdapterTable.{AdapterTable}
 use Rattle.cip_tables.specs.Streams.{registered_table}
 use Rattle.cip_tables.proofs.WholeSteps.{whole_registered}

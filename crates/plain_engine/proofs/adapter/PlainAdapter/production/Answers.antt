@@ -1,4 +1,3 @@
-use Rattle.std.proofs.Common.{◌≤◌, length}
 use Rattle.cip_tables.proofs.Limits.{few_inputs}
 use Rattle.plain_engine.proofs.adapter.PlainAdapter.production.Goals as goal
 

@@ -1,4 +1,4 @@
-use Rattle.std.proofs.Common.{◌≡◌, ◌∙◌, ap, sym}
+use Rattle.std.proofs.Common.{◌∙◌, ap, sym}
 use Rattle.cip_tables.specs.declared.table.AdapterTable.{AdapterTable}
 use Rattle.cip_tables.specs.Step.{written_table, prompt_table}
 use Rattle.cip_tables.proofs.WholeSteps.{whole_written}

@@ -1,6 +1,6 @@
-use Rattle.std.proofs.Common.{◌≡◌, ◌∙◌, refl}
+use Rattle.std.proofs.Common.{◌∙◌, refl}
 use Rattle.cip_tables.specs.declared.table.AdapterTable.{AdapterTable}
-use Rattle.cip_tables.specs.Step.{written_table, prompt_table, write_answer}
+use Rattle.cip_tables.specs.Step.{written_table, prompt_table}
 use Rattle.cip_tables.proofs.WholeSteps.{whole_written}
 use Rattle.plain_engine.proofs.Kept.{is_input, nothing_prompt, without_fault, written_back_rows}
 use Rattle.plain_engine.proofs.adapter.PlainAdapter.write_quietly.Goals as goal

@@ -1,10 +1,9 @@
 //! What points hold: configurations, explicit reads, and the application's reads and writes.
 
 use crate::bytes::*;
-use crate::trial::Trial;
-use crate::turn::{Deed, Said};
 use cip_tables::{Notice, StepFault};
 use cip_types::{ConnId, Triad};
+use device_trials::{Deed, Said, Trial};
 
 /// Configurations, values that are asked for, and writes.
 pub static TRIALS: [Trial<'static>; 3] = [

@@ -1,9 +1,8 @@
 //! Datagrams of the owner of an output, and what the output then holds.
 
 use crate::bytes::*;
-use crate::trial::Trial;
-use crate::turn::{Deed, Said, Sent};
 use cip_tables::{Action, Delivery, Notice, OutputPoint};
+use device_trials::{Deed, Said, Sent, Trial};
 
 /// The output that keeps its data while its owner is idle.
 const HOLDING: OutputPoint = OutputPoint {

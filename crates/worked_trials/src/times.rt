@@ -1,9 +1,8 @@
 //! What ticks bring: datagrams that go out, and connections that time out; and changes of state.
 
 use crate::bytes::*;
-use crate::trial::Trial;
-use crate::turn::{Deed, Said, Sent};
 use cip_tables::{Notice, StepFault};
+use device_trials::{Deed, Said, Sent, Trial};
 
 /// Cyclic producers, time-outs, and producers of changes.
 pub static TRIALS: [Trial<'static>; 7] = [

@@ -1,10 +1,9 @@
 //! Multicast producers, those who share them, and closes.
 
 use crate::bytes::*;
-use crate::trial::Trial;
-use crate::turn::{Deed, Said, Sent};
 use cip_tables::Notice;
 use cip_types::{ConnId, Triad};
+use device_trials::{Deed, Said, Sent, Trial};
 
 /// The close without its last byte.
 const CUT_CLOSE: [u8; 25] = [

@@ -1,10 +1,9 @@
 //! Requests of owners, and what they are refused for.
 
 use crate::bytes::*;
-use crate::trial::Trial;
-use crate::turn::{Deed, Said};
 use cip_tables::{Action, Notice, OutputPoint};
 use cip_types::{ConnId, Triad};
+use device_trials::{Deed, Said, Trial};
 
 const LONG: OutputPoint = OutputPoint {
     instance: 150,

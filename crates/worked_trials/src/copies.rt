@@ -1,9 +1,9 @@
 //! Turns of copies, and of devices that go on from copies.
 
 use crate::bytes::*;
-use crate::turn::{Deed, Said, Sent, Turn};
 use cip_tables::Notice;
 use cip_types::{ConnId, Triad};
+use device_trials::{Deed, Said, Sent, Turn};
 
 /// What happens before a copy is taken.
 pub static BEFORE: [Turn<'static>; 2] = [

@@ -1,10 +1,9 @@
 //! Turns of streams, their sessions, and the messages that come over them.
 
 use crate::bytes::*;
-use crate::trial::Trial;
-use crate::turn::{Deed, Said};
 use cip_tables::{Notice, StepFault};
 use cip_types::{ConnId, Triad};
+use device_trials::{Deed, Said, Trial};
 
 /// A message: command, length field, session handle and status, a context, and the data.
 macro_rules! message {
