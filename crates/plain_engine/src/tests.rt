@@ -7,7 +7,7 @@ use device_trials::{Deed, Said, Trial, Turn, common_profile, play};
 use std::alloc::Global;
 use std::process::Abort;
 use std::test::*;
-use worked_trials::bytes::{DATA, FIRST, HELD, OPEN, OPENED, OUTPUT, OWNER, PEER};
+use worked_trials::bytes::{DATA, FIRST, HELD, OPEN, OPENED, OUTPUT, OWNER, PEER, ZEROS};
 use worked_trials::sessions::REGISTER;
 use worked_trials::{copies, deliveries, groups, opens, points, sessions, times};
 
@@ -128,6 +128,15 @@ fn a_datagram_needs_no_event(rt: HostRuntime) -> Result<(), Fail> {
     goes(&rt, &mut device, &copies::BEFORE)?;
     assert_eq!(rt; device.deliver(PEER, &FIRST), Delivery::Applied);
     holds(&rt, &device, 150, &HELD)
+}
+
+#[test]
+fn every_shorter_datagram_is_malformed(rt: HostRuntime) -> Result<(), Fail> {
+    let mut device = adapter(rt.alloc())?;
+    for len in 0..FIRST.len() {
+        assert_eq!(rt; device.deliver(PEER, &FIRST[..len]), Delivery::Malformed);
+    }
+    holds(&rt, &device, 150, &ZEROS)
 }
 
 #[test]
