@@ -259,6 +259,7 @@ fn fresh(alloc: Global) -> Result<TableCopy, Fail>
         values: Items::one(alloc, value)?,
         clock: Ms(0),
         next_id: 1,
+        streams: Items::new(alloc),
     }))
 }
 
