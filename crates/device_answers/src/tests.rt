@@ -1,5 +1,7 @@
 //! Worked answers: bytes by hand.
 
+ghost use Rattle.std.specs.Prelude.{◌≤◌};
+
 use crate::*;
 use cip_encap::{MessageHeader, MessageView};
 use cip_fwdopen::Opened;
@@ -30,7 +32,10 @@ const ECHO: Echo = Echo {
 };
 
 /// An input-only connection of the input of instance 100, with an interval of 10 ms.
-fn row(multicast: bool) -> Row {
+fn row(multicast: bool) -> Row
+    ensures o_t { result.o_t_api ≤ 10000 }
+    ensures t_o { result.t_o_api ≤ 10000 }
+{
     Row {
         triad: TRIAD,
         peer: PEER,
