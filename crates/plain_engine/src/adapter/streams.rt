@@ -24,7 +24,7 @@ use device_answers::{
 impl PlainAdapter {
     /// A peer opens a stream.
     #[tactic(auto, unfolding(cip_tables::specs::Streams::stream_opened, cip_tables::specs::Streams::with_stream))]
-    pub fn open_stream(&mut self, number: u16, peer: Node) -> Outcome
+    pub(crate) fn open_stream(&mut self, number: u16, peer: Node) -> Outcome
         ensures { Follows (stream_opened self.old number peer) self.old result self.new }
     {
         if is_taken(&self.streams, number) {
@@ -41,7 +41,7 @@ impl PlainAdapter {
 
     /// A stream breaks, or its peer ends it.
     #[tactic(auto, unfolding(cip_tables::specs::Streams::stream_cut))]
-    pub fn cut_stream(&mut self, number: u16) -> Outcome
+    pub(crate) fn cut_stream(&mut self, number: u16) -> Outcome
         ensures { Follows (stream_cut self.old number) self.old result self.new }
     {
         let Some(stream) = find_stream(&self.streams, number) else {
@@ -176,7 +176,7 @@ impl PlainAdapter {
 
     /// The bytes of a frame that came over a stream.
     #[tactic(auto, unfolding(cip_tables::specs::Encapsulation::frame))]
-    pub fn frame(&mut self, number: u16, bytes: &[u8]) -> Outcome
+    pub(crate) fn frame(&mut self, number: u16, bytes: &[u8]) -> Outcome
         ensures { Follows (frame self.old number bytes.now) self.old result self.new }
     {
         let Some(stream) = find_stream(&self.streams, number) else {
