@@ -2,15 +2,15 @@
 -- Volume 1, chapter 3, run and idle, connection timeouts).
 use Rattle.std.specs.Prelude.{ℕ, ◌==◌, is_some, Bool, if◌then◌else◌, List, find, Option, Some, None}
 use Rattle.std.specs.Option.{option_map}
-use Rattle.cip_tables.specs.declared.profile.InputPoint.{InputPoint}
-use Rattle.cip_tables.specs.declared.profile.OutputPoint.{OutputPoint}
-use Rattle.cip_tables.specs.declared.profile.Profile.{Profile}
-use Rattle.cip_tables.specs.declared.table.PointValue.{PointValue}
-use Rattle.cip_tables.specs.declared.event.StepFault.{StepFault}
-use Rattle.cip_tables.specs.declared.event.StepFault.TheVariants as step_faults
-use Rattle.cip_tables.specs.Profiles.{is_at, is_output_at}
-use Rattle.cip_tables.specs.Points.{opening_values}
-use Rattle.cip_tables.specs.Shapes.{len_in}
+use Rattle.adapter_table.specs.declared.profile.InputPoint.{InputPoint}
+use Rattle.adapter_table.specs.declared.profile.OutputPoint.{OutputPoint}
+use Rattle.adapter_table.specs.declared.profile.Profile.{Profile}
+use Rattle.adapter_table.specs.declared.table.PointValue.{PointValue}
+use Rattle.cip_events.specs.declared.event.StepFault.{StepFault}
+use Rattle.cip_events.specs.declared.event.StepFault.TheVariants as step_faults
+use Rattle.adapter_table.specs.Profiles.{is_at, is_output_at}
+use Rattle.adapter_table.specs.Points.{opening_values}
+use Rattle.adapter_table.specs.Shapes.{len_in}
 use Rattle.assembly_set.specs.declared.fault.PointFault.{PointFault}
 use Rattle.assembly_set.specs.declared.fault.PointFault.TheVariants.{NoSuchPoint, WrongLength}
 

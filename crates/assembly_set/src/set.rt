@@ -3,11 +3,11 @@
 ghost use Rattle.std.specs.Prelude.{◌≡◌, ◌≤◌, IsTrue, IfSome, Some, None, IfOk, OnOk, OnErr, IfErr, find, length};
 ghost use Rattle.std.specs.Option.{option_map};
 ghost use Rattle.std.specs.Result.{result_ok, result_err};
-ghost use Rattle.cip_tables.specs.Profiles.{profile_fault, is_at, is_output_at};
-ghost use Rattle.cip_tables.specs.Points.{put_value, bytes_at, idle_values, lost_values};
-ghost use Rattle.cip_tables.specs.Opening.{configured};
+ghost use Rattle.adapter_table.specs.Profiles.{profile_fault, is_at, is_output_at};
+ghost use Rattle.adapter_table.specs.Points.{put_value, bytes_at, idle_values, lost_values};
+ghost use Rattle.adapter_table.specs.Opening.{configured};
 ghost use Rattle.assembly_set.specs.Assemblies.{opened, is_output, config_len, write_fault};
-ghost use Rattle.cip_tables.specs.Shapes.{IsShaped, len_of};
+ghost use Rattle.adapter_table.specs.Shapes.{IsShaped, len_of};
 
 use crate::fault::PointFault;
 use crate::values::{act, copied, find_value, opening_values, put_value};
@@ -28,7 +28,7 @@ pub struct AssemblySet {
 
 impl Model for AssemblySet {
     ghost use Rattle.assembly_set.specs.Assemblies.{Assemblies};
-    ghost use Rattle.cip_tables.specs.Shapes.{IsShaped};
+    ghost use Rattle.adapter_table.specs.Shapes.{IsShaped};
 
     ghost Value = { Assemblies };
 

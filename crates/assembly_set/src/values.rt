@@ -2,9 +2,9 @@
 
 ghost use Rattle.std.specs.Prelude.{◌≡◌, ◌++◌, map, length, OnOk, IfOk, option_to_list};
 ghost use Rattle.std.specs.Option.{option_map};
-ghost use Rattle.cip_tables.specs.Profiles.{as_point};
-ghost use Rattle.cip_tables.specs.Points.{changed_value, put_value, bytes_at, zeros, opening_values, zeroed_value, acted_values};
-ghost use Rattle.cip_tables.specs.Shapes.{FitPoint, shape_of};
+ghost use Rattle.adapter_table.specs.Profiles.{as_point};
+ghost use Rattle.adapter_table.specs.Points.{changed_value, put_value, bytes_at, zeros, opening_values, zeroed_value, acted_values};
+ghost use Rattle.adapter_table.specs.Shapes.{FitPoint, shape_of};
 
 use cip_tables::{Action, InputPoint, OutputPoint, PointValue, Profile};
 use cip_types::{Items, OutOfMemory};
@@ -59,7 +59,7 @@ fn zero_point(values: &mut [PointValue], point: u32)
 }
 
 /// Does an action on what a point holds. Takes no memory.
-#[tactic(auto, using(cip_tables::proofs::Fitting::zeroed_shapes))]
+#[tactic(auto, using(adapter_table::proofs::Fitting::zeroed_shapes))]
 pub fn act(values: &mut [PointValue], action: Action, point: u32)
     ensures values { values.new ≡ acted_values action point values.old }
     ensures shapes { map shape_of values.new ≡ map shape_of values.old }

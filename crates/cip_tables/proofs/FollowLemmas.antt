@@ -1,12 +1,12 @@
 -- An adapter's step is its device's.
 use Rattle.std.proofs.Common.{Result, Ok, Err, IsOk, ap}
-use Rattle.cip_tables.specs.declared.event.StepFault.{StepFault}
-use Rattle.cip_tables.specs.declared.event.StepFault.TheVariants.{OutOfMemory, TickTooLong, ClockEnd, NoSuchPoint, WrongLength, NoSuchSlot, NotAllowedNow}
-use Rattle.cip_tables.specs.declared.table.AdapterTable.{AdapterTable}
+use Rattle.cip_events.specs.declared.event.StepFault.{StepFault}
+use Rattle.cip_events.specs.declared.event.StepFault.TheVariants.{OutOfMemory, TickTooLong, ClockEnd, NoSuchPoint, WrongLength, NoSuchSlot, NotAllowedNow}
+use Rattle.adapter_table.specs.declared.table.AdapterTable.{AdapterTable}
 use Rattle.cip_tables.specs.declared.table.DeviceTable.TheVariants.{Adapter}
-use Rattle.cip_tables.specs.Requests.{Next}
+use Rattle.adapter_table.specs.Requests.{Next}
 use Rattle.cip_tables.specs.Step.{as_adapter}
-use Rattle.cip_tables.specs.Run.{Outcome, Follows}
+use Rattle.cip_events.specs.Outcomes.{Outcome, Follows}
 
 still_ok : (said : Result Next StepFault) → IsOk said → IsOk (as_adapter said)
 still_ok (Ok next) ok = ok

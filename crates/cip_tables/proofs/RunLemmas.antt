@@ -1,13 +1,14 @@
 -- A run goes on by one event, and is the fold of the step over the events that memory was there for.
 use Rattle.std.proofs.Common.{◌≡◌, ℕ, List, [], ◌∷◌, ◌++◌, true, false, filter, ◌≤◌, length, take, refl, subst, Result, Ok, Err}
 use Rattle.std.proofs.lemmas.List.{take_all}
-use Rattle.cip_tables.specs.declared.event.Event.{Event}
-use Rattle.cip_tables.specs.declared.event.Answer.{Answer}
-use Rattle.cip_tables.specs.declared.event.StepFault.{StepFault}
-use Rattle.cip_tables.specs.declared.event.StepFault.TheVariants.{OutOfMemory, TickTooLong, ClockEnd, NoSuchPoint, WrongLength, NoSuchSlot, NotAllowedNow}
+use Rattle.cip_events.specs.declared.event.Event.{Event}
+use Rattle.cip_events.specs.declared.event.Answer.{Answer}
+use Rattle.cip_events.specs.declared.event.StepFault.{StepFault}
+use Rattle.cip_events.specs.declared.event.StepFault.TheVariants.{OutOfMemory, TickTooLong, ClockEnd, NoSuchPoint, WrongLength, NoSuchSlot, NotAllowedNow}
 use Rattle.cip_tables.specs.declared.table.DeviceTable.{DeviceTable}
 use Rattle.cip_tables.specs.Step.{DeviceNext, step}
-use Rattle.cip_tables.specs.Run.{Outcome, Follows, Runs, outcome_of, table_of, outcomes_of, table_after, found_memory, performed}
+use Rattle.cip_events.specs.Outcomes.{Outcome, Follows, found_memory}
+use Rattle.cip_tables.specs.Run.{Runs, outcome_of, table_of, outcomes_of, table_after, performed}
 
 pub Runs_more : (old mid new : DeviceTable) (events : List Event) (event : Event) (outcomes : List Outcome) (outcome : Outcome) → Runs old events outcomes mid → Follows (step mid event) mid outcome new → Runs old (events ++ event ∷ []) (outcomes ++ outcome ∷ []) new
 Runs_more old mid new [] event [] outcome ran next =

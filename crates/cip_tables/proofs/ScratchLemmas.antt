@@ -1,32 +1,37 @@
 -- What an output holds after a run is what the last event that touched it left there.
 use Rattle.std.proofs.Common.{◌≡◌, ℕ, List, [], ◌∷◌, find, replicate, Option, Some, None, Result, Ok, Err, refl, sym, ◌∙◌, ap, subst}
 use Rattle.std.specs.Option.{unwrap_or}
-use Rattle.cip_tables.specs.declared.event.Event.{Event}
-use Rattle.cip_tables.specs.declared.event.StepFault.{StepFault}
-use Rattle.cip_tables.specs.declared.event.StepFault.TheVariants.{OutOfMemory, TickTooLong, ClockEnd, NoSuchPoint, WrongLength, NoSuchSlot, NotAllowedNow}
-use Rattle.cip_tables.specs.declared.profile.OutputPoint.{OutputPoint}
-use Rattle.cip_tables.specs.declared.profile.Profile.{Profile}
-use Rattle.cip_tables.specs.declared.table.AdapterTable.{AdapterTable}
+use Rattle.cip_events.specs.declared.event.Event.{Event}
+use Rattle.cip_events.specs.declared.event.StepFault.{StepFault}
+use Rattle.cip_events.specs.declared.event.StepFault.TheVariants.{OutOfMemory, TickTooLong, ClockEnd, NoSuchPoint, WrongLength, NoSuchSlot, NotAllowedNow}
+use Rattle.adapter_table.specs.declared.profile.OutputPoint.{OutputPoint}
+use Rattle.adapter_table.specs.declared.profile.Profile.{Profile}
+use Rattle.adapter_table.specs.declared.table.AdapterTable.{AdapterTable}
 use Rattle.cip_tables.specs.declared.table.Config.TheVariants as config
 use Rattle.cip_tables.specs.declared.table.DeviceTable.{DeviceTable}
 use Rattle.cip_tables.specs.declared.table.DeviceTable.TheVariants.{Adapter}
-use Rattle.cip_tables.specs.Profiles.{as_point, is_output_at}
-use Rattle.cip_tables.specs.Points.{data_points, bytes_at}
-use Rattle.cip_tables.specs.Requests.{Next}
-use Rattle.cip_tables.specs.Opening.{opened_table}
-use Rattle.cip_tables.specs.Closing.{closed_table}
-use Rattle.cip_tables.specs.Streams.{with_stream, without_stream, registered_table}
-use Rattle.cip_tables.specs.Datagrams.{fed_table}
-use Rattle.cip_tables.specs.Ticks.{clocked_table, expired_table, produced_table}
-use Rattle.cip_tables.specs.Step.{DeviceNext, as_adapter, adapter_step, step, adapter_table, written_table, prompt_table, bytes_in}
-use Rattle.cip_tables.specs.Run.{Outcome, Follows, Runs, table_of, performed}
-use Rattle.cip_tables.specs.Whole.{IsWhole, IsWholeDevice}
-use Rattle.cip_tables.specs.Scratch.{or_else, touched, last_touched, OutputsAreFromScratch}
-use Rattle.cip_tables.proofs.Shaping.{output_found}
-use Rattle.cip_tables.proofs.ValueLemmas.{zeros_at}
-use Rattle.cip_tables.proofs.EffectLemmas.{EffectsKeep, InDevice, ok_is, follows_keeps, run_keeps}
-use Rattle.cip_tables.proofs.WholeSteps.{whole_effects, whole_fresh}
-use Rattle.cip_tables.proofs.ScratchSteps.{Leaves, adapter_leaves, fault_touches_none}
+use Rattle.adapter_table.specs.Profiles.{as_point, is_output_at}
+use Rattle.adapter_table.specs.Points.{data_points, bytes_at}
+use Rattle.adapter_table.specs.Requests.{Next}
+use Rattle.adapter_table.specs.Opening.{opened_table}
+use Rattle.adapter_table.specs.Closing.{closed_table}
+use Rattle.adapter_table.specs.Streams.{with_stream, without_stream, registered_table}
+use Rattle.adapter_table.specs.Datagrams.{fed_table}
+use Rattle.adapter_table.specs.Ticks.{clocked_table, expired_table, produced_table}
+use Rattle.cip_tables.specs.Step.{DeviceNext, as_adapter, step, bytes_in}
+use Rattle.adapter_table.specs.Step.{adapter_step, adapter_table, written_table, prompt_table}
+use Rattle.cip_events.specs.Outcomes.{Outcome, Follows}
+use Rattle.cip_tables.specs.Run.{Runs, table_of, performed}
+use Rattle.adapter_table.specs.Whole.{IsWhole}
+use Rattle.cip_tables.specs.Whole.{IsWholeDevice}
+use Rattle.adapter_table.specs.Scratch.{or_else}
+use Rattle.cip_tables.specs.Scratch.{touched, last_touched, OutputsAreFromScratch}
+use Rattle.adapter_table.proofs.Shaping.{output_found}
+use Rattle.adapter_table.proofs.ValueLemmas.{zeros_at}
+use Rattle.adapter_table.proofs.EffectLemmas.{EffectsKeep}
+use Rattle.cip_tables.proofs.RunKeeps.{InDevice, ok_is, follows_keeps, run_keeps}
+use Rattle.adapter_table.proofs.WholeSteps.{whole_effects, whole_fresh}
+use Rattle.adapter_table.proofs.ScratchSteps.{Leaves, adapter_leaves, fault_touches_none}
 
 -- ---- a device's step
 

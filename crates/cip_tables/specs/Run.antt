@@ -1,22 +1,11 @@
 -- What a device does at an event, and over a list of events.
-use Rattle.std.specs.Prelude.{◌≡◌, Bool, true, false, if◌then◌else◌, List, [], ◌∷◌, Result, Ok, Err, IsOk}
-use Rattle.cip_tables.specs.declared.event.Event.{Event}
-use Rattle.cip_tables.specs.declared.event.Answer.{Answer}
-use Rattle.cip_tables.specs.declared.event.StepFault.{StepFault}
-use Rattle.cip_tables.specs.declared.event.StepFault.TheVariants.{OutOfMemory}
+use Rattle.std.specs.Prelude.{◌≡◌, if◌then◌else◌, List, [], ◌∷◌, Result, Ok, Err}
+use Rattle.cip_events.specs.declared.event.Event.{Event}
+use Rattle.cip_events.specs.declared.event.Answer.{Answer}
+use Rattle.cip_events.specs.declared.event.StepFault.{StepFault}
 use Rattle.cip_tables.specs.declared.table.DeviceTable.{DeviceTable}
 use Rattle.cip_tables.specs.Step.{step}
-
--- what a device answers to an event
-abbrev pub Outcome : Type 0
-Outcome = Result Answer StepFault
-
--- A device answers so and goes on from old to new, where its table's step says this. Memory may be
--- wanted only where there was an answer to give. After any fault the table stays.
-abbrev pub Follows : {T : Type 0} → Result (Answer × T) StepFault → T → Outcome → T → Type 0
-Follows said old (Ok answer) new = said ≡ Ok (answer, new)
-Follows said old (Err OutOfMemory) new = IsOk said × (new ≡ old)
-Follows said old (Err fault) new = (said ≡ Err fault) × (new ≡ old)
+use Rattle.cip_events.specs.Outcomes.{Outcome, Follows, found_memory}
 
 -- the outcomes of a run, one event after another
 abbrev pub Runs : DeviceTable → List Event → List Outcome → DeviceTable → Type 0
@@ -44,12 +33,6 @@ outcomes_of t (event ∷ events) = outcome_of (step t event) ∷ outcomes_of (ta
 abbrev pub table_after : DeviceTable → List Event → DeviceTable
 table_after t [] = t
 table_after t (event ∷ events) = table_after (table_of t (step t event)) events
-
--- memory was there
-abbrev pub found_memory : Outcome → Bool
-found_memory (Ok answer) = true
-found_memory (Err OutOfMemory) = false
-found_memory (Err fault) = true
 
 -- the events whose outcome is not that memory was refused
 abbrev pub performed : List Event → List Outcome → List Event

@@ -3,14 +3,15 @@
 ghost use Rattle.std.specs.Prelude.{◌≡◌, ◌≢◌, ◌↔◌, false, Ok, Err, None, Some, Result, filter, IfOk, IfErr, OnErr, IsErr};
 ghost use Rattle.cip_tables.specs.declared.table.DeviceTable.{DeviceTable};
 ghost use Rattle.cip_tables.specs.Step.{step, opening_table, config_fault, bytes_in, produces_at_once};
-ghost use Rattle.cip_tables.specs.Requests.{plain_answer};
-ghost use Rattle.cip_tables.specs.Run.{Follows, Runs, found_memory, outcomes_of, performed, table_after};
+ghost use Rattle.cip_events.specs.Answers.{plain_answer};
+ghost use Rattle.cip_events.specs.Outcomes.{Follows, found_memory};
+ghost use Rattle.cip_tables.specs.Run.{Runs, outcomes_of, performed, table_after};
 ghost use Rattle.cip_tables.specs.Sound.{IsSoundDevice};
-ghost use Rattle.cip_tables.specs.News.{IsRefusedAs};
+ghost use Rattle.cip_events.specs.Faults.{IsRefusedAs};
 
 use crate::copy::TableCopy;
-use crate::event::{Delivery, Event, NewFault, Outcome, StepFault, Verdict};
 use crate::table::Config;
+use cip_events::{Delivery, Event, NewFault, Outcome, StepFault, Verdict};
 use cip_types::{Node, OutOfMemory};
 use std::alloc::Global;
 

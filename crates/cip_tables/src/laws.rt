@@ -4,7 +4,8 @@
 ghost use Rattle.std.specs.Prelude.{◌≤◌, length};
 ghost use Rattle.cip_tables.specs.Scratch.{OutputsAreFromScratch};
 ghost use Rattle.cip_tables.specs.Whole.{TablesAreWhole};
-ghost use Rattle.cip_tables.specs.Sound.{OverEveryRun, HasOneOwner, TriadsDiffer, IdsDiffer, IdsAreDrawn, ListenersAreSupported, GroupsAgree, StreamsDiffer};
+ghost use Rattle.cip_tables.specs.Sound.{OverEveryRun};
+ghost use Rattle.adapter_table.specs.Sound.{HasOneOwner, TriadsDiffer, IdsDiffer, IdsAreDrawn, ListenersAreSupported, GroupsAgree, StreamsDiffer};
 
 /// An output has at most one established exclusive owner.
 pub fn at_most_one_owner()

@@ -1,35 +1,25 @@
-//! The table of an adapter's connections: what it is made of, the events that change it, the answers
-//! that it gives, and what a device is.
+//! The tables of devices of every kind, copies of them, what a device is, runs of one, and the laws over
+//! every run. The public names of the rooms below are offered again.
 #![tactic(auto)]
 
-mod admission;
-mod asked;
-mod command;
 mod copy;
 mod device;
-mod event;
 pub mod laws;
-mod profile;
-mod profile_check;
-mod refusal;
-mod reply;
-mod row;
 mod table;
 
-pub use admission::{Admission, Consumer};
-pub use asked::{Asked, read_asked};
-pub use command::{Command, EncapStatus};
+pub use adapter_table::{
+    Action, AdapterTable, Admission, Consumer, InputPoint, OutputPoint, PointValue, Profile, Row,
+    State, Stream,
+};
+pub use cip_events::{
+    Answer, Delivery, Event, Frame, NewFault, Notice, Outcome, ProfileFault, Recipient, Sending,
+    StepFault, Verdict,
+};
+pub use cip_productions::{Accepted, Kind, Production};
+pub use cip_router::{Asked, Command, EncapStatus, Refusal, Reply, Status, read_asked};
 pub use copy::TableCopy;
 pub use device::{Device, run};
-pub use event::{
-    Answer, Delivery, Event, Frame, NewFault, Notice, Outcome, Recipient, Sending, StepFault,
-    Verdict,
-};
-pub use profile::{Action, InputPoint, OutputPoint, Profile, ProfileFault};
-pub use refusal::{Refusal, Status};
-pub use reply::Reply;
-pub use row::{Accepted, Kind, Production, Row, State};
-pub use table::{AdapterTable, Config, DeviceTable, PointValue, Stream};
+pub use table::{Config, DeviceTable};
 
 #[cfg(test)]
 mod tests;

@@ -1,38 +1,6 @@
-//! The table of a device.
+//! The table of a device of any kind, and what it is made of.
 
-use crate::profile::Profile;
-use crate::row::Row;
-use cip_types::{Items, Ms, Node};
-
-/// The bytes of a point.
-#[derive(Debug, PartialEq, Drop)]
-pub struct PointValue {
-    pub point: u32,
-    pub bytes: Items<u8>,
-}
-
-/// A stream of a peer that is open: its number, whose it is, and whether a session is registered on it.
-///
-/// Volume 2, chapter 2, encapsulation sessions.
-#[derive(Clone, Copy, Debug, PartialEq, Eq)]
-pub struct Stream {
-    pub number: u16,
-    pub peer: Node,
-    pub registered: bool,
-}
-
-/// An adapter: its profile, its connections in opening order, what its points hold, its clock, the
-/// counter part of the next connection id, and the streams that are open, in the order in which they were
-/// opened.
-#[derive(Debug, PartialEq, Drop)]
-pub struct AdapterTable {
-    pub profile: Profile,
-    pub rows: Items<Row>,
-    pub values: Items<PointValue>,
-    pub clock: Ms,
-    pub next_id: u32,
-    pub streams: Items<Stream>,
-}
+use adapter_table::{AdapterTable, Profile};
 
 /// The table of a device of any kind.
 #[derive(Debug, PartialEq, Drop)]

@@ -1,3 +1,4 @@
 pub mod Circle
 pub mod Fields
 pub mod Texts
+pub mod Order

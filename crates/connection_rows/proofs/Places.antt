@@ -6,8 +6,8 @@ use Rattle.std.proofs.lemmas.Bool.Decides.{nat_tests}
 use Rattle.std.proofs.lemmas.List.Sums.{prefix_len-le-length}
 use Rattle.std.proofs.lemmas.List.Folds.{find_at}
 use Rattle.std.proofs.lemmas.Option.{slice_get-get_or, slice_get_past}
-use Rattle.cip_tables.specs.declared.row.Row.{Row}
-use Rattle.cip_tables.specs.Rows.{without_first}
+use Rattle.adapter_table.specs.declared.row.Row.{Row}
+use Rattle.adapter_table.specs.Rows.{without_first}
 
 remove_step : {X : Type 0} (b : Bool) (x : X) (xs without : List X) (n : ℕ) → without ≡ remove xs n → cond b xs (x ∷ without) ≡ remove (x ∷ xs) (cond (not b) (1 + n) 0)
 remove_step true x xs without n same = grind (arith, common_steps)

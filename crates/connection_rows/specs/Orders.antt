@@ -1,9 +1,9 @@
 -- The orders of connections that the crate sorts by, and lists of at most one element. Only functions
 -- within the crate speak of this.
 use Rattle.std.specs.Prelude.{Bool, if◌then◌else◌, List, [], ◌∷◌}
-use Rattle.cip_tables.specs.declared.row.Row.{Row}
-use Rattle.cip_tables.specs.Productions.{by_due, by_producer}
-use Rattle.cip_tables.specs.Ticks.{by_deadline}
+use Rattle.adapter_table.specs.declared.row.Row.{Row}
+use Rattle.adapter_table.specs.Productions.{by_due, by_producer}
+use Rattle.adapter_table.specs.Ticks.{by_deadline}
 use Rattle.connection_rows.specs.declared.order.By.{By}
 use Rattle.connection_rows.specs.declared.order.By.TheVariants.{Deadline, Due, Producer}
 

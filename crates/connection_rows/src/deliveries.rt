@@ -3,9 +3,10 @@
 ghost use Rattle.std.specs.Prelude.{◌≡◌, ◌≤◌, ◌^◌, find, map};
 ghost use Rattle.cip_datagram.specs.Datagram.{view_datagram};
 ghost use Rattle.cip_datagram.specs.Header.{header_at};
-ghost use Rattle.cip_tables.specs.Datagrams.{is_for, expected_len, is_news, is_repeated, owned_delivery, accepted_delivery, sized_delivery, row_delivery, later_deadline, accepted_row, fed_row};
-ghost use Rattle.cip_tables.specs.declared.profile.Profile.{Profile};
-ghost use Rattle.cip_tables.specs.Whole.{FitsRow, RowsFit};
+ghost use Rattle.adapter_table.specs.Datagrams.{is_for, expected_len, owned_delivery, accepted_delivery, sized_delivery, row_delivery, later_deadline, accepted_row, fed_row};
+ghost use Rattle.cip_productions.specs.Acceptance.{is_news, is_repeated};
+ghost use Rattle.adapter_table.specs.declared.profile.Profile.{Profile};
+ghost use Rattle.adapter_table.specs.Whole.{FitsRow, RowsFit};
 
 use assembly_set::AssemblySet;
 use cip_datagram::{Datagram, read_header};

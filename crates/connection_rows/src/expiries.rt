@@ -1,8 +1,8 @@
 //! Connections that time out.
 
 ghost use Rattle.std.specs.Prelude.{◌≡◌, ◌++◌, map, filter, IfOk};
-ghost use Rattle.cip_tables.specs.Closing.{forsaken, dropped_notice};
-ghost use Rattle.cip_tables.specs.Ticks.{has_expired, expired, expired_row, expired_rows, expired_notice};
+ghost use Rattle.adapter_table.specs.Closing.{forsaken, dropped_notice};
+ghost use Rattle.adapter_table.specs.Ticks.{has_expired, expired, expired_row, expired_rows, expired_notice};
 
 use crate::order::{By, sorted};
 use crate::rows::{copied, is_forsaken};

@@ -1,9 +1,10 @@
 //! Productions that are due.
 
 ghost use Rattle.std.specs.Prelude.{◌≡◌, ◌≤◌, ◌+◌, ◌^◌, map, filter, flat_map, length, IfOk};
-ghost use Rattle.cip_tables.specs.declared.profile.Profile.{Profile};
-ghost use Rattle.cip_tables.specs.Productions.{due_of, due_again, produced, is_due, due_leaders, input_of, due_sending, due_sendings, due_state, due_row, leaders};
-ghost use Rattle.cip_tables.specs.Whole.{RowsFit};
+ghost use Rattle.adapter_table.specs.declared.profile.Profile.{Profile};
+ghost use Rattle.adapter_table.specs.Productions.{due_of, is_due, due_leaders, input_of, due_sending, due_sendings, due_state, due_row, leaders};
+ghost use Rattle.cip_productions.specs.Productions.{due_again, produced};
+ghost use Rattle.adapter_table.specs.Whole.{RowsFit};
 
 use crate::order::{By, sorted};
 use crate::sendings::{leaders, next_count, sending};

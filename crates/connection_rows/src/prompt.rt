@@ -2,10 +2,11 @@
 
 ghost use Rattle.std.specs.Prelude.{◌≡◌, ◌≤◌, ◌+◌, ◌^◌, map, filter, flat_map, length, IfOk};
 ghost use Rattle.std.specs.List.{list_any};
-ghost use Rattle.cip_tables.specs.declared.profile.Profile.{Profile};
-ghost use Rattle.cip_tables.specs.Productions.{due_of, is_over, is_free, state_is_prompt, is_prompt, prompt_leaders, sending, prompt_sendings, sooner_due, held, prompt_production, prompt_by, prompt_state, prompt_row};
-ghost use Rattle.cip_tables.specs.Rows.{written_row};
-ghost use Rattle.cip_tables.specs.Whole.{RowsFit};
+ghost use Rattle.adapter_table.specs.declared.profile.Profile.{Profile};
+ghost use Rattle.adapter_table.specs.Productions.{due_of, state_is_prompt, is_prompt, prompt_leaders, sending, prompt_sendings, prompt_by, prompt_state, prompt_row};
+ghost use Rattle.cip_productions.specs.Productions.{is_over, is_free, sooner_due, held, prompt_production};
+ghost use Rattle.adapter_table.specs.Rows.{written_row};
+ghost use Rattle.adapter_table.specs.Whole.{RowsFit};
 
 use crate::order::{By, sorted};
 use crate::productions::produced;

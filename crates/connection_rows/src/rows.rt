@@ -3,9 +3,9 @@
 ghost use Rattle.std.specs.Prelude.{◌≡◌, ◌≤◌, vec_len, vec_capacity, ◌<◌, ◌∷◌, ◌++◌, [], find, OnOk, IfOk, map};
 ghost use Rattle.std.specs.List.{list_any, position, position_or_len, remove};
 ghost use Rattle.std.specs.Option.{option_map};
-ghost use Rattle.cip_tables.specs.Rows.{has_triad, is_timed_out, is_forsaken, written_row, without_first};
-ghost use Rattle.cip_tables.specs.Closing.{without_triad, staying, forsaken, dropped_notice};
-ghost use Rattle.cip_tables.specs.Opening.{makes_room, triad_of, replaced_triad};
+ghost use Rattle.adapter_table.specs.Rows.{has_triad, is_timed_out, is_forsaken, written_row, without_first};
+ghost use Rattle.adapter_table.specs.Closing.{without_triad, staying, forsaken, dropped_notice};
+ghost use Rattle.adapter_table.specs.Opening.{makes_room, triad_of, replaced_triad};
 
 use cip_tables::{Kind, Notice, Production, Row, State};
 use cip_types::{OutOfMemory, Triad};

@@ -4,8 +4,9 @@ ghost use Rattle.std.specs.Prelude.{◌≡◌, ◌≤◌, ◌++◌, map, filter,
 ghost use Rattle.std.specs.List.{list_any};
 ghost use Rattle.std.specs.Option.{option_map};
 ghost use Rattle.cip_datagram.specs.Datagram.{datagram_text};
-ghost use Rattle.cip_tables.specs.Order.{first_of_each};
-ghost use Rattle.cip_tables.specs.Productions.{same_producer, shares_producer, leaders, next_count, same_node, peer_of, consumers, production_datagram, state_sending, sending};
+ghost use Rattle.cip_types.specs.Order.{first_of_each};
+ghost use Rattle.adapter_table.specs.Productions.{same_producer, shares_producer, leaders, same_node, peer_of, consumers, state_sending, sending};
+ghost use Rattle.cip_productions.specs.Productions.{next_count, production_datagram};
 ghost use Rattle.connection_rows.specs.Orders.{unless};
 
 use cip_datagram::{Datagram, write_datagram};

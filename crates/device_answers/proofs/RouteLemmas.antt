@@ -1,9 +1,9 @@
 -- What is routed is what the table answers.
 use Rattle.std.proofs.Common.{◌≡◌, ℕ, Option, Some, None, refl}
 use Rattle.cip_types.specs.declared.names.Node.{Node}
-use Rattle.cip_tables.specs.declared.table.AdapterTable.{AdapterTable}
-use Rattle.cip_tables.specs.Requests.{Served, answered}
-use Rattle.cip_tables.specs.Encapsulation.{framed, request_replied}
+use Rattle.adapter_table.specs.declared.table.AdapterTable.{AdapterTable}
+use Rattle.adapter_table.specs.Requests.{Served, answered}
+use Rattle.adapter_table.specs.Encapsulation.{framed, request_replied}
 use Rattle.device_answers.specs.declared.routes.Echo.{Echo}
 use Rattle.device_answers.specs.declared.routes.Route.TheVariants as route
 use Rattle.device_answers.specs.Routes.{view_echo, routed}

@@ -2,17 +2,19 @@
 use Rattle.std.specs.Prelude.{ℕ, List, [], ◌∷◌, Option, Some, None}
 use Rattle.cip_types.specs.declared.names.Node.{Node}
 use Rattle.cip_encap.specs.Message.{message_text}
-use Rattle.cip_tables.specs.declared.command.EncapStatus.TheVariants as status
-use Rattle.cip_tables.specs.declared.event.Answer.{Answer}
-use Rattle.cip_tables.specs.declared.event.Frame.{Frame}
-use Rattle.cip_tables.specs.declared.event.Notice.{Notice}
-use Rattle.cip_tables.specs.declared.event.Recipient.TheVariants as recipient
-use Rattle.cip_tables.specs.declared.event.Verdict.TheVariants.{Done, BadFrame}
-use Rattle.cip_tables.specs.declared.table.AdapterTable.{AdapterTable}
-use Rattle.cip_tables.specs.Replies.{ReplyFields, GetsFew, HasStatus, view_reply}
-use Rattle.cip_tables.specs.Requests.{Next, Served, reply_frame, plain_answer}
-use Rattle.cip_tables.specs.Encapsulation as frames
-use Rattle.cip_tables.specs.Encapsulation.{FrameFields, reply_message, reply_frames}
+use Rattle.cip_router.specs.declared.command.EncapStatus.TheVariants as status
+use Rattle.cip_events.specs.declared.event.Answer.{Answer}
+use Rattle.cip_events.specs.declared.event.Frame.{Frame}
+use Rattle.cip_events.specs.declared.event.Notice.{Notice}
+use Rattle.cip_events.specs.declared.event.Recipient.TheVariants as recipient
+use Rattle.cip_events.specs.declared.event.Verdict.TheVariants.{Done, BadFrame}
+use Rattle.adapter_table.specs.declared.table.AdapterTable.{AdapterTable}
+use Rattle.cip_router.specs.Replies.{ReplyFields, GetsFew, HasStatus, view_reply}
+use Rattle.adapter_table.specs.Requests.{Next, Served, reply_frame}
+use Rattle.cip_events.specs.Answers.{plain_answer}
+use Rattle.cip_router.specs.Frames as frames
+use Rattle.cip_router.specs.Frames.{FrameFields, reply_message}
+use Rattle.adapter_table.specs.Encapsulation.{reply_frames}
 use Rattle.device_answers.specs.declared.routes.Echo.{Echo}
 use Rattle.device_answers.specs.declared.routes.Route.{Route}
 use Rattle.device_answers.specs.declared.routes.Route.TheVariants as route

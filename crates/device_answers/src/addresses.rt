@@ -2,8 +2,8 @@
 
 ghost use Rattle.std.specs.Prelude.{◌≡◌, ◌≤◌, ◌<◌, ◌^◌, length};
 ghost use Rattle.std.specs.List.{position, position_or_len};
-ghost use Rattle.cip_tables.specs.Profiles.{is_at, host_id};
-ghost use Rattle.cip_tables.specs.Opening.{multicast_address, address_of};
+ghost use Rattle.adapter_table.specs.Profiles.{is_at, host_id};
+ghost use Rattle.adapter_table.specs.Opening.{multicast_address, address_of};
 
 use cip_netparams::ConnectionType;
 use cip_tables::{InputPoint, Profile};

@@ -1,9 +1,9 @@
 //! Answers that are made before anything changes.
 
 ghost use Rattle.std.specs.Prelude.{◌≡◌, ◌∷◌, ◌++◌, [], IfOk, ◌≤◌};
-ghost use Rattle.cip_tables.specs.Replies.{view_reply};
-ghost use Rattle.cip_tables.specs.Opening.{opened_reply, opened_address, replaced_notices};
-ghost use Rattle.cip_tables.specs.Requests.{plain_answer};
+ghost use Rattle.cip_router.specs.Replies.{view_reply};
+ghost use Rattle.adapter_table.specs.Opening.{opened_reply, opened_address, replaced_notices};
+ghost use Rattle.cip_events.specs.Answers.{plain_answer};
 ghost use Rattle.device_answers.specs.Routes.{view_echo, view_frame_reply, IsWritable, IsWritableFrame, routed_frame, routed_answer, framed_answer, unserved_answer};
 
 use crate::replies::{FrameReply, write_frame_reply};

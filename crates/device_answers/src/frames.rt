@@ -2,7 +2,7 @@
 
 ghost use Rattle.std.specs.Prelude.{◌≡◌};
 ghost use Rattle.std.specs.Str.{bytes_eq};
-ghost use Rattle.cip_tables.specs.Encapsulation.{frame_reading, protocol_text};
+ghost use Rattle.cip_router.specs.Frames.{frame_reading, protocol_text};
 ghost use Rattle.device_answers.specs.Routes.{view_frame};
 
 use crate::replies::PROTOCOL;
@@ -23,7 +23,7 @@ pub enum FrameView<'a> {
 }
 
 /// What the bytes of a frame say. Status and options of a request are not looked at.
-#[tactic(auto, using(cip_tables::proofs::FrameLemmas::whole_reads, cip_tables::proofs::FrameLemmas::misfit_reads, cip_tables::proofs::FrameLemmas::headless_reads))]
+#[tactic(auto, using(cip_router::proofs::FrameLemmas::whole_reads, cip_router::proofs::FrameLemmas::misfit_reads, cip_router::proofs::FrameLemmas::headless_reads))]
 pub fn read_frame(bytes: &[u8]) -> FrameView<'_>
     ensures { view_frame result ≡ frame_reading bytes.now }
 {

@@ -2,8 +2,8 @@
 
 ghost use Rattle.std.specs.Prelude.{◌≡◌, ◌≤◌, IfOk, length};
 ghost use Rattle.cip_encap.specs.Message.{message_text};
-ghost use Rattle.cip_tables.specs.Replies.{view_reply};
-ghost use Rattle.cip_tables.specs.Encapsulation.{echoed, reply_message, router_reply, socket_of};
+ghost use Rattle.cip_router.specs.Replies.{view_reply};
+ghost use Rattle.cip_router.specs.Frames.{echoed, reply_message, router_reply, socket_of};
 ghost use Rattle.device_answers.specs.Routes.{view_echo, view_frame_reply, IsWritable, IsWritableFrame};
 
 use crate::routes::Echo;

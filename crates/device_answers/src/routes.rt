@@ -2,7 +2,7 @@
 
 ghost use Rattle.std.specs.Prelude.{◌≡◌};
 ghost use Rattle.device_answers.specs.Routes.{view_echo, peer_of};
-ghost use Rattle.cip_tables.specs.Encapsulation.{echo_of, header_echo};
+ghost use Rattle.cip_router.specs.Frames.{echo_of, header_echo};
 ghost use Rattle.cip_encap.specs.Message.{view_message, view_header};
 
 use cip_encap::{MessageHeader, MessageView};

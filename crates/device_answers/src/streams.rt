@@ -2,7 +2,7 @@
 
 ghost use Rattle.std.specs.Prelude.{◌≡◌, ◌∷◌, ◌++◌, [], IfOk, OnOk, OnErr, filter, find, map};
 ghost use Rattle.std.specs.List.{list_any};
-ghost use Rattle.cip_tables.specs.Streams.{is_stream, is_other_stream, is_taken, session_of, has_session, registered_stream};
+ghost use Rattle.adapter_table.specs.Streams.{is_stream, is_other_stream, is_taken, session_of, has_session, registered_stream};
 
 use cip_tables::Stream;
 use cip_types::OutOfMemory;

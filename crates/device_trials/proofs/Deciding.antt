@@ -7,14 +7,14 @@ use Rattle.std.proofs.lemmas.Bool.Decides.{Decides-eqb, Decides-and, Decides-lik
 use Rattle.cip_types.specs.declared.names.Triad.{Triad}
 use Rattle.cip_types.specs.declared.names.Node.{Node}
 use Rattle.cip_types.specs.declared.names.ConnId.{ConnId}
-use Rattle.cip_tables.specs.declared.event.Recipient.{Recipient}
-use Rattle.cip_tables.specs.declared.event.Frame.{Frame}
-use Rattle.cip_tables.specs.declared.event.Sending.{Sending}
-use Rattle.cip_tables.specs.declared.event.Delivery.{Delivery}
-use Rattle.cip_tables.specs.declared.event.Verdict.{Verdict}
-use Rattle.cip_tables.specs.declared.event.Notice.{Notice}
-use Rattle.cip_tables.specs.declared.event.Answer.{Answer}
-use Rattle.cip_tables.specs.declared.event.StepFault.{StepFault}
+use Rattle.cip_events.specs.declared.event.Recipient.{Recipient}
+use Rattle.cip_events.specs.declared.event.Frame.{Frame}
+use Rattle.cip_events.specs.declared.event.Sending.{Sending}
+use Rattle.cip_events.specs.declared.event.Delivery.{Delivery}
+use Rattle.cip_events.specs.declared.event.Verdict.{Verdict}
+use Rattle.cip_events.specs.declared.event.Notice.{Notice}
+use Rattle.cip_events.specs.declared.event.Answer.{Answer}
+use Rattle.cip_events.specs.declared.event.StepFault.{StepFault}
 use Rattle.cip_types.specs.contracts.names.NodePartialEq.TheImpl as node
 use Rattle.cip_types.specs.contracts.names.ConnIdPartialEq.TheImpl as id
 use Rattle.cip_types.specs.contracts.names.TriadPartialEq.TheImpl as triad

@@ -2,7 +2,8 @@
 use Rattle.std.specs.Prelude.{ℕ, ◌≢◌, Bool, true, false, List, [], ◌∷◌, map, take, drop, Option, Some, None}
 use Rattle.cip_tables.specs.declared.table.DeviceTable.{DeviceTable}
 use Rattle.cip_tables.specs.Step.{step}
-use Rattle.cip_tables.specs.Run.{Outcome, Follows, Runs}
+use Rattle.cip_events.specs.Outcomes.{Outcome, Follows}
+use Rattle.cip_tables.specs.Run.{Runs}
 use Rattle.device_trials.specs.Turns.{Turn, event_of, outcome_of}
 
 -- the turns lead from one table to another, and each is answered as told

@@ -1,12 +1,12 @@
 -- Trials: turns at a fresh adapter of a common profile.
 use Rattle.std.specs.Prelude.{ℕ, ◌≡◌, [], ◌∷◌, Option, Some, None}
-use Rattle.cip_tables.specs.declared.event.NewFault.{NewFault}
-use Rattle.cip_tables.specs.declared.event.NewFault.TheVariants as fault
-use Rattle.cip_tables.specs.declared.profile.OutputPoint.{OutputPoint}
-use Rattle.cip_tables.specs.declared.profile.Profile.{Profile}
+use Rattle.cip_events.specs.declared.event.NewFault.{NewFault}
+use Rattle.cip_events.specs.declared.event.NewFault.TheVariants as fault
+use Rattle.adapter_table.specs.declared.profile.OutputPoint.{OutputPoint}
+use Rattle.adapter_table.specs.declared.profile.Profile.{Profile}
 use Rattle.cip_tables.specs.declared.table.Config.TheVariants as config
 use Rattle.cip_tables.specs.declared.table.DeviceTable.{DeviceTable}
-use Rattle.cip_tables.specs.Profiles.{profile_fault}
+use Rattle.adapter_table.specs.Profiles.{profile_fault}
 use Rattle.cip_tables.specs.Step.{opening_table}
 use Rattle.device_trials.specs.declared.trial.Trial.{Trial}
 use Rattle.device_trials.specs.Playing.{Plays}

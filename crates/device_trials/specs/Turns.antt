@@ -1,15 +1,15 @@
 -- What happens at a device in a trial, and what it is to answer: as an event and as an outcome.
 use Rattle.std.specs.Prelude.{ℕ, List, [], ◌∷◌, map, Result, Ok, Err}
 use Rattle.cip_types.specs.declared.names.Node.{Node}
-use Rattle.cip_tables.specs.declared.event.Event.{Event}
-use Rattle.cip_tables.specs.declared.event.Event.TheVariants as event
-use Rattle.cip_tables.specs.declared.event.Frame.{Frame}
-use Rattle.cip_tables.specs.declared.event.Recipient.TheVariants.{Peer, Stream}
-use Rattle.cip_tables.specs.declared.event.Recipient.{Recipient}
-use Rattle.cip_tables.specs.declared.event.Sending.{Sending}
-use Rattle.cip_tables.specs.declared.event.Verdict.TheVariants as verdict
-use Rattle.cip_tables.specs.Requests.{plain_answer}
-use Rattle.cip_tables.specs.Run.{Outcome}
+use Rattle.cip_events.specs.declared.event.Event.{Event}
+use Rattle.cip_events.specs.declared.event.Event.TheVariants as event
+use Rattle.cip_events.specs.declared.event.Frame.{Frame}
+use Rattle.cip_events.specs.declared.event.Recipient.TheVariants.{Peer, Stream}
+use Rattle.cip_events.specs.declared.event.Recipient.{Recipient}
+use Rattle.cip_events.specs.declared.event.Sending.{Sending}
+use Rattle.cip_events.specs.declared.event.Verdict.TheVariants as verdict
+use Rattle.cip_events.specs.Answers.{plain_answer}
+use Rattle.cip_events.specs.Outcomes.{Outcome}
 use Rattle.device_trials.specs.declared.turn.Deed.{Deed}
 use Rattle.device_trials.specs.declared.turn.Deed.TheVariants as deed
 use Rattle.device_trials.specs.declared.turn.Sent.{Sent}

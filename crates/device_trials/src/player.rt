@@ -2,7 +2,7 @@
 
 ghost use Rattle.std.specs.Prelude.{◌≡◌, ◌↔◌, IfOk, IsTrue, OnErr, true, false};
 ghost use Rattle.cip_tables.specs.Step.{step};
-ghost use Rattle.cip_tables.specs.Run.{Follows};
+ghost use Rattle.cip_events.specs.Outcomes.{Follows};
 ghost use Rattle.device_trials.specs.Turns.{event_of, outcome_of};
 ghost use Rattle.device_trials.specs.Playing.{IsPlayed, Plays, Begins};
 

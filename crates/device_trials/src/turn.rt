@@ -1,7 +1,7 @@
 //! What happens at a device, and what it is to answer, in bytes that are lent.
 
 ghost use Rattle.std.specs.Prelude.{◌≡◌, IfOk, map};
-ghost use Rattle.cip_tables.specs.Requests.{plain_answer};
+ghost use Rattle.cip_events.specs.Answers.{plain_answer};
 ghost use Rattle.device_trials.specs.Turns.{event_of, sending_of, one_frame, outcome_of};
 
 use cip_tables::{

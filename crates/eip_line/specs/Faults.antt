@@ -1,10 +1,10 @@
 -- Which fault of a run an error of a part of it is.
 use Rattle.std.specs.Prelude.{◌≡◌, Option, Some, None}
 use Rattle.std.specs.Option.{option_map}
-use Rattle.cip_tables.specs.declared.profile.ProfileFault.{ProfileFault}
-use Rattle.cip_tables.specs.declared.event.NewFault.{NewFault}
-use Rattle.cip_tables.specs.declared.event.NewFault.TheVariants as new
-use Rattle.cip_tables.specs.Profiles.{fault_number}
+use Rattle.cip_events.specs.declared.profile_fault.ProfileFault.{ProfileFault}
+use Rattle.cip_events.specs.declared.event.NewFault.{NewFault}
+use Rattle.cip_events.specs.declared.event.NewFault.TheVariants as new
+use Rattle.cip_events.specs.Faults.{fault_number}
 use Rattle.eip_trace.specs.declared.trace.TraceFault.{TraceFault}
 use Rattle.eip_trace.specs.declared.trace.TraceFault.TheVariants as trace
 use Rattle.eip_line.specs.declared.program.ProgramFault.{ProgramFault}

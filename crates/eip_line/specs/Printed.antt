@@ -1,12 +1,13 @@
 -- What a run of the program prints.
 use Rattle.std.specs.Prelude.{ℕ, ◌≡◌, List, Option, IfSome}
 use Rattle.std.specs.Io.KnownBytes.{Appends}
-use Rattle.cip_tables.specs.declared.event.Event.{Event}
-use Rattle.cip_tables.specs.declared.profile.Profile.{Profile}
+use Rattle.cip_events.specs.declared.event.Event.{Event}
+use Rattle.adapter_table.specs.declared.profile.Profile.{Profile}
 use Rattle.cip_tables.specs.declared.table.Config.TheVariants.{Adapter}
 use Rattle.cip_tables.specs.declared.table.DeviceTable.{DeviceTable}
 use Rattle.cip_tables.specs.Step.{opening_table}
-use Rattle.cip_tables.specs.Run.{Outcome, Runs}
+use Rattle.cip_events.specs.Outcomes.{Outcome}
+use Rattle.cip_tables.specs.Run.{Runs}
 use Rattle.eip_trace.specs.Forms.{IsTrace}
 use Rattle.eip_trace.specs.Told.{outcomes_text}
 

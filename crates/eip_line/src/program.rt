@@ -2,7 +2,7 @@
 
 ghost use Rattle.std.specs.Prelude.{◌≡◌, ◌<◌, length, None, IfOk, OnOk, IfErr, IfSome, string_bytes};
 ghost use Rattle.std.specs.Io.KnownBytes.{Appends};
-ghost use Rattle.cip_tables.specs.Profiles.{profile_fault};
+ghost use Rattle.adapter_table.specs.Profiles.{profile_fault};
 ghost use Rattle.eip_line.specs.Printed.{IsToldRun, PrintsRun};
 ghost use Rattle.eip_line.specs.Faults.{IsRefused};
 ghost use Rattle.eip_trace.specs.Forms.{IsTrace};

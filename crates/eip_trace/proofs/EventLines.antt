@@ -2,8 +2,8 @@
 use Rattle.std.proofs.Common.{◌≡◌, ℕ, List, [], ◌∷◌, ◌++◌, map, Some, sym, ap, ◌∙◌, append_assoc}
 use Rattle.std.specs.List.{AllZip}
 use Rattle.std.proofs.lemmas.List.{map-append}
-use Rattle.cip_tables.specs.declared.event.Event.{Event}
-use Rattle.cip_tables.specs.declared.profile.Profile.{Profile}
+use Rattle.cip_events.specs.declared.event.Event.{Event}
+use Rattle.adapter_table.specs.declared.profile.Profile.{Profile}
 use Rattle.eip_trace.specs.Lines.{told_lines}
 use Rattle.eip_trace.specs.Forms.{profile_lines, TellsEvent}
 

@@ -5,8 +5,8 @@ use Rattle.std.proofs.lemmas.Fmt.{decimal_injective}
 use Rattle.hex.specs.Hex.{decode_of}
 use Rattle.hex.proofs.HexLemmas.{decode_of-same, decode_of-odd}
 use Rattle.cip_types.specs.declared.names.Node.{Node}
-use Rattle.cip_tables.specs.declared.event.Event.{Event}
-use Rattle.cip_tables.specs.declared.event.Event.TheVariants.{Request, StreamOpened, Frame, StreamCut, Datagram, Write, Read, Tick}
+use Rattle.cip_events.specs.declared.event.Event.{Event}
+use Rattle.cip_events.specs.declared.event.Event.TheVariants.{Request, StreamOpened, Frame, StreamCut, Datagram, Write, Read, Tick}
 use Rattle.eip_trace.specs.declared.words.LineFault.{LineFault}
 use Rattle.eip_trace.specs.declared.words.LineFault.TheVariants.{Bad, OutOfMemory}
 use Rattle.eip_trace.specs.Words.{Fits, node_word, SpellsBytes}

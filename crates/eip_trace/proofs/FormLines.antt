@@ -4,8 +4,8 @@ use Rattle.std.specs.Borrow.{Bor}
 use Rattle.std.specs.List.{join_with_byte}
 use Rattle.std.proofs.lemmas.List.{append-nil, map-append}
 use Rattle.std.proofs.lemmas.List.Splits.{join_with_byte-slice_split}
-use Rattle.cip_tables.specs.declared.profile.OutputPoint.{OutputPoint}
-use Rattle.cip_tables.specs.declared.profile.InputPoint.{InputPoint}
+use Rattle.adapter_table.specs.declared.profile.OutputPoint.{OutputPoint}
+use Rattle.adapter_table.specs.declared.profile.InputPoint.{InputPoint}
 use Rattle.eip_trace.specs.declared.lines.Lines.{Lines}
 use Rattle.eip_trace.specs.declared.profile_lines.AdapterLine.{AdapterLine}
 use Rattle.eip_trace.specs.declared.profile_lines.HeartbeatLine.{HeartbeatLine}

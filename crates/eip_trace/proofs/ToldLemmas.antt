@@ -3,7 +3,7 @@ use Rattle.std.proofs.Common.{◌≡◌, ℕ, ◌+◌, ◌<◌, List, [], ◌∷
 use Rattle.std.specs.Prelude.{All}
 use Rattle.std.proofs.lemmas.List.{append-nil, take_more, length-take}
 use Rattle.std.proofs.lemmas.List.Elements.{All-more}
-use Rattle.cip_tables.specs.Run.{Outcome}
+use Rattle.cip_events.specs.Outcomes.{Outcome}
 use Rattle.eip_trace.specs.Told.{outcome_text, outcomes_text, FoundMemory}
 
 -- the first outcomes are told, and memory was there for each

@@ -3,11 +3,11 @@
 use Rattle.std.specs.Prelude.{ℕ, ◌≡◌, ◌≢◌, List, [], ◌∷◌, ◌++◌, map, codes, decimal, Option, Some, None, Result, Ok, Err}
 use Rattle.std.specs.List.{join_with_byte, AllZip}
 use Rattle.cip_types.specs.declared.names.Identity.{Identity}
-use Rattle.cip_tables.specs.declared.profile.OutputPoint.{OutputPoint}
-use Rattle.cip_tables.specs.declared.profile.InputPoint.{InputPoint}
-use Rattle.cip_tables.specs.declared.profile.Profile.{Profile}
-use Rattle.cip_tables.specs.declared.event.Event.{Event}
-use Rattle.cip_tables.specs.declared.event.Event.TheVariants.{Request, StreamOpened, Frame, StreamCut, Datagram, Write, Read, Tick}
+use Rattle.adapter_table.specs.declared.profile.OutputPoint.{OutputPoint}
+use Rattle.adapter_table.specs.declared.profile.InputPoint.{InputPoint}
+use Rattle.adapter_table.specs.declared.profile.Profile.{Profile}
+use Rattle.cip_events.specs.declared.event.Event.{Event}
+use Rattle.cip_events.specs.declared.event.Event.TheVariants.{Request, StreamOpened, Frame, StreamCut, Datagram, Write, Read, Tick}
 use Rattle.eip_trace.specs.declared.words.LineFault.{LineFault}
 use Rattle.eip_trace.specs.declared.words.LineFault.TheVariants.{Bad, OutOfMemory}
 use Rattle.eip_trace.specs.declared.profile_lines.AdapterLine.{AdapterLine}

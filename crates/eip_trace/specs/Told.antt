@@ -6,20 +6,20 @@ use Rattle.hex.specs.Hex.{encode_lower}
 use Rattle.cip_types.specs.declared.names.Node.{Node}
 use Rattle.cip_types.specs.declared.names.Triad.{Triad}
 use Rattle.cip_types.specs.declared.names.ConnId.{ConnId}
-use Rattle.cip_tables.specs.declared.event.Answer.{Answer}
-use Rattle.cip_tables.specs.declared.event.Frame.{Frame}
-use Rattle.cip_tables.specs.declared.event.Recipient.{Recipient}
-use Rattle.cip_tables.specs.declared.event.Recipient.TheVariants.{Stream, Peer}
-use Rattle.cip_tables.specs.declared.event.Sending.{Sending}
-use Rattle.cip_tables.specs.declared.event.Delivery.{Delivery}
-use Rattle.cip_tables.specs.declared.event.Delivery.TheVariants.{Applied, Idle, Heartbeat, Duplicate, Old, UnknownId, WrongSize, Malformed}
-use Rattle.cip_tables.specs.declared.event.Verdict.{Verdict}
-use Rattle.cip_tables.specs.declared.event.Verdict.TheVariants.{Done, BadFrame, Value, Delivered}
-use Rattle.cip_tables.specs.declared.event.Notice.{Notice}
-use Rattle.cip_tables.specs.declared.event.Notice.TheVariants.{Opened, Closed, Expired, Dropped, Replaced, StreamClosed}
-use Rattle.cip_tables.specs.declared.event.StepFault.{StepFault}
-use Rattle.cip_tables.specs.declared.event.StepFault.TheVariants.{OutOfMemory, TickTooLong, ClockEnd, NoSuchPoint, WrongLength, NoSuchSlot, NotAllowedNow}
-use Rattle.cip_tables.specs.Run.{Outcome}
+use Rattle.cip_events.specs.declared.event.Answer.{Answer}
+use Rattle.cip_events.specs.declared.event.Frame.{Frame}
+use Rattle.cip_events.specs.declared.event.Recipient.{Recipient}
+use Rattle.cip_events.specs.declared.event.Recipient.TheVariants.{Stream, Peer}
+use Rattle.cip_events.specs.declared.event.Sending.{Sending}
+use Rattle.cip_events.specs.declared.event.Delivery.{Delivery}
+use Rattle.cip_events.specs.declared.event.Delivery.TheVariants.{Applied, Idle, Heartbeat, Duplicate, Old, UnknownId, WrongSize, Malformed}
+use Rattle.cip_events.specs.declared.event.Verdict.{Verdict}
+use Rattle.cip_events.specs.declared.event.Verdict.TheVariants.{Done, BadFrame, Value, Delivered}
+use Rattle.cip_events.specs.declared.event.Notice.{Notice}
+use Rattle.cip_events.specs.declared.event.Notice.TheVariants.{Opened, Closed, Expired, Dropped, Replaced, StreamClosed}
+use Rattle.cip_events.specs.declared.event.StepFault.{StepFault}
+use Rattle.cip_events.specs.declared.event.StepFault.TheVariants.{OutOfMemory, TickTooLong, ClockEnd, NoSuchPoint, WrongLength, NoSuchSlot, NotAllowedNow}
+use Rattle.cip_events.specs.Outcomes.{Outcome}
 use Rattle.eip_trace.specs.Words.{node_word, bytes_word}
 
 -- WORDS

@@ -7,8 +7,8 @@ use Rattle.std.specs.Net.Text.{ipv4_text}
 use Rattle.hex.specs.Hex.{encode_lower, decode_of}
 use Rattle.std.specs.List.{slice_split}
 use Rattle.cip_types.specs.declared.names.Node.{Node}
-use Rattle.cip_tables.specs.declared.profile.Action.{Action}
-use Rattle.cip_tables.specs.declared.profile.Action.TheVariants.{Zero, Hold}
+use Rattle.adapter_table.specs.declared.profile.Action.{Action}
+use Rattle.adapter_table.specs.declared.profile.Action.TheVariants.{Zero, Hold}
 
 -- WHAT IS WRITTEN
 

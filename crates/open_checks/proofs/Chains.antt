@@ -1,6 +1,6 @@
 -- Chains of checks.
 use Rattle.std.proofs.Common.{◌≡◌, List, [], ◌∷◌, ◌++◌, Some, None, refl}
-use Rattle.cip_tables.specs.Checks.{Check, first_of}
+use Rattle.adapter_table.specs.Checks.{Check, first_of}
 
 -- the first check that fails, where the first list may have one
 abbrev pub else_of : Check → List Check → Check

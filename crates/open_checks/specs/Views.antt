@@ -1,6 +1,6 @@
 -- What the program's values with references are in the definitions.
 use Rattle.open_checks.specs.declared.standing.Standing.{Standing}
-use Rattle.cip_tables.specs.Checks as checks
+use Rattle.adapter_table.specs.Checks as checks
 
 -- how things stand, wherever the lists lie in memory
 abbrev pub view_standing : Standing → checks.Standing

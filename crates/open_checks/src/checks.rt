@@ -6,7 +6,7 @@ ghost use Rattle.cip_epath.specs.Path.{view_path};
 ghost use Rattle.cip_epath.specs.Reading.{path_reading};
 ghost use Rattle.cip_fwdopen.specs.Open.{view_open};
 ghost use Rattle.open_checks.specs.Views.{view_standing};
-ghost use Rattle.cip_tables.specs.Checks.{Gives, readable_path, key_of, key_check, connection_check, first_of, group_checks, room_check, admitted_points, points_check, view_admission, admitted_path, verdict};
+ghost use Rattle.adapter_table.specs.Checks.{Gives, readable_path, key_of, key_check, connection_check, first_of, group_checks, room_check, admitted_points, points_check, view_admission, admitted_path, verdict};
 
 use crate::points::{
     changes_config, has_o_t_size, has_other_length, has_t_o_size, named_len, points_of,
@@ -51,7 +51,7 @@ fn key_refusal(identity: &Identity, path: &Option<ConnPath<'_>>) -> Option<Refus
 }
 
 /// The first check that a request fails before its points are looked up.
-#[tactic(auto, unfolding(cip_tables::specs::Checks::connection_check))]
+#[tactic(auto, unfolding(adapter_table::specs::Checks::connection_check))]
 fn connection_refusal(
     standing: Standing<'_>,
     request: &OpenRequest<'_>,
@@ -87,7 +87,7 @@ fn connection_refusal(
 }
 
 /// The first check that a request fails once its points are found.
-#[tactic(auto, unfolding(cip_tables::specs::Checks::points_check))]
+#[tactic(auto, unfolding(adapter_table::specs::Checks::points_check))]
 fn points_refusal(
     standing: Standing<'_>,
     request: &OpenRequest<'_>,
@@ -146,7 +146,7 @@ fn group_refusal(
 }
 
 /// The first check that a request fails against the producer that it joins, the ids and the room.
-#[tactic(auto, unfolding(cip_tables::specs::Checks::room_check), using(crate::proofs::Chains::first_append))]
+#[tactic(auto, unfolding(adapter_table::specs::Checks::room_check), using(crate::proofs::Chains::first_append))]
 fn room_refusal(
     standing: Standing<'_>,
     request: &OpenRequest<'_>,
@@ -186,7 +186,7 @@ fn admitted_points<'a>(
 }
 
 /// What a request of this path is admitted as.
-#[tactic(auto, unfolding(cip_tables::specs::Checks::admitted_path))]
+#[tactic(auto, unfolding(adapter_table::specs::Checks::admitted_path))]
 fn admitted_path<'a>(
     standing: Standing<'_>,
     request: &OpenRequest<'a>,
@@ -204,7 +204,7 @@ fn admitted_path<'a>(
 /// What a request is admitted as, or the answer of the first check that it fails. Takes no memory.
 ///
 /// Volume 1, chapter 3, Forward_Open service and Connection Manager extended status codes.
-#[tactic(auto, unfolding(cip_tables::specs::Checks::verdict))]
+#[tactic(auto, unfolding(adapter_table::specs::Checks::verdict))]
 pub fn admit<'a>(
     standing: Standing<'_>,
     request: &OpenRequest<'a>,

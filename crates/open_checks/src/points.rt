@@ -3,7 +3,7 @@
 ghost use Rattle.std.specs.Prelude.{◌≡◌, ◌==◌};
 ghost use Rattle.std.specs.Option.{option_map};
 ghost use Rattle.cip_epath.specs.Path.{view_path};
-ghost use Rattle.cip_tables.specs.Checks.{is_known_config, heartbeat_consumer, consumer_of, points_of, named_len, has_other_length, stored, has_other_bytes, config_bytes, changes_config, o_t_size, t_o_size};
+ghost use Rattle.adapter_table.specs.Checks.{is_known_config, heartbeat_consumer, consumer_of, points_of, named_len, has_other_length, stored, has_other_bytes, config_bytes, changes_config, o_t_size, t_o_size};
 
 use crate::rows::has_established;
 use crate::standing::Standing;

@@ -6,7 +6,7 @@ ghost use Rattle.cip_epath.specs.Path.{view_path};
 ghost use Rattle.cip_netparams.specs.Word.{trigger_of};
 ghost use Rattle.cip_netparams.specs.Rate.{interval_ms};
 ghost use Rattle.cip_fwdopen.specs.Open.{view_open};
-ghost use Rattle.cip_tables.specs.Checks.{inhibit_of, is_point_to_point, is_produced_type, is_multicast, is_change_of_state, is_unserved, are_intervals, is_held_back, joined, drawn_ids, served_trigger, served_inhibit};
+ghost use Rattle.adapter_table.specs.Checks.{inhibit_of, is_point_to_point, is_produced_type, is_multicast, is_change_of_state, is_unserved, are_intervals, is_held_back, joined, drawn_ids, served_trigger, served_inhibit};
 
 use crate::rows::group_of;
 use cip_epath::ConnPath;

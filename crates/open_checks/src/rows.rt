@@ -2,8 +2,8 @@
 
 ghost use Rattle.std.specs.Prelude.{◌≡◌, ◌≤◌};
 ghost use Rattle.std.specs.List.{list_any};
-ghost use Rattle.cip_tables.specs.Rows.{has_triad, holds_triad, drives, is_timed_out, is_established, is_member, supports, is_supported};
-ghost use Rattle.cip_tables.specs.Checks.{group_of, is_owned, is_alone, is_used_up, state_trigger, state_inhibit, same_trigger};
+ghost use Rattle.adapter_table.specs.Rows.{has_triad, holds_triad, drives, is_timed_out, is_established, is_member, supports, is_supported};
+ghost use Rattle.adapter_table.specs.Checks.{group_of, is_owned, is_alone, is_used_up, state_trigger, state_inhibit, same_trigger};
 
 use cip_netparams::Trigger;
 use cip_tables::{Consumer, Kind, Row, State};

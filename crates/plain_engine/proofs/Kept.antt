@@ -8,27 +8,27 @@ use Rattle.cip_types.specs.declared.names.Node.{Node}
 use Rattle.cip_types.specs.declared.names.Ms.{Ms}
 use Rattle.cip_datagram.specs.Datagram.{DatagramFields}
 use Rattle.cip_datagram.specs.Header.{header_at}
-use Rattle.cip_tables.specs.declared.event.Delivery.{Delivery}
-use Rattle.cip_tables.specs.declared.event.Delivery.TheVariants.{Applied}
-use Rattle.cip_tables.specs.declared.profile.InputPoint.{InputPoint}
-use Rattle.cip_tables.specs.declared.profile.Profile.{Profile}
-use Rattle.cip_tables.specs.declared.row.Row.{Row}
-use Rattle.cip_tables.specs.declared.row.State.{State}
-use Rattle.cip_tables.specs.declared.row.State.TheVariants.{Established, TimedOut}
-use Rattle.cip_tables.specs.declared.table.AdapterTable.{AdapterTable}
-use Rattle.cip_tables.specs.Profiles.{is_at}
-use Rattle.cip_tables.specs.Shapes.{len_of}
-use Rattle.cip_tables.specs.Rows.{written_state, written_row}
-use Rattle.cip_tables.specs.Order.{differs}
-use Rattle.cip_tables.specs.Closing.{stays, staying}
-use Rattle.cip_tables.specs.Datagrams.{is_for, row_delivery, run_data}
-use Rattle.cip_tables.specs.Productions.{shares_producer, leaders, state_is_prompt, is_prompt, prompt_sendings, prompt_row}
-use Rattle.cip_tables.specs.Ticks.{expired_row, expired_rows}
-use Rattle.cip_tables.specs.Whole.{RowsFit, IsWhole}
-use Rattle.cip_tables.specs.Whole.{ConsumesOutput}
-use Rattle.cip_tables.proofs.EachLemmas.{each_found}
-use Rattle.cip_tables.proofs.FedLemmas.{applied_fits, applied_output}
-use Rattle.cip_tables.proofs.WholeLemmas.{fits_filter, fits_map, fits_expired, fits_written}
+use Rattle.cip_events.specs.declared.event.Delivery.{Delivery}
+use Rattle.cip_events.specs.declared.event.Delivery.TheVariants.{Applied}
+use Rattle.adapter_table.specs.declared.profile.InputPoint.{InputPoint}
+use Rattle.adapter_table.specs.declared.profile.Profile.{Profile}
+use Rattle.adapter_table.specs.declared.row.Row.{Row}
+use Rattle.adapter_table.specs.declared.row.State.{State}
+use Rattle.adapter_table.specs.declared.row.State.TheVariants.{Established, TimedOut}
+use Rattle.adapter_table.specs.declared.table.AdapterTable.{AdapterTable}
+use Rattle.adapter_table.specs.Profiles.{is_at}
+use Rattle.adapter_table.specs.Shapes.{len_of}
+use Rattle.adapter_table.specs.Rows.{written_state, written_row}
+use Rattle.cip_types.specs.Order.{differs}
+use Rattle.adapter_table.specs.Closing.{stays, staying}
+use Rattle.adapter_table.specs.Datagrams.{is_for, row_delivery, run_data}
+use Rattle.adapter_table.specs.Productions.{shares_producer, leaders, state_is_prompt, is_prompt, prompt_sendings, prompt_row}
+use Rattle.adapter_table.specs.Ticks.{expired_row, expired_rows}
+use Rattle.adapter_table.specs.Whole.{RowsFit, IsWhole}
+use Rattle.adapter_table.specs.Whole.{ConsumesOutput}
+use Rattle.adapter_table.proofs.EachLemmas.{each_found}
+use Rattle.adapter_table.proofs.FedLemmas.{applied_fits, applied_output}
+use Rattle.adapter_table.proofs.WholeLemmas.{fits_filter, fits_map, fits_expired, fits_written}
 use Rattle.assembly_set.proofs.Shaping.{written_back}
 use Rattle.std.proofs.lemmas.List.{length-map}
 use Rattle.assembly_set.specs.declared.fault.PointFault.TheVariants.{WrongLength}

@@ -8,23 +8,24 @@ ghost use Rattle.cip_epath.specs.Path.{view_path};
 ghost use Rattle.cip_fwdopen.specs.Open.{view_open};
 ghost use Rattle.cip_fwdopen.specs.Close.{view_close};
 ghost use Rattle.cip_netparams.specs.Rate.{is_interval};
-ghost use Rattle.cip_tables.specs.Replies.{view_reply};
-ghost use Rattle.cip_tables.specs.Checks.{standing, verdict, view_admission, drawn_ids};
-ghost use Rattle.cip_tables.specs.Opening.{opened_row, opened_production, opened_state, opened_t_o_id, connection_id, configured};
-ghost use Rattle.cip_tables.specs.Asking.{asked_reading};
-ghost use Rattle.cip_tables.specs.Requests.{requested, served, admitted_open, served_open, router_refusal, known_close, served_close, served_assembly, is_value_attribute};
+ghost use Rattle.cip_router.specs.Replies.{view_reply};
+ghost use Rattle.adapter_table.specs.Checks.{standing, verdict, view_admission, drawn_ids};
+ghost use Rattle.adapter_table.specs.Opening.{opened_row, opened_production, opened_state, opened_t_o_id, connection_id, configured};
+ghost use Rattle.cip_router.specs.Asking.{asked_reading};
+ghost use Rattle.adapter_table.specs.Requests.{requested, served, admitted_open, served_open, router_refusal, known_close, served_close, served_assembly, is_value_attribute};
 ghost use Rattle.device_answers.specs.Routes.{peer_of, routed, routed_answer, IsWritable};
-ghost use Rattle.cip_tables.specs.Closing.{closed_values};
+ghost use Rattle.adapter_table.specs.Closing.{closed_values};
 ghost use Rattle.cip_datagram.specs.Datagram.{view_datagram};
 ghost use Rattle.cip_datagram.specs.Header.{header_at};
-ghost use Rattle.cip_tables.specs.Datagrams.{is_for, row_delivery, is_accepted, run_data, fed_values, fed_table, delivered, found_datagram, received};
-ghost use Rattle.cip_tables.specs.Productions.{is_prompt};
-ghost use Rattle.cip_tables.specs.Ticks.{clocked_table, elapsed, expired_values, tick};
-ghost use Rattle.cip_tables.specs.Points.{put_value};
-ghost use Rattle.cip_tables.specs.Shapes.{len_of};
-ghost use Rattle.cip_tables.specs.Whole.{IsWhole};
-ghost use Rattle.cip_tables.specs.Step.{write, read, written_table, prompt_table, write_answer, written};
-ghost use Rattle.cip_tables.specs.Run.{Follows};
+ghost use Rattle.adapter_table.specs.Datagrams.{is_for, row_delivery, run_data, fed_values, fed_table, delivered, found_datagram, received};
+ghost use Rattle.cip_events.specs.Answers.{is_accepted};
+ghost use Rattle.adapter_table.specs.Productions.{is_prompt};
+ghost use Rattle.adapter_table.specs.Ticks.{clocked_table, elapsed, expired_values, tick};
+ghost use Rattle.adapter_table.specs.Points.{put_value};
+ghost use Rattle.adapter_table.specs.Shapes.{len_of};
+ghost use Rattle.adapter_table.specs.Whole.{IsWhole};
+ghost use Rattle.adapter_table.specs.Step.{write, read, written_table, prompt_table, write_answer, written};
+ghost use Rattle.cip_events.specs.Outcomes.{Follows};
 ghost use Rattle.assembly_set.specs.Assemblies.{config_len, is_output, write_fault};
 ghost use Rattle.std.specs.List.{list_any};
 
@@ -84,8 +85,8 @@ pub struct PlainAdapter {
 }
 
 impl Model for PlainAdapter {
-    ghost use Rattle.cip_tables.specs.declared.table.AdapterTable.{AdapterTable};
-    ghost use Rattle.cip_tables.specs.Whole.{IsWhole};
+    ghost use Rattle.adapter_table.specs.declared.table.AdapterTable.{AdapterTable};
+    ghost use Rattle.adapter_table.specs.Whole.{IsWhole};
 
     ghost Value = { AdapterTable };
 
@@ -160,7 +161,7 @@ impl PlainAdapter {
     }
 
     /// The connection that an admitted request opens.
-    #[tactic(auto, unfolding(cip_tables::specs::Opening::opened_row))]
+    #[tactic(auto, unfolding(adapter_table::specs::Opening::opened_row))]
     fn row_of(&self, peer: Node, request: &OpenRequest<'_>, admission: &Admission<'_>) -> Row
         requires o_t { IsTrue (is_interval request.now.o_t_rpi) }
         requires t_o { IsTrue (is_interval request.now.t_o_rpi) }
@@ -192,7 +193,7 @@ impl PlainAdapter {
     }
 
     /// Opens the connection of an admitted request.
-    #[tactic(auto, unfolding(cip_tables::specs::Requests::admitted_open, cip_tables::specs::Opening::opened_table))]
+    #[tactic(auto, unfolding(adapter_table::specs::Requests::admitted_open, adapter_table::specs::Opening::opened_table))]
     fn open(
         &mut self,
         route: Route,
@@ -215,7 +216,7 @@ impl PlainAdapter {
     }
 
     /// A Forward_Open of either size.
-    #[tactic(auto, unfolding(cip_tables::specs::Requests::served_open))]
+    #[tactic(auto, unfolding(adapter_table::specs::Requests::served_open))]
     fn forward_open(&mut self, route: Route, large: bool, request: &OpenRequest<'_>) -> Outcome
         ensures { Follows (Ok (routed self.old route (Some (served_open self.old (peer_of route) large (view_open request.now))))) self.old result self.new }
     {
@@ -248,7 +249,7 @@ impl PlainAdapter {
     }
 
     /// The close of a connection.
-    #[tactic(auto, unfolding(cip_tables::specs::Closing::closed_table))]
+    #[tactic(auto, unfolding(adapter_table::specs::Closing::closed_table))]
     fn close(&mut self, route: Route, row: &Row) -> Outcome
         ensures { Follows (Ok (routed self.old route (Some (known_close self.old row.now)))) self.old result self.new }
     {
@@ -263,7 +264,7 @@ impl PlainAdapter {
     }
 
     /// A Forward_Close.
-    #[tactic(auto, unfolding(cip_tables::specs::Requests::served_close))]
+    #[tactic(auto, unfolding(adapter_table::specs::Requests::served_close))]
     fn forward_close(&mut self, route: Route, request: &CloseRequest<'_>) -> Outcome
         ensures { Follows (Ok (routed self.old route (Some (served_close self.old (view_close request.now))))) self.old result self.new }
     {
@@ -278,7 +279,7 @@ impl PlainAdapter {
     }
 
     /// A service of an assembly instance.
-    #[tactic(auto, unfolding(cip_tables::specs::Requests::served_assembly))]
+    #[tactic(auto, unfolding(adapter_table::specs::Requests::served_assembly))]
     fn assembly(
         &mut self,
         route: Route,
@@ -320,7 +321,7 @@ impl PlainAdapter {
     }
 
     /// A request of a peer.
-    #[tactic(auto, unfolding(cip_tables::specs::Requests::requested), using(device_answers::proofs::RouteLemmas::routed_to_peer))]
+    #[tactic(auto, unfolding(adapter_table::specs::Requests::requested), using(device_answers::proofs::RouteLemmas::routed_to_peer))]
     fn request(&mut self, peer: Node, bytes: &[u8]) -> Outcome
         ensures { Follows (Ok (requested self.old peer bytes.now)) self.old result self.new }
     {
@@ -333,7 +334,7 @@ impl PlainAdapter {
 impl PlainAdapter {
     /// The connection that a datagram is for has accepted it: its data stand at the output, or the idle
     /// action is done, as its delivery says.
-    #[tactic(auto, unfolding(cip_tables::specs::Datagrams::fed_table))]
+    #[tactic(auto, unfolding(adapter_table::specs::Datagrams::fed_table))]
     fn feed(&mut self, peer: Node, datagram: &Datagram<'_>, row: &Row, delivery: Delivery)
         requires found { find (is_for peer datagram.now.connection.0) self.old.rows ≡ Some row.now }
         requires judged { row_delivery self.old.profile row.now (view_datagram datagram.now) ≡ delivery }
@@ -358,7 +359,7 @@ impl PlainAdapter {
     }
 
     /// The bytes of a datagram of a peer.
-    #[tactic(auto, unfolding(cip_tables::specs::Datagrams::received))]
+    #[tactic(auto, unfolding(adapter_table::specs::Datagrams::received))]
     fn receive(&mut self, peer: Node, bytes: &[u8]) -> Delivery
         ensures { received self.old peer bytes.now ≡ delivered result self.new }
     {
@@ -421,7 +422,7 @@ impl PlainAdapter {
     }
 
     /// Milliseconds pass that do not lead past the end of the clock.
-    #[tactic(auto, unfolding(cip_tables::specs::Ticks::clocked_table, cip_tables::specs::Ticks::expired_table, cip_tables::specs::Ticks::produced_table))]
+    #[tactic(auto, unfolding(adapter_table::specs::Ticks::clocked_table, adapter_table::specs::Ticks::expired_table, adapter_table::specs::Ticks::produced_table))]
     fn elapse(&mut self, ms: u32) -> Outcome
         requires { self.old.clock.0 + ms ≤ 2 ^ 48 }
         ensures { Follows (Ok (elapsed (clocked_table self.old ms))) self.old result self.new }
@@ -437,7 +438,7 @@ impl PlainAdapter {
     }
 
     /// Milliseconds pass.
-    #[tactic(auto, unfolding(cip_tables::specs::Ticks::tick))]
+    #[tactic(auto, unfolding(adapter_table::specs::Ticks::tick))]
     fn tick(&mut self, ms: u32) -> Outcome
         ensures { Follows (tick self.old ms) self.old result self.new }
     {
@@ -464,7 +465,7 @@ fn lose_owners(assemblies: &mut AssemblySet, gone: &[Row])
 
 impl PlainAdapter {
     /// Sets what an input holds, where no producer produces at once.
-    #[tactic(auto, unfolding(cip_tables::specs::Step::written_table, cip_tables::specs::Step::prompt_table))]
+    #[tactic(auto, unfolding(adapter_table::specs::Step::written_table, adapter_table::specs::Step::prompt_table))]
     fn write_quietly(&mut self, point: u32, bytes: &[u8]) -> Outcome
         requires input { write_fault self.old.profile point (length bytes.now) ≡ None }
         requires quiet { list_any (is_prompt self.old.clock point) self.old.rows ≡ false }
@@ -487,7 +488,7 @@ impl PlainAdapter {
     }
 
     /// Sets what an input holds, and its change-of-state producers produce.
-    #[tactic(auto, unfolding(cip_tables::specs::Step::written_table, cip_tables::specs::Step::prompt_table))]
+    #[tactic(auto, unfolding(adapter_table::specs::Step::written_table, adapter_table::specs::Step::prompt_table))]
     fn write_promptly(&mut self, point: u32, bytes: &[u8]) -> Outcome
         requires input { write_fault self.old.profile point (length bytes.now) ≡ None }
         requires short { length bytes.now ≤ 1400 }
@@ -500,7 +501,7 @@ impl PlainAdapter {
     }
 
     /// Sets what an input holds.
-    #[tactic(auto, unfolding(cip_tables::specs::Step::write))]
+    #[tactic(auto, unfolding(adapter_table::specs::Step::write))]
     fn write(&mut self, point: u32, bytes: &[u8]) -> Outcome
         ensures step { Follows (write self.old point bytes.now) self.old result self.new }
         ensures no_memory { list_any (is_prompt self.old.clock point) self.old.rows ≡ false → result ≢ Err StepFault.OutOfMemory }
@@ -518,7 +519,7 @@ impl PlainAdapter {
     }
 
     /// What a point holds.
-    #[tactic(auto, unfolding(cip_tables::specs::Step::read))]
+    #[tactic(auto, unfolding(adapter_table::specs::Step::read))]
     fn read(&mut self, point: u32) -> Outcome
         ensures { Follows (read self.old point) self.old result self.new }
     {

@@ -1,12 +1,12 @@
 //! Streams of peers, and the messages that come over them.
 
 ghost use Rattle.std.specs.Prelude.{◌≡◌, ◌∷◌, [], Ok, IfOk, Some};
-ghost use Rattle.cip_tables.specs.declared.event.Notice.TheVariants.{StreamClosed};
-ghost use Rattle.cip_tables.specs.declared.event.Verdict.TheVariants.{Done};
-ghost use Rattle.cip_tables.specs.Encapsulation.{frame, misfit_answer, framed, refusal, handled, session_begun, register_session, unregister_session, send_rr_data};
-ghost use Rattle.cip_tables.specs.Streams.{stream_opened, stream_cut, without_stream, registered_table};
-ghost use Rattle.cip_tables.specs.Commands.{command_of};
-ghost use Rattle.cip_tables.specs.Run.{Follows};
+ghost use Rattle.cip_events.specs.declared.event.Notice.TheVariants.{StreamClosed};
+ghost use Rattle.cip_events.specs.declared.event.Verdict.TheVariants.{Done};
+ghost use Rattle.adapter_table.specs.Encapsulation.{frame, misfit_answer, framed, refusal, handled, session_begun, register_session, unregister_session, send_rr_data};
+ghost use Rattle.adapter_table.specs.Streams.{stream_opened, stream_cut, without_stream, registered_table};
+ghost use Rattle.cip_router.specs.Commands.{command_of};
+ghost use Rattle.cip_events.specs.Outcomes.{Follows};
 ghost use Rattle.device_answers.specs.Routes.{view_echo, view_frame_reply, IsWritableFrame, framed_answer};
 
 use super::PlainAdapter;
@@ -23,7 +23,7 @@ use device_answers::{
 
 impl PlainAdapter {
     /// A peer opens a stream.
-    #[tactic(auto, unfolding(cip_tables::specs::Streams::stream_opened, cip_tables::specs::Streams::with_stream))]
+    #[tactic(auto, unfolding(adapter_table::specs::Streams::stream_opened, adapter_table::specs::Streams::with_stream))]
     pub(crate) fn open_stream(&mut self, number: u16, peer: Node) -> Outcome
         ensures { Follows (stream_opened self.old number peer) self.old result self.new }
     {
@@ -40,7 +40,7 @@ impl PlainAdapter {
     }
 
     /// A stream breaks, or its peer ends it.
-    #[tactic(auto, unfolding(cip_tables::specs::Streams::stream_cut))]
+    #[tactic(auto, unfolding(adapter_table::specs::Streams::stream_cut))]
     pub(crate) fn cut_stream(&mut self, number: u16) -> Outcome
         ensures { Follows (stream_cut self.old number) self.old result self.new }
     {
@@ -56,7 +56,7 @@ impl PlainAdapter {
 
 impl PlainAdapter {
     /// The stream is not open any more.
-    #[tactic(auto, unfolding(cip_tables::specs::Streams::without_stream))]
+    #[tactic(auto, unfolding(adapter_table::specs::Streams::without_stream))]
     fn drop_stream(&mut self, number: u16)
         ensures { self.new ≡ without_stream self.old number }
     {
@@ -64,7 +64,7 @@ impl PlainAdapter {
     }
 
     /// A session is registered on the stream.
-    #[tactic(auto, unfolding(cip_tables::specs::Streams::registered_table))]
+    #[tactic(auto, unfolding(adapter_table::specs::Streams::registered_table))]
     fn mark_registered(&mut self, number: u16)
         ensures { self.new ≡ registered_table self.old number }
     {
@@ -150,7 +150,7 @@ impl PlainAdapter {
     }
 
     /// A whole message, by its command.
-    #[tactic(auto, unfolding(cip_tables::specs::Encapsulation::handled))]
+    #[tactic(auto, unfolding(adapter_table::specs::Encapsulation::handled))]
     fn handle(&mut self, stream: &Stream, echo: Echo, body: &[u8]) -> Outcome
         ensures { Follows (Ok (framed stream.now.number (view_echo echo) (handled self.old stream.now (view_echo echo) body.now (command_of echo.command)))) self.old result self.new }
     {
@@ -175,7 +175,7 @@ impl PlainAdapter {
     }
 
     /// The bytes of a frame that came over a stream.
-    #[tactic(auto, unfolding(cip_tables::specs::Encapsulation::frame))]
+    #[tactic(auto, unfolding(adapter_table::specs::Encapsulation::frame))]
     pub(crate) fn frame(&mut self, number: u16, bytes: &[u8]) -> Outcome
         ensures { Follows (frame self.old number bytes.now) self.old result self.new }
     {

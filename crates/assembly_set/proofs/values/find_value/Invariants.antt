@@ -1,5 +1,5 @@
 use Rattle.std.proofs.Common.{◌≡◌, drop}
-use Rattle.cip_tables.specs.Points.{bytes_at}
+use Rattle.adapter_table.specs.Points.{bytes_at}
 use Rattle.assembly_set.proofs.values.find_value.Given as goal
 
 abbrev pub invariant-loop-value : goal.invariant-loop-value

@@ -1,5 +1,5 @@
 use Rattle.std.proofs.Common.{◌≡◌, ◌++◌, take, map}
-use Rattle.cip_tables.specs.Points.{zeros}
+use Rattle.adapter_table.specs.Points.{zeros}
 use Rattle.assembly_set.proofs.values.push_inputs.Given as goal
 
 abbrev pub invariant-loop-input : goal.invariant-loop-input

@@ -1,6 +1,6 @@
 use Rattle.std.proofs.Common.{◌≡◌, ◌++◌, take, map}
-use Rattle.cip_tables.specs.Profiles.{as_point}
-use Rattle.cip_tables.specs.Points.{zeros}
+use Rattle.adapter_table.specs.Profiles.{as_point}
+use Rattle.adapter_table.specs.Points.{zeros}
 use Rattle.assembly_set.proofs.values.push_outputs.Given as goal
 
 abbrev pub invariant-loop-output : goal.invariant-loop-output

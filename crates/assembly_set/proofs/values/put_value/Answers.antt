@@ -1,8 +1,8 @@
 use Rattle.std.proofs.Common.{◌≡◌, ◌∙◌, ap, arith, length, map}
-use Rattle.cip_tables.specs.Points.{changed_value, put_value}
-use Rattle.cip_tables.specs.Shapes.{shape_of}
+use Rattle.adapter_table.specs.Points.{changed_value, put_value}
+use Rattle.adapter_table.specs.Shapes.{shape_of}
 use Rattle.assembly_set.proofs.Places.{map_done, map_more, mapped_at}
-use Rattle.cip_tables.proofs.Fitting.{put_shapes}
+use Rattle.adapter_table.proofs.Fitting.{put_shapes}
 use Rattle.assembly_set.proofs.Shaping.{fit_at}
 use Rattle.assembly_set.proofs.values.put_value.Goals as goal
 

@@ -1,4 +1,4 @@
-use Rattle.cip_tables.specs.Points.{changed_value}
+use Rattle.adapter_table.specs.Points.{changed_value}
 use Rattle.assembly_set.proofs.Places.{Mapped}
 use Rattle.assembly_set.proofs.values.put_value.Given as goal
 

@@ -1,5 +1,5 @@
 use Rattle.std.proofs.Common.{arith}
-use Rattle.cip_tables.specs.Points.{zeroed_value}
+use Rattle.adapter_table.specs.Points.{zeroed_value}
 use Rattle.assembly_set.proofs.Places.{map_more}
 use Rattle.assembly_set.proofs.values.zero_point.Goals as goal
 

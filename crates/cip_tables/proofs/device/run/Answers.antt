@@ -1,7 +1,7 @@
 use Rattle.std.proofs.Common.{arith}
 use Rattle.std.proofs.lemmas.List.{take_more}
 use Rattle.cip_tables.proofs.RunLemmas.{Runs_more, run_all, run_folds}
-use Rattle.cip_tables.proofs.StepLemmas.{run_sound}
+use Rattle.cip_tables.proofs.RunKeeps.{run_sound}
 use Rattle.cip_tables.proofs.device.run.Goals as goal
 
 pub loop-event-preserved : goal.loop-event-preserved

@@ -1,4 +1,4 @@
-use Rattle.cip_tables.proofs.StepLemmas.{reached_sound}
+use Rattle.cip_tables.proofs.RunKeeps.{reached_sound}
 use Rattle.cip_tables.proofs.laws.at_most_64_connections.Goals as goal
 
 pub returns : goal.returns

@@ -1,4 +1,4 @@
-use Rattle.cip_tables.proofs.StepLemmas.{reached_sound}
+use Rattle.cip_tables.proofs.RunKeeps.{reached_sound}
 use Rattle.cip_tables.proofs.laws.groups_share_one_production.Goals as goal
 
 pub returns : goal.returns

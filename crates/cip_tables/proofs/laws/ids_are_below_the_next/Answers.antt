@@ -1,4 +1,4 @@
-use Rattle.cip_tables.proofs.StepLemmas.{reached_sound}
+use Rattle.cip_tables.proofs.RunKeeps.{reached_sound}
 use Rattle.cip_tables.proofs.laws.ids_are_below_the_next.Goals as goal
 
 pub returns : goal.returns

@@ -1,5 +1,5 @@
 use Rattle.std.proofs.Common.{arith}
-use Rattle.cip_tables.specs.Datagrams.{fed_row}
+use Rattle.adapter_table.specs.Datagrams.{fed_row}
 use Rattle.cip_datagram.specs.Datagram.{view_datagram}
 use Rattle.assembly_set.proofs.Places.{map_more}
 use Rattle.connection_rows.proofs.Orders.{fits_at}

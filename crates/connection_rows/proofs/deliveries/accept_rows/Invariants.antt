@@ -1,4 +1,4 @@
-use Rattle.cip_tables.specs.Datagrams.{fed_row}
+use Rattle.adapter_table.specs.Datagrams.{fed_row}
 use Rattle.cip_datagram.specs.Datagram.{view_datagram}
 use Rattle.assembly_set.proofs.Places.{Mapped}
 use Rattle.connection_rows.proofs.deliveries.accept_rows.Given as goal

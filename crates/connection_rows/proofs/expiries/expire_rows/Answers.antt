@@ -1,5 +1,5 @@
 use Rattle.std.proofs.Common.{arith}
-use Rattle.cip_tables.specs.Ticks.{expired_row}
+use Rattle.adapter_table.specs.Ticks.{expired_row}
 use Rattle.assembly_set.proofs.Places.{map_more}
 use Rattle.connection_rows.proofs.expiries.expire_rows.Goals as goal
 

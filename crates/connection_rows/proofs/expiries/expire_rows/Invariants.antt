@@ -1,4 +1,4 @@
-use Rattle.cip_tables.specs.Ticks.{expired_row}
+use Rattle.adapter_table.specs.Ticks.{expired_row}
 use Rattle.assembly_set.proofs.Places.{Mapped}
 use Rattle.connection_rows.proofs.expiries.expire_rows.Given as goal
 

@@ -1,5 +1,5 @@
 use Rattle.std.proofs.Common.{◌≡◌, take, map}
-use Rattle.cip_tables.specs.Ticks.{expired_notice}
+use Rattle.adapter_table.specs.Ticks.{expired_notice}
 use Rattle.connection_rows.proofs.expiries.expired_notices.Given as goal
 
 abbrev pub invariant-loop-row : goal.invariant-loop-row

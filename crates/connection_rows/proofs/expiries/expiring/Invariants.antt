@@ -1,5 +1,5 @@
 use Rattle.std.proofs.Common.{◌≡◌, take, filter}
-use Rattle.cip_tables.specs.Ticks.{has_expired}
+use Rattle.adapter_table.specs.Ticks.{has_expired}
 use Rattle.connection_rows.proofs.expiries.expiring.Given as goal
 
 abbrev pub invariant-loop-row : goal.invariant-loop-row

@@ -1,7 +1,7 @@
 use Rattle.std.proofs.Common.{◌≡◌, ◌++◌, take, filter, map}
-use Rattle.cip_tables.specs.Rows.{is_forsaken}
-use Rattle.cip_tables.specs.Closing.{dropped_notice}
-use Rattle.cip_tables.specs.Ticks.{expired_notice}
+use Rattle.adapter_table.specs.Rows.{is_forsaken}
+use Rattle.adapter_table.specs.Closing.{dropped_notice}
+use Rattle.adapter_table.specs.Ticks.{expired_notice}
 use Rattle.connection_rows.proofs.expiries.expiry_notices.Given as goal
 
 abbrev pub invariant-loop-row : goal.invariant-loop-row

@@ -1,5 +1,5 @@
 use Rattle.std.proofs.Common.{◌≡◌, take, filter}
-use Rattle.cip_tables.specs.Productions.{is_prompt}
+use Rattle.adapter_table.specs.Productions.{is_prompt}
 use Rattle.connection_rows.proofs.prompt.prompt_only.Given as goal
 
 abbrev pub invariant-loop-row : goal.invariant-loop-row

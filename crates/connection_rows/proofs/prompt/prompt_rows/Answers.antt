@@ -1,5 +1,5 @@
 use Rattle.std.proofs.Common.{arith}
-use Rattle.cip_tables.specs.Productions.{prompt_row}
+use Rattle.adapter_table.specs.Productions.{prompt_row}
 use Rattle.assembly_set.proofs.Places.{map_more}
 use Rattle.connection_rows.proofs.Orders.{fits_at}
 use Rattle.connection_rows.proofs.prompt.prompt_rows.Goals as goal

@@ -1,4 +1,4 @@
-use Rattle.cip_tables.specs.Productions.{prompt_row}
+use Rattle.adapter_table.specs.Productions.{prompt_row}
 use Rattle.assembly_set.proofs.Places.{Mapped}
 use Rattle.connection_rows.proofs.prompt.prompt_rows.Given as goal
 

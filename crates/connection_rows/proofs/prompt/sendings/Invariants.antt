@@ -1,5 +1,5 @@
 use Rattle.std.proofs.Common.{◌≡◌, take, flat_map}
-use Rattle.cip_tables.specs.Productions.{sending}
+use Rattle.adapter_table.specs.Productions.{sending}
 use Rattle.connection_rows.proofs.prompt.sendings.Given as goal
 
 abbrev pub invariant-loop-row : goal.invariant-loop-row

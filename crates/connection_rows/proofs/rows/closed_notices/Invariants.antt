@@ -1,7 +1,7 @@
 use Rattle.std.proofs.Common.{◌≡◌, ◌∷◌, take, filter, map}
-use Rattle.cip_tables.specs.declared.event.Notice.TheVariants.{Closed}
-use Rattle.cip_tables.specs.Rows.{is_forsaken}
-use Rattle.cip_tables.specs.Closing.{dropped_notice}
+use Rattle.cip_events.specs.declared.event.Notice.TheVariants.{Closed}
+use Rattle.adapter_table.specs.Rows.{is_forsaken}
+use Rattle.adapter_table.specs.Closing.{dropped_notice}
 use Rattle.connection_rows.proofs.rows.closed_notices.Given as goal
 
 abbrev pub invariant-loop-row : goal.invariant-loop-row

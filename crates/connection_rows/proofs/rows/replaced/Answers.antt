@@ -1,6 +1,6 @@
 use Rattle.std.proofs.Common.{ap, sym}
 use Rattle.std.specs.Option.{option_map}
-use Rattle.cip_tables.specs.Opening.{triad_of}
+use Rattle.adapter_table.specs.Opening.{triad_of}
 use Rattle.connection_rows.proofs.Places.{find_some, find_none}
 use Rattle.connection_rows.proofs.rows.replaced.Goals as goal
 

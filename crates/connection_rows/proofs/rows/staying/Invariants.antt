@@ -1,5 +1,5 @@
 use Rattle.std.proofs.Common.{◌≡◌, take, filter}
-use Rattle.cip_tables.specs.Closing.{stays}
+use Rattle.adapter_table.specs.Closing.{stays}
 use Rattle.connection_rows.proofs.rows.staying.Given as goal
 
 abbrev pub invariant-loop-row : goal.invariant-loop-row

@@ -1,5 +1,5 @@
 use Rattle.std.proofs.Common.{arith}
-use Rattle.cip_tables.specs.Rows.{written_row}
+use Rattle.adapter_table.specs.Rows.{written_row}
 use Rattle.assembly_set.proofs.Places.{map_more}
 use Rattle.connection_rows.proofs.rows.write_rows.Goals as goal
 

@@ -1,4 +1,4 @@
-use Rattle.cip_tables.specs.Rows.{written_row}
+use Rattle.adapter_table.specs.Rows.{written_row}
 use Rattle.assembly_set.proofs.Places.{Mapped}
 use Rattle.connection_rows.proofs.rows.write_rows.Given as goal
 

@@ -1,6 +1,6 @@
 use Rattle.std.proofs.Common.{◌≡◌, take}
-use Rattle.cip_tables.specs.Order.{first_of_each}
-use Rattle.cip_tables.specs.Productions.{same_node}
+use Rattle.cip_types.specs.Order.{first_of_each}
+use Rattle.adapter_table.specs.Productions.{same_node}
 use Rattle.connection_rows.proofs.sendings.each_once.Given as goal
 
 abbrev pub invariant-loop-node : goal.invariant-loop-node

@@ -1,5 +1,5 @@
 use Rattle.std.proofs.Common.{◌≡◌, take}
-use Rattle.cip_tables.specs.Productions.{leaders}
+use Rattle.adapter_table.specs.Productions.{leaders}
 use Rattle.connection_rows.proofs.sendings.leaders.Given as goal
 
 abbrev pub invariant-loop-row : goal.invariant-loop-row

@@ -1,5 +1,5 @@
 use Rattle.std.proofs.Common.{◌≡◌, take, filter, map}
-use Rattle.cip_tables.specs.Productions.{shares_producer, peer_of}
+use Rattle.adapter_table.specs.Productions.{shares_producer, peer_of}
 use Rattle.connection_rows.proofs.sendings.peers.Given as goal
 
 abbrev pub invariant-loop-other : goal.invariant-loop-other

@@ -1,8 +1,8 @@
 use Rattle.std.proofs.Common.{◌≤◌, length}
 use Rattle.std.specs.Option.{option_map}
-use Rattle.cip_tables.specs.Replies.{view_reply}
-use Rattle.cip_tables.specs.Encapsulation.{socket_of}
-use Rattle.cip_tables.proofs.ReplyLemmas.{reply_some, reply_fits, items_fit}
+use Rattle.cip_router.specs.Replies.{view_reply}
+use Rattle.cip_router.specs.Frames.{socket_of}
+use Rattle.adapter_table.proofs.ReplyLemmas.{reply_some, reply_fits, items_fit}
 use Rattle.device_answers.proofs.replies.write_router.Goals as goal
 
 pub write_items-requires-clause-some : goal.write_items-requires-clause-some

@@ -1,5 +1,5 @@
 use Rattle.std.proofs.Common.{arith}
-use Rattle.cip_tables.specs.Streams.{registered_stream}
+use Rattle.adapter_table.specs.Streams.{registered_stream}
 use Rattle.assembly_set.proofs.Places.{map_more}
 use Rattle.device_answers.proofs.streams.mark.Goals as goal
 

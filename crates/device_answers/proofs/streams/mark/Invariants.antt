@@ -1,4 +1,4 @@
-use Rattle.cip_tables.specs.Streams.{registered_stream}
+use Rattle.adapter_table.specs.Streams.{registered_stream}
 use Rattle.assembly_set.proofs.Places.{Mapped}
 use Rattle.device_answers.proofs.streams.mark.Given as goal
 

@@ -1,7 +1,7 @@
 use Rattle.std.proofs.Common.{codes}
 use Rattle.std.proofs.lemmas.Result.{err_from_is_err_and}
 use Rattle.eip_trace.specs.Words.{node_word}
-use Rattle.cip_tables.specs.declared.event.Event.TheVariants.{Datagram}
+use Rattle.cip_events.specs.declared.event.Event.TheVariants.{Datagram}
 use Rattle.eip_trace.proofs.EventWords.{IsNode, name_refused, datagram_fields, bytes_refused}
 use Rattle.eip_trace.proofs.event_lines.datagram_of.Goals as goal
 

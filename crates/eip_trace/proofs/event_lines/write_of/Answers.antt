@@ -1,7 +1,7 @@
 use Rattle.std.proofs.Common.{decimal, codes}
 use Rattle.std.proofs.lemmas.Result.{err_from_is_err_and}
 use Rattle.eip_trace.specs.Words.{Fits}
-use Rattle.cip_tables.specs.declared.event.Event.TheVariants.{Write}
+use Rattle.cip_events.specs.declared.event.Event.TheVariants.{Write}
 use Rattle.eip_trace.proofs.EventWords.{write_fields, bytes_refused}
 use Rattle.eip_trace.proofs.event_lines.write_of.Goals as goal
 

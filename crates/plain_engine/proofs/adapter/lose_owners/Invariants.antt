@@ -1,5 +1,5 @@
 use Rattle.std.proofs.Common.{◌≡◌, drop}
-use Rattle.cip_tables.specs.Ticks.{expired_values}
+use Rattle.adapter_table.specs.Ticks.{expired_values}
 use Rattle.plain_engine.proofs.adapter.lose_owners.Given as goal
 
 abbrev pub invariant-loop-row : goal.invariant-loop-row

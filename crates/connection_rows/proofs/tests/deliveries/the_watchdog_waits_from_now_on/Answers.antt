@@ -1,5 +1,5 @@
 use Rattle.std.proofs.Common.{[], None, rules}
-use Rattle.cip_tables.specs.declared.profile.Profile.{Profile}
+use Rattle.adapter_table.specs.declared.profile.Profile.{Profile}
 use Rattle.connection_rows.proofs.tests.deliveries.the_watchdog_waits_from_now_on.Goals as goal
 
 any : Profile

@@ -1,5 +1,5 @@
 use Rattle.std.proofs.Common.{[], None, rules}
-use Rattle.cip_tables.specs.declared.profile.Profile.{Profile}
+use Rattle.adapter_table.specs.declared.profile.Profile.{Profile}
 use Rattle.connection_rows.proofs.tests.productions.a_cyclic_producer_keeps_its_pace.Goals as goal
 
 any : Profile

@@ -1,5 +1,5 @@
 use Rattle.std.proofs.Common.{[], None, rules}
-use Rattle.cip_tables.specs.declared.profile.Profile.{Profile}
+use Rattle.adapter_table.specs.declared.profile.Profile.{Profile}
 use Rattle.connection_rows.proofs.tests.writes.a_free_producer_goes_on_and_a_held_one_is_due.Goals as goal
 
 any : Profile

@@ -1,7 +1,7 @@
 use Rattle.std.proofs.Common.{rules}
-use Rattle.cip_tables.specs.declared.table.AdapterTable.{AdapterTable}
-use Rattle.cip_tables.specs.Closing.{closed_table}
-use Rattle.cip_tables.proofs.WholeSteps.{whole_closed}
+use Rattle.adapter_table.specs.declared.table.AdapterTable.{AdapterTable}
+use Rattle.adapter_table.specs.Closing.{closed_table}
+use Rattle.adapter_table.proofs.WholeSteps.{whole_closed}
 use Rattle.plain_engine.proofs.Kept.{whole_by}
 use Rattle.plain_engine.proofs.adapter.PlainAdapter.close.Goals as goal
 

@@ -1,6 +1,6 @@
-use Rattle.cip_tables.specs.declared.table.AdapterTable.{AdapterTable}
-use Rattle.cip_tables.specs.Streams.{without_stream}
-use Rattle.cip_tables.proofs.WholeSteps.{whole_without}
+use Rattle.adapter_table.specs.declared.table.AdapterTable.{AdapterTable}
+use Rattle.adapter_table.specs.Streams.{without_stream}
+use Rattle.adapter_table.proofs.WholeSteps.{whole_without}
 use Rattle.plain_engine.proofs.adapter.PlainAdapter.drop_stream.Goals as goal
 
 pub invariant_of-self : goal.invariant_of-self

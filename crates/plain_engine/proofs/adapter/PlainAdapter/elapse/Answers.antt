@@ -1,6 +1,6 @@
-use Rattle.cip_tables.specs.declared.table.AdapterTable.{AdapterTable}
-use Rattle.cip_tables.specs.Ticks.{clocked_table, expired_table, produced_table}
-use Rattle.cip_tables.proofs.WholeSteps.{whole_elapsed}
+use Rattle.adapter_table.specs.declared.table.AdapterTable.{AdapterTable}
+use Rattle.adapter_table.specs.Ticks.{clocked_table, expired_table, produced_table}
+use Rattle.adapter_table.proofs.WholeSteps.{whole_elapsed}
 use Rattle.plain_engine.proofs.Kept.{fits_left}
 use Rattle.plain_engine.proofs.adapter.PlainAdapter.elapse.Goals as goal
 

@@ -1,7 +1,7 @@
-use Rattle.cip_tables.specs.declared.table.AdapterTable.{AdapterTable}
+use Rattle.adapter_table.specs.declared.table.AdapterTable.{AdapterTable}
 use Rattle.cip_datagram.specs.Datagram.{view_datagram}
-use Rattle.cip_tables.specs.Datagrams.{fed_row, fed_table}
-use Rattle.cip_tables.proofs.WholeSteps.{whole_fed}
+use Rattle.adapter_table.specs.Datagrams.{fed_row, fed_table}
+use Rattle.adapter_table.proofs.WholeSteps.{whole_fed}
 use Rattle.plain_engine.proofs.Kept.{rows_by, feeds_output, feeds_len}
 use Rattle.plain_engine.proofs.adapter.PlainAdapter.feed.Goals as goal
 

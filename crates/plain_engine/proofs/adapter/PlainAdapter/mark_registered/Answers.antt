@@ -1,6 +1,6 @@
-use Rattle.cip_tables.specs.declared.table.AdapterTable.{AdapterTable}
-use Rattle.cip_tables.specs.Streams.{registered_table}
-use Rattle.cip_tables.proofs.WholeSteps.{whole_registered}
+use Rattle.adapter_table.specs.declared.table.AdapterTable.{AdapterTable}
+use Rattle.adapter_table.specs.Streams.{registered_table}
+use Rattle.adapter_table.proofs.WholeSteps.{whole_registered}
 use Rattle.plain_engine.proofs.adapter.PlainAdapter.mark_registered.Goals as goal
 
 pub invariant_of-self : goal.invariant_of-self

@@ -1,11 +1,11 @@
 use Rattle.std.proofs.Common.{rules, ◌+◌, ◌≤◌, ap}
-use Rattle.cip_tables.specs.declared.row.Row.{Row}
-use Rattle.cip_tables.specs.declared.table.AdapterTable.{AdapterTable}
+use Rattle.adapter_table.specs.declared.row.Row.{Row}
+use Rattle.adapter_table.specs.declared.table.AdapterTable.{AdapterTable}
 use Rattle.cip_fwdopen.specs.Open.{view_open}
-use Rattle.cip_tables.specs.Checks.{view_admission}
-use Rattle.cip_tables.proofs.WholeSteps.{whole_opened}
-use Rattle.cip_tables.specs.Opening.{opened_row, opened_table}
-use Rattle.cip_tables.proofs.WholeLemmas.{is_timed, interval_fits}
+use Rattle.adapter_table.specs.Checks.{view_admission}
+use Rattle.adapter_table.proofs.WholeSteps.{whole_opened}
+use Rattle.adapter_table.specs.Opening.{opened_row, opened_table}
+use Rattle.adapter_table.proofs.WholeLemmas.{is_timed, interval_fits}
 use Rattle.device_answers.specs.Routes.{peer_of}
 use Rattle.plain_engine.proofs.Admitted.{stored_fits}
 use Rattle.plain_engine.proofs.adapter.PlainAdapter.open.Goals as goal

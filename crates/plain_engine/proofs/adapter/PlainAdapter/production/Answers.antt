@@ -1,4 +1,4 @@
-use Rattle.cip_tables.proofs.Limits.{few_inputs}
+use Rattle.adapter_table.proofs.Limits.{few_inputs}
 use Rattle.plain_engine.proofs.adapter.PlainAdapter.production.Goals as goal
 
 pub address_of-requires : goal.address_of-requires

@@ -1,7 +1,7 @@
 use Rattle.std.proofs.Common.{◌∙◌, refl}
-use Rattle.cip_tables.specs.declared.table.AdapterTable.{AdapterTable}
-use Rattle.cip_tables.specs.Step.{written_table, prompt_table}
-use Rattle.cip_tables.proofs.WholeSteps.{whole_written}
+use Rattle.adapter_table.specs.declared.table.AdapterTable.{AdapterTable}
+use Rattle.adapter_table.specs.Step.{written_table, prompt_table}
+use Rattle.adapter_table.proofs.WholeSteps.{whole_written}
 use Rattle.plain_engine.proofs.Kept.{is_input, nothing_prompt, without_fault, written_back_rows}
 use Rattle.plain_engine.proofs.adapter.PlainAdapter.write_quietly.Goals as goal
 

@@ -1,0 +1,203 @@
+-- What keeps the rows sound: one is taken out, some are filtered out, one is appended.
+use Rattle.std.proofs.Common.{◌≡◌, ◌≤◌, ◌<◌, ℕ, ◌+◌, ◌*◌, ◌^◌, Bool, true, false, cond, not, ◌||◌, ◌&&◌, nat_le, ◌==◌, List, [], ◌∷◌, ◌++◌, length, filter, refl, sym, ◌∙◌, ap, arith, length-append}
+use Rattle.std.specs.List.{list_any}
+use Rattle.std.proofs.lemmas.Bool.Decides.{nat_tests}
+use Rattle.std.proofs.lemmas.Grind.{common_steps}
+use Rattle.std.proofs.lemmas.List.Elements.{filter-append}
+use Rattle.std.proofs.lemmas.List.Folds.{list_any-append}
+use Rattle.cip_types.specs.declared.names.Triad.{Triad}
+use Rattle.cip_types.specs.declared.names.ConnId.{ConnId}
+use Rattle.adapter_table.specs.declared.profile.Profile.{Profile}
+use Rattle.adapter_table.specs.declared.row.Row.{Row}
+use Rattle.adapter_table.specs.Rows.{same_triad, has_triad, drives, drivers, without_first, is_timed_out}
+use Rattle.adapter_table.specs.Opening.{connection_id}
+use Rattle.adapter_table.specs.Sound.{TriadsDiffer, has_o_t_id, IdsDiffer, IdsAreDrawn}
+
+pub or_false : (a b : Bool) → (a || b) ≡ false → (a ≡ false) × (b ≡ false)
+or_false true b h = cc
+or_false false b h = (refl, h)
+
+-- ---- one row is taken out
+
+-- taking a row out leaves no more that pass a test
+pub count_without : (p q : Row → Bool) (rows : List Row) → length (filter q (without_first p rows)) ≤ length (filter q rows)
+count_without p q [] = omega arith
+count_without p q (row ∷ rows) = grind (arith, common_steps, count_without p q rows)
+
+pub any_without : (p q : Row → Bool) (rows : List Row) → list_any q rows ≡ false → list_any q (without_first p rows) ≡ false
+any_without p q [] none = refl
+any_without p q (row ∷ rows) none =
+    let parts = or_false (q row) (list_any q rows) none in
+    grind (arith, common_steps, parts, any_without p q rows parts.1)
+
+pub length_without : (p : Row → Bool) (rows : List Row) → list_any p rows ≡ true → length (without_first p rows) + 1 ≡ length rows
+length_without p [] found = cc
+length_without p (row ∷ rows) found = grind (arith, common_steps, length_without p rows)
+
+pub length_without_le : (p : Row → Bool) (rows : List Row) → length (without_first p rows) ≤ length rows
+length_without_le p [] = omega arith
+length_without_le p (row ∷ rows) = grind (arith, common_steps, length_without_le p rows)
+
+pub triads_without : (p : Row → Bool) (rows : List Row) → TriadsDiffer rows → TriadsDiffer (without_first p rows)
+triads_without p [] differ = tt
+triads_without p (row ∷ rows) differ =
+    elim (p row) as (λ b. TriadsDiffer (cond b rows (row ∷ without_first p rows))) [
+      | true ↦ differ.1
+      | false ↦ (any_without p (has_triad row.triad) rows differ.0, triads_without p rows differ.1)
+    ]
+
+pub ids_without : (p : Row → Bool) (rows : List Row) → IdsDiffer rows → IdsDiffer (without_first p rows)
+ids_without p [] differ = tt
+ids_without p (row ∷ rows) differ =
+    elim (p row) as (λ b. IdsDiffer (cond b rows (row ∷ without_first p rows))) [
+      | true ↦ differ.1
+      | false ↦ (any_without p (has_o_t_id row.o_t_id) rows differ.0, ids_without p rows differ.1)
+    ]
+
+pub drawn_without : (p : Row → Bool) (profile : Profile) (next_id : ℕ) (rows : List Row) → IdsAreDrawn profile next_id rows → IdsAreDrawn profile next_id (without_first p rows)
+drawn_without p profile next_id [] drawn = tt
+drawn_without p profile next_id (row ∷ rows) drawn =
+    elim (p row) as (λ b. IdsAreDrawn profile next_id (cond b rows (row ∷ without_first p rows))) [
+      | true ↦ drawn.2
+      | false ↦ (drawn.0, drawn.1, drawn_without p profile next_id rows drawn.2)
+    ]
+
+-- ---- some are filtered out
+
+pub count_filter : (p q : Row → Bool) (rows : List Row) → length (filter q (filter p rows)) ≤ length (filter q rows)
+count_filter p q [] = omega arith
+count_filter p q (row ∷ rows) = grind (arith, common_steps, count_filter p q rows)
+
+pub length_filter_le : (p : Row → Bool) (rows : List Row) → length (filter p rows) ≤ length rows
+length_filter_le p [] = omega arith
+length_filter_le p (row ∷ rows) = grind (arith, common_steps, length_filter_le p rows)
+
+pub any_filter : (p q : Row → Bool) (rows : List Row) → list_any q rows ≡ false → list_any q (filter p rows) ≡ false
+any_filter p q [] none = refl
+any_filter p q (row ∷ rows) none =
+    let parts = or_false (q row) (list_any q rows) none in
+    grind (arith, common_steps, parts, any_filter p q rows parts.1)
+
+pub triads_filter : (p : Row → Bool) (rows : List Row) → TriadsDiffer rows → TriadsDiffer (filter p rows)
+triads_filter p [] differ = tt
+triads_filter p (row ∷ rows) differ =
+    elim (p row) as (λ b. TriadsDiffer (cond b (row ∷ filter p rows) (filter p rows))) [
+      | true ↦ (any_filter p (has_triad row.triad) rows differ.0, triads_filter p rows differ.1)
+      | false ↦ triads_filter p rows differ.1
+    ]
+
+pub ids_filter : (p : Row → Bool) (rows : List Row) → IdsDiffer rows → IdsDiffer (filter p rows)
+ids_filter p [] differ = tt
+ids_filter p (row ∷ rows) differ =
+    elim (p row) as (λ b. IdsDiffer (cond b (row ∷ filter p rows) (filter p rows))) [
+      | true ↦ (any_filter p (has_o_t_id row.o_t_id) rows differ.0, ids_filter p rows differ.1)
+      | false ↦ ids_filter p rows differ.1
+    ]
+
+pub drawn_filter : (p : Row → Bool) (profile : Profile) (next_id : ℕ) (rows : List Row) → IdsAreDrawn profile next_id rows → IdsAreDrawn profile next_id (filter p rows)
+drawn_filter p profile next_id [] drawn = tt
+drawn_filter p profile next_id (row ∷ rows) drawn =
+    elim (p row) as (λ b. IdsAreDrawn profile next_id (cond b (row ∷ filter p rows) (filter p rows))) [
+      | true ↦ (drawn.0, drawn.1, drawn_filter p profile next_id rows drawn.2)
+      | false ↦ drawn_filter p profile next_id rows drawn.2
+    ]
+
+-- none passes, so none is kept
+pub filter_none : (q : Row → Bool) (rows : List Row) → list_any q rows ≡ false → filter q rows ≡ []
+filter_none q [] none = refl
+filter_none q (row ∷ rows) none =
+    let parts = or_false (q row) (list_any q rows) none in
+    rw parts.0 (filter_none q rows parts.1)
+
+-- ---- triads
+
+same_sym : (a b : Triad) → same_triad a b ≡ false → same_triad b a ≡ false
+same_sym a b h = grind (arith, nat_tests)
+
+differs_too : (a b c : Triad) → same_triad a b ≡ true → same_triad c a ≡ false → same_triad c b ≡ false
+differs_too a b c same differ = grind (arith, nat_tests)
+
+any_same : (a b : Triad) (rows : List Row) → same_triad a b ≡ true → list_any (has_triad a) rows ≡ false → list_any (has_triad b) rows ≡ false
+any_same a b [] same none = refl
+any_same a b (row ∷ rows) same none =
+    let parts = or_false (has_triad a row) (list_any (has_triad a) rows) none in
+    let rest = any_same a b rows same parts.1 in
+    rw (differs_too a b row.triad same parts.0) rest
+
+left_step : (b : Bool) (row : Row) (triad : Triad) (rows : List Row) → has_triad triad row ≡ b → list_any (has_triad row.triad) rows ≡ false → list_any (has_triad triad) (without_first (has_triad triad) rows) ≡ false → list_any (has_triad triad) (cond b rows (row ∷ without_first (has_triad triad) rows)) ≡ false
+left_step true row triad rows has none rest = any_same row.triad triad rows has none
+left_step false row triad rows has none rest = rw has rest
+
+-- once a row of the triad is taken out, none is left
+none_left : (triad : Triad) (rows : List Row) → TriadsDiffer rows → list_any (has_triad triad) (without_first (has_triad triad) rows) ≡ false
+none_left triad [] differ = refl
+none_left triad (row ∷ rows) differ = left_step (has_triad triad row) row triad rows refl differ.0 (none_left triad rows differ.1)
+
+pub triads_append : (rows : List Row) (new : Row) → TriadsDiffer rows → list_any (has_triad new.triad) rows ≡ false → TriadsDiffer (rows ++ new ∷ [])
+triads_append [] new differ none = (refl, tt)
+triads_append (row ∷ rows) new differ none =
+    let parts = or_false (has_triad new.triad row) (list_any (has_triad new.triad) rows) none in
+    (rw (list_any-append (has_triad row.triad) rows (new ∷ []), differ.0, same_sym row.triad new.triad parts.0) refl, triads_append rows new differ.1 parts.1)
+
+-- ---- ids
+
+-- the next id is that of no row
+next_is_new : (profile : Profile) (next_id : ℕ) (rows : List Row) → IdsAreDrawn profile next_id rows → list_any (has_o_t_id (connection_id profile next_id)) rows ≡ false
+next_is_new profile next_id [] drawn = refl
+next_is_new profile next_id (row ∷ rows) drawn =
+    let rest = next_is_new profile next_id rows drawn.2 in
+    let here : row.o_t_id.0 ≡ profile.incarnation * 2 ^ 24 + row.opening = ap (λ (id : ConnId). id.0) drawn.0 in
+    let below : row.opening < next_id = drawn.1 in
+    let other : has_o_t_id (connection_id profile next_id) row ≡ false = grind (arith, nat_tests) in
+    rw other rest
+
+other_id : (a b : ConnId) → (a.0 == b.0) ≡ false → (b.0 == a.0) ≡ false
+other_id a b h = grind (arith, nat_tests)
+
+pub ids_append : (rows : List Row) (new : Row) → IdsDiffer rows → list_any (has_o_t_id new.o_t_id) rows ≡ false → IdsDiffer (rows ++ new ∷ [])
+ids_append [] new differ none = (refl, tt)
+ids_append (row ∷ rows) new differ none =
+    let parts = or_false (has_o_t_id new.o_t_id row) (list_any (has_o_t_id new.o_t_id) rows) none in
+    (rw (list_any-append (has_o_t_id row.o_t_id) rows (new ∷ []), differ.0, other_id row.o_t_id new.o_t_id parts.0) refl, ids_append rows new differ.1 parts.1)
+
+-- a row with the next id
+pub record IsDrawn (profile : Profile) (next_id : ℕ) (new : Row) : Type 0 where
+  pub id : new.o_t_id ≡ connection_id profile next_id
+  pub opening : new.opening ≡ next_id
+
+pub drawn_new : (profile : Profile) (next_id : ℕ) (rows : List Row) (new : Row) → IsDrawn profile next_id new → IdsAreDrawn profile next_id rows → list_any (has_o_t_id new.o_t_id) rows ≡ false
+drawn_new profile next_id rows new is drawn = rw is.id (next_is_new profile next_id rows drawn)
+
+pub drawn_append : (profile : Profile) (next_id next : ℕ) (rows : List Row) (new : Row) → next_id < next → IsDrawn profile next_id new → IdsAreDrawn profile next_id rows → IdsAreDrawn profile next (rows ++ new ∷ [])
+drawn_append profile next_id next [] new more is drawn =
+    let opening = is.opening in
+    (is.id ∙ ap (connection_id profile) (sym is.opening), omega arith, tt)
+drawn_append profile next_id next (row ∷ rows) new more is drawn =
+    let below : row.opening < next_id = drawn.1 in
+    (drawn.0, omega arith, drawn_append profile next_id next rows new more is drawn.2)
+
+-- ---- room
+
+-- which row makes room, by the two tests that choose
+abbrev pub room_by : Bool → Bool → Triad → Row → Bool
+room_by b c triad = cond b (has_triad triad) (cond c is_timed_out (λ _. false))
+
+not_false : (b : Bool) → not b ≡ false → b ≡ true
+not_false true h = refl
+not_false false h = cc
+
+pub length_opened : (b c : Bool) (triad : Triad) (rows : List Row) → list_any (has_triad triad) rows ≡ b → nat_le 64 (length rows) ≡ c → length rows ≤ 64 → (c && not (list_any is_timed_out rows)) ≡ false → length (without_first (room_by b c triad) rows) + 1 ≤ 64
+length_opened true c triad rows known full few free = omega (arith, length_without (has_triad triad) rows known)
+length_opened false true triad rows known full few free = omega (arith, length_without is_timed_out rows (not_false _ free))
+length_opened false false triad rows known full few free = grind (arith, nat_tests, length_without_le (λ _. false) rows)
+
+pub any_opened : (b c : Bool) (triad : Triad) (rows : List Row) → list_any (has_triad triad) rows ≡ b → TriadsDiffer rows → list_any (has_triad triad) (without_first (room_by b c triad) rows) ≡ false
+any_opened true c triad rows known differ = none_left triad rows differ
+any_opened false c triad rows known differ = any_without (room_by false c triad) (has_triad triad) rows known
+
+-- the output of the new row has no other driver
+pub drivers_opened : (b : Bool) (rows without : List Row) (new : Row) (point : ℕ) → drives point new ≡ b → length (drivers point without) ≤ length (drivers point rows) → (b ≡ true → drivers point rows ≡ []) → length (drivers point rows) ≤ 1 → length (drivers point (without ++ new ∷ [])) ≤ 1
+drivers_opened true rows without new point drives_it fewer none one =
+    rw (filter-append (drives point) without (new ∷ []), drives_it) (let e = ap length (none refl) in simp length-append (omega (arith, e)))
+drivers_opened false rows without new point drives_it fewer none one =
+    rw (filter-append (drives point) without (new ∷ []), drives_it) (simp length-append (omega arith))

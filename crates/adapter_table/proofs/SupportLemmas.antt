@@ -1,0 +1,194 @@
+-- No listener is left without support, whatever makes room, is appended or closed.
+use Rattle.std.proofs.Common.{◌≡◌, ℕ, Bool, true, false, cond, not, ◌||◌, ◌&&◌, List, [], ◌∷◌, ◌++◌, filter, refl, ◌∙◌, ap, inl, inr}
+use Rattle.std.specs.List.{list_any}
+use Rattle.std.proofs.lemmas.Bool.{cases_Bool}
+use Rattle.std.proofs.lemmas.List.Folds.{list_any-append}
+use Rattle.cip_types.specs.declared.names.Triad.{Triad}
+use Rattle.adapter_table.specs.declared.row.Row.{Row}
+use Rattle.cip_productions.specs.declared.kind.Kind.{Kind}
+use Rattle.cip_productions.specs.declared.kind.Kind.TheVariants.{ExclusiveOwner, InputOnly, ListenOnly}
+use Rattle.cip_productions.specs.Kinds.{is_listener, same_kind}
+use Rattle.adapter_table.specs.Rows.{is_established, is_timed_out, has_triad, holds_triad, is_member, supports, is_supported, is_forsaken, without_first}
+use Rattle.adapter_table.specs.Closing.{stays, staying}
+use Rattle.adapter_table.specs.Sound.{ListenersAreSupported}
+use Rattle.adapter_table.proofs.SoundLemmas.{or_false, room_by}
+
+and_parts : (a b : Bool) → (a && b) ≡ true → (a ≡ true) × (b ≡ true)
+and_parts true b h = (refl, h)
+and_parts false b h = absurd cc
+
+and_false : (a b : Bool) → (a && b) ≡ false → a ≡ true → b ≡ false
+and_false true b h is = h
+and_false false b h is = absurd cc
+
+not_true : (b : Bool) → not b ≡ true → b ≡ false
+not_true true h = absurd cc
+not_true false h = refl
+
+not_false : (b : Bool) → not b ≡ false → b ≡ true
+not_false true h = refl
+not_false false h = absurd cc
+
+-- ---- one that does not live makes room
+
+-- what passes the test does not live
+pub Gone : (Row → Bool) → List Row → Type 0
+Gone p [] = Unit {0}
+Gone p (row ∷ rows) = (p row ≡ true → is_established row ≡ false) × Gone p rows
+
+gone_triad : (triad : Triad) (rows : List Row) → list_any (holds_triad triad) rows ≡ false → Gone (has_triad triad) rows
+unfolding Gone
+gone_triad triad [] none = tt
+gone_triad triad (row ∷ rows) none =
+    let parts = or_false (holds_triad triad row) (list_any (holds_triad triad) rows) none in
+    (λ has. held_not (is_established row) (has_triad triad row) parts.0 has, gone_triad triad rows parts.1) where
+      held_not : (a b : Bool) → (a && b) ≡ false → b ≡ true → a ≡ false
+      held_not true b h has = absurd cc
+      held_not false b h has = refl
+
+gone_timed_out : (rows : List Row) → Gone is_timed_out rows
+unfolding Gone
+gone_timed_out [] = tt
+gone_timed_out (row ∷ rows) = (λ out. not_true (is_established row) out, gone_timed_out rows)
+
+gone_none : (rows : List Row) → Gone (λ _. false) rows
+unfolding Gone
+gone_none [] = tt
+gone_none (row ∷ rows) = (λ out. absurd cc, gone_none rows)
+
+pub gone_room : (b c : Bool) (triad : Triad) (rows : List Row) → list_any (holds_triad triad) rows ≡ false → Gone (room_by b c triad) rows
+gone_room true c triad rows none = gone_triad triad rows none
+gone_room false true triad rows none = gone_timed_out rows
+gone_room false false triad rows none = gone_none rows
+
+-- what lives is still there
+kept_step : (b : Bool) (q : Row → Bool) (row : Row) (rows without : List Row) → ((r : Row) → q r ≡ true → is_established r ≡ true) → (b ≡ true → is_established row ≡ false) → list_any q without ≡ list_any q rows → list_any q (cond b rows (row ∷ without)) ≡ list_any q (row ∷ rows)
+kept_step true q row rows without lives gone rest =
+    let dead = gone refl in
+    elim (cases_Bool (q row)) [
+      | inl t ↦ absurd (let e = lives row t in cc)
+      | inr f ↦ rw f refl
+    ]
+kept_step false q row rows without lives gone rest = ap (λ (x : Bool). q row || x) rest
+
+pub any_kept : (p q : Row → Bool) (rows : List Row) → ((r : Row) → q r ≡ true → is_established r ≡ true) → Gone p rows → list_any q (without_first p rows) ≡ list_any q rows
+unfolding Gone
+any_kept p q [] lives gone = refl
+any_kept p q (row ∷ rows) lives gone = kept_step (p row) q row rows (without_first p rows) lives gone.0 (any_kept p q rows lives gone.1)
+
+supporter_lives : (kind : Kind) (point : ℕ) (row : Row) → supports kind point row ≡ true → is_established row ≡ true
+supporter_lives kind point row is = (and_parts (is_established row) _ (and_parts (is_member point row) _ is).0).0
+
+-- ---- a test that holds of each
+
+-- where the rows that fail one test fail another
+any_less : (p q : Row → Bool) (rows : List Row) → ((r : Row) → p r ≡ false → q r ≡ false) → list_any p rows ≡ false → list_any q rows ≡ false
+any_less p q [] less none = refl
+any_less p q (row ∷ rows) less none =
+    let parts = or_false (p row) (list_any p rows) none in
+    rw (less row parts.0) (any_less p q rows less parts.1)
+
+any_less_without : (p q t : Row → Bool) (rows : List Row) → ((r : Row) → p r ≡ false → q r ≡ false) → list_any p rows ≡ false → list_any q (without_first t rows) ≡ false
+any_less_without p q t [] less none = refl
+any_less_without p q t (row ∷ rows) less none =
+    let parts = or_false (p row) (list_any p rows) none in
+    elim (t row) as (λ b. list_any q (cond b rows (row ∷ without_first t rows)) ≡ false) [
+      | true ↦ any_less p q rows less parts.1
+      | false ↦ rw (less row parts.0) (any_less_without p q t rows less parts.1)
+    ]
+
+-- more rows to support leave no more without support
+less_forsaken : (rows more : List Row) → ((kind : Kind) (point : ℕ) → is_supported rows kind point ≡ true → is_supported more kind point ≡ true) → (row : Row) → is_forsaken rows row ≡ false → is_forsaken more row ≡ false
+less_forsaken rows more all row none = less_step (is_established row) (is_listener row.kind) (is_supported rows row.kind row.produced) (is_supported more row.kind row.produced) (all row.kind row.produced) none where
+  less_step : (a b c d : Bool) → (c ≡ true → d ≡ true) → (a && (b && not c)) ≡ false → (a && (b && not d)) ≡ false
+  less_step true true true d more none = rw (more refl) refl
+  less_step true true false d more none = absurd cc
+  less_step true false c d more none = refl
+  less_step false b c d more none = refl
+
+or_right : (a b : Bool) → b ≡ true → (a || b) ≡ true
+or_right true b h = refl
+or_right false b h = h
+
+or_left : (a b : Bool) → a ≡ true → (a || b) ≡ true
+or_left true b h = refl
+or_left false b h = absurd cc
+
+supported_opened : (b c : Bool) (triad : Triad) (rows : List Row) (new : Row) → list_any (holds_triad triad) rows ≡ false → (kind : Kind) (point : ℕ) → is_supported rows kind point ≡ true → is_supported (without_first (room_by b c triad) rows ++ new ∷ []) kind point ≡ true
+supported_opened b c triad rows new free kind point is =
+    let kept = any_kept (room_by b c triad) (supports kind point) rows (supporter_lives kind point) (gone_room b c triad rows free) in
+    list_any-append (supports kind point) (without_first (room_by b c triad) rows) (new ∷ []) ∙ or_left _ _ (kept ∙ is)
+
+-- a listener that is opened is supported
+new_supported : (rows more : List Row) (new : Row) → (is_listener new.kind && not (is_supported rows new.kind new.produced)) ≡ false → ((kind : Kind) (point : ℕ) → is_supported rows kind point ≡ true → is_supported more kind point ≡ true) → is_forsaken more new ≡ false
+new_supported rows more new alone all = less_forsaken rows more all new (and_less (is_established new) _ alone) where
+  and_less : (a b : Bool) → b ≡ false → (a && b) ≡ false
+  and_less true b h = h
+  and_less false b h = refl
+
+pub listeners_opened : (b c : Bool) (triad : Triad) (rows : List Row) (new : Row) → list_any (holds_triad triad) rows ≡ false → (is_listener new.kind && not (is_supported rows new.kind new.produced)) ≡ false → ListenersAreSupported rows → ListenersAreSupported (without_first (room_by b c triad) rows ++ new ∷ [])
+listeners_opened b c triad rows new free alone supported =
+    let all = without_first (room_by b c triad) rows ++ new ∷ [] in
+    let more = supported_opened b c triad rows new free in
+    let old = any_less_without (is_forsaken rows) (is_forsaken (without_first (room_by b c triad) rows ++ new ∷ [])) (room_by b c triad) rows (less_forsaken rows (without_first (room_by b c triad) rows ++ new ∷ []) more) supported in
+    let fresh = new_supported rows (without_first (room_by b c triad) rows ++ new ∷ []) new alone more in
+    rw (list_any-append (is_forsaken (without_first (room_by b c triad) rows ++ new ∷ [])) (without_first (room_by b c triad) rows) (new ∷ []), old, fresh) refl
+
+-- ---- the listeners that are left alone go
+
+-- who supports a listener is none
+supporter_stays : (a b : Kind) → is_listener b ≡ true → not (same_kind a b) ≡ true → is_listener a ≡ false
+supporter_stays ExclusiveOwner b is other = refl
+supporter_stays InputOnly b is other = refl
+supporter_stays ListenOnly ExclusiveOwner is other = absurd cc
+supporter_stays ListenOnly InputOnly is other = absurd cc
+supporter_stays ListenOnly ListenOnly is other = absurd cc
+
+stays_there : (all : List Row) (kind : Kind) (point : ℕ) (row : Row) → is_listener kind ≡ true → supports kind point row ≡ true → stays all row ≡ true
+stays_there all kind point row listens is =
+    let other = (and_parts (is_member point row) _ is).1 in
+    let not_listener = supporter_stays row.kind kind listens other in
+    stays_step (is_established row) (is_listener row.kind) (not (is_supported all row.kind row.produced)) not_listener where
+      stays_step : (a b c : Bool) → b ≡ false → not (a && (b && c)) ≡ true
+      stays_step true true c h = absurd cc
+      stays_step true false c h = refl
+      stays_step false b c h = refl
+
+filtered_step : (b : Bool) (q : Row → Bool) (row : Row) (rows kept : List Row) → (q row ≡ true → b ≡ true) → (list_any q rows ≡ true → list_any q kept ≡ true) → list_any q (row ∷ rows) ≡ true → list_any q (cond b (row ∷ kept) kept) ≡ true
+filtered_step true q row rows kept is rest any =
+    elim (cases_Bool (q row)) [
+      | inl t ↦ rw t refl
+      | inr f ↦ let later : list_any q rows ≡ true = rw f at any in or_right (q row) _ (rest later)
+    ]
+filtered_step false q row rows kept is rest any =
+    elim (cases_Bool (q row)) [
+      | inl t ↦ absurd (let e = is t in cc)
+      | inr f ↦ let later : list_any q rows ≡ true = rw f at any in rest later
+    ]
+
+supported_left : (all rows : List Row) (kind : Kind) (point : ℕ) → is_listener kind ≡ true → is_supported rows kind point ≡ true → is_supported (filter (stays all) rows) kind point ≡ true
+supported_left all [] kind point listens is = absurd cc
+supported_left all (row ∷ rows) kind point listens is =
+    filtered_step (stays all row) (supports kind point) row rows (filter (stays all) rows) (stays_there all kind point row listens) (supported_left all rows kind point listens) is
+
+left_not_forsaken : (rows : List Row) (row : Row) → is_forsaken rows row ≡ false → is_forsaken (staying rows) row ≡ false
+left_not_forsaken rows row none = left_step (is_established row) (is_listener row.kind) (is_supported rows row.kind row.produced) (is_supported (staying rows) row.kind row.produced) (supported_left rows rows row.kind row.produced) none where
+  left_step : (a b c d : Bool) → (b ≡ true → c ≡ true → d ≡ true) → (a && (b && not c)) ≡ false → (a && (b && not d)) ≡ false
+  left_step true true true d more none = rw (more refl refl) refl
+  left_step true true false d more none = absurd cc
+  left_step true false c d more none = refl
+  left_step false b c d more none = refl
+
+staying_step : (b : Bool) (all : List Row) (row : Row) (kept : List Row) → stays all row ≡ b → list_any (is_forsaken (staying all)) kept ≡ false → list_any (is_forsaken (staying all)) (cond b (row ∷ kept) kept) ≡ false
+staying_step true all row kept is rest = rw (left_not_forsaken all row (not_not (is_forsaken all row) is)) rest where
+  not_not : (b : Bool) → not b ≡ true → b ≡ false
+  not_not true h = absurd cc
+  not_not false h = refl
+staying_step false all row kept is rest = rest
+
+staying_supported : (all rows : List Row) → list_any (is_forsaken (staying all)) (filter (stays all) rows) ≡ false
+staying_supported all [] = refl
+staying_supported all (row ∷ rows) = staying_step (stays all row) all row (filter (stays all) rows) refl (staying_supported all rows)
+
+pub listeners_staying : (rows : List Row) → ListenersAreSupported (staying rows)
+listeners_staying rows = staying_supported rows rows

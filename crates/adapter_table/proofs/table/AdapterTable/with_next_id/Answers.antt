@@ -1,0 +1,5 @@
+use Rattle.adapter_table.proofs.WholeLemmas.{whole_later}
+use Rattle.adapter_table.proofs.table.AdapterTable.with_next_id.Goals as goal
+
+pub returns-clause-whole : goal.returns-clause-whole
+returns-clause-whole c = whole_later c.args.self c.args.counter c.requires.later c.requires.last c.requires.whole

@@ -1,0 +1,44 @@
+-- Closing a connection: what is lost with it, and the table after it
+-- (Volume 1, chapter 3, Forward_Close and application connection types).
+use Rattle.std.specs.Prelude.{not, Bool, if◌then◌else◌, List, ◌∷◌, map, filter}
+use Rattle.cip_types.specs.declared.names.Triad.{Triad}
+use Rattle.cip_events.specs.declared.event.Notice.{Notice}
+use Rattle.cip_events.specs.declared.event.Notice.TheVariants as notice
+use Rattle.adapter_table.specs.declared.profile.Profile.{Profile}
+use Rattle.adapter_table.specs.declared.row.Row.{Row}
+use Rattle.adapter_table.specs.declared.table.PointValue.{PointValue}
+use Rattle.adapter_table.specs.declared.table.AdapterTable.{AdapterTable}
+use Rattle.adapter_table.specs.Points.{lost_values}
+use Rattle.adapter_table.specs.Rows.{has_triad, drives, is_forsaken, without_first}
+
+-- the connections without that of the triad
+abbrev pub without_triad : Triad → List Row → List Row
+without_triad triad rows = without_first (has_triad triad) rows
+
+-- the listen-only connections that lose their support, in opening order
+abbrev pub forsaken : List Row → List Row
+forsaken rows = filter (is_forsaken rows) rows
+
+-- the connections that stay
+abbrev pub stays : List Row → Row → Bool
+stays rows row = not (is_forsaken rows row)
+
+abbrev pub staying : List Row → List Row
+staying rows = filter (stays rows) rows
+
+-- the fault action, where the connection drove an output
+abbrev pub closed_values : Profile → Row → List PointValue → List PointValue
+closed_values profile row values = if drives row.consumed row then lost_values profile row.consumed values else values
+
+-- the connection is gone, its output is without an owner, and the listeners that it leaves alone are gone
+unfoldable pub closed_table : AdapterTable → Row → AdapterTable
+closed_table t row = record t {
+  rows = staying (without_triad row.triad t.rows);
+  values = closed_values t.profile row t.values;
+}
+
+abbrev pub dropped_notice : Row → Notice
+dropped_notice row = notice.Dropped row.triad
+
+abbrev pub closed_notices : List Row → Row → List Notice
+closed_notices rows row = notice.Closed row.triad ∷ map dropped_notice (forsaken (without_triad row.triad rows))

@@ -1,0 +1,120 @@
+-- Class 1 datagrams that come to an adapter: which connection they are for, whether they are accepted, and
+-- what they do to its output (Volume 1, chapter 3, class 1 transport, run/idle, connection timeouts;
+-- Volume 2, chapter 2, sequenced address item).
+use Rattle.std.specs.Prelude.{ℕ, ◌+◌, ◌==◌, ◌&&◌, Bool, if◌then◌else◌, List, [], length, map, find, Option, Some, None, Result, Ok, Err}
+use Rattle.cip_types.specs.declared.names.Node.{Node}
+use Rattle.cip_types.specs.declared.names.Ms.{Ms}
+use Rattle.cip_netparams.specs.Rate.{timeout}
+use Rattle.cip_datagram.specs.declared.datagram.DatagramFault.{DatagramFault}
+use Rattle.cip_datagram.specs.Datagram.{DatagramFields}
+use Rattle.cip_datagram.specs.Header.{header_at}
+use Rattle.cip_datagram.specs.Reading.{datagram_reading}
+use Rattle.cip_events.specs.declared.event.Delivery.{Delivery}
+use Rattle.cip_events.specs.declared.event.Delivery.TheVariants.{Applied, Idle, Heartbeat, Duplicate, Old, UnknownId, WrongSize, Malformed}
+use Rattle.cip_events.specs.declared.event.Verdict.TheVariants.{Delivered}
+use Rattle.adapter_table.specs.declared.profile.OutputPoint.{OutputPoint}
+use Rattle.adapter_table.specs.declared.profile.Profile.{Profile}
+use Rattle.adapter_table.specs.declared.row.Row.{Row}
+use Rattle.adapter_table.specs.declared.table.PointValue.{PointValue}
+use Rattle.adapter_table.specs.declared.table.AdapterTable.{AdapterTable}
+use Rattle.adapter_table.specs.Profiles.{is_output_at}
+use Rattle.adapter_table.specs.Points.{put_value, idle_values}
+use Rattle.cip_productions.specs.Kinds.{is_owner}
+use Rattle.adapter_table.specs.Rows.{is_established}
+use Rattle.adapter_table.specs.Requests.{Next}
+use Rattle.cip_events.specs.Answers.{plain_answer, is_accepted}
+use Rattle.cip_productions.specs.Acceptance.{is_news, is_repeated}
+
+-- WHOSE IT IS, AND WHETHER IT IS ACCEPTED
+
+-- the connection is an established one of the peer, with this O->T id
+abbrev pub is_for : Node → ℕ → Row → Bool
+is_for peer id row = is_established row && (row.peer.0 == peer.0 && row.o_t_id.0 == id)
+
+abbrev pub output_len : Option OutputPoint → ℕ
+output_len None = 0
+output_len (Some output) = output.len
+
+-- the bytes behind the sequence count: an owner's are a run/idle header and its output, a heartbeat has none
+abbrev pub expected_len : Profile → Row → ℕ
+expected_len profile row = if is_owner row.kind then output_len (find (is_output_at row.consumed) profile.outputs) + 4 else 0
+
+-- an owner's data by their run/idle header
+abbrev pub moded : Option (Bool × List ℕ) → Delivery
+moded None = WrongSize
+moded (Some x) = if x.0 then Applied else Idle
+
+-- what becomes of an owner's accepted datagram
+abbrev pub owned_delivery : Row → DatagramFields → Delivery
+owned_delivery row d = if is_repeated row.last d.count then Duplicate else moded (header_at d.payload)
+
+-- what becomes of an accepted datagram
+abbrev pub accepted_delivery : Row → DatagramFields → Delivery
+accepted_delivery row d = if is_owner row.kind then owned_delivery row d else Heartbeat
+
+-- what becomes of a datagram that has the connection's size
+abbrev pub sized_delivery : Row → DatagramFields → Delivery
+sized_delivery row d = if is_news row.last d.sequence then accepted_delivery row d else Old
+
+abbrev pub row_delivery : Profile → Row → DatagramFields → Delivery
+row_delivery profile row d = if length d.payload == expected_len profile row then sized_delivery row d else WrongSize
+
+-- WHAT IT CHANGES
+
+abbrev pub later_deadline : Ms → Row → Ms
+later_deadline clock row = record { 0 = clock.0 + timeout row.multiplier row.o_t_api }
+
+-- the datagram is the last that the connection accepted, and its watchdog waits from now on
+abbrev pub accepted_row : Ms → DatagramFields → Row → Row
+accepted_row clock d row = record row {
+  last = Some (record { number = d.sequence; count = d.count });
+  deadline = later_deadline clock row;
+}
+
+-- the same, where the datagram is for the connection
+abbrev pub fed_row : Ms → Node → DatagramFields → Row → Row
+fed_row clock peer d row = if is_for peer d.connection row then accepted_row clock d row else row
+
+-- the data behind a run/idle header
+abbrev pub run_data : Option (Bool × List ℕ) → List ℕ
+run_data None = []
+run_data (Some x) = x.1
+
+-- run-mode data stand at the output, idle mode does its idle action
+abbrev pub fed_values : Profile → ℕ → DatagramFields → Delivery → List PointValue → List PointValue
+fed_values profile point d Applied values = put_value point (run_data (header_at d.payload)) values
+fed_values profile point d Idle values = idle_values profile point values
+fed_values profile point d Heartbeat values = values
+fed_values profile point d Duplicate values = values
+fed_values profile point d Old values = values
+fed_values profile point d UnknownId values = values
+fed_values profile point d WrongSize values = values
+fed_values profile point d Malformed values = values
+
+-- the table after an accepted datagram
+unfoldable pub fed_table : AdapterTable → Node → DatagramFields → Row → Delivery → AdapterTable
+fed_table t peer d row delivery = record t {
+  rows = map (fed_row t.clock peer d) t.rows;
+  values = fed_values t.profile row.consumed d delivery t.values;
+}
+
+-- THE ANSWER
+
+abbrev pub delivered : Delivery → AdapterTable → Next
+delivered delivery t = (plain_answer (Delivered delivery), t)
+
+abbrev pub judged_datagram : AdapterTable → Node → DatagramFields → Row → Delivery → Next
+judged_datagram t peer d row delivery =
+    if is_accepted delivery then delivered delivery (fed_table t peer d row delivery) else delivered delivery t
+
+abbrev pub found_datagram : AdapterTable → Node → DatagramFields → Option Row → Next
+found_datagram t peer d None = delivered UnknownId t
+found_datagram t peer d (Some row) = judged_datagram t peer d row (row_delivery t.profile row d)
+
+abbrev pub datagram_of : AdapterTable → Node → Result DatagramFields DatagramFault → Next
+datagram_of t peer (Err fault) = delivered Malformed t
+datagram_of t peer (Ok d) = found_datagram t peer d (find (is_for peer d.connection) t.rows)
+
+-- a datagram of a peer
+unfoldable pub received : AdapterTable → Node → List ℕ → Next
+received t peer bytes = datagram_of t peer (datagram_reading bytes)

@@ -1,0 +1,131 @@
+-- Encapsulation messages that come to an adapter over a stream: what they ask, what is replied, and what
+-- becomes of the table (Volume 2, chapter 2, encapsulation messages, commands and common packet format).
+use Rattle.std.specs.Prelude.{ℕ, ◌==◌, not, if◌then◌else◌, List, [], ◌∷◌, length, Option, Some, None, Result, Ok, Err, find}
+use Rattle.std.specs.Str.{bytes_eq}
+use Rattle.cip_types.specs.declared.names.Node.{Node}
+use Rattle.cip_encap.specs.declared.packet.ItemFault.{ItemFault}
+use Rattle.cip_encap.specs.Message.{message_text}
+use Rattle.cip_encap.specs.Packet.{PacketFields}
+use Rattle.cip_encap.specs.PacketReading.{packet_reading}
+use Rattle.cip_router.specs.declared.command.Command.{Command}
+use Rattle.cip_router.specs.declared.command.Command.TheVariants as command
+use Rattle.cip_router.specs.declared.command.EncapStatus.{EncapStatus}
+use Rattle.cip_router.specs.declared.command.EncapStatus.TheVariants as status
+use Rattle.cip_events.specs.declared.event.Frame.{Frame}
+use Rattle.cip_events.specs.declared.event.Notice.{Notice}
+use Rattle.cip_events.specs.declared.event.Notice.TheVariants.{StreamClosed}
+use Rattle.cip_events.specs.declared.event.Recipient.TheVariants as recipient
+use Rattle.cip_events.specs.declared.event.StepFault.{StepFault}
+use Rattle.cip_events.specs.declared.event.StepFault.TheVariants.{NotAllowedNow}
+use Rattle.cip_events.specs.declared.event.Verdict.TheVariants.{Done, BadFrame}
+use Rattle.adapter_table.specs.declared.table.Stream.{Stream}
+use Rattle.adapter_table.specs.declared.table.AdapterTable.{AdapterTable}
+use Rattle.cip_router.specs.Asking.{asked_reading}
+use Rattle.adapter_table.specs.Requests.{Next, Served, served}
+use Rattle.cip_events.specs.Answers.{plain_answer}
+use Rattle.cip_router.specs.Commands.{command_of, is_silent}
+use Rattle.adapter_table.specs.Streams.{is_stream, session_of, has_session, without_stream, registered_table}
+use Rattle.cip_router.specs.Frames.{Echo, FrameFields, headless, misfit, whole, frame_reading, FrameReply, services, registered, other_version, router_reply, refused, protocol_text, reply_message}
+
+-- WHAT BECOMES OF A MESSAGE
+
+-- what is replied, if anything is, what happened, and the table after it
+pub record Handled : Type 0 where
+  pub reply : Option FrameReply
+  pub notices : List Notice
+  pub table : AdapterTable
+
+-- no reply, and nothing has changed
+abbrev pub unanswered : AdapterTable → Handled
+unanswered t = record { reply = None; notices = []; table = t }
+
+-- a reply, and nothing has changed
+abbrev pub told : AdapterTable → FrameReply → Handled
+told t reply = record { reply = Some reply; notices = []; table = t }
+
+-- a refusal, and nothing has changed
+abbrev pub refusal : AdapterTable → EncapStatus → Handled
+refusal t why = told t (refused why)
+
+-- a session begins on the stream
+abbrev pub session_begun : AdapterTable → Stream → Handled
+session_begun t stream = record { reply = Some (registered (session_of stream)); notices = []; table = registered_table t stream.number }
+
+-- RegisterSession: four bytes of data, of the version that is served, and one session on a stream
+abbrev pub register_session : AdapterTable → Stream → List ℕ → Handled
+register_session t stream body =
+    if not (length body == 4) then refusal t status.InvalidLength
+    else (if not (bytes_eq body protocol_text) then told t other_version
+    else (if stream.registered then refusal t status.InvalidCommand
+    else session_begun t stream))
+
+-- the session ends, and with it the stream
+abbrev pub session_ended : AdapterTable → Stream → Handled
+session_ended t stream = record { reply = None; notices = StreamClosed stream.number ∷ []; table = without_stream t stream.number }
+
+-- UnRegisterSession: only by the stream's own session
+abbrev pub unregister_session : AdapterTable → Stream → ℕ → Handled
+unregister_session t stream session = if has_session stream session then session_ended t stream else unanswered t
+
+-- what was served of the request; data without one are bad
+abbrev pub request_replied : AdapterTable → Option Served → Handled
+request_replied t None = refusal t status.IncorrectData
+request_replied t (Some s) = record { reply = Some (router_reply s.reply s.address); notices = s.notices; table = s.table }
+
+-- items with a request of a peer, or other data
+abbrev pub packet_replied : AdapterTable → Node → Result PacketFields ItemFault → Handled
+packet_replied t peer (Err fault) = refusal t status.IncorrectData
+packet_replied t peer (Ok packet) = request_replied t (served t peer (asked_reading packet.payload))
+
+-- SendRRData: within its session, a request of the stream's peer to the message router
+abbrev pub send_rr_data : AdapterTable → Stream → ℕ → List ℕ → Handled
+send_rr_data t stream session body =
+    if has_session stream session then packet_replied t stream.peer (packet_reading body) else refusal t status.InvalidSession
+
+-- a message by its command
+unfoldable pub handled : AdapterTable → Stream → Echo → List ℕ → Command → Handled
+handled t stream echo body command.Nop = unanswered t
+handled t stream echo body command.ListServices = told t services
+handled t stream echo body command.RegisterSession = register_session t stream body
+handled t stream echo body command.UnregisterSession = unregister_session t stream echo.session
+handled t stream echo body command.SendRrData = send_rr_data t stream echo.session body
+handled t stream echo body command.Other = refusal t status.InvalidCommand
+
+-- THE ANSWER
+
+-- the frame of a reply, for the other end of the stream
+abbrev pub reply_frames : ℕ → Echo → Option FrameReply → List Frame
+reply_frames number echo None = []
+reply_frames number echo (Some reply) = record { to = recipient.Stream number; bytes = message_text (reply_message echo reply) } ∷ []
+
+-- what became of a message of the stream of this number, and the table after it
+abbrev pub framed : ℕ → Echo → Handled → Next
+framed number echo done = (
+  record {
+    frames = reply_frames number echo done.reply;
+    datagrams = [];
+    verdict = Done;
+    notices = done.notices;
+  },
+  done.table,
+)
+
+-- a wrong length field goes before everything else; where no reply is due, the frame is a bad one
+abbrev pub misfit_answer : AdapterTable → ℕ → Echo → Next
+misfit_answer t number echo =
+    if is_silent (command_of echo.command) then (plain_answer BadFrame, t) else framed number echo (refusal t status.InvalidLength)
+
+-- what becomes of a frame of an open stream
+abbrev pub frame_answer : AdapterTable → Stream → FrameFields → Next
+frame_answer t stream headless = (plain_answer BadFrame, t)
+frame_answer t stream (misfit echo) = misfit_answer t stream.number echo
+frame_answer t stream (whole echo body) = framed stream.number echo (handled t stream echo body (command_of echo.command))
+
+-- the same of the stream that is found, if one is
+abbrev pub frame_of : AdapterTable → List ℕ → Option Stream → Result Next StepFault
+frame_of t bytes None = Err NotAllowedNow
+frame_of t bytes (Some stream) = Ok (frame_answer t stream (frame_reading bytes))
+
+-- a frame on a stream
+unfoldable pub frame : AdapterTable → ℕ → List ℕ → Result Next StepFault
+frame t number bytes = frame_of t bytes (find (is_stream number) t.streams)

@@ -1,0 +1,17 @@
+pub mod Checks
+pub mod Closing
+pub mod Datagrams
+pub mod Encapsulation
+pub mod Opening
+pub mod Points
+pub mod Productions
+pub mod Profiles
+pub mod Requests
+pub mod Rows
+pub mod Shapes
+pub mod Streams
+pub mod Ticks
+pub mod Sound
+pub mod Whole
+pub mod Scratch
+pub mod Step

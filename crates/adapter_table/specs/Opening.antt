@@ -1,0 +1,157 @@
+-- Opening a connection: which one makes room, what the new one is, and the table after it
+-- (Volume 1, chapter 3, Forward_Open, connection ids and first watchdog; Volume 2, chapter 3, multicast
+-- address allocation).
+use Rattle.std.specs.Prelude.{ℕ, ◌+◌, ◌-◌, ◌%◌, ◌*◌, ◌^◌, nat_le, Bool, true, false, if◌then◌else◌, List, [], ◌∷◌, ◌++◌, length, find, Option, Some, None}
+use Rattle.std.specs.Option.{option_map}
+use Rattle.std.specs.List.{list_any, position_or_len}
+use Rattle.cip_types.specs.declared.names.Triad.{Triad}
+use Rattle.cip_types.specs.declared.names.Node.{Node}
+use Rattle.cip_types.specs.declared.names.ConnId.{ConnId}
+use Rattle.cip_epath.specs.Path.{PathFields}
+use Rattle.cip_netparams.specs.declared.ConnectionType.{ConnectionType}
+use Rattle.cip_netparams.specs.declared.Trigger.{Trigger}
+use Rattle.cip_netparams.specs.Word.{trigger_of}
+use Rattle.cip_netparams.specs.Rate.{interval_ms, timeout}
+use Rattle.cip_fwdopen.specs.Open.{OpenFields}
+use Rattle.cip_fwdopen.specs.declared.reply.Opened.{Opened}
+use Rattle.cip_events.specs.declared.event.Notice.{Notice}
+use Rattle.cip_events.specs.declared.event.Notice.TheVariants as notice
+use Rattle.adapter_table.specs.declared.profile.InputPoint.{InputPoint}
+use Rattle.adapter_table.specs.declared.profile.Profile.{Profile}
+use Rattle.adapter_table.specs.declared.row.Row.{Row}
+use Rattle.cip_productions.specs.declared.production.Production.{Production}
+use Rattle.adapter_table.specs.declared.row.State.{State}
+use Rattle.adapter_table.specs.declared.row.State.TheVariants.{Established, TimedOut}
+use Rattle.adapter_table.specs.declared.table.PointValue.{PointValue}
+use Rattle.adapter_table.specs.declared.table.AdapterTable.{AdapterTable}
+use Rattle.adapter_table.specs.Profiles.{host_id, is_at}
+use Rattle.adapter_table.specs.Points.{put_value}
+use Rattle.adapter_table.specs.Rows.{has_triad, is_timed_out, without_first}
+use Rattle.adapter_table.specs.Checks.{Admitted, stored, is_multicast, drawn_ids, served_trigger, served_inhibit}
+use Rattle.cip_productions.specs.Watchdog.{first_deadline}
+
+-- ROOM
+
+-- The connection that makes room for a new one: that of the same triad, which has timed out, and among
+-- 64 the timed-out one that was opened first.
+abbrev pub makes_room : List Row → Triad → Row → Bool
+makes_room rows triad =
+    if list_any (has_triad triad) rows then has_triad triad
+    else (if nat_le 64 (length rows) then is_timed_out else (λ _. false))
+
+abbrev pub triad_of : Row → Triad
+triad_of row = row.triad
+
+-- the triad of the connection that makes room
+abbrev pub replaced_triad : List Row → Triad → Option Triad
+replaced_triad rows triad = option_map triad_of (find (makes_room rows triad) rows)
+
+-- THE NEW CONNECTION
+
+-- the byte that begins a device's ids, and a counter
+abbrev pub connection_id : Profile → ℕ → ConnId
+connection_id profile counter = record { 0 = profile.incarnation * 2 ^ 24 + counter }
+
+-- the multicast addresses of a device begin at 239.192.1.0, 32 for each host id, and go by its inputs' places
+abbrev pub multicast_address : Profile → ℕ → Node
+multicast_address profile point = record {
+  0 = 0xEFC00100 + 32 * ((host_id profile.node.0 profile.mask - 1) % 1024) + position_or_len (is_at point) profile.inputs;
+}
+
+-- where the datagrams of a producer go: to its group, or to the one consumer
+abbrev pub address_of : Profile → Node → ConnectionType → ℕ → Node
+address_of profile peer kind point = if is_multicast kind then multicast_address profile point else peer
+
+-- the producer that a connection begins: its data are new, and due at once
+abbrev pub new_production : AdapterTable → Node → Trigger → ℕ → Production
+new_production t address trigger inhibit = record {
+  producer = t.next_id;
+  sequence = 1;
+  count = 0;
+  written = true;
+  due = t.clock;
+  address = address;
+  trigger = trigger;
+  inhibit = inhibit;
+  last = None;
+}
+
+abbrev pub opened_production : AdapterTable → Node → OpenFields → PathFields → Production
+opened_production t peer request path =
+    let trigger = served_trigger (trigger_of request.trigger) in
+    new_production t (address_of t.profile peer request.t_o_params.kind path.produced) trigger (served_inhibit trigger path.inhibit)
+
+-- a joiner shares the producer of its group; another connection begins one
+abbrev pub opened_state : AdapterTable → Node → OpenFields → PathFields → Option Row → State
+opened_state t peer request path None = Established (opened_production t peer request path)
+opened_state t peer request path (Some member) = member.state
+
+-- A joiner has the id of its group. The producer chooses a multicast id, the second that it draws, and the
+-- consumer that of a point to point connection.
+abbrev pub opened_t_o_id : AdapterTable → OpenFields → Option Row → ConnId
+opened_t_o_id t request None = if is_multicast request.t_o_params.kind then connection_id t.profile (t.next_id + 1) else request.t_o_id
+opened_t_o_id t request (Some member) = member.t_o_id
+
+-- the connection that an admitted request opens
+unfoldable pub opened_row : AdapterTable → Node → OpenFields → Admitted → Row
+opened_row t peer request admitted = record {
+  triad = request.triad;
+  peer = peer;
+  kind = admitted.consumer.kind;
+  consumed = admitted.path.consumed;
+  produced = admitted.path.produced;
+  o_t_id = connection_id t.profile t.next_id;
+  t_o_id = opened_t_o_id t request admitted.group;
+  o_t_api = interval_ms request.o_t_rpi;
+  t_o_api = interval_ms request.t_o_rpi;
+  multiplier = request.multiplier;
+  multicast = is_multicast request.t_o_params.kind;
+  opening = t.next_id;
+  last = None;
+  deadline = first_deadline t.clock (timeout request.multiplier (interval_ms request.o_t_rpi));
+  state = opened_state t peer request admitted.path admitted.group;
+}
+
+-- THE TABLE AFTER IT
+
+-- the values with a data segment at the configuration, where there is one to store
+abbrev pub configured : Option InputPoint → Option (List ℕ) → List PointValue → List PointValue
+configured None segment values = values
+configured (Some config) None values = values
+configured (Some config) (Some segment) values = put_value config.instance segment values
+
+-- what makes room is gone, the new connection is the last, its data segment is stored, its ids are drawn
+unfoldable pub opened_table : AdapterTable → OpenFields → Row → Admitted → AdapterTable
+opened_table t request row admitted = record t {
+  rows = without_first (makes_room t.rows row.triad) t.rows ++ row ∷ [];
+  values = configured t.profile.config (stored admitted.path.config admitted.path.segment) t.values;
+  next_id = t.next_id + drawn_ids request admitted.group;
+}
+
+-- WHAT IS TOLD OF IT
+
+-- the ids, and the actual packet intervals in microseconds
+abbrev pub opened_reply : Row → Opened
+opened_reply row = record {
+  o_t_id = row.o_t_id;
+  t_o_id = row.t_o_id;
+  triad = row.triad;
+  o_t_api = 1000 * row.o_t_api;
+  t_o_api = 1000 * row.t_o_api;
+}
+
+-- where the datagrams of a producer go
+abbrev pub state_address : State → Option Node
+state_address (Established production) = Some production.address
+state_address TimedOut = None
+
+-- the address of a multicast connection's datagrams
+abbrev pub opened_address : Row → Option Node
+opened_address row = if row.multicast then state_address row.state else None
+
+abbrev pub replaced_notices : Option Triad → List Notice
+replaced_notices None = []
+replaced_notices (Some triad) = notice.Replaced triad ∷ []
+
+abbrev pub opened_notices : List Row → Row → List Notice
+opened_notices rows row = replaced_notices (replaced_triad rows row.triad) ++ notice.Opened row.triad row.o_t_id ∷ []

@@ -1,0 +1,107 @@
+-- What an adapter is made of, and the first thing that is wrong with it
+-- (Volume 1, chapter 3, connection points; Volume 2, chapter 3, multicast addresses need a host id).
+use Rattle.std.specs.Prelude.{ℕ, ◌-◌, ◌%◌, ◌^◌, ◌==◌, ◌&&◌, not, nat_le, Bool, true, if◌then◌else◌, List, [], ◌∷◌, ◌++◌, length, map, Option, Some, None, option_to_list}
+use Rattle.std.specs.Int.{is_power_of_two}
+use Rattle.std.specs.List.{list_any, list_all}
+use Rattle.cip_types.specs.declared.names.Identity.{Identity}
+use Rattle.adapter_table.specs.declared.profile.OutputPoint.{OutputPoint}
+use Rattle.adapter_table.specs.declared.profile.InputPoint.{InputPoint}
+use Rattle.adapter_table.specs.declared.profile.Profile.{Profile}
+use Rattle.cip_events.specs.declared.profile_fault.ProfileFault.{ProfileFault}
+use Rattle.cip_events.specs.declared.profile_fault.ProfileFault.TheVariants.{Incarnation, Address, Points, SameInstance, Length, Identity as IdentityFault}
+
+-- ADDRESSES
+
+-- how many addresses a network of this mask has
+abbrev pub network_size : ℕ → ℕ
+network_size mask = 2 ^ 32 - mask
+
+-- the bits of an address that are not its network's
+abbrev pub host_id : ℕ → ℕ → ℕ
+host_id node mask = node % network_size mask
+
+-- the mask is ones and then zeros, and the address is not that of the network itself
+abbrev pub is_address : ℕ → ℕ → Bool
+is_address node mask = is_power_of_two (network_size mask) && not (host_id node mask == 0)
+
+-- POINTS
+
+-- the point has this instance
+abbrev pub is_at : ℕ → InputPoint → Bool
+is_at instance point = point.instance == instance
+
+abbrev pub is_output_at : ℕ → OutputPoint → Bool
+is_output_at instance point = point.instance == instance
+
+-- an output by its instance and length alone
+abbrev pub as_point : OutputPoint → InputPoint
+as_point output = record { instance = output.instance; len = output.len }
+
+-- a point without data
+abbrev pub heartbeat : ℕ → InputPoint
+heartbeat instance = record { instance = instance; len = 0 }
+
+-- the configuration and the heartbeats
+abbrev pub points_beside : Profile → List InputPoint
+points_beside profile = option_to_list profile.config ++ heartbeat profile.input_only ∷ heartbeat profile.listen_only ∷ []
+
+-- all points: outputs, inputs, the configuration and the heartbeats
+abbrev pub all_points : Profile → List InputPoint
+all_points profile = map as_point profile.outputs ++ (profile.inputs ++ points_beside profile)
+
+-- no two points have one instance
+abbrev pub are_distinct : List InputPoint → Bool
+are_distinct [] = true
+are_distinct (point ∷ points) = not (list_any (is_at point.instance) points) && are_distinct points
+
+-- at least one input, and at most 8 inputs and 8 outputs
+abbrev pub are_few : Profile → Bool
+are_few profile = not (length profile.inputs == 0) && (nat_le (length profile.inputs) 8 && nat_le (length profile.outputs) 8)
+
+-- 1 to 1,400 bytes
+abbrev pub is_point_len : ℕ → Bool
+is_point_len len = nat_le 1 len && nat_le len 1400
+
+abbrev pub has_output_len : OutputPoint → Bool
+has_output_len point = is_point_len point.len
+
+abbrev pub has_input_len : InputPoint → Bool
+has_input_len point = is_point_len point.len
+
+-- 0 to 400 bytes, and whole words of two bytes
+abbrev pub has_config_len : Option InputPoint → Bool
+has_config_len None = true
+has_config_len (Some config) = nat_le config.len 400 && config.len % 2 == 0
+
+abbrev pub are_long_enough : Profile → Bool
+are_long_enough profile = list_all has_output_len profile.outputs && (list_all has_input_len profile.inputs && has_config_len profile.config)
+
+-- REVISIONS
+
+-- a major revision of 1 to 127, and a minor one of at least 1
+abbrev pub is_revision : Identity → Bool
+is_revision identity = nat_le 1 identity.major && (nat_le identity.major 127 && nat_le 1 identity.minor)
+
+-- THE FIRST FAULT
+
+-- a test of a profile: whether it fails, and what is then wrong
+abbrev pub ProfileTest : Type 0
+ProfileTest = Bool × ProfileFault
+
+abbrev pub profile_tests : Profile → List ProfileTest
+profile_tests profile =
+    (profile.incarnation == 0, Incarnation)
+    ∷ (not (is_address profile.node.0 profile.mask), Address)
+    ∷ (not (are_few profile), Points)
+    ∷ (not (are_distinct (all_points profile)), SameInstance)
+    ∷ (not (are_long_enough profile), Length)
+    ∷ (not (is_revision profile.identity), IdentityFault)
+    ∷ []
+
+-- what is wrong by the first test that fails
+abbrev pub first_fault : List ProfileTest → Option ProfileFault
+first_fault [] = None
+first_fault (test ∷ rest) = if test.0 then Some test.1 else first_fault rest
+
+unfoldable pub profile_fault : Profile → Option ProfileFault
+profile_fault profile = first_fault (profile_tests profile)

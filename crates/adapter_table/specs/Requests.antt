@@ -1,0 +1,155 @@
+-- Requests to the message router: what is replied, and what becomes of the table
+-- (Volume 1, chapter 2, message router request and reply formats, and chapter 3, Connection Manager).
+use Rattle.std.specs.Prelude.{ℕ, ◌==◌, not, length, find, if◌then◌else◌, Bool, true, false, List, [], ◌∷◌, Option, Some, None, Result, Ok, Err}
+use Rattle.cip_types.specs.declared.names.Node.{Node}
+use Rattle.cip_fwdopen.specs.Open.{OpenFields}
+use Rattle.cip_events.specs.declared.event.Notice.{Notice}
+use Rattle.cip_events.specs.declared.event.Frame.{Frame}
+use Rattle.cip_events.specs.declared.event.Recipient.TheVariants.{Peer}
+use Rattle.cip_events.specs.declared.event.Verdict.TheVariants.{Done, BadFrame}
+use Rattle.cip_events.specs.declared.event.Answer.{Answer}
+use Rattle.adapter_table.specs.declared.table.AdapterTable.{AdapterTable}
+use Rattle.cip_router.specs.Asking.{AskedFields, nothing, refused, closing, assembly, opening, asked_reading}
+use Rattle.cip_fwdopen.specs.Close.{CloseFields}
+use Rattle.adapter_table.specs.declared.row.Row.{Row}
+use Rattle.adapter_table.specs.Rows.{has_triad}
+use Rattle.adapter_table.specs.Points.{bytes_at}
+use Rattle.adapter_table.specs.Closing.{closed_table, closed_notices}
+use Rattle.cip_router.specs.declared.refusal.Refusal.TheVariants as refusal
+use Rattle.cip_router.specs.declared.refusal.Status.TheVariants as status
+use Rattle.cip_router.specs.Replies.{ReplyFields, opened, closed, got, reply_text}
+use Rattle.cip_router.specs.Replies as replies
+use Rattle.cip_router.specs.declared.refusal.Refusal.{Refusal}
+use Rattle.cip_router.specs.declared.refusal.Status.{Status}
+use Rattle.cip_router.specs.Refusals.{refusal_fault, status_fault}
+use Rattle.adapter_table.specs.Checks.{Admitted, standing, verdict}
+use Rattle.adapter_table.specs.Opening.{opened_row, opened_table, opened_reply, opened_address, opened_notices}
+use Rattle.cip_events.specs.Answers.{plain_answer}
+
+-- WHAT IS REPLIED
+
+-- the reply to a request, the multicast address of a connection that it opened, what happened to
+-- connections, and the table after it
+pub record Served : Type 0 where
+  pub reply : ReplyFields
+  pub address : Option Node
+  pub notices : List Notice
+  pub table : AdapterTable
+
+-- the service that a Forward_Open of either size has
+abbrev pub open_service : Bool → ℕ
+open_service false = 0x54
+open_service true = 0x5B
+
+-- a connection that is refused, with its triad
+abbrev pub refused_open : AdapterTable → Bool → OpenFields → Refusal → Served
+refused_open t large request why = record {
+  reply = replies.refused (open_service large) (refusal_fault why) (Some request.triad);
+  address = None;
+  notices = [];
+  table = t;
+}
+
+unfoldable pub admitted_open : AdapterTable → Node → Bool → OpenFields → Admitted → Served
+admitted_open t peer large request admitted =
+    let row = opened_row t peer request admitted in
+    record {
+      reply = opened large (opened_reply row);
+      address = opened_address row;
+      notices = opened_notices t.rows row;
+      table = opened_table t request row admitted;
+    }
+
+abbrev pub judged_open : AdapterTable → Node → Bool → OpenFields → Result Admitted Refusal → Served
+judged_open t peer large request (Err why) = refused_open t large request why
+judged_open t peer large request (Ok admitted) = admitted_open t peer large request admitted
+
+-- a Forward_Open
+unfoldable pub served_open : AdapterTable → Node → Bool → OpenFields → Served
+served_open t peer large request = judged_open t peer large request (verdict (standing t) request)
+
+-- a close of no connection
+abbrev pub unknown_close : AdapterTable → CloseFields → Served
+unknown_close t request = record {
+  reply = replies.refused 0x4E (refusal_fault refusal.NotFound) (Some request.triad);
+  address = None;
+  notices = [];
+  table = t;
+}
+
+abbrev pub known_close : AdapterTable → Row → Served
+known_close t row = record {
+  reply = closed row.triad;
+  address = None;
+  notices = closed_notices t.rows row;
+  table = closed_table t row;
+}
+
+abbrev pub close_of : AdapterTable → CloseFields → Option Row → Served
+close_of t request None = unknown_close t request
+close_of t request (Some row) = known_close t row
+
+-- a Forward_Close, of a connection in any state
+unfoldable pub served_close : AdapterTable → CloseFields → Served
+served_close t request = close_of t request (find (has_triad request.triad) t.rows)
+
+abbrev pub router_refusal : AdapterTable → ℕ → Status → Served
+router_refusal t service why = record { reply = replies.refused service (status_fault why) None; address = None; notices = []; table = t }
+
+-- the attribute that is the value of an assembly
+abbrev pub is_value_attribute : Option ℕ → Bool
+is_value_attribute None = false
+is_value_attribute (Some attribute) = attribute == 3
+
+-- the value of a point that there is, by a request of this service
+abbrev pub get_of : AdapterTable → ℕ → Option ℕ → List ℕ → List ℕ → Served
+get_of t service attribute body value =
+    if not (service == 0x0E) then router_refusal t service status.Service
+    else (if not (is_value_attribute attribute) then router_refusal t service status.Attribute
+    else (if not (length body == 0) then router_refusal t service status.TooMuchData
+    else record { reply = got value; address = None; notices = []; table = t }))
+
+abbrev pub assembly_of : AdapterTable → ℕ → Option ℕ → List ℕ → Option (List ℕ) → Served
+assembly_of t service attribute body None = router_refusal t service status.PathDestination
+assembly_of t service attribute body (Some value) = get_of t service attribute body value
+
+-- a service of an assembly instance
+unfoldable pub served_assembly : AdapterTable → ℕ → ℕ → Option ℕ → List ℕ → Served
+served_assembly t service instance attribute body = assembly_of t service attribute body (bytes_at t.values instance)
+
+-- what is served of a request, where there is one
+abbrev pub served : AdapterTable → Node → AskedFields → Option Served
+served t peer nothing = None
+served t peer (refused service why) = Some (router_refusal t service why)
+served t peer (closing request) = Some (served_close t request)
+served t peer (assembly service instance attribute body) = Some (served_assembly t service instance attribute body)
+served t peer (opening large request) = Some (served_open t peer large request)
+
+-- THE ANSWER
+
+-- an answer and the table after it
+abbrev pub Next : Type 0
+Next = Answer × AdapterTable
+
+abbrev pub reply_frame : Node → ReplyFields → Frame
+reply_frame peer reply = record { to = Peer peer; bytes = reply_text reply }
+
+abbrev pub replied : Node → Served → Next
+replied peer served = (
+  record {
+    frames = reply_frame peer served.reply ∷ [];
+    datagrams = [];
+    verdict = Done;
+    notices = served.notices;
+  },
+  served.table,
+)
+
+-- the answer to a request of a peer, or to no request
+abbrev pub answered : AdapterTable → Node → Option Served → Next
+answered t peer None = (plain_answer BadFrame, t)
+answered t peer (Some s) = replied peer s
+
+-- a request of a peer
+unfoldable pub requested : AdapterTable → Node → List ℕ → Next
+requested t peer bytes = answered t peer (served t peer (asked_reading bytes))

@@ -1,0 +1,70 @@
+-- Connections and lists of them: who drives an output, which connection has a triad
+-- (Volume 1, chapter 3, application connection types and connection triads).
+use Rattle.std.specs.Prelude.{ℕ, ◌==◌, ◌&&◌, not, Bool, true, false, if◌then◌else◌, List, [], ◌∷◌, filter}
+use Rattle.std.specs.List.{list_any}
+use Rattle.cip_types.specs.declared.names.Triad.{Triad}
+use Rattle.adapter_table.specs.declared.row.Row.{Row}
+use Rattle.cip_productions.specs.declared.kind.Kind.{Kind}
+use Rattle.adapter_table.specs.declared.row.State.{State}
+use Rattle.adapter_table.specs.declared.row.State.TheVariants.{Established, TimedOut}
+use Rattle.cip_productions.specs.Kinds.{is_owner, is_listener, same_kind}
+
+abbrev pub lives : State → Bool
+lives (Established production) = true
+lives TimedOut = false
+
+abbrev pub is_established : Row → Bool
+is_established row = lives row.state
+
+abbrev pub is_timed_out : Row → Bool
+is_timed_out row = not (is_established row)
+
+abbrev pub same_triad : Triad → Triad → Bool
+same_triad a b = a.serial == b.serial && (a.vendor == b.vendor && a.originator == b.originator)
+
+abbrev pub has_triad : Triad → Row → Bool
+has_triad triad row = same_triad row.triad triad
+
+-- the triad is that of an established connection
+abbrev pub holds_triad : Triad → Row → Bool
+holds_triad triad row = is_established row && has_triad triad row
+
+-- the connection is the established exclusive owner of the output
+abbrev pub drives : ℕ → Row → Bool
+drives point row = is_established row && (is_owner row.kind && row.consumed == point)
+
+-- the drivers of an output
+abbrev pub drivers : ℕ → List Row → List Row
+drivers point rows = filter (drives point) rows
+
+-- the connection is established, and shares the multicast producer of the input
+abbrev pub is_member : ℕ → Row → Bool
+is_member point row = is_established row && (row.multicast && row.produced == point)
+
+-- the connection supports one of the kind on the input: it is of another kind and shares the producer
+abbrev pub supports : Kind → ℕ → Row → Bool
+supports kind point row = is_member point row && not (same_kind row.kind kind)
+
+-- a connection of the kind on the input is supported
+abbrev pub is_supported : List Row → Kind → ℕ → Bool
+is_supported rows kind point = list_any (supports kind point) rows
+
+-- the connection is an established listen-only one without support
+abbrev pub is_forsaken : List Row → Row → Bool
+is_forsaken rows row = is_established row && (is_listener row.kind && not (is_supported rows row.kind row.produced))
+
+-- the connections without the first that passes a test
+abbrev pub without_first : (Row → Bool) → List Row → List Row
+without_first test [] = []
+without_first test (row ∷ rows) = if test row then rows else row ∷ without_first test rows
+
+-- ---- what a write changes
+
+-- an established connection's producer has new data
+abbrev pub written_state : State → State
+written_state (Established production) = Established (record production { written = true })
+written_state TimedOut = TimedOut
+
+-- the input of the connection was written
+abbrev pub written_row : ℕ → Row → Row
+written_row point row = if row.produced == point then record row { state = written_state row.state } else row

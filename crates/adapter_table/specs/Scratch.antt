@@ -1,0 +1,92 @@
+-- The value of an output from scratch: what the last event that touched it left there
+-- (Volume 1, chapter 3, run/idle and connection timeouts; chapter 5, Assembly object).
+use Rattle.std.specs.Prelude.{ℕ, ◌==◌, ◌&&◌, not, Bool, if◌then◌else◌, List, find, replicate, Option, Some, None, Result, Ok, Err}
+use Rattle.std.specs.List.{list_any}
+use Rattle.cip_types.specs.declared.names.Node.{Node}
+use Rattle.cip_datagram.specs.declared.datagram.DatagramFault.{DatagramFault}
+use Rattle.cip_datagram.specs.Datagram.{DatagramFields}
+use Rattle.cip_datagram.specs.Header.{header_at}
+use Rattle.cip_datagram.specs.Reading.{datagram_reading}
+use Rattle.cip_events.specs.declared.event.Delivery.{Delivery}
+use Rattle.cip_events.specs.declared.event.Delivery.TheVariants.{Applied, Idle, Heartbeat, Duplicate, Old, UnknownId, WrongSize, Malformed}
+use Rattle.cip_events.specs.declared.event.Event.{Event}
+use Rattle.cip_events.specs.declared.event.Event.TheVariants.{Request, StreamOpened, Frame, StreamCut, Datagram, Write, Read, Tick}
+use Rattle.adapter_table.specs.declared.profile.Action.{Action}
+use Rattle.adapter_table.specs.declared.profile.Action.TheVariants.{Hold, Zero}
+use Rattle.adapter_table.specs.declared.profile.OutputPoint.{OutputPoint}
+use Rattle.adapter_table.specs.declared.profile.Profile.{Profile}
+use Rattle.adapter_table.specs.declared.row.Row.{Row}
+use Rattle.adapter_table.specs.declared.table.AdapterTable.{AdapterTable}
+use Rattle.adapter_table.specs.Profiles.{is_output_at}
+use Rattle.adapter_table.specs.Rows.{drives}
+use Rattle.adapter_table.specs.Datagrams.{is_for, row_delivery, run_data}
+
+-- the first of two, where it is there, and otherwise the second
+abbrev pub or_else : {A : Type 0} → Option A → Option A → Option A
+or_else None second = second
+or_else (Some first) second = Some first
+
+-- what an action leaves at an output of so many bytes; nothing where it holds what it has
+abbrev pub left_by : Action → ℕ → Option (List ℕ)
+left_by Hold len = None
+left_by Zero len = Some (replicate len 0)
+
+abbrev pub left_idle : Option OutputPoint → Option (List ℕ)
+left_idle None = None
+left_idle (Some output) = left_by output.idle output.len
+
+abbrev pub left_lost : Option OutputPoint → Option (List ℕ)
+left_lost None = None
+left_lost (Some output) = left_by output.fault output.len
+
+-- ---- data
+
+-- what a datagram for an output leaves there: its data in run mode, the idle action in idle mode
+abbrev pub left_fed : Option OutputPoint → DatagramFields → Delivery → Option (List ℕ)
+left_fed output d Applied = Some (run_data (header_at d.payload))
+left_fed output d Idle = left_idle output
+left_fed output d Heartbeat = None
+left_fed output d Duplicate = None
+left_fed output d Old = None
+left_fed output d UnknownId = None
+left_fed output d WrongSize = None
+left_fed output d Malformed = None
+
+-- the same at one output, of a datagram for this connection
+abbrev pub fed_at : ℕ → Profile → DatagramFields → Row → Option (List ℕ)
+fed_at point profile d row =
+    if row.consumed == point then left_fed (find (is_output_at point) profile.outputs) d (row_delivery profile row d) else None
+
+abbrev pub fed_by : ℕ → Profile → DatagramFields → Option Row → Option (List ℕ)
+fed_by point profile d None = None
+fed_by point profile d (Some row) = fed_at point profile d row
+
+abbrev pub read_fed : ℕ → AdapterTable → Node → Result DatagramFields DatagramFault → Option (List ℕ)
+read_fed point t peer (Err fault) = None
+read_fed point t peer (Ok d) = fed_by point t.profile d (find (is_for peer d.connection) t.rows)
+
+-- what the data of an event leave at an output
+abbrev pub fed : ℕ → AdapterTable → Event → Option (List ℕ)
+fed point t (Request peer bytes) = None
+fed point t (StreamOpened stream peer) = None
+fed point t (Frame stream bytes) = None
+fed point t (StreamCut stream) = None
+fed point t (Datagram peer bytes) = read_fed point t peer (datagram_reading bytes)
+fed point t (Write other bytes) = None
+fed point t (Read other) = None
+fed point t (Tick ms) = None
+
+-- ---- the loss of the owner
+
+-- the output had an owner, and has none any more
+abbrev pub is_lost : ℕ → List Row → List Row → Bool
+is_lost point old new = list_any (drives point) old && not (list_any (drives point) new)
+
+abbrev pub lost : ℕ → AdapterTable → AdapterTable → Option (List ℕ)
+lost point old new = if is_lost point old.rows new.rows then left_lost (find (is_output_at point) old.profile.outputs) else None
+
+-- ---- an event
+
+-- what an event that leads from one table to another leaves at an output, where it touches it
+abbrev pub left_at : ℕ → AdapterTable → Event → AdapterTable → Option (List ℕ)
+left_at point old event new = or_else (fed point old event) (lost point old new)

@@ -1,0 +1,73 @@
+-- What holds of every table that a run reaches.
+use Rattle.std.specs.Prelude.{ℕ, ◌≡◌, ◌≤◌, ◌<◌, ◌==◌, Bool, true, false, List, [], ◌∷◌, length}
+use Rattle.std.specs.List.{list_any}
+use Rattle.cip_types.specs.declared.names.ConnId.{ConnId}
+use Rattle.adapter_table.specs.declared.profile.Profile.{Profile}
+use Rattle.adapter_table.specs.declared.row.Row.{Row}
+use Rattle.adapter_table.specs.declared.table.Stream.{Stream}
+use Rattle.adapter_table.specs.declared.table.AdapterTable.{AdapterTable}
+use Rattle.adapter_table.specs.Rows.{has_triad, drivers, is_forsaken, is_member}
+use Rattle.adapter_table.specs.Opening.{connection_id}
+use Rattle.adapter_table.specs.Streams.{is_stream}
+
+-- no two connections have one triad
+abbrev pub TriadsDiffer : List Row → Type 0
+TriadsDiffer [] = Unit {0}
+TriadsDiffer (row ∷ rows) = (list_any (has_triad row.triad) rows ≡ false) × TriadsDiffer rows
+
+abbrev pub has_o_t_id : ConnId → Row → Bool
+has_o_t_id id row = row.o_t_id.0 == id.0
+
+-- no two connections have one O->T id
+abbrev pub IdsDiffer : List Row → Type 0
+IdsDiffer [] = Unit {0}
+IdsDiffer (row ∷ rows) = (list_any (has_o_t_id row.o_t_id) rows ≡ false) × IdsDiffer rows
+
+-- each O->T id is the device's, and its counter, which is the opening number, is below the next one
+abbrev pub IdsAreDrawn : Profile → ℕ → List Row → Type 0
+IdsAreDrawn profile next_id [] = Unit {0}
+IdsAreDrawn profile next_id (row ∷ rows) = (row.o_t_id ≡ connection_id profile row.opening) × (row.opening < next_id) × IdsAreDrawn profile next_id rows
+
+-- an output has at most one established exclusive owner
+abbrev pub HasOneOwner : List Row → Type 0
+HasOneOwner rows = (point : ℕ) → length (drivers point rows) ≤ 1
+
+-- no established listen-only connection is without support
+abbrev pub ListenersAreSupported : List Row → Type 0
+ListenersAreSupported rows = list_any (is_forsaken rows) rows ≡ false
+
+-- two established multicast connections of one input have one T->O id, one packet interval, and equal
+-- productions, the producer's number among them
+pub record SharesProducer (a b : Row) : Type 0 where
+  pub id : a.t_o_id ≡ b.t_o_id
+  pub api : a.t_o_api ≡ b.t_o_api
+  pub state : a.state ≡ b.state
+
+-- where both are established multicast connections of the first one's input
+abbrev pub Agree : Row → Row → Type 0
+Agree a b = is_member a.produced a ≡ true → is_member a.produced b ≡ true → SharesProducer a b
+
+abbrev pub AllAgree : Row → List Row → Type 0
+AllAgree row [] = Unit {0}
+AllAgree row (other ∷ rows) = Agree row other × AllAgree row rows
+
+abbrev pub GroupsAgree : List Row → Type 0
+GroupsAgree [] = Unit {0}
+GroupsAgree (row ∷ rows) = AllAgree row rows × GroupsAgree rows
+
+-- no two open streams have one number
+abbrev pub StreamsDiffer : List Stream → Type 0
+StreamsDiffer [] = Unit {0}
+StreamsDiffer (stream ∷ streams) = (list_any (is_stream stream.number) streams ≡ false) × StreamsDiffer streams
+
+pub record IsSound (t : AdapterTable) : Type 0 where
+  pub few : length t.rows ≤ 64
+  pub one_owner : HasOneOwner t.rows
+  pub triads_differ : TriadsDiffer t.rows
+  pub ids_differ : IdsDiffer t.rows
+  pub ids_are_drawn : IdsAreDrawn t.profile t.next_id t.rows
+  pub listeners_are_supported : ListenersAreSupported t.rows
+  pub groups_agree : GroupsAgree t.rows
+  pub ids_are_left : t.next_id ≤ 16777216
+  pub few_streams : length t.streams ≤ 16
+  pub streams_differ : StreamsDiffer t.streams

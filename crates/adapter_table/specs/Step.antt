@@ -1,0 +1,78 @@
+-- One event at a device's table.
+use Rattle.std.specs.Prelude.{ℕ, ◌==◌, length, map, find, if◌then◌else◌, List, [], Option, Some, None, Result, Ok, Err}
+use Rattle.cip_events.specs.declared.event.Event.{Event}
+use Rattle.cip_events.specs.declared.event.Event.TheVariants.{Request, StreamOpened, Frame, StreamCut, Datagram, Write, Read, Tick}
+use Rattle.cip_events.specs.declared.event.Answer.{Answer}
+use Rattle.cip_events.specs.declared.event.StepFault.{StepFault}
+use Rattle.cip_events.specs.declared.event.StepFault.TheVariants as fault
+use Rattle.cip_events.specs.declared.event.Verdict.TheVariants.{Done}
+use Rattle.adapter_table.specs.declared.profile.InputPoint.{InputPoint}
+use Rattle.adapter_table.specs.declared.profile.Profile.{Profile}
+use Rattle.adapter_table.specs.declared.table.AdapterTable.{AdapterTable}
+use Rattle.adapter_table.specs.Profiles.{is_at}
+use Rattle.adapter_table.specs.Points.{opening_values, put_value, bytes_at}
+use Rattle.adapter_table.specs.Rows.{written_row}
+use Rattle.adapter_table.specs.Requests.{Next, requested}
+use Rattle.cip_events.specs.Answers.{plain_answer, value_answer}
+use Rattle.adapter_table.specs.Streams.{stream_opened, stream_cut}
+use Rattle.adapter_table.specs.Encapsulation.{frame}
+use Rattle.adapter_table.specs.Datagrams.{received}
+use Rattle.adapter_table.specs.Productions.{prompt_sendings, prompt_row}
+use Rattle.adapter_table.specs.Ticks.{tick}
+
+abbrev pub read_of : AdapterTable → Option (List ℕ) → Result Next StepFault
+read_of t None = Err fault.NoSuchPoint
+read_of t (Some bytes) = Ok (value_answer bytes, t)
+
+-- what an output, an input or the configuration holds
+unfoldable pub read : AdapterTable → ℕ → Result Next StepFault
+read t point = read_of t (bytes_at t.values point)
+
+-- the input holds other bytes, and each of its producers has new data
+unfoldable pub written_table : AdapterTable → ℕ → List ℕ → AdapterTable
+written_table t point bytes = record t {
+  rows = map (written_row point) t.rows;
+  values = put_value point bytes t.values;
+}
+
+-- each change-of-state producer of the input has produced, or is due when it may
+unfoldable pub prompt_table : AdapterTable → ℕ → AdapterTable
+prompt_table t point = record t { rows = map (prompt_row t.clock point) t.rows }
+
+-- what the change-of-state producers send at once
+abbrev pub write_answer : AdapterTable → ℕ → List ℕ → Answer
+write_answer written point bytes = record (plain_answer Done) { datagrams = prompt_sendings written.clock point bytes written.rows }
+
+abbrev pub written : AdapterTable → ℕ → List ℕ → Next
+written t point bytes = (write_answer t point bytes, prompt_table t point)
+
+abbrev pub write_of : AdapterTable → ℕ → List ℕ → Option InputPoint → Result Next StepFault
+write_of t point bytes None = Err fault.NoSuchPoint
+write_of t point bytes (Some input) =
+    if length bytes == input.len then Ok (written (written_table t point bytes) point bytes) else Err fault.WrongLength
+
+-- other bytes for an input
+unfoldable pub write : AdapterTable → ℕ → List ℕ → Result Next StepFault
+write t point bytes = write_of t point bytes (find (is_at point) t.profile.inputs)
+
+-- Either the first fault, the table staying, or an answer and the next table. Want of memory is never named.
+abbrev pub adapter_step : AdapterTable → Event → Result Next StepFault
+adapter_step t (Request peer bytes) = Ok (requested t peer bytes)
+adapter_step t (StreamOpened stream peer) = stream_opened t stream peer
+adapter_step t (Frame stream bytes) = frame t stream bytes
+adapter_step t (StreamCut stream) = stream_cut t stream
+adapter_step t (Datagram peer bytes) = Ok (received t peer bytes)
+adapter_step t (Write point bytes) = write t point bytes
+adapter_step t (Read point) = read t point
+adapter_step t (Tick ms) = tick t ms
+
+-- the table of a fresh adapter: no connections, zeros at all points, clock 0, the first id, no streams
+abbrev pub adapter_table : Profile → AdapterTable
+adapter_table profile = record {
+  profile = profile;
+  rows = [];
+  values = opening_values profile;
+  clock = record { 0 = 0 };
+  next_id = 1;
+  streams = [];
+}

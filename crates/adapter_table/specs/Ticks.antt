@@ -1,0 +1,93 @@
+-- Time at an adapter. A tick moves the clock, then connections whose deadline has come time out, then
+-- listeners that this leaves without support are dropped, and then the producers that are due produce
+-- (Volume 1, chapter 3, connection timeouts, inactivity watchdog, application connection types).
+use Rattle.std.specs.Prelude.{ℕ, ◌+◌, ◌==◌, ◌&&◌, ◌||◌, nat_lt, nat_le, Bool, if◌then◌else◌, List, [], ◌∷◌, ◌++◌, map, filter, Result, Ok, Err}
+use Rattle.cip_types.specs.declared.names.Ms.{Ms}
+use Rattle.cip_events.specs.declared.event.Answer.{Answer}
+use Rattle.cip_events.specs.declared.event.Notice.{Notice}
+use Rattle.cip_events.specs.declared.event.Notice.TheVariants as notice
+use Rattle.cip_events.specs.declared.event.StepFault.{StepFault}
+use Rattle.cip_events.specs.declared.event.StepFault.TheVariants as fault
+use Rattle.cip_events.specs.declared.event.Verdict.TheVariants.{Done}
+use Rattle.adapter_table.specs.declared.profile.Profile.{Profile}
+use Rattle.adapter_table.specs.declared.row.Row.{Row}
+use Rattle.adapter_table.specs.declared.row.State.TheVariants.{TimedOut}
+use Rattle.adapter_table.specs.declared.table.PointValue.{PointValue}
+use Rattle.adapter_table.specs.declared.table.AdapterTable.{AdapterTable}
+use Rattle.adapter_table.specs.Rows.{is_established}
+use Rattle.adapter_table.specs.Closing.{closed_values, forsaken, staying, dropped_notice}
+use Rattle.cip_types.specs.Order.{in_order}
+use Rattle.adapter_table.specs.Productions.{due_sendings, due_row}
+use Rattle.adapter_table.specs.Requests.{Next}
+use Rattle.cip_events.specs.Clock.{longest_tick, clock_end}
+
+-- THE CLOCK
+
+unfoldable pub clocked_table : AdapterTable → ℕ → AdapterTable
+clocked_table t ms = record t { clock = record { 0 = t.clock.0 + ms } }
+
+-- CONNECTIONS THAT TIME OUT
+
+-- the connection is established, and its deadline has come
+abbrev pub has_expired : Ms → Row → Bool
+has_expired clock row = is_established row && nat_le row.deadline.0 clock.0
+
+-- by deadlines, and then in the order of openings
+abbrev pub by_deadline : Row → Row → Bool
+by_deadline row other =
+    nat_lt row.deadline.0 other.deadline.0 || (row.deadline.0 == other.deadline.0 && nat_lt row.opening other.opening)
+
+abbrev pub expired : Ms → List Row → List Row
+expired clock rows = in_order by_deadline (filter (has_expired clock) rows)
+
+abbrev pub expired_row : Ms → Row → Row
+expired_row clock row = if has_expired clock row then record row { state = TimedOut } else row
+
+abbrev pub expired_rows : Ms → List Row → List Row
+expired_rows clock rows = map (expired_row clock) rows
+
+-- the fault action of each output whose owner times out
+abbrev pub expired_values : Profile → List Row → List PointValue → List PointValue
+expired_values profile [] values = values
+expired_values profile (row ∷ rows) values = expired_values profile rows (closed_values profile row values)
+
+abbrev pub expired_notice : Row → Notice
+expired_notice row = notice.Expired row.triad
+
+-- the connections that time out, and then the listeners that are dropped
+abbrev pub expiry_notices : Ms → List Row → List Notice
+expiry_notices clock rows = map expired_notice (expired clock rows) ++ map dropped_notice (forsaken (expired_rows clock rows))
+
+unfoldable pub expired_table : AdapterTable → AdapterTable
+expired_table t = record t {
+  rows = staying (expired_rows t.clock t.rows);
+  values = expired_values t.profile (expired t.clock t.rows) t.values;
+}
+
+-- PRODUCTIONS
+
+unfoldable pub produced_table : AdapterTable → AdapterTable
+produced_table t = record t { rows = map (due_row t.clock) t.rows }
+
+-- A TICK
+
+-- inputs hold what they held: no expiry touches them
+abbrev pub tick_answer : AdapterTable → List Row → Answer
+tick_answer clocked left = record {
+  frames = [];
+  datagrams = due_sendings clocked.clock left clocked.values;
+  verdict = Done;
+  notices = expiry_notices clocked.clock clocked.rows;
+}
+
+abbrev pub elapsed : AdapterTable → Next
+elapsed clocked =
+    let left = expired_table clocked in
+    (tick_answer clocked left.rows, produced_table left)
+
+-- some milliseconds pass
+unfoldable pub tick : AdapterTable → ℕ → Result Next StepFault
+tick t ms =
+    if nat_lt longest_tick ms then Err fault.TickTooLong
+    else (if nat_lt clock_end (t.clock.0 + ms) then Err fault.ClockEnd
+    else Ok (elapsed (clocked_table t ms)))

@@ -1,0 +1,180 @@
+//! The check of a profile.
+
+ghost use Rattle.std.specs.Prelude.{◌≡◌, ◌↔◌, ◌++◌, Some, None, IsOk, IfErr, map};
+ghost use Rattle.std.specs.List.{list_any, list_all};
+ghost use Rattle.adapter_table.specs.Profiles.{is_address, is_at, is_output_at, as_point, points_beside, are_distinct, are_few, has_output_len, has_input_len, has_config_len, are_long_enough, is_revision, is_point_len, profile_fault};
+
+use crate::profile::{
+    InputPoint, LONGEST_CONFIG, LONGEST_POINT, MOST_POINTS, OutputPoint, Profile,
+};
+use cip_events::ProfileFault;
+use cip_types::{Identity, Node};
+
+fn is_address(node: Node, mask: u32) -> bool
+    ensures { result ≡ is_address node.0 mask }
+{
+    let size = (1u64 << 32) - u64::from(mask);
+    size.is_power_of_two() && u64::from(node.0) % size != 0
+}
+
+fn are_few(profile: &Profile) -> bool
+    ensures { result ≡ are_few profile.now }
+{
+    let inputs = profile.inputs.as_slice().len();
+    let outputs = profile.outputs.as_slice().len();
+    inputs != 0 && inputs <= MOST_POINTS && outputs <= MOST_POINTS
+}
+
+fn has_output(outputs: &[OutputPoint], instance: u32) -> bool
+    ensures { result ≡ list_any (is_output_at instance) outputs.now }
+{
+    outputs.iter().any(|output| output.instance == instance)
+}
+
+fn has_input(inputs: &[InputPoint], instance: u32) -> bool
+    ensures { result ≡ list_any (is_at instance) inputs.now }
+{
+    inputs.iter().any(|input| input.instance == instance)
+}
+
+fn has_beside(profile: &Profile, instance: u32) -> bool
+    ensures { result ≡ list_any (is_at instance) (points_beside profile.now) }
+{
+    let heartbeat = profile.input_only == instance || profile.listen_only == instance;
+    match profile.config {
+        Some(config) => config.instance == instance || heartbeat,
+        None => heartbeat,
+    }
+}
+
+fn beside_differ(profile: &Profile) -> bool
+    ensures { result ≡ are_distinct (points_beside profile.now) }
+{
+    let heartbeats = profile.listen_only != profile.input_only;
+    match profile.config {
+        Some(config) => {
+            config.instance != profile.input_only
+                && config.instance != profile.listen_only
+                && heartbeats
+        }
+        None => heartbeats,
+    }
+}
+
+#[tactic(auto, using(crate::proofs::PointLemmas::any_append))]
+fn inputs_differ(inputs: &[InputPoint], profile: &Profile) -> bool
+    ensures { result ≡ are_distinct (inputs.now ++ points_beside profile.now) }
+{
+    match inputs {
+        [] => beside_differ(profile),
+        [first, rest @ ..] => {
+            !has_input(rest, first.instance)
+                && !has_beside(profile, first.instance)
+                && inputs_differ(rest, profile)
+        }
+    }
+}
+
+/// Whether one of these outputs, an input, the configuration or a heartbeat has this instance.
+#[tactic(auto, using(crate::proofs::PointLemmas::any_point))]
+fn has_point(outputs: &[OutputPoint], profile: &Profile, instance: u32) -> bool
+    ensures { result ≡ list_any (is_at instance) (map as_point outputs.now ++ (profile.now.inputs ++ points_beside profile.now)) }
+{
+    has_output(outputs, instance)
+        || has_input(profile.inputs.as_slice(), instance)
+        || has_beside(profile, instance)
+}
+
+fn outputs_differ(outputs: &[OutputPoint], profile: &Profile) -> bool
+    ensures { result ≡ are_distinct (map as_point outputs.now ++ (profile.now.inputs ++ points_beside profile.now)) }
+{
+    match outputs {
+        [] => inputs_differ(profile.inputs.as_slice(), profile),
+        [first, rest @ ..] => {
+            !has_point(rest, profile, first.instance) && outputs_differ(rest, profile)
+        }
+    }
+}
+
+fn is_point_len(len: u64) -> bool
+    ensures { result ≡ is_point_len len }
+{
+    (1..=LONGEST_POINT).contains(&len)
+}
+
+fn are_outputs_long_enough(outputs: &[OutputPoint]) -> bool
+    ensures { result ≡ list_all has_output_len outputs.now }
+{
+    outputs.iter().all(|output| is_point_len(output.len))
+}
+
+fn are_inputs_long_enough(inputs: &[InputPoint]) -> bool
+    ensures { result ≡ list_all has_input_len inputs.now }
+{
+    inputs.iter().all(|input| is_point_len(input.len))
+}
+
+fn has_config_len(config: Option<InputPoint>) -> bool
+    ensures { result ≡ has_config_len config }
+{
+    match config {
+        Some(config) => config.len <= LONGEST_CONFIG && config.len % 2 == 0,
+        None => true,
+    }
+}
+
+fn are_long_enough(profile: &Profile) -> bool
+    ensures { result ≡ are_long_enough profile.now }
+{
+    are_outputs_long_enough(profile.outputs.as_slice())
+        && are_inputs_long_enough(profile.inputs.as_slice())
+        && has_config_len(profile.config)
+}
+
+fn is_revision(identity: &Identity) -> bool
+    ensures { result ≡ is_revision identity.now }
+{
+    1 <= identity.major && identity.major <= 127 && 1 <= identity.minor
+}
+
+/// What is wrong with a profile first.
+#[tactic(auto, unfolding(crate::specs::Profiles::profile_fault))]
+fn fault_of(profile: &Profile) -> Option<ProfileFault>
+    ensures { result ≡ profile_fault profile.now }
+{
+    if profile.incarnation == 0 {
+        return Some(ProfileFault::Incarnation);
+    }
+    if !is_address(profile.node, profile.mask) {
+        return Some(ProfileFault::Address);
+    }
+    if !are_few(profile) {
+        return Some(ProfileFault::Points);
+    }
+    if !outputs_differ(profile.outputs.as_slice(), profile) {
+        return Some(ProfileFault::SameInstance);
+    }
+    if !are_long_enough(profile) {
+        return Some(ProfileFault::Length);
+    }
+    if !is_revision(&profile.identity) {
+        return Some(ProfileFault::Identity);
+    }
+    None
+}
+
+impl Profile {
+    /// Checks the profile: its incarnation, its address, how many points it has, that their instances
+    /// differ, their lengths, and its revision, in this order. Takes no memory.
+    ///
+    /// Answers the first thing that is wrong.
+    pub fn check(&self) -> Result<(), ProfileFault>
+        ensures ok { IsOk result ↔ (profile_fault self.now ≡ None) }
+        ensures fault { IfErr result (λ f. profile_fault self.now ≡ Some f) }
+    {
+        match fault_of(self) {
+            Some(fault) => Err(fault),
+            None => Ok(()),
+        }
+    }
+}

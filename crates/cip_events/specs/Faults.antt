@@ -1,0 +1,20 @@
+-- Why a device is not made, and the numbers of what can be wrong with a profile.
+use Rattle.std.specs.Prelude.{◌≡◌, Option, Some, None, ℕ}
+use Rattle.cip_events.specs.declared.event.NewFault.{NewFault}
+use Rattle.cip_events.specs.declared.event.NewFault.TheVariants as fault
+use Rattle.cip_events.specs.declared.profile_fault.ProfileFault.{ProfileFault}
+use Rattle.cip_events.specs.declared.profile_fault.ProfileFault.TheVariants.{Incarnation, Address, Points, SameInstance, Length, Timing, Identity as IdentityFault}
+
+-- what is wrong with the configuration goes first; memory is wanted only where nothing is
+abbrev pub IsRefusedAs : Option ProfileFault → NewFault → Type 0
+IsRefusedAs wrong (fault.Profile first) = wrong ≡ Some first
+IsRefusedAs wrong fault.OutOfMemory = wrong ≡ None
+
+abbrev pub fault_number : ProfileFault → ℕ
+fault_number Incarnation = 1
+fault_number Address = 2
+fault_number Points = 3
+fault_number SameInstance = 4
+fault_number Length = 5
+fault_number Timing = 6
+fault_number IdentityFault = 7

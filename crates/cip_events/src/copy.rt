@@ -1,0 +1,40 @@
+//! Copies of events.
+
+ghost use Rattle.std.specs.Prelude.{◌≡◌, IfOk};
+
+use crate::event::Event;
+use cip_types::{Items, OutOfMemory};
+use std::alloc::Global;
+
+impl Event {
+    /// A copy of the event.
+    pub fn copy(&self, alloc: Global) -> Result<Event, OutOfMemory>
+        ensures { IfOk result (λ copy. copy ≡ self.now) }
+    {
+        Ok(match self {
+            Event::Request { peer, bytes } => Event::Request {
+                peer: *peer,
+                bytes: Items::copy_of(alloc, bytes.as_slice())?,
+            },
+            Event::StreamOpened { stream, peer } => Event::StreamOpened {
+                stream: *stream,
+                peer: *peer,
+            },
+            Event::Frame { stream, bytes } => Event::Frame {
+                stream: *stream,
+                bytes: Items::copy_of(alloc, bytes.as_slice())?,
+            },
+            Event::StreamCut { stream } => Event::StreamCut { stream: *stream },
+            Event::Datagram { peer, bytes } => Event::Datagram {
+                peer: *peer,
+                bytes: Items::copy_of(alloc, bytes.as_slice())?,
+            },
+            Event::Write { point, bytes } => Event::Write {
+                point: *point,
+                bytes: Items::copy_of(alloc, bytes.as_slice())?,
+            },
+            Event::Read { point } => Event::Read { point: *point },
+            Event::Tick { ms } => Event::Tick { ms: *ms },
+        })
+    }
+}

@@ -1,0 +1,13 @@
+//! What happens at a device and what it answers: events, answers, outcomes, notices and faults. Ports,
+//! inboxes, books and printers speak of these, whatever the device is.
+#![tactic(auto)]
+
+mod copy;
+mod event;
+mod profile_fault;
+
+pub use event::{
+    Answer, Delivery, Event, Frame, NewFault, Notice, Outcome, Recipient, Sending, StepFault,
+    Verdict,
+};
+pub use profile_fault::ProfileFault;

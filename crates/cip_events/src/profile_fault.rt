@@ -1,0 +1,49 @@
+//! What can be wrong with the profile of a device.
+
+ghost use Rattle.std.specs.Prelude.{◌≡◌};
+ghost use Rattle.cip_events.specs.Faults.{fault_number};
+
+use thiserror::Error;
+
+/// The first thing that is wrong with a profile.
+#[derive(Clone, Copy, Debug, PartialEq, Eq, Error)]
+pub enum ProfileFault {
+    /// The incarnation is 0.
+    #[error("the incarnation is 0")]
+    Incarnation,
+    /// The mask is not ones and then zeros, or the address within the network is 0.
+    #[error("the address or its mask is none")]
+    Address,
+    /// No input, or more than 8 inputs or outputs.
+    #[error("no input, or more than 8 inputs or outputs")]
+    Points,
+    /// Two points, heartbeats and the configuration among them, have one instance.
+    #[error("two points have one instance")]
+    SameInstance,
+    /// A point is not of 1 to 1,400 bytes, or the configuration is above 400 bytes or odd.
+    #[error("a point's length is out of range")]
+    Length,
+    /// A packet interval, a multiplier or a time is out of range.
+    #[error("a time is out of range")]
+    Timing,
+    /// The major revision is not in 1 to 127, or the minor one is 0.
+    #[error("the revision is out of range")]
+    Identity,
+}
+
+impl ProfileFault {
+    /// The fault's number, from 1, as a program tells it.
+    pub fn number(self) -> u8
+        ensures { result ≡ fault_number self }
+    {
+        match self {
+            ProfileFault::Incarnation => 1,
+            ProfileFault::Address => 2,
+            ProfileFault::Points => 3,
+            ProfileFault::SameInstance => 4,
+            ProfileFault::Length => 5,
+            ProfileFault::Timing => 6,
+            ProfileFault::Identity => 7,
+        }
+    }
+}

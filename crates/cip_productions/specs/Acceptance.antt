@@ -1,0 +1,15 @@
+-- Which datagram of a connection is accepted: the order of sequence numbers, and counts that come again
+-- (Volume 1, chapter 3, class 1 transport; Volume 2, chapter 2, sequenced address item).
+use Rattle.std.specs.Prelude.{ℕ, ◌==◌, Bool, true, false, Option, Some, None}
+use Rattle.cip_types.specs.Circle.{is_newer}
+use Rattle.cip_productions.specs.declared.acceptance.Accepted.{Accepted}
+
+-- the first number is always accepted, a later one where it is newer than the last accepted one
+abbrev pub is_news : Option Accepted → ℕ → Bool
+is_news None sequence = true
+is_news (Some last) sequence = is_newer sequence last.number
+
+-- the count of the last accepted datagram again: there are no new data
+abbrev pub is_repeated : Option Accepted → ℕ → Bool
+is_repeated None count = false
+is_repeated (Some last) count = count == last.count

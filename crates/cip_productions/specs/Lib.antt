@@ -1,0 +1,4 @@
+pub mod Acceptance
+pub mod Watchdog
+pub mod Productions
+pub mod Kinds

@@ -1,0 +1,28 @@
+-- What a frame says, by what the readers of its bytes give; a written message is read as it was.
+use Rattle.std.proofs.Common.{◌≡◌, ℕ, List, Some, None, Ok, Err, refl, ap}
+use Rattle.cip_types.specs.Fields.{fields_at}
+use Rattle.cip_encap.specs.declared.header.MessageHeader.{MessageHeader}
+use Rattle.cip_encap.specs.declared.message.EncapFault.{EncapFault}
+use Rattle.cip_encap.specs.Message.{MessageFields, MessageFits, header_widths, headed, message_text}
+use Rattle.cip_encap.specs.Reading.{message_reading}
+use Rattle.cip_encap.proofs.MessageLaws.{message_text_reads}
+use Rattle.cip_router.specs.Frames.{whole, misfit, headless, echo_of, frame_fields, frame_reading}
+
+-- a whole message
+pub whole_reads : (bytes : List ℕ) (m : MessageFields) → message_reading bytes ≡ Ok m → frame_reading bytes ≡ whole (echo_of m) m.payload
+unfolding frame_reading
+whole_reads bytes m is = ap (frame_fields (fields_at header_widths bytes)) is
+
+-- a header, and bytes of another length
+pub misfit_reads : (bytes : List ℕ) (fault : EncapFault) (h : MessageHeader) (rest : List ℕ) → message_reading bytes ≡ Err fault → fields_at header_widths bytes ≡ Some (headed h rest) → frame_reading bytes ≡ misfit (record { command = h.command; session = h.session; context = h.context })
+unfolding frame_reading
+misfit_reads bytes fault h rest wrong found = rw (wrong, found) refl
+
+-- too few bytes for a header
+pub headless_reads : (bytes : List ℕ) (fault : EncapFault) → message_reading bytes ≡ Err fault → fields_at header_widths bytes ≡ None → frame_reading bytes ≡ headless
+unfolding frame_reading
+headless_reads bytes fault wrong none = rw (wrong, none) refl
+
+-- a whole message is read as what it says
+pub frame_again : (m : MessageFields) → MessageFits m → frame_reading (message_text m) ≡ whole (echo_of m) m.payload
+frame_again m fits = whole_reads (message_text m) m (message_text_reads m fits)

@@ -1,0 +1,34 @@
+-- The commands of encapsulation messages, and the statuses of refusals (Volume 2, chapter 2, encapsulation
+-- commands and encapsulation status codes).
+use Rattle.std.specs.Prelude.{ℕ, ◌==◌, Bool, true, false, if◌then◌else◌}
+use Rattle.cip_router.specs.declared.command.Command.{Command}
+use Rattle.cip_router.specs.declared.command.Command.TheVariants as command
+use Rattle.cip_router.specs.declared.command.EncapStatus.{EncapStatus}
+use Rattle.cip_router.specs.declared.command.EncapStatus.TheVariants as status
+
+-- what a message asks by its command
+abbrev pub command_of : ℕ → Command
+command_of code =
+    if code == 0x0000 then command.Nop
+    else (if code == 0x0004 then command.ListServices
+    else (if code == 0x0065 then command.RegisterSession
+    else (if code == 0x0066 then command.UnregisterSession
+    else (if code == 0x006F then command.SendRrData
+    else command.Other))))
+
+-- the commands that never have a reply
+abbrev pub is_silent : Command → Bool
+is_silent command.Nop = true
+is_silent command.ListServices = false
+is_silent command.RegisterSession = false
+is_silent command.UnregisterSession = true
+is_silent command.SendRrData = false
+is_silent command.Other = false
+
+-- the status of a refusal
+abbrev pub encap_code : EncapStatus → ℕ
+encap_code status.InvalidCommand = 0x0001
+encap_code status.IncorrectData = 0x0003
+encap_code status.InvalidSession = 0x0064
+encap_code status.InvalidLength = 0x0065
+encap_code status.UnsupportedVersion = 0x0069

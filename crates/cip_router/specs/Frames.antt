@@ -1,0 +1,99 @@
+-- What the frames of an encapsulation stream say, and the messages of their replies (Volume 2, chapter 2,
+-- encapsulation messages, commands and common packet format).
+use Rattle.std.specs.Prelude.{ℕ, List, [], ◌∷◌, ◌++◌, get_or, replicate, codes, Option, Some, None, Result, Ok, Err}
+use Rattle.std.specs.Int.{w16}
+use Rattle.std.specs.Option.{option_map}
+use Rattle.cip_types.specs.declared.names.Node.{Node}
+use Rattle.cip_types.specs.Fields.{fields_text, fields_at}
+use Rattle.cip_types.specs.Texts.{Tailed}
+use Rattle.cip_encap.specs.declared.message.EncapFault.{EncapFault}
+use Rattle.cip_encap.specs.declared.packet.SocketAddress.{SocketAddress}
+use Rattle.cip_encap.specs.Message.{MessageFields, header_widths}
+use Rattle.cip_encap.specs.Reading.{message_reading}
+use Rattle.cip_encap.specs.Packet.{packet_text}
+use Rattle.cip_router.specs.declared.command.EncapStatus.{EncapStatus}
+use Rattle.cip_router.specs.declared.command.EncapStatus.TheVariants as status
+use Rattle.cip_router.specs.Replies.{ReplyFields, reply_text}
+use Rattle.cip_router.specs.Commands.{encap_code}
+
+-- what a reply sends back of its request: the command, the session handle and the sender context
+pub record Echo : Type 0 where
+  pub command : ℕ
+  pub session : ℕ
+  pub context : ℕ
+
+-- a frame: too short for a header, with a header whose length field is not that of the bytes behind it, or a
+-- whole message with its data; status and options of a request are not looked at
+pub data FrameFields : Type 0 where
+  headless : FrameFields
+  misfit : Echo → FrameFields
+  whole : Echo → List ℕ → FrameFields
+
+-- what goes back to a whole message
+abbrev pub echo_of : MessageFields → Echo
+echo_of m = record { command = m.command; session = m.session; context = m.context }
+
+-- and to a header: its numbers are command, length, session handle, status, sender context and options
+abbrev pub header_echo : List ℕ → Echo
+header_echo numbers = record { command = get_or numbers 0 0; session = get_or numbers 2 0; context = get_or numbers 4 0 }
+
+-- bytes that are no message, by the header in front of them
+abbrev pub misfit_of : Option Tailed → FrameFields
+misfit_of None = headless
+misfit_of (Some header) = misfit (header_echo header.0)
+
+-- a frame by the header in front of it, and by its reading as a message
+abbrev pub frame_fields : Option Tailed → Result MessageFields EncapFault → FrameFields
+frame_fields header (Ok m) = whole (echo_of m) m.payload
+frame_fields header (Err fault) = misfit_of header
+
+-- what the bytes of a frame say
+unfoldable pub frame_reading : List ℕ → FrameFields
+frame_reading bytes = frame_fields (fields_at header_widths bytes) (message_reading bytes)
+
+-- the reply to a frame: the services of the device, a session with its handle, the protocol version that is
+-- served in place of another, the message router's reply with the multicast address of a connection that was
+-- opened, or a refusal
+pub data FrameReply : Type 0 where
+  services : FrameReply
+  registered : ℕ → FrameReply
+  other_version : FrameReply
+  router_reply : ReplyFields → Option Node → FrameReply
+  refused : EncapStatus → FrameReply
+
+-- One service item: how many there are, its type, the length of the rest, its version, the flags for
+-- encapsulation over TCP and for class 1 datagrams over UDP, and its name, padded to 16 bytes.
+abbrev pub services_text : List ℕ
+services_text = fields_text (w16 ∷ w16 ∷ w16 ∷ w16 ∷ w16 ∷ []) (1 ∷ 0x0100 ∷ 20 ∷ 1 ∷ 0x0120 ∷ []) ++ (codes "Communications" ++ replicate 2 0)
+
+-- the data of RegisterSession: protocol version 1, no option flags
+abbrev pub protocol_text : List ℕ
+protocol_text = fields_text (w16 ∷ w16 ∷ []) (1 ∷ 0 ∷ [])
+
+-- class 1 datagrams go to this UDP port
+abbrev pub datagram_port : ℕ
+datagram_port = 2222
+
+-- the socket that the datagrams of a multicast address go to
+abbrev pub socket_of : Node → SocketAddress
+socket_of address = record { port = datagram_port; address = address }
+
+-- a message that sends back the command and the sender context of its request
+abbrev pub echoed : Echo → ℕ → ℕ → List ℕ → MessageFields
+echoed echo session status payload = record {
+  command = echo.command;
+  session = session;
+  status = status;
+  context = echo.context;
+  options = 0;
+  payload = payload;
+}
+
+-- The message of a reply. A refusal has no data, but that of another version, which has no session handle
+-- either; a session that begins has its own handle; all others have that of the request.
+abbrev pub reply_message : Echo → FrameReply → MessageFields
+reply_message echo services = echoed echo echo.session 0 services_text
+reply_message echo (registered session) = echoed echo session 0 protocol_text
+reply_message echo other_version = echoed echo 0 (encap_code status.UnsupportedVersion) protocol_text
+reply_message echo (router_reply reply address) = echoed echo echo.session 0 (packet_text (reply_text reply) (option_map socket_of address))
+reply_message echo (refused why) = echoed echo echo.session (encap_code why) []

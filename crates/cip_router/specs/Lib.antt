@@ -1,0 +1,5 @@
+pub mod Asking
+pub mod Refusals
+pub mod Replies
+pub mod Commands
+pub mod Frames

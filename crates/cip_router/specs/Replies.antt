@@ -1,0 +1,44 @@
+-- What is replied to a request, and its bytes (Volume 1, chapter 2, message router reply format, and
+-- chapter 3, Connection Manager; appendix A, Get_Attribute_Single).
+use Rattle.std.specs.Prelude.{ℕ, ◌≢◌, ◌≤◌, Bool, Option, List, length}
+use Rattle.cip_types.specs.declared.names.Triad.{Triad}
+use Rattle.cip_types.specs.declared.names.Fault.{Fault}
+use Rattle.cip_fwdopen.specs.declared.reply.Opened.{Opened}
+use Rattle.cip_fwdopen.specs.Reply.{opened_text, refused_text}
+use Rattle.cip_fwdopen.specs.Close.{closed_text}
+use Rattle.cip_fwdopen.specs.Get.{got_text}
+use Rattle.cip_router.specs.declared.reply.Reply.{Reply}
+use Rattle.cip_router.specs.declared.reply.Reply.TheVariants as reply
+
+-- a reply, wherever its value lies in memory
+pub data ReplyFields : Type 0 where
+  opened : Bool → Opened → ReplyFields
+  closed : Triad → ReplyFields
+  got : List ℕ → ReplyFields
+  refused : ℕ → Fault → Option Triad → ReplyFields
+
+abbrev pub view_reply : Reply → ReplyFields
+view_reply (reply.Opened large o) = opened large o
+view_reply (reply.Closed triad) = closed triad
+view_reply (reply.Got lent) = got lent.now
+view_reply (reply.Refused service fault triad) = refused service fault triad
+
+abbrev pub reply_text : ReplyFields → List ℕ
+reply_text (opened large o) = opened_text large o
+reply_text (closed triad) = closed_text triad
+reply_text (got value) = got_text value
+reply_text (refused service fault triad) = refused_text service fault triad
+
+-- a refusal has a status that says so
+abbrev pub HasStatus : ReplyFields → Type 0
+HasStatus (opened large o) = Unit {0}
+HasStatus (closed triad) = Unit {0}
+HasStatus (got value) = Unit {0}
+HasStatus (refused service fault triad) = fault.general ≢ 0
+
+-- a value that is replied has at most 1,400 bytes, the most that a point holds
+abbrev pub GetsFew : ReplyFields → Type 0
+GetsFew (opened large o) = Unit {0}
+GetsFew (closed triad) = Unit {0}
+GetsFew (got value) = length value ≤ 1400
+GetsFew (refused service fault triad) = Unit {0}

@@ -1,0 +1,147 @@
+//! Why the message router refuses a request, and why the Connection Manager refuses a connection.
+
+ghost use Rattle.std.specs.Prelude.{◌≡◌, ◌≢◌};
+ghost use Rattle.cip_router.specs.Refusals.{status_code, status_fault, refusal_code, refusal_fault};
+
+use cip_types::Fault;
+
+/// Why a connection is refused. Which check has which code is this profile's choice among the
+/// standard's.
+///
+/// Volume 1, chapter 3, Connection Manager extended status codes.
+#[derive(Clone, Copy, Debug, PartialEq, Eq)]
+pub enum Refusal {
+    /// A connection of this triad is established.
+    InUse,
+    /// The transport class or the trigger is not served.
+    Trigger,
+    /// Another connection owns the output, or the configuration would change under a connection.
+    Ownership,
+    /// No connection has this triad.
+    NotFound,
+    /// The multiplier is none, or a redundant owner is asked for.
+    Parameter,
+    /// A requested packet interval is out of range.
+    PacketInterval,
+    /// No connection id or no place is left.
+    OutOfConnections,
+    /// The key's vendor or product code is another's.
+    VendorOrProduct,
+    /// The key's device type is another's.
+    DeviceType,
+    /// The key's revision is not the device's.
+    Revision,
+    /// The path names no application points.
+    Path,
+    /// No connection of another kind supports a listen-only one.
+    NoSupport,
+    /// The production inhibit time is above the T->O packet interval.
+    InhibitTime,
+    /// The O->T connection type is not served.
+    ConsumedType,
+    /// The T->O connection type is not served.
+    ProducedType,
+    /// The data segment is not as long as the configuration.
+    ConfigurationSize,
+    /// The O->T size is not that of the consumed point.
+    ConsumedSize,
+    /// The T->O size is not that of the produced point.
+    ProducedSize,
+    /// No configuration has this instance.
+    ConfigurationPath,
+    /// No consumed point has this instance.
+    ConsumedPath,
+    /// No produced point has this instance.
+    ProducedPath,
+    /// A segment of the path does not read.
+    Segment,
+}
+
+impl Refusal {
+    /// The additional status of the refusal.
+    pub fn code(self) -> u16
+        ensures { result ≡ refusal_code self }
+    {
+        match self {
+            Refusal::InUse => 0x0100,
+            Refusal::Trigger => 0x0103,
+            Refusal::Ownership => 0x0106,
+            Refusal::NotFound => 0x0107,
+            Refusal::Parameter => 0x0108,
+            Refusal::PacketInterval => 0x0111,
+            Refusal::OutOfConnections => 0x0113,
+            Refusal::VendorOrProduct => 0x0114,
+            Refusal::DeviceType => 0x0115,
+            Refusal::Revision => 0x0116,
+            Refusal::Path => 0x0117,
+            Refusal::NoSupport => 0x0119,
+            Refusal::InhibitTime => 0x011B,
+            Refusal::ConsumedType => 0x0123,
+            Refusal::ProducedType => 0x0124,
+            Refusal::ConfigurationSize => 0x0126,
+            Refusal::ConsumedSize => 0x0127,
+            Refusal::ProducedSize => 0x0128,
+            Refusal::ConfigurationPath => 0x0129,
+            Refusal::ConsumedPath => 0x012A,
+            Refusal::ProducedPath => 0x012B,
+            Refusal::Segment => 0x0315,
+        }
+    }
+
+    /// General status 1, connection failure, with the additional status of the refusal.
+    pub fn fault(self) -> Fault
+        ensures value { result ≡ refusal_fault self }
+        ensures some { result.general ≢ 0 }
+    {
+        Fault {
+            general: 1,
+            extra: Some(self.code()),
+        }
+    }
+}
+
+/// Why the message router refuses a request by itself.
+///
+/// Volume 1, appendix B, general status codes.
+#[derive(Clone, Copy, Debug, PartialEq, Eq)]
+pub enum Status {
+    /// The request path does not read.
+    PathSegment,
+    /// No such object is served.
+    PathDestination,
+    /// The object has no such service.
+    Service,
+    /// The data of the request are too short.
+    NotEnoughData,
+    /// The object has no such attribute, or none is named.
+    Attribute,
+    /// The data of the request are too long.
+    TooMuchData,
+}
+
+impl Status {
+    /// The general status of the refusal.
+    pub fn code(self) -> u8
+        ensures { result ≡ status_code self }
+    {
+        match self {
+            Status::PathSegment => 0x04,
+            Status::PathDestination => 0x05,
+            Status::Service => 0x08,
+            Status::NotEnoughData => 0x13,
+            Status::Attribute => 0x14,
+            Status::TooMuchData => 0x15,
+        }
+    }
+
+    /// The general status of the refusal, with no additional one.
+    pub fn fault(self) -> Fault
+        ensures value { result ≡ status_fault self }
+        ensures some { result.general ≢ 0 }
+    {
+        Fault {
+            general: self.code(),
+            extra: None,
+        }
+    }
+}

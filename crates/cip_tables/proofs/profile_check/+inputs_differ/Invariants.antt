@@ -1,5 +1,0 @@
-use Rattle.std.proofs.Common.{length}
-use Rattle.cip_tables.proofs.profile_check.+inputs_differ.Given as goal
-
-abbrev pub decreases-inputs_differ : goal.decreases-inputs_differ
-decreases-inputs_differ l = length l.inputs.now

@@ -1,5 +1,0 @@
-use Rattle.std.proofs.Common.{length}
-use Rattle.cip_tables.proofs.profile_check.+outputs_differ.Given as goal
-
-abbrev pub decreases-outputs_differ : goal.decreases-outputs_differ
-decreases-outputs_differ l = length l.outputs.now
