@@ -30,6 +30,3 @@ pub use refusal::{Refusal, Status};
 pub use reply::Reply;
 pub use row::{Accepted, Kind, Production, Row, State};
 pub use table::{AdapterTable, Config, DeviceTable, PointValue, Stream};
-
-#[cfg(test)]
-mod tests;

@@ -6,7 +6,7 @@ use cip_types::{ConnId, Ms, Node, Triad};
 /// What a connection is for.
 ///
 /// Volume 1, chapter 3, application connection types.
-#[derive(Clone, Copy, Debug, PartialEq, Eq)]
+#[derive(Clone, Copy, PartialEq, Eq)]
 pub enum Kind {
     /// It drives an output, alone.
     ExclusiveOwner,
@@ -17,7 +17,7 @@ pub enum Kind {
 }
 
 /// The sequence number and the sequence count of the datagram that was last accepted.
-#[derive(Clone, Copy, Debug, PartialEq, Eq)]
+#[derive(Clone, Copy, PartialEq, Eq)]
 pub struct Accepted {
     pub number: u32,
     pub count: u16,
@@ -26,7 +26,7 @@ pub struct Accepted {
 /// The producer of a connection's T->O data.
 ///
 /// Volume 1, chapter 3, transport class 1 and production triggers.
-#[derive(Clone, Copy, Debug, PartialEq, Eq)]
+#[derive(Clone, Copy, PartialEq, Eq)]
 pub struct Production {
     /// Which producer it is: the opening number of the connection that began it.
     pub producer: u32,
@@ -49,7 +49,7 @@ pub struct Production {
 }
 
 /// Whether a connection lives.
-#[derive(Clone, Copy, Debug, PartialEq, Eq)]
+#[derive(Clone, Copy, PartialEq, Eq)]
 pub enum State {
     /// It lives, and produces.
     Established(Production),
@@ -61,7 +61,7 @@ pub enum State {
 /// time-out multiplier, its place in the order of openings, and how far it has come.
 ///
 /// Volume 1, chapter 3, connection object attributes.
-#[derive(Clone, Copy, Debug, PartialEq, Eq)]
+#[derive(Clone, Copy, PartialEq, Eq)]
 pub struct Row {
     pub triad: Triad,
     pub peer: Node,
