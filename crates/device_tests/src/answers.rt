@@ -46,7 +46,8 @@ const SERVICES: [u8; 50] = [
 // OPENINGS
 
 fn has_an_address(profile: &Profile) -> bool {
-    address_of(profile, PEER, ConnectionType::Multicast, 100) == GROUP
+    profile.inputs.as_slice().len() <= 8
+        && address_of(profile, PEER, ConnectionType::Multicast, 100) == GROUP
         && address_of(profile, PEER, ConnectionType::PointToPoint, 100) == PEER
 }
 
