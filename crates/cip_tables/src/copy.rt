@@ -14,7 +14,7 @@ use std::marker::Model;
 
 /// A whole table of a device, which contracts see as that table. A device gives one of itself, and another
 /// can be made that goes on from it.
-#[derive(Debug, Drop)]
+#[derive(Drop)]
 pub struct TableCopy {
     table: DeviceTable,
 }

@@ -22,6 +22,3 @@ pub use prompt::{
 pub use rows::{
     append_row, closed_notices, copied, find_row, make_room, others, replaced, staying,
 };
-
-#[cfg(test)]
-mod tests;

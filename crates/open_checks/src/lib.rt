@@ -15,6 +15,3 @@ pub use points::stored;
 pub use request::{drawn_ids, is_multicast, served_inhibit, served_trigger};
 pub use rows::{MOST_ROWS, drives, has_triad, is_established, is_supported, is_timed_out};
 pub use standing::Standing;
-
-#[cfg(test)]
-mod tests;
