@@ -5,6 +5,7 @@ pub mod GroupLemmas
 pub mod SupportLemmas
 pub mod LikeLemmas
 pub mod FadeLemmas
+pub mod ProducerLemmas
 pub mod StreamLemmas
 pub mod FrameSamples
 pub mod OrderLemmas
