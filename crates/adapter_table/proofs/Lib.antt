@@ -27,3 +27,5 @@ pub mod ServedLemmas
 pub mod ExpiryLemmas
 pub mod ScratchSteps
 pub mod EqLemmas
+pub mod NewestSteps
+pub mod CounterSteps

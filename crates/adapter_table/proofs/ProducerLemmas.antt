@@ -1,16 +1,15 @@
 -- Openings rise, and producers keep their numbers, whatever is taken out, changed, timed out or appended.
-use Rattle.std.proofs.Common.{◌≡◌, ◌≤◌, ◌<◌, ℕ, ◌+◌, Bool, true, false, cond, List, [], ◌∷◌, ◌++◌, map, filter, find, Option, Some, None, refl, sym, ◌∙◌, ap, subst, arith}
-use Rattle.cip_types.specs.declared.names.ConnId.{ConnId}
+use Rattle.std.proofs.Common.{◌≡◌, ◌≤◌, ◌<◌, ℕ, ◌+◌, Bool, true, false, cond, List, [], ◌∷◌, ◌++◌, map, filter, find, Option, Some, refl, sym, ◌∙◌, ap, subst, arith}
 use Rattle.cip_types.specs.declared.names.Ms.{Ms}
 use Rattle.adapter_table.specs.declared.profile.Profile.{Profile}
 use Rattle.adapter_table.specs.declared.row.Row.{Row}
 use Rattle.adapter_table.specs.declared.row.State.TheVariants.{TimedOut}
-use Rattle.adapter_table.specs.Rows.{is_established, is_member, Each, EachTwo, without_first}
+use Rattle.adapter_table.specs.Rows.{is_established, is_member, Each, without_first}
 use Rattle.adapter_table.specs.Productions.{producer_of}
 use Rattle.adapter_table.specs.Opening.{connection_id}
 use Rattle.adapter_table.specs.Ticks.{has_expired, expired_row, expired_rows}
-use Rattle.adapter_table.specs.Sound.{IdsAreDrawn, SharesProducer, OpensBefore, OpeningsRise, ProducerIsDrawn, ProducersAreDrawn, SingleHasItsOwn, SinglesHaveTheirOwn, MulticastIdIsDrawn, MulticastIdsAreDrawn, AreOfOneGroup, ShareInGroup, GroupsAloneShare, ProducersAreSound}
-use Rattle.adapter_table.proofs.EachLemmas.{each_without, each_filter, each_append, each_map, each_found, each_weak, each_both, two_without, two_filter, two_append, two_map, two_found}
+use Rattle.adapter_table.specs.Sound.{IdsAreDrawn, SharesProducer, OpensBefore, ProducerIsDrawn, SingleHasItsOwn, MulticastIdIsDrawn, ShareInGroup, ProducersAreSound}
+use Rattle.adapter_table.proofs.EachLemmas.{each_without, each_filter, each_append, each_map, each_found, each_weak, two_without, two_filter, two_append, two_map, two_found}
 use Rattle.adapter_table.proofs.GroupLemmas.{produced_is, member_parts}
 use Rattle.adapter_table.proofs.LikeLemmas.{IsLike, Keeps}
 
