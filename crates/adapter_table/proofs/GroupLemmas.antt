@@ -83,6 +83,12 @@ produced_is point row is =
     let b = and_parts row.multicast (row.produced == point) a.1 in
     same_number _ _ b.1
 
+-- a member lives, and is multicast
+pub member_parts : (point : ℕ) (row : Row) → is_member point row ≡ true → (is_established row ≡ true) × (row.multicast ≡ true)
+member_parts point row is =
+    let a = and_parts (is_established row) (row.multicast && row.produced == point) is in
+    (a.0, (and_parts row.multicast (row.produced == point) a.1).0)
+
 -- the others agree with a member
 later_share : (point : ℕ) (m : Row) (rows : List Row) → is_member point m ≡ true → AllAgree m rows → MembersShare point m rows
 unfolding MembersShare

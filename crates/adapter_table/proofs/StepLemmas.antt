@@ -25,7 +25,7 @@ use Rattle.adapter_table.specs.Closing.{closed_table, stays}
 use Rattle.adapter_table.specs.Points.{put_value}
 use Rattle.adapter_table.specs.Streams.{is_other_stream, is_taken, new_stream, with_stream, without_stream, registered_stream, registered_table}
 use Rattle.adapter_table.specs.Datagrams.{fed_row, fed_values, fed_table}
-use Rattle.adapter_table.specs.Productions.{due_row, prompt_row}
+use Rattle.adapter_table.specs.Productions.{producer_of, due_row, prompt_row}
 use Rattle.adapter_table.specs.Ticks.{clocked_table, expired_row, expired_rows, expired_table, produced_table}
 use Rattle.adapter_table.specs.Step.{adapter_table, written_table, prompt_table}
 use Rattle.adapter_table.specs.Sound.{IsSound, StreamsDiffer}
@@ -35,6 +35,7 @@ use Rattle.adapter_table.proofs.GroupLemmas.{Joins, is_single, is_first, is_join
 use Rattle.adapter_table.proofs.SupportLemmas.{listeners_opened, listeners_staying}
 use Rattle.adapter_table.proofs.LikeLemmas.{Keeps, count_kept, triads_kept, ids_kept, drawn_kept, listeners_kept, groups_kept, written_keeps, fed_keeps, due_keeps, prompt_keeps}
 use Rattle.adapter_table.proofs.FadeLemmas.{count_expired, triads_expired, ids_expired, drawn_expired, groups_expired}
+use Rattle.adapter_table.proofs.ProducerLemmas.{Produces, is_single as is_alone, is_first as is_leader, is_joiner as is_follower, producers_opened, producers_without, producers_filter, producers_kept, producers_expired}
 use Rattle.adapter_table.proofs.StreamLemmas.{has_room, few_with, few_left, differ_with, differ_left, differ_registered}
 use Rattle.adapter_table.proofs.SoundLemmas.{or_false, room_by, length_opened, any_opened, drivers_opened, count_without, filter_none, triads_append, triads_without, ids_append, ids_without, IsDrawn, drawn_new, drawn_append, drawn_without, length_without_le, length_filter_le, count_filter, triads_filter, ids_filter, drawn_filter}
 
@@ -56,10 +57,15 @@ record IsOpened (t : AdapterTable) (request : OpenFields) (admitted : Admitted) 
   t_o_api : row.t_o_api ≡ interval_ms request.t_o_rpi
   t_o_id : row.t_o_id ≡ opened_t_o_id t request admitted.group
   state : (member : Row) → admitted.group ≡ Some member → row.state ≡ member.state
+  own : admitted.group ≡ None → producer_of row.state ≡ t.next_id
 
 state_of : (t : AdapterTable) (peer : Node) (request : OpenFields) (path : PathFields) (group : Option Row) (member : Row) → group ≡ Some member → opened_state t peer request path group ≡ member.state
 state_of t peer request path None member is = absurd cc
 state_of t peer request path (Some other) member is = let same : other ≡ member = cc in ap (λ (r : Row). r.state) same
+
+own_of : (t : AdapterTable) (peer : Node) (request : OpenFields) (path : PathFields) (group : Option Row) → group ≡ None → producer_of (opened_state t peer request path group) ≡ t.next_id
+own_of t peer request path None is = refl
+own_of t peer request path (Some other) is = absurd cc
 
 row_is_opened : (t : AdapterTable) (peer : Node) (request : OpenFields) (admitted : Admitted) → IsOpened t request admitted (opened_row t peer request admitted)
 unfolding opened_row
@@ -73,6 +79,7 @@ row_is_opened t peer request admitted = record {
   t_o_api = refl;
   t_o_id = refl;
   state = state_of t peer request admitted.path admitted.group;
+  own = own_of t peer request admitted.path admitted.group;
 }
 
 -- it drives at most the output that the request names
@@ -93,6 +100,18 @@ joins_of t request admitted row is ok = joins_by (is_multicast request.t_o_param
       let same_api : interval_ms request.t_o_rpi ≡ member.t_o_api = subst (HasSameApi request) known api in
       is_joiner member (ap (λ (n : ℕ). find (is_member n) t.rows) is.produced ∙ some)
       (record { id = same_id; api = is.t_o_api ∙ same_api; state = is.state member known })
+
+-- what its producer is
+produces_of : (t : AdapterTable) (request : OpenFields) (admitted : Admitted) (row : Row) → IsOpened t request admitted row → IsAdmitted (standing t) request admitted → Produces t.profile t.next_id (t.next_id + drawn_ids request admitted.group) t.rows row
+produces_of t request admitted row is ok = produces_by (is_multicast request.t_o_params.kind) admitted.group refl refl ok.group_is ok.same_api is.t_o_id is.own where
+  produces_by : (m : Bool) (group : Option Row) → is_multicast request.t_o_params.kind ≡ m → admitted.group ≡ group → group ≡ joined t.rows request admitted.path.produced → HasSameApi request group → row.t_o_id ≡ opened_t_o_id t request group → (group ≡ None → producer_of row.state ≡ t.next_id) → Produces t.profile t.next_id (t.next_id + drawn_ids request group) t.rows row
+  produces_by false None single known found api id own = is_alone (is.multicast ∙ single) (own refl)
+  produces_by false (Some member) single known found api id own = let none : Some member ≡ None = rw single at found in absurd cc
+  produces_by true None many known found api id own = is_leader (own refl) (rw many at id) (rw many (omega arith)) (is.multicast ∙ many)
+  produces_by true (Some member) many known found api id own =
+      let some : group_of t.rows admitted.path.produced ≡ Some member = sym (rw many at found) in
+      is_follower member (is.multicast ∙ many) (ap (λ (n : ℕ). find (is_member n) t.rows) is.produced ∙ some)
+      (record { id = id; api = is.t_o_api ∙ api; state = is.state member known })
 
 opened_sound : (t : AdapterTable) (request : OpenFields) (admitted : Admitted) (row : Row) → IsOpened t request admitted row → IsAdmitted (standing t) request admitted → IsSound t → IsSound (opened_table t request row admitted)
 unfolding opened_table
@@ -116,6 +135,9 @@ opened_sound t request admitted row is ok sound =
       ids_are_drawn = drawn_append t.profile t.next_id (t.next_id + drawn_ids request admitted.group) without row (omega arith) is.drawn drawn;
       listeners_are_supported = listeners_opened b c row.triad t.rows row held alone sound.listeners_are_supported;
       groups_agree = groups_opened (room_by b c row.triad) t.rows row (joins_of t request admitted row is ok) sound.groups_agree;
+      producers =
+          producers_opened (room_by b c row.triad) t.profile t.next_id (t.next_id + drawn_ids request admitted.group) t.rows row
+          (record { opening = is.drawn.opening; more = omega arith }) (produces_of t request admitted row is ok) sound.ids_are_drawn sound.producers;
       ids_are_left = ids_left t.rows t.next_id (drawn_ids request admitted.group) ok.not_used_up;
       few_streams = sound.few_streams;
       streams_differ = sound.streams_differ;
@@ -137,6 +159,7 @@ sound_closed t row sound =
       ids_are_drawn = drawn_filter (stays left) t.profile t.next_id left (drawn_without (has_triad row.triad) t.profile t.next_id t.rows sound.ids_are_drawn);
       listeners_are_supported = listeners_staying left;
       groups_agree = groups_filter (stays left) left (groups_without (has_triad row.triad) t.rows sound.groups_agree);
+      producers = producers_filter (stays left) t.profile t.next_id left (producers_without (has_triad row.triad) t.profile t.next_id t.rows sound.producers);
       ids_are_left = sound.ids_are_left;
       few_streams = sound.few_streams;
       streams_differ = sound.streams_differ;
@@ -152,6 +175,7 @@ sound_kept f keeps t values sound = record {
   ids_are_drawn = drawn_kept f keeps t.profile t.next_id t.rows sound.ids_are_drawn;
   listeners_are_supported = listeners_kept f keeps t.rows sound.listeners_are_supported;
   groups_agree = groups_kept f keeps t.rows sound.groups_agree;
+  producers = producers_kept f keeps t.profile t.next_id t.rows sound.producers;
   ids_are_left = sound.ids_are_left;
   few_streams = sound.few_streams;
   streams_differ = sound.streams_differ;
@@ -173,7 +197,7 @@ sound_fed t peer d row delivery sound = sound_kept (fed_row t.clock peer d) (fed
 
 sound_clocked : (t : AdapterTable) (ms : ℕ) → IsSound t → IsSound (clocked_table t ms)
 unfolding clocked_table
-sound_clocked t ms sound = record { few = sound.few; one_owner = sound.one_owner; triads_differ = sound.triads_differ; ids_differ = sound.ids_differ; ids_are_drawn = sound.ids_are_drawn; listeners_are_supported = sound.listeners_are_supported; groups_agree = sound.groups_agree; ids_are_left = sound.ids_are_left; few_streams = sound.few_streams; streams_differ = sound.streams_differ }
+sound_clocked t ms sound = record { few = sound.few; one_owner = sound.one_owner; triads_differ = sound.triads_differ; ids_differ = sound.ids_differ; ids_are_drawn = sound.ids_are_drawn; listeners_are_supported = sound.listeners_are_supported; groups_agree = sound.groups_agree; producers = sound.producers; ids_are_left = sound.ids_are_left; few_streams = sound.few_streams; streams_differ = sound.streams_differ }
 
 sound_expired : (t : AdapterTable) → IsSound t → IsSound (expired_table t)
 unfolding expired_table
@@ -188,6 +212,7 @@ sound_expired t sound =
       ids_are_drawn = drawn_filter (stays left) t.profile t.next_id left (drawn_expired t.clock t.profile t.next_id t.rows sound.ids_are_drawn);
       listeners_are_supported = listeners_staying left;
       groups_agree = groups_filter (stays left) left (groups_expired t.clock t.rows sound.groups_agree);
+      producers = producers_filter (stays left) t.profile t.next_id left (producers_expired t.clock t.profile t.next_id t.rows sound.producers);
       ids_are_left = sound.ids_are_left;
       few_streams = sound.few_streams;
       streams_differ = sound.streams_differ;
@@ -211,6 +236,7 @@ sound_streams t streams few differ sound = record {
   ids_are_drawn = sound.ids_are_drawn;
   listeners_are_supported = sound.listeners_are_supported;
   groups_agree = sound.groups_agree;
+  producers = sound.producers;
   ids_are_left = sound.ids_are_left;
   few_streams = few;
   streams_differ = differ;
@@ -247,4 +273,4 @@ sound_effects = record {
 }
 
 pub sound_fresh : (profile : Profile) → IsSound (adapter_table profile)
-sound_fresh profile = record { few = omega arith; one_owner = λ point. omega arith; triads_differ = tt; ids_differ = tt; ids_are_drawn = tt; listeners_are_supported = refl; groups_agree = tt; ids_are_left = omega arith; few_streams = omega arith; streams_differ = tt }
+sound_fresh profile = record { few = omega arith; one_owner = λ point. omega arith; triads_differ = tt; ids_differ = tt; ids_are_drawn = tt; listeners_are_supported = refl; groups_agree = tt; producers = record { openings_rise = tt; are_drawn = tt; single = tt; multicast = tt; shared = tt }; ids_are_left = omega arith; few_streams = omega arith; streams_differ = tt }

@@ -58,6 +58,18 @@ abbrev pub without_first : (Row → Bool) → List Row → List Row
 without_first test [] = []
 without_first test (row ∷ rows) = if test row then rows else row ∷ without_first test rows
 
+-- ---- what holds of each connection, and of each two
+
+-- it holds of each
+abbrev pub Each : (Row → Type 0) → List Row → Type 0
+Each P [] = Unit {0}
+Each P (row ∷ rows) = P row × Each P rows
+
+-- it holds of each connection and each that stands behind it
+abbrev pub EachTwo : (Row → Row → Type 0) → List Row → Type 0
+EachTwo R [] = Unit {0}
+EachTwo R (row ∷ rows) = Each (R row) rows × EachTwo R rows
+
 -- ---- what a write changes
 
 -- an established connection's producer has new data

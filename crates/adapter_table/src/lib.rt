@@ -4,6 +4,7 @@
 
 mod admission;
 mod copy;
+pub mod laws;
 mod profile;
 mod profile_check;
 mod row;
