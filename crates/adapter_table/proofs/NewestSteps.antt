@@ -111,12 +111,12 @@ remembers_closed opening last t row remembers =
     remembers_rows opening last t (closed_table t row) (omega arith) (each_filter (RemembersLast opening last) (stays left) left (each_without (RemembersLast opening last) (has_triad row.triad) t.rows remembers.there)) remembers
 
 -- what is opened has accepted nothing
-remembers_opened : (opening : ℕ) (last : Option Accepted) (t : AdapterTable) (peer : Node) (request : OpenFields) (admitted : Admitted) → TableRemembers opening last t → TableRemembers opening last (opened_table t request (opened_row t peer request admitted) admitted)
+remembers_opened : (opening : ℕ) (last : Option Accepted) (t : AdapterTable) (peer : Node) (request : OpenFields) (admitted : Admitted) → TableRemembers opening last t → TableRemembers opening last (opened_table t (opened_row t peer request admitted) admitted)
 unfolding opened_table opened_row
 remembers_opened opening last t peer request admitted remembers =
     let row = opened_row t peer request admitted in
     let new : RemembersLast opening last row = λ same. sym (remembers.unopened (omega arith)) in
-    remembers_rows opening last t (opened_table t request row admitted) (omega arith)
+    remembers_rows opening last t (opened_table t row admitted) (omega arith)
     (each_append (RemembersLast opening last) _ row (each_without (RemembersLast opening last) (makes_room t.rows request.triad) t.rows remembers.there) new) remembers
 
 remembers_written : (opening : ℕ) (last : Option Accepted) (t : AdapterTable) (point : ℕ) (bytes : List ℕ) → TableRemembers opening last t → TableRemembers opening last (prompt_table (written_table t point bytes) point)

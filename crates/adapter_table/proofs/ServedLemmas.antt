@@ -16,7 +16,7 @@ use Rattle.adapter_table.specs.Profiles.{is_output_at}
 use Rattle.adapter_table.specs.Points.{bytes_at, lost_values}
 use Rattle.adapter_table.specs.Rows.{is_established, has_triad, drives, drivers, without_first}
 use Rattle.cip_productions.specs.Kinds.{is_owner}
-use Rattle.adapter_table.specs.Checks.{Admitted, standing, verdict, stored}
+use Rattle.adapter_table.specs.Checks.{Admitted, admission}
 use Rattle.adapter_table.specs.Opening.{makes_room, opened_row, configured, opened_table}
 use Rattle.adapter_table.specs.Closing.{without_triad, staying, closed_values, closed_table}
 use Rattle.adapter_table.specs.Streams.{with_stream, without_stream, registered_table}
@@ -52,14 +52,14 @@ configured_beside profile (Some config) None values point output held known shap
 configured_beside profile (Some config) (Some bytes) values point output held known shaped is holds =
     put_beside point config.instance bytes values held (configuration_no_output profile point output config shaped.faultless is known) holds
 
-loses_opened : (t : AdapterTable) (peer : Node) (request : OpenFields) (admitted : Admitted) → verdict (standing t) request ≡ Ok admitted → IsShaped t.profile t.values → LosesOnly t (opened_table t request (opened_row t peer request admitted) admitted)
+loses_opened : (t : AdapterTable) (peer : Node) (request : OpenFields) (admitted : Admitted) → admission t request ≡ Ok admitted → IsShaped t.profile t.values → LosesOnly t (opened_table t (opened_row t peer request admitted) admitted)
 unfolding opened_table opened_row
 loses_opened t peer request admitted e shaped = λ point output held is holds.
     let row = opened_row t peer request admitted in
-    let free = (admitted_is (standing t) request admitted e).triad_is_free in
-    unlost (is_lost point t.rows (without_first (makes_room t.rows request.triad) t.rows ++ row ∷ [])) (left_lost (find (is_output_at point) t.profile.outputs)) held (bytes_at (configured t.profile.config (stored admitted.path.config admitted.path.segment) t.values) point)
+    let free = (admitted_is t request admitted e).triad_is_free in
+    unlost (is_lost point t.rows (without_first (makes_room t.rows request.triad) t.rows ++ row ∷ [])) (left_lost (find (is_output_at point) t.profile.outputs)) held (bytes_at (configured t.profile.config admitted.segment t.values) point)
     (owner_opened (list_any (has_triad request.triad) t.rows) (nat_le 64 (length t.rows)) request.triad t.rows row point free)
-    (configured_beside t.profile t.profile.config (stored admitted.path.config admitted.path.segment) t.values point output held refl shaped is holds)
+    (configured_beside t.profile t.profile.config admitted.segment t.values point output held refl shaped is holds)
 
 -- ---- a close
 

@@ -1,5 +1,6 @@
 -- Connections stay within the limits of their adapter.
-use Rattle.std.proofs.Common.{◌≡◌, ◌≤◌, ◌<◌, ℕ, ◌+◌, ◌^◌, ◌==◌, nat_lt, nat_le, Bool, true, false, cond, List, [], ◌∷◌, Option, Some, None, Ok, refl, sym, arith}
+use Rattle.std.proofs.Common.{◌≡◌, ◌≤◌, ◌<◌, ℕ, ◌+◌, ◌*◌, ◌^◌, ◌==◌, nat_lt, nat_le, Bool, true, false, cond, List, [], ◌∷◌, Option, Some, None, Ok, refl, sym, arith, lit<, le_trans}
+use Rattle.std.proofs.Math.Nat.{pow-le-pow_right, mul-le-mul_left, mul-le-mul_right}
 use Rattle.std.specs.Prelude.{IsTrue}
 use Rattle.std.proofs.lemmas.Bool.{not-false, and_parts, or_parts}
 use Rattle.std.proofs.lemmas.Bool.Decides.{nat_tests}
@@ -7,7 +8,7 @@ use Rattle.cip_types.specs.declared.names.Node.{Node}
 use Rattle.cip_types.specs.declared.names.Ms.{Ms}
 use Rattle.cip_netparams.specs.declared.Trigger.{Trigger}
 use Rattle.cip_netparams.specs.declared.Trigger.TheVariants.{Cyclic, ChangeOfState}
-use Rattle.cip_netparams.specs.Rate.{is_interval, interval_ms}
+use Rattle.cip_netparams.specs.Rate.{is_interval, interval_ms, timeout}
 use Rattle.cip_datagram.specs.Datagram.{DatagramFields}
 use Rattle.cip_fwdopen.specs.Open.{OpenFields}
 use Rattle.adapter_table.specs.declared.profile.Profile.{Profile}
@@ -17,7 +18,7 @@ use Rattle.adapter_table.specs.declared.row.State.{State}
 use Rattle.adapter_table.specs.declared.row.State.TheVariants.{Established, TimedOut}
 use Rattle.adapter_table.specs.declared.table.AdapterTable.{AdapterTable}
 use Rattle.adapter_table.specs.Rows.{is_member, written_state, written_row}
-use Rattle.adapter_table.specs.Checks.{Admitted, standing, verdict, is_multicast, group_of, joined, drawn_ids}
+use Rattle.adapter_table.specs.Checks.{Admitted, admission, group_of, joined, drawn_ids}
 use Rattle.adapter_table.specs.Opening.{opened_row, opened_state}
 use Rattle.adapter_table.specs.Datagrams.{is_for, accepted_row, fed_row}
 use Rattle.adapter_table.specs.Productions.{due_of, due_state, due_row, prompt_by, prompt_state, prompt_row}
@@ -25,7 +26,7 @@ use Rattle.cip_productions.specs.Productions.{due_again, produced, is_free, soon
 use Rattle.adapter_table.specs.Ticks.{has_expired, expired_row}
 use Rattle.adapter_table.specs.Sound.{IdsAreDrawn}
 use Rattle.adapter_table.specs.Whole.{FitsRow, RowsFit, IsWhole}
-use Rattle.adapter_table.proofs.CheckLemmas.{admitted_is, draws_some, ids_left}
+use Rattle.adapter_table.proofs.CheckLemmas.{admitted_is, draws_some}
 use Rattle.adapter_table.proofs.ProducerLemmas.{producers_later}
 use Rattle.adapter_table.proofs.EachLemmas.{each_found}
 
@@ -104,45 +105,60 @@ fits_fed clock peer d row fits = fed_step (is_for peer d.connection row) clock d
 -- ---- a connection is opened
 
 -- what the times and the id of an admitted request are
-pub record IsTimed (t : AdapterTable) (request : OpenFields) (group : Option Row) : Type 0 where
-  pub o_t : IsTrue (is_interval request.o_t_rpi)
-  pub t_o : IsTrue (is_interval request.t_o_rpi)
-  pub waits : request.multiplier ≤ 7
-  pub left : t.next_id + drawn_ids request group ≤ 16777216
-  pub draws : 1 ≤ drawn_ids request group
+pub record IsTimed (t : AdapterTable) (request : OpenFields) (admitted : Admitted) : Type 0 where
+  pub multiplier : request.multiplier ≤ 7
+  pub o_t_api : admitted.o_t_api ≤ 10000
+  pub t_o_api : admitted.t_o_api ≤ 10000
+  pub watchdog : admitted.watchdog.0 ≤ 5120000
+  pub left : t.next_id + drawn_ids admitted.multicast admitted.group ≤ 16777216
+  pub draws : 1 ≤ drawn_ids admitted.multicast admitted.group
 
 multiplier_fits : (m : ℕ) → nat_lt 7 m ≡ false → m ≤ 7
 multiplier_fits m h = grind (arith, nat_tests)
 
-pub is_timed : (t : AdapterTable) (request : OpenFields) (admitted : Admitted) → verdict (standing t) request ≡ Ok admitted → IsTimed t request admitted.group
-is_timed t request admitted e =
-    let is = admitted_is (standing t) request admitted e in
-    let both = and_parts (is_interval request.o_t_rpi) (is_interval request.t_o_rpi) (not-false _ is.are_intervals) in
-    let served = or_parts (nat_lt 7 request.multiplier) _ is.is_served in
-    let left = ids_left t.rows t.next_id (drawn_ids request admitted.group) is.not_used_up in
-    record { o_t = both.0; t_o = both.1; waits = multiplier_fits request.multiplier served.0; left = left; draws = draws_some request admitted.group }
-
 pub interval_fits : (rpi : ℕ) → IsTrue (is_interval rpi) → interval_ms rpi ≤ 10000
 interval_fits rpi is = grind (arith, nat_tests)
+
+timeout_fits : (multiplier api : ℕ) → multiplier ≤ 7 → api ≤ 10000 → timeout multiplier api ≤ 5120000
+timeout_fits multiplier api few short =
+    let power : 2 ^ multiplier ≤ 2 ^ 7 = pow-le-pow_right (lit< tt) few in
+    le_trans (mul-le-mul_right api (mul-le-mul_left 4 power)) (mul-le-mul_left (4 * 2 ^ 7) short)
+
+pub is_timed : (t : AdapterTable) (request : OpenFields) (admitted : Admitted) → admission t request ≡ Ok admitted → IsTimed t request admitted
+is_timed t request admitted e =
+    let is = admitted_is t request admitted e in
+    let both = and_parts (is_interval request.o_t_rpi) (is_interval request.t_o_rpi) (not-false _ is.are_intervals) in
+    let served = or_parts (nat_lt 7 request.multiplier) _ is.is_served in
+    let few = multiplier_fits request.multiplier served.0 in
+    let o_t = interval_fits request.o_t_rpi both.0 in
+    let t_o = interval_fits request.t_o_rpi both.1 in
+    record {
+      multiplier = few;
+      o_t_api = rw is.o_t_api o_t;
+      t_o_api = rw is.t_o_api t_o;
+      watchdog = rw is.watchdog (timeout_fits request.multiplier (interval_ms request.o_t_rpi) few o_t);
+      left = is.ids_are_left;
+      draws = draws_some admitted.multicast admitted.group;
+    }
 
 group_fits : (b : Bool) (rows : List Row) (point : ℕ) (member : Row) → cond b (group_of rows point) None ≡ Some member → RowsFit rows → due_of member.state ≤ 2 ^ 48 + 10000
 group_fits true rows point member is fit = (each_found FitsRow (is_member point) rows member is fit).due
 group_fits false rows point member is fit = absurd cc
 
-due_opened : (t : AdapterTable) (peer : Node) (request : OpenFields) (admitted : Admitted) (group : Option Row) → (admitted.group ≡ group) → group ≡ joined t.rows request admitted.path.produced → RowsFit t.rows → t.clock.0 ≤ 2 ^ 48 → due_of (opened_state t peer request admitted.path group) ≤ 2 ^ 48 + 10000
-due_opened t peer request admitted None known is fit time = omega arith
-due_opened t peer request admitted (Some member) known is fit time = group_fits (is_multicast request.t_o_params.kind) t.rows admitted.path.produced member (sym is) fit
+due_opened : (t : AdapterTable) (peer : Node) (admitted : Admitted) (group : Option Row) → group ≡ joined admitted.multicast (group_of t.rows admitted.produced) → RowsFit t.rows → t.clock.0 ≤ 2 ^ 48 → due_of (opened_state t peer admitted group) ≤ 2 ^ 48 + 10000
+due_opened t peer admitted None is fit time = omega arith
+due_opened t peer admitted (Some member) is fit time = group_fits admitted.multicast t.rows admitted.produced member (sym is) fit
 
-pub fits_opened : (t : AdapterTable) (peer : Node) (request : OpenFields) (admitted : Admitted) → verdict (standing t) request ≡ Ok admitted → RowsFit t.rows → t.clock.0 ≤ 2 ^ 48 → FitsRow (opened_row t peer request admitted)
+pub fits_opened : (t : AdapterTable) (peer : Node) (request : OpenFields) (admitted : Admitted) → admission t request ≡ Ok admitted → RowsFit t.rows → t.clock.0 ≤ 2 ^ 48 → FitsRow (opened_row t peer request admitted)
 unfolding opened_row
 fits_opened t peer request admitted e fit time =
-    let is = admitted_is (standing t) request admitted e in
+    let is = admitted_is t request admitted e in
     let timed = is_timed t request admitted e in
     record {
-      multiplier = timed.waits;
-      o_t_api = interval_fits request.o_t_rpi timed.o_t;
-      t_o_api = interval_fits request.t_o_rpi timed.t_o;
-      due = due_opened t peer request admitted admitted.group refl is.group_is fit time;
+      multiplier = timed.multiplier;
+      o_t_api = timed.o_t_api;
+      t_o_api = timed.t_o_api;
+      due = due_opened t peer admitted admitted.group is.group_is fit time;
     }
 
 -- ---- ids are passed over

@@ -1,5 +1,5 @@
 -- Each effect keeps a table whole, and so do each step and each run.
-use Rattle.std.proofs.Common.{◌≡◌, ◌≤◌, ℕ, ◌+◌, ◌^◌, false, List, length, map, find, Some, None, Ok, refl, arith}
+use Rattle.std.proofs.Common.{◌≡◌, ◌≤◌, ℕ, ◌+◌, ◌^◌, false, List, length, map, find, Some, None, Ok, refl, sym, ◌∙◌, arith}
 use Rattle.cip_types.specs.declared.names.Ms.{Ms}
 use Rattle.cip_types.specs.declared.names.Node.{Node}
 use Rattle.cip_fwdopen.specs.Open.{OpenFields}
@@ -12,7 +12,7 @@ use Rattle.adapter_table.specs.declared.row.Row.{Row}
 use Rattle.adapter_table.specs.declared.table.AdapterTable.{AdapterTable}
 use Rattle.adapter_table.specs.Profiles.{is_at, profile_fault}
 use Rattle.adapter_table.specs.Rows.{has_triad, without_first, written_row}
-use Rattle.adapter_table.specs.Checks.{Admitted, standing, verdict, stored}
+use Rattle.adapter_table.specs.Checks.{Admitted, admission}
 use Rattle.adapter_table.specs.Opening.{makes_room, opened_row, opened_table}
 use Rattle.adapter_table.specs.Closing.{without_triad, stays, staying, closed_table}
 use Rattle.adapter_table.specs.Streams.{is_taken, with_stream, without_stream, registered_table}
@@ -32,18 +32,18 @@ use Rattle.adapter_table.proofs.EffectLemmas.{EffectsKeep, adapter_keeps}
 use Rattle.adapter_table.proofs.StepLemmas.{sound_fresh, sound_opened, sound_closed, sound_written, sound_fed, sound_elapsed, sound_with, sound_without, sound_registered}
 use Rattle.adapter_table.proofs.WholeLemmas.{fits_written, fits_expired, fits_due, fits_prompt, fits_fed, fits_opened}
 
-pub whole_opened : (t : AdapterTable) (peer : Node) (request : OpenFields) (admitted : Admitted) → verdict (standing t) request ≡ Ok admitted → IsWhole t → IsWhole (opened_table t request (opened_row t peer request admitted) admitted)
+pub whole_opened : (t : AdapterTable) (peer : Node) (request : OpenFields) (admitted : Admitted) → admission t request ≡ Ok admitted → IsWhole t → IsWhole (opened_table t (opened_row t peer request admitted) admitted)
 unfolding opened_table opened_row
 whole_opened t peer request admitted e whole =
-    let is = admitted_is (standing t) request admitted e in
+    let is = admitted_is t request admitted e in
     let row = opened_row t peer request admitted in
     let room = makes_room t.rows request.triad in
     record {
       sound = sound_opened t peer request admitted e whole.sound;
       shaped =
-          shaped_configured t.profile t.profile.config (stored admitted.path.config admitted.path.segment) t.values refl
-          (λ point bytes known stands. stored_len t.profile.config admitted.path.config admitted.path.segment point bytes known stands is.segment_fits) whole.shaped;
-      consume = each_append (ConsumesOutput t.profile) (without_first room t.rows) row (each_without (ConsumesOutput t.profile) room t.rows whole.consume) (admitted_consumes (standing t) request admitted is);
+          shaped_configured t.profile t.profile.config admitted.segment t.values refl
+          (λ point bytes known stands. stored_len t.profile.config is.config is.segment point bytes known (sym is.segment_is ∙ stands) is.segment_fits) whole.shaped;
+      consume = each_append (ConsumesOutput t.profile) (without_first room t.rows) row (each_without (ConsumesOutput t.profile) room t.rows whole.consume) (admitted_consumes t request admitted is);
       fits = each_append FitsRow (without_first room t.rows) row (each_without FitsRow room t.rows whole.fits) (fits_opened t peer request admitted e whole.fits whole.clock);
       clock = whole.clock;
     }
