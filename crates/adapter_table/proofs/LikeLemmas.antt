@@ -16,7 +16,7 @@ use Rattle.cip_netparams.specs.declared.Trigger.{Trigger}
 use Rattle.cip_netparams.specs.declared.Trigger.TheVariants.{Cyclic, ChangeOfState}
 use Rattle.cip_productions.specs.declared.production.Production.{Production}
 use Rattle.cip_productions.specs.Productions.{produced}
-use Rattle.adapter_table.specs.Productions.{due_state, due_row, prompt_by, prompt_state, prompt_row}
+use Rattle.adapter_table.specs.Productions.{due_state, due_row, prompt_state, prompt_row}
 use Rattle.adapter_table.specs.Datagrams.{is_for, accepted_row, fed_row}
 use Rattle.adapter_table.specs.Sound.{TriadsDiffer, has_o_t_id, IdsDiffer, IdsAreDrawn, ListenersAreSupported, Agree, AllAgree, GroupsAgree}
 use Rattle.adapter_table.proofs.GroupLemmas.{produced_is}
@@ -192,12 +192,8 @@ due_keeps clock = record {
   same = λ a b produced api state. ap (λ (n : ℕ). due_state clock n a.state) api ∙ ap (due_state clock b.t_o_api) state;
 }
 
-lives_prompt : (trigger : Trigger) (clock : Ms) (api : ℕ) (production : Production) → lives (prompt_by trigger clock api production) ≡ true
-lives_prompt Cyclic clock api production = refl
-lives_prompt ChangeOfState clock api production = refl
-
 lives_prompted : (clock : Ms) (api : ℕ) (state : State) → lives (prompt_state clock api state) ≡ lives state
-lives_prompted clock api (Established production) = lives_prompt production.trigger clock api production
+lives_prompted clock api (Established production) = refl
 lives_prompted clock api TimedOut = refl
 
 pub prompt_keeps : (clock : Ms) (point : ℕ) → Keeps (prompt_row clock point)
