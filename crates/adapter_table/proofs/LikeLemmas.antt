@@ -15,8 +15,8 @@ use Rattle.adapter_table.specs.Rows.{lives, has_triad, drives, drivers, is_membe
 use Rattle.cip_netparams.specs.declared.Trigger.{Trigger}
 use Rattle.cip_netparams.specs.declared.Trigger.TheVariants.{Cyclic, ChangeOfState}
 use Rattle.cip_productions.specs.declared.production.Production.{Production}
-use Rattle.cip_productions.specs.Productions.{produced, held, is_free}
-use Rattle.adapter_table.specs.Productions.{producer_of, due_state, due_row, prompt_by, prompt_state, prompt_row}
+use Rattle.cip_productions.specs.Productions.{produced, changed, changed_by, held, is_free}
+use Rattle.adapter_table.specs.Productions.{producer_of, due_state, due_row, prompt_state, prompt_row}
 use Rattle.adapter_table.specs.Datagrams.{is_for, accepted_row, fed_row}
 use Rattle.adapter_table.specs.Sound.{TriadsDiffer, has_o_t_id, IdsDiffer, IdsAreDrawn, ListenersAreSupported, Agree, AllAgree, GroupsAgree}
 use Rattle.adapter_table.proofs.GroupLemmas.{produced_is}
@@ -205,19 +205,15 @@ due_keeps clock = record {
   same = λ a b produced api state. ap (λ (n : ℕ). due_state clock n a.state) api ∙ ap (due_state clock b.t_o_api) state;
 }
 
-lives_prompt : (trigger : Trigger) (clock : Ms) (api : ℕ) (production : Production) → lives (prompt_by trigger clock api production) ≡ true
-lives_prompt Cyclic clock api production = refl
-lives_prompt ChangeOfState clock api production = refl
-
 lives_prompted : (clock : Ms) (api : ℕ) (state : State) → lives (prompt_state clock api state) ≡ lives state
-lives_prompted clock api (Established production) = lives_prompt production.trigger clock api production
+lives_prompted clock api (Established production) = refl
 lives_prompted clock api TimedOut = refl
 
 prompt_producer : (b : Bool) (x y : Production) (n : ℕ) → x.producer ≡ n → y.producer ≡ n → (cond b x y).producer ≡ n
 prompt_producer true x y n first second = first
 prompt_producer false x y n first second = second
 
-producer_prompt : (trigger : Trigger) (clock : Ms) (api : ℕ) (production : Production) → producer_of (prompt_by trigger clock api production) ≡ production.producer
+producer_prompt : (trigger : Trigger) (clock : Ms) (api : ℕ) (production : Production) → (changed_by trigger clock api production).producer ≡ production.producer
 producer_prompt Cyclic clock api production = refl
 producer_prompt ChangeOfState clock api production = prompt_producer (is_free clock production) (produced clock api production) (held production) production.producer refl refl
 

@@ -21,8 +21,8 @@ use Rattle.adapter_table.specs.Rows.{is_member, written_state, written_row}
 use Rattle.adapter_table.specs.Checks.{Admitted, admission, group_of, joined, drawn_ids}
 use Rattle.adapter_table.specs.Opening.{opened_row, opened_state}
 use Rattle.adapter_table.specs.Datagrams.{is_for, accepted_row, fed_row}
-use Rattle.adapter_table.specs.Productions.{due_of, due_state, due_row, prompt_by, prompt_state, prompt_row}
-use Rattle.cip_productions.specs.Productions.{due_again, produced, is_free, sooner_due, held}
+use Rattle.adapter_table.specs.Productions.{due_of, due_state, due_row, prompt_state, prompt_row}
+use Rattle.cip_productions.specs.Productions.{due_again, produced, is_free, sooner_due, held, changed_by}
 use Rattle.adapter_table.specs.Ticks.{has_expired, expired_row}
 use Rattle.adapter_table.specs.Sound.{IdsAreDrawn}
 use Rattle.adapter_table.specs.Whole.{FitsRow, RowsFit, IsWhole}
@@ -81,7 +81,7 @@ prompt_step : (b : Bool) (clock : Ms) (api : ℕ) (production : Production) → 
 prompt_step true clock api production is time short due = rw is (omega arith)
 prompt_step false clock api production is time short due = sooner_fits production.last production.inhibit production.due due
 
-prompt_by_fits : (trigger : Trigger) (clock : Ms) (api : ℕ) (production : Production) → production.trigger ≡ trigger → clock.0 ≤ 2 ^ 48 → api ≤ 10000 → production.due.0 ≤ 2 ^ 48 + 10000 → due_of (prompt_by trigger clock api production) ≤ 2 ^ 48 + 10000
+prompt_by_fits : (trigger : Trigger) (clock : Ms) (api : ℕ) (production : Production) → production.trigger ≡ trigger → clock.0 ≤ 2 ^ 48 → api ≤ 10000 → production.due.0 ≤ 2 ^ 48 + 10000 → (changed_by trigger clock api production).due.0 ≤ 2 ^ 48 + 10000
 prompt_by_fits Cyclic clock api production is time short due = due
 prompt_by_fits ChangeOfState clock api production is time short due = prompt_step (is_free clock production) clock api production is time short due
 

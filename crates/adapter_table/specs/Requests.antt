@@ -1,6 +1,7 @@
 -- Requests to the message router: what is replied, and what becomes of the table
 -- (Volume 1, chapter 2, message router request and reply formats, and chapter 3, Connection Manager).
-use Rattle.std.specs.Prelude.{ℕ, ◌==◌, not, length, find, if◌then◌else◌, Bool, true, false, List, [], ◌∷◌, Option, Some, None, Result, Ok, Err}
+use Rattle.std.specs.Prelude.{ℕ, ◌==◌, not, length, find, Bool, true, false, List, [], ◌∷◌, Option, Some, None, Result, Ok, Err}
+use Rattle.cip_types.specs.Cases.{first_case_or}
 use Rattle.cip_types.specs.declared.names.Node.{Node}
 use Rattle.cip_fwdopen.specs.Open.{OpenFields}
 use Rattle.cip_events.specs.declared.event.Notice.{Notice}
@@ -104,10 +105,11 @@ is_value_attribute (Some attribute) = attribute == 3
 -- the value of a point that there is, by a request of this service
 abbrev pub get_of : AdapterTable → ℕ → Option ℕ → List ℕ → List ℕ → Served
 get_of t service attribute body value =
-    if not (service == 0x0E) then router_refusal t service status.Service
-    else (if not (is_value_attribute attribute) then router_refusal t service status.Attribute
-    else (if not (length body == 0) then router_refusal t service status.TooMuchData
-    else record { reply = got value; address = None; notices = []; table = t }))
+    first_case_or (record { reply = got value; address = None; notices = []; table = t }) (
+    (not (service == 0x0E), router_refusal t service status.Service)
+    ∷ (not (is_value_attribute attribute), router_refusal t service status.Attribute)
+    ∷ (not (length body == 0), router_refusal t service status.TooMuchData)
+    ∷ [])
 
 abbrev pub assembly_of : AdapterTable → ℕ → Option ℕ → List ℕ → Option (List ℕ) → Served
 assembly_of t service attribute body None = router_refusal t service status.PathDestination

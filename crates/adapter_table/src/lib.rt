@@ -2,18 +2,26 @@
 //! definition for each effect of an event, the step, and what a whole table is.
 #![tactic(auto)]
 
+mod acceptance;
 mod admission;
 mod copy;
+mod expiry;
 pub mod laws;
+mod producing;
 mod profile;
 mod profile_check;
 mod row;
 mod rows;
 mod table;
 
+pub use acceptance::{accepted_row, fed_row, is_for, row_delivery};
 pub use admission::{Admission, Consumer};
+pub use expiry::{by_deadline, expired_row, has_expired};
+pub use producing::{
+    due_row, is_due, is_produced_by, is_prompt, producer_in, prompt_row, written_row,
+};
 pub use profile::{Action, InputPoint, OutputPoint, Profile};
-pub use row::{Row, State};
+pub use row::{Row, State, lives};
 pub use rows::{
     MOST_ROWS, drives, has_triad, holds_triad, is_established, is_member, is_supported,
     is_timed_out, supports,
