@@ -1,0 +1,4 @@
+pub mod Computing
+pub mod Opens
+pub mod Checks
+pub mod Groups

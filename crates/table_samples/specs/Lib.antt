@@ -1,0 +1,5 @@
+pub mod Hex
+pub mod Devices
+pub mod Requests
+pub mod Datagrams
+pub mod Runs
