@@ -2,3 +2,4 @@ pub mod Computing
 pub mod Opens
 pub mod Checks
 pub mod Groups
+pub mod Rooms

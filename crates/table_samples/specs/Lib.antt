@@ -3,3 +3,4 @@ pub mod Devices
 pub mod Requests
 pub mod Datagrams
 pub mod Runs
+pub mod Rows
