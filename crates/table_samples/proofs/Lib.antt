@@ -3,3 +3,4 @@ pub mod Opens
 pub mod Checks
 pub mod Groups
 pub mod Rooms
+pub mod Deliveries
