@@ -4,3 +4,5 @@ pub mod Checks
 pub mod Groups
 pub mod Rooms
 pub mod Deliveries
+pub mod Productions
+pub mod Times
