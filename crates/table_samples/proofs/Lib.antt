@@ -6,3 +6,5 @@ pub mod Rooms
 pub mod Deliveries
 pub mod Productions
 pub mod Times
+pub mod Requests
+pub mod Profiles
