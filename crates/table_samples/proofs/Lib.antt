@@ -8,3 +8,4 @@ pub mod Productions
 pub mod Times
 pub mod Requests
 pub mod Profiles
+pub mod Frames

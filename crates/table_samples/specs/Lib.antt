@@ -4,3 +4,4 @@ pub mod Requests
 pub mod Datagrams
 pub mod Runs
 pub mod Rows
+pub mod Messages
