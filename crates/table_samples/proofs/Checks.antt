@@ -1,6 +1,6 @@
 -- The checks of a request to open: each by itself, and which of two goes first.
 use Rattle.std.proofs.Common.{◌≡◌, refl, ℕ, List, [], ◌∷◌}
-use Rattle.cip_tables.specs.declared.event.Event.TheVariants.{Request, Read}
+use Rattle.cip_tables.specs.declared.event.Event.TheVariants.{Read}
 use Rattle.cip_tables.specs.Run.{Outcome}
 use Rattle.table_samples.specs.Hex.{hex}
 use Rattle.table_samples.specs.Devices.{common, configured, peer}

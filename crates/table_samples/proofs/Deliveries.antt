@@ -275,8 +275,8 @@ second_owner = record owner { serial = 2; t_o_id = 0x20000002; o_t_params = 0x48
 
 each_output_has_its_owner :
     outcomes_of (after double (opens owner ∷ comes first ∷ []))
-      (opens second_owner ∷ comes (datagram 0x10000002 1 1 (running (hex "AA BB"))) ∷ Read 150 ∷ Read 160 ∷ closes peer owner ∷ Read 150 ∷ Read 160 ∷ [])
+    (opens second_owner ∷ comes (datagram 0x10000002 1 1 (running (hex "AA BB"))) ∷ Read 150 ∷ Read 160 ∷ closes peer owner ∷ Read 150 ∷ Read 160 ∷ [])
     ≡ accepts peer second_owner 2 0x20000002 ∷ delivers Applied ∷ holds before ∷ holds (hex "AA BB")
-      ∷ ends peer owner [] ∷ holds zeros ∷ holds (hex "AA BB") ∷ []
+    ∷ ends peer owner [] ∷ holds zeros ∷ holds (hex "AA BB") ∷ []
 unfolding computing
 each_output_has_its_owner = refl

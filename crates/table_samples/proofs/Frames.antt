@@ -1,6 +1,5 @@
 -- Streams, sessions and the messages that come over them.
-use Rattle.std.proofs.Common.{◌≡◌, refl, ℕ, ◌+◌, List, [], ◌∷◌, ◌++◌, map, take, Ok, Err}
-use Rattle.cip_types.specs.declared.names.Node.{Node}
+use Rattle.std.proofs.Common.{◌≡◌, refl, ℕ, List, [], ◌∷◌, ◌++◌, map, take, Ok, Err}
 use Rattle.cip_tables.specs.declared.event.Event.{Event}
 use Rattle.cip_tables.specs.declared.event.Event.TheVariants.{Frame, StreamCut, StreamOpened, Tick}
 use Rattle.cip_tables.specs.declared.event.Notice.TheVariants.{StreamClosed}
@@ -112,7 +111,7 @@ no_session_ends = refl
 services_are_listed :
     opened (hex "04 00 00 00 00 00 00 00 00 00 00 00 00 00 00 00 00 00 00 00 00 00 00 00" ∷ message 0x04 5 0 (hex "FF") ∷ [])
     ≡ back (hex "04 00 1A 00 00 00 00 00 00 00 00 00 00 00 00 00 00 00 00 00 00 00 00 00 01 00 00 01 14 00 01 00 20 01 43 6F 6D 6D 75 6E 69 63 61 74 69 6F 6E 73 00 00")
-      ∷ back (message 0x04 5 0 (hex "01 00 00 01 14 00 01 00 20 01 43 6F 6D 6D 75 6E 69 63 61 74 69 6F 6E 73 00 00")) ∷ []
+    ∷ back (message 0x04 5 0 (hex "01 00 00 01 14 00 01 00 20 01 43 6F 6D 6D 75 6E 69 63 61 74 69 6F 6E 73 00 00")) ∷ []
 unfolding computing
 services_are_listed = refl
 
@@ -177,7 +176,7 @@ opens a counter t_o_id bytes = frames (message 0x6F 1 0 bytes) (opened_notice a 
 a_point_to_point_connection :
     registered (sent 1 (opening owner) ∷ sent 1 (opening owner) ∷ [])
     ≡ opens owner 1 0x20000001 (items (hex "D4 00 00 00 01 00 00 10 01 00 00 20 01 00 34 12 78 56 34 12 10 27 00 00 10 27 00 00 00 00"))
-      ∷ back (message 0x6F 1 0 (items (refused_reply owner 0x0100))) ∷ []
+    ∷ back (message 0x6F 1 0 (items (refused_reply owner 0x0100))) ∷ []
 unfolding computing
 a_point_to_point_connection = refl
 
@@ -187,7 +186,7 @@ joiner = record gatherer { serial = 7 }
 a_multicast_connection_is_told_its_socket :
     registered (sent 1 (opening gatherer) ∷ sent 1 (opening joiner) ∷ [])
     ≡ opens gatherer 1 0x10000002 (hex "00 00 00 00 00 00 03 00 00 00 00 00 B2 00 1E 00 D4 00 00 00 01 00 00 10 02 00 00 10 05 00 34 12 78 56 34 12 10 27 00 00 10 27 00 00 00 00 01 80 10 00 00 02 08 AE EF C0 02 20 00 00 00 00 00 00 00 00")
-      ∷ opens joiner 3 0x10000002 (items_with_socket (opened_reply joiner (id 3) 0x10000002 10000 10000)) ∷ []
+    ∷ opens joiner 3 0x10000002 (items_with_socket (opened_reply joiner (id 3) 0x10000002 10000 10000)) ∷ []
 unfolding computing
 a_multicast_connection_is_told_its_socket = refl
 

@@ -1,12 +1,11 @@
 -- Opening and closing.
-use Rattle.std.proofs.Common.{◌≡◌, refl, ℕ, List, [], ◌∷◌}
-use Rattle.cip_tables.specs.declared.event.Event.TheVariants.{Request}
+use Rattle.std.proofs.Common.{◌≡◌, refl, [], ◌∷◌}
 use Rattle.cip_tables.specs.declared.event.Notice.TheVariants.{Opened}
 use Rattle.table_samples.specs.Hex.{hex}
 use Rattle.table_samples.specs.Devices.{common, peer, own}
-use Rattle.table_samples.specs.Requests.{owner, opening, gatherer, listener, closing}
+use Rattle.table_samples.specs.Requests.{owner, opening, gatherer, closing}
 use Rattle.table_samples.specs.Datagrams.{datagram, running}
-use Rattle.table_samples.specs.Runs.{said, opens, replies, accepts, refuses}
+use Rattle.table_samples.specs.Runs.{said, opens, replies, accepts}
 use Rattle.table_samples.proofs.Computing.{computing}
 
 -- ---- the samples' words, byte for byte

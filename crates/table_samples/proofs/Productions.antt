@@ -1,18 +1,17 @@
 -- Datagrams that go out: when, in which order, with which numbers and counts.
-use Rattle.std.proofs.Common.{◌≡◌, refl, ℕ, true, false, List, [], ◌∷◌, Some, Err}
+use Rattle.std.proofs.Common.{◌≡◌, refl, ℕ, false, List, [], ◌∷◌, Some, Err}
 use Rattle.cip_netparams.specs.declared.Trigger.TheVariants.{ChangeOfState}
 use Rattle.cip_tables.specs.declared.event.Event.{Event}
 use Rattle.cip_tables.specs.declared.event.Event.TheVariants.{Request, Read, Tick, Write}
 use Rattle.cip_tables.specs.declared.event.Sending.{Sending}
 use Rattle.cip_tables.specs.declared.event.StepFault.TheVariants.{NoSuchPoint, WrongLength}
-use Rattle.cip_tables.specs.declared.event.Verdict.TheVariants.{Done}
 use Rattle.cip_tables.specs.declared.row.Production.{Production}
 use Rattle.cip_tables.specs.Run.{Outcome, outcomes_of}
 use Rattle.table_samples.specs.Hex.{hex}
 use Rattle.table_samples.specs.Devices.{common, double, peer, other, group}
-use Rattle.table_samples.specs.Requests.{Asking, opening, owner, gatherer, consumer, inhibited}
+use Rattle.table_samples.specs.Requests.{opening, owner, gatherer, consumer, inhibited}
 use Rattle.table_samples.specs.Datagrams.{datagram, sending, to_one}
-use Rattle.table_samples.specs.Runs.{after, opens, closes, says, emits, holds}
+use Rattle.table_samples.specs.Runs.{after, opens, closes, emits, holds}
 use Rattle.table_samples.specs.Rows.{production, producing}
 use Rattle.table_samples.proofs.Computing.{computing}
 
@@ -48,8 +47,8 @@ the_first_is_due_at_once = refl
 the_first_and_the_next :
     owned (Tick 1 ∷ Write 100 first ∷ Tick 8 ∷ Tick 1 ∷ [])
     ≡ emits (to_one peer (hex "02 00 02 80 08 00 01 00 00 20 01 00 00 00 B1 00 06 00 01 00 00 00 00 00") ∷ []) []
-      ∷ none ∷ none
-      ∷ emits (to_one peer (hex "02 00 02 80 08 00 01 00 00 20 02 00 00 00 B1 00 06 00 02 00 05 06 07 08") ∷ []) [] ∷ []
+    ∷ none ∷ none
+    ∷ emits (to_one peer (hex "02 00 02 80 08 00 01 00 00 20 02 00 00 00 B1 00 06 00 02 00 05 06 07 08") ∷ []) [] ∷ []
 unfolding computing
 the_first_and_the_next = refl
 
@@ -135,9 +134,9 @@ changing ms events = outcomes_of (after common (opens (inhibited ms owner) ∷ [
 changes_are_held_back :
     changing 5 (Write 100 first ∷ Write 100 second ∷ Tick 4 ∷ Tick 1 ∷ Tick 9 ∷ Tick 1 ∷ [])
     ≡ emits (to_one peer (hex "02 00 02 80 08 00 01 00 00 20 01 00 00 00 B1 00 06 00 01 00 05 06 07 08") ∷ []) []
-      ∷ none ∷ none
-      ∷ emits (to_one peer (hex "02 00 02 80 08 00 01 00 00 20 02 00 00 00 B1 00 06 00 02 00 09 0A 0B 0C") ∷ []) []
-      ∷ none ∷ one 3 2 second ∷ []
+    ∷ none ∷ none
+    ∷ emits (to_one peer (hex "02 00 02 80 08 00 01 00 00 20 02 00 00 00 B1 00 06 00 02 00 09 0A 0B 0C") ∷ []) []
+    ∷ none ∷ one 3 2 second ∷ []
 unfolding computing
 changes_are_held_back = refl
 

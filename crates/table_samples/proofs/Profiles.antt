@@ -1,12 +1,10 @@
 -- The first thing that is wrong with a profile.
 use lib.Count.{ones, ones_cat}
-use Rattle.std.proofs.Common.{◌≡◌, refl, ◌∙◌, arith, ℕ, ◌+◌, List, [], ◌∷◌, map, Some, None}
-use Rattle.cip_types.specs.declared.names.Identity.{Identity}
+use Rattle.std.proofs.Common.{◌≡◌, refl, ◌∙◌, arith, ℕ, ◌+◌, [], ◌∷◌, map, Some, None}
 use Rattle.cip_tables.specs.declared.profile.Action.TheVariants.{Zero}
 use Rattle.cip_tables.specs.declared.profile.InputPoint.{InputPoint}
 use Rattle.cip_tables.specs.declared.profile.OutputPoint.{OutputPoint}
 use Rattle.cip_tables.specs.declared.profile.Profile.{Profile}
-use Rattle.cip_tables.specs.declared.profile.ProfileFault.{ProfileFault}
 use Rattle.cip_tables.specs.declared.profile.ProfileFault.TheVariants.{Incarnation, Address, Points, SameInstance, Length, Identity as IdentityFault}
 use Rattle.cip_tables.specs.Profiles.{profile_fault, fault_number}
 use Rattle.table_samples.specs.Devices.{common, configured, double, output, input}

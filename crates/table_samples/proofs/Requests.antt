@@ -1,7 +1,7 @@
 -- What the message router does with requests: prefixes, other objects and services, values of points.
 use Rattle.std.proofs.Common.{◌≡◌, refl, ℕ, List, [], ◌∷◌, ◌++◌, take, map}
 use Rattle.cip_tables.specs.declared.event.Event.{Event}
-use Rattle.cip_tables.specs.declared.event.Event.TheVariants.{Datagram, Read, Request}
+use Rattle.cip_tables.specs.declared.event.Event.TheVariants.{Datagram, Request}
 use Rattle.cip_tables.specs.declared.event.Notice.TheVariants.{Closed}
 use Rattle.cip_tables.specs.declared.event.Verdict.TheVariants.{BadFrame}
 use Rattle.cip_tables.specs.declared.profile.Action.TheVariants.{Zero}
@@ -9,9 +9,9 @@ use Rattle.cip_tables.specs.declared.profile.Profile.{Profile}
 use Rattle.cip_tables.specs.Run.{Outcome, outcomes_of}
 use Rattle.table_samples.specs.Hex.{hex}
 use Rattle.table_samples.specs.Devices.{common, configured, output, peer, other, own}
-use Rattle.table_samples.specs.Requests.{Asking, owner, consumer, followed, opening, large_opening, closing}
+use Rattle.table_samples.specs.Requests.{Asking, owner, followed, opening, large_opening, closing}
 use Rattle.table_samples.specs.Datagrams.{datagram, running}
-use Rattle.table_samples.specs.Runs.{said, after, opens, replies, opened_notice, accepts, refuses, says, holds}
+use Rattle.table_samples.specs.Runs.{said, after, opens, replies, opened_notice, accepts, refuses, says}
 use Rattle.table_samples.specs.Rows.{from}
 use Rattle.table_samples.proofs.Computing.{computing}
 

@@ -1,14 +1,13 @@
 -- Ids and places: how many there are, and which connection makes room.
-use Rattle.std.proofs.Common.{◌≡◌, refl, ℕ, List, [], ◌∷◌, ◌++◌, map}
+use Rattle.std.proofs.Common.{◌≡◌, refl, ℕ, List, [], ◌∷◌, map}
 use Rattle.cip_tables.specs.declared.event.Event.{Event}
 use Rattle.cip_tables.specs.declared.event.Event.TheVariants.{Tick}
-use Rattle.cip_tables.specs.declared.event.Notice.{Notice}
 use Rattle.cip_tables.specs.declared.event.Notice.TheVariants.{Closed, Expired, Replaced}
 use Rattle.cip_tables.specs.declared.table.DeviceTable.{DeviceTable}
-use Rattle.cip_tables.specs.Run.{Outcome, outcomes_of, table_after}
+use Rattle.cip_tables.specs.Run.{Outcome, outcomes_of}
 use Rattle.table_samples.specs.Hex.{hex}
 use Rattle.table_samples.specs.Devices.{common, peer, own}
-use Rattle.table_samples.specs.Requests.{Asking, owner, gatherer, consumer, inhibited, opened_reply}
+use Rattle.table_samples.specs.Requests.{owner, gatherer, consumer, inhibited, opened_reply}
 use Rattle.table_samples.specs.Runs.{after, opens, closes, replies, opened_notice, accepts, refuses, notices_of, id}
 use Rattle.table_samples.specs.Rows.{from, at_counter, alive, lost, connected}
 use Rattle.table_samples.proofs.Computing.{computing}

@@ -1,6 +1,5 @@
 -- Ticks: the clock, the connections that time out, and the order of what happens.
-use Rattle.std.proofs.Common.{◌≡◌, refl, ℕ, List, [], ◌∷◌, map, Err}
-use Rattle.cip_types.specs.declared.names.Ms.{Ms}
+use Rattle.std.proofs.Common.{◌≡◌, refl, List, [], ◌∷◌, map, Err}
 use Rattle.cip_tables.specs.declared.event.Event.{Event}
 use Rattle.cip_tables.specs.declared.event.Event.TheVariants.{Datagram, Request, Read, Tick}
 use Rattle.cip_tables.specs.declared.event.Delivery.TheVariants.{Applied, Old}
@@ -85,7 +84,7 @@ first = Datagram peer (datagram 0x10000001 1 1 (running (hex "11 22 33 44")))
 an_old_datagram_does_not_move_the_deadline :
     outcomes_of (after common (opens owner ∷ Tick 1 ∷ [])) (first ∷ Tick 159 ∷ first ∷ Tick 1 ∷ Read 150 ∷ [])
     ≡ delivers Applied ∷ emits (to_one peer (datagram 0x20000001 2 1 (hex "00 00 00 00")) ∷ []) [] ∷ delivers Old
-      ∷ emits [] (Expired (own 1) ∷ []) ∷ holds (hex "00 00 00 00") ∷ []
+    ∷ emits [] (Expired (own 1) ∷ []) ∷ holds (hex "00 00 00 00") ∷ []
 unfolding computing
 an_old_datagram_does_not_move_the_deadline = refl
 

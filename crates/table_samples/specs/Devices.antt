@@ -1,5 +1,5 @@
 -- The adapters of the samples, and who speaks to them.
-use Rattle.std.specs.Prelude.{ℕ, List, [], ◌∷◌, Some}
+use Rattle.std.specs.Prelude.{ℕ, [], ◌∷◌, Some}
 use Rattle.cip_types.specs.declared.names.Node.{Node}
 use Rattle.cip_types.specs.declared.names.Triad.{Triad}
 use Rattle.cip_tables.specs.declared.profile.Action.{Action}

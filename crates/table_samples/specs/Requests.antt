@@ -1,6 +1,6 @@
 -- Requests to open and to close, and replies to them, byte for byte (Volume 1, chapter 3, Connection
 -- Manager services).
-use Rattle.std.specs.Prelude.{ℕ, ◌/◌, List, [], ◌∷◌, ◌++◌, length}
+use Rattle.std.specs.Prelude.{ℕ, ◌/◌, List, ◌∷◌, ◌++◌, length}
 use Rattle.table_samples.specs.Hex.{hex, little}
 
 -- what differs between requests to open: intervals are microseconds, parameters a word of 16 or 32 bits

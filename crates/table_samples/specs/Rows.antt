@@ -1,7 +1,5 @@
 -- Tables that no short run reaches.
 use Rattle.std.specs.Prelude.{ℕ, zero, suc, ◌+◌, true, false, List, [], ◌∷◌, None}
-use Rattle.cip_types.specs.declared.names.Ms.{Ms}
-use Rattle.cip_netparams.specs.declared.Trigger.{Trigger}
 use Rattle.cip_netparams.specs.declared.Trigger.TheVariants.{Cyclic}
 use Rattle.cip_tables.specs.declared.row.Kind.TheVariants.{InputOnly}
 use Rattle.cip_tables.specs.declared.row.Production.{Production}

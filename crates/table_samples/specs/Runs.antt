@@ -1,11 +1,9 @@
 -- What a device says to events, one after another.
-use Rattle.std.specs.Prelude.{ℕ, ◌+◌, List, [], ◌∷◌, map, Ok, Err}
+use Rattle.std.specs.Prelude.{ℕ, ◌+◌, List, [], ◌∷◌, Ok, Err}
 use Rattle.cip_types.specs.declared.names.Node.{Node}
-use Rattle.cip_types.specs.declared.names.ConnId.{ConnId}
-use Rattle.cip_tables.specs.declared.event.Answer.{Answer}
 use Rattle.cip_tables.specs.declared.event.Delivery.{Delivery}
 use Rattle.cip_tables.specs.declared.event.Event.{Event}
-use Rattle.cip_tables.specs.declared.event.Event.TheVariants.{Request, Datagram}
+use Rattle.cip_tables.specs.declared.event.Event.TheVariants.{Request}
 use Rattle.cip_tables.specs.declared.event.Notice.{Notice}
 use Rattle.cip_tables.specs.declared.event.Notice.TheVariants.{Opened, Closed}
 use Rattle.cip_tables.specs.declared.event.Recipient.TheVariants.{Peer}
