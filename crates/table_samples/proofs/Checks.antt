@@ -1,11 +1,13 @@
 -- The checks of a request to open: each by itself, and which of two goes first.
-use Rattle.std.proofs.Common.{◌≡◌, refl, ℕ, List, [], ◌∷◌}
-use Rattle.cip_tables.specs.declared.event.Event.TheVariants.{Read}
-use Rattle.cip_tables.specs.Run.{Outcome}
+use Rattle.std.proofs.Common.{◌≡◌, refl, ℕ, List, [], ◌∷◌, None, Err}
+use Rattle.cip_tables.specs.declared.event.Event.TheVariants.{Read, Tick}
+use Rattle.cip_tables.specs.declared.event.StepFault.TheVariants.{NoSuchPoint}
+use Rattle.cip_tables.specs.declared.profile.Profile.{Profile}
+use Rattle.cip_tables.specs.Run.{Outcome, outcomes_of}
 use Rattle.table_samples.specs.Hex.{hex}
 use Rattle.table_samples.specs.Devices.{common, configured, peer}
 use Rattle.table_samples.specs.Requests.{Asking, owner, gatherer, listener, consumer, inhibited, keyed, followed, opened_reply}
-use Rattle.table_samples.specs.Runs.{said, opens, replies, opened_notice, accepts, refuses, holds, id}
+use Rattle.table_samples.specs.Runs.{said, after, opens, replies, opened_notice, accepts, refuses, holds, id}
 use Rattle.table_samples.proofs.Computing.{computing}
 
 -- what a fresh device says to a request
@@ -573,3 +575,33 @@ a_listener_without_support = refl
 a_point_to_point_connection_supports_none : asked_owned listener ≡ refused_owned listener 0x0119
 unfolding computing
 a_point_to_point_connection_supports_none = refl
+
+too_small_a_listener : asked (record listener { t_o_params = 0x2805 }) ≡ refused listener 0x0128
+unfolding computing
+too_small_a_listener = refl
+
+-- ---- lost connections
+
+-- a lost connection keeps no configuration
+a_lost_connection_s_configuration_changes :
+    outcomes_of (after configured (opens configuring ∷ Tick 10000 ∷ [])) (opens (reading (hex "80 01 AA CC")) ∷ Read 151 ∷ [])
+    ≡ accepts peer (reading []) 2 0x20000002 ∷ holds (hex "AA CC") ∷ []
+unfolding computing
+a_lost_connection_s_configuration_changes = refl
+
+-- and supports no listener
+a_lost_connection_supports_none :
+    outcomes_of (after common (opens gatherer ∷ Tick 10000 ∷ [])) (opens listener ∷ []) ≡ refuses peer listener 0x0119 ∷ []
+unfolding computing
+a_lost_connection_supports_none = refl
+
+-- ---- a device without a configuration
+
+abbrev unconfigured : Profile
+unconfigured = record common { config = None }
+
+no_configuration_can_be_named :
+    said unconfigured (opens owner ∷ opens (at (hex "20 04 2C 96 2C 64")) ∷ Read 151 ∷ [])
+    ≡ refuses peer owner 0x0129 ∷ accepts peer owner 1 0x20000001 ∷ Err NoSuchPoint ∷ []
+unfolding computing
+no_configuration_can_be_named = refl

@@ -223,6 +223,13 @@ and_drives_nothing : outcomes_of (after common (opens owner ∷ comes first ∷ 
 unfolding computing
 and_drives_nothing = refl
 
+-- four times 10 ms, the least time-out
+the_least_multiplier :
+    map notices_of (outcomes_of (after common (opens (record owner { multiplier = 0 }) ∷ comes first ∷ [])) (Tick 39 ∷ Tick 1 ∷ []))
+    ≡ [] ∷ expiry ∷ []
+unfolding computing
+the_least_multiplier = refl
+
 -- ---- an output whose idle action is not its fault action
 
 -- what the output holds after the events

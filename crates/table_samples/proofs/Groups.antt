@@ -6,12 +6,12 @@ use Rattle.cip_tables.specs.declared.event.Event.TheVariants.{Request, Tick}
 use Rattle.cip_tables.specs.declared.event.Notice.TheVariants.{Dropped, Opened}
 use Rattle.cip_tables.specs.declared.profile.Profile.{Profile}
 use Rattle.cip_tables.specs.Opening.{multicast_address}
-use Rattle.cip_tables.specs.Run.{Outcome}
+use Rattle.cip_tables.specs.Run.{Outcome, outcomes_of}
 use Rattle.table_samples.specs.Hex.{hex}
 use Rattle.table_samples.specs.Devices.{common, double, input, peer, other, group, triad, own}
 use Rattle.table_samples.specs.Requests.{Asking, opening, owner, gatherer, listener, consumer, inhibited}
 use Rattle.table_samples.specs.Datagrams.{datagram, sending}
-use Rattle.table_samples.specs.Runs.{said, opens, closes, replies, accepts, refuses, ends, emits}
+use Rattle.table_samples.specs.Runs.{said, after, opens, closes, replies, accepts, refuses, ends, emits}
 use Rattle.table_samples.proofs.Computing.{computing}
 
 -- ---- multicast addresses
@@ -190,3 +190,12 @@ no_support_by_another_input :
     ≡ accepts peer second_gatherer 1 0x10000002 ∷ refuses other listener 0x0119 ∷ []
 unfolding computing
 no_support_by_another_input = refl
+
+-- ---- lost connections
+
+-- the next connection begins a group of its own, with an id of its own
+a_lost_connection_is_not_joined :
+    outcomes_of (after common (opens gatherer ∷ Tick 10000 ∷ [])) (joins joiner ∷ Tick 1 ∷ [])
+    ≡ accepts other joiner 3 0x10000004 ∷ emits (sending group (other ∷ []) (datagram 0x10000004 1 1 (hex "00 00 00 00")) ∷ []) [] ∷ []
+unfolding computing
+a_lost_connection_is_not_joined = refl

@@ -7,7 +7,7 @@ use Rattle.cip_tables.specs.declared.table.DeviceTable.{DeviceTable}
 use Rattle.cip_tables.specs.Run.{Outcome, outcomes_of}
 use Rattle.table_samples.specs.Hex.{hex}
 use Rattle.table_samples.specs.Devices.{common, peer, own}
-use Rattle.table_samples.specs.Requests.{owner, gatherer, consumer, inhibited, opened_reply}
+use Rattle.table_samples.specs.Requests.{Asking, owner, gatherer, listener, consumer, inhibited, opened_reply}
 use Rattle.table_samples.specs.Runs.{after, opens, closes, replies, opened_notice, accepts, refuses, notices_of, id}
 use Rattle.table_samples.specs.Rows.{from, at_counter, alive, lost, connected}
 use Rattle.table_samples.proofs.Computing.{computing}
@@ -39,6 +39,16 @@ the_group_before_the_ids :
     ≡ accepts peer gatherer 0xFFFFFE 0x10FFFFFF ∷ refuses peer (record gatherer { serial = 6 }) 0x0111 ∷ []
 unfolding computing
 the_group_before_the_ids = refl
+
+-- the owner has the last id
+abbrev second : Asking
+second = record owner { serial = 2; t_o_id = 0x20000002 }
+
+ownership_and_support_before_the_ids :
+    outcomes_of (at_counter 16777215) (opens owner ∷ opens second ∷ opens listener ∷ [])
+    ≡ accepts peer owner 0xFFFFFF 0x20000001 ∷ refuses peer second 0x0106 ∷ refuses peer listener 0x0119 ∷ []
+unfolding computing
+ownership_and_support_before_the_ids = refl
 
 -- a refused request draws none
 a_refused_request_draws_no_id :
