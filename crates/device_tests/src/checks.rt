@@ -237,37 +237,35 @@ fn paths_are_judged_in_order(rt: HostRuntime) -> Result<(), Fail> {
     Ok(())
 }
 
-/// The path of another object class.
+/// A request of another object class that is wrong in all that is judged before its points.
 const WRONG_PATH: [u8; 6] = [0x20, 5, 0x2C, 150, 0x2C, 100];
 
-/// A request of that class with a packet interval of none, and with these.
-fn wrong(
-    multiplier: u8,
-    trigger: u8,
-    t_o: ConnectionType,
-    o_t: ConnectionType,
-) -> OpenRequest<'static> {
-    OpenRequest {
-        multiplier,
-        trigger,
-        t_o_rpi: 0,
-        t_o_params: params(6, t_o),
-        o_t_params: params(10, o_t),
-        ..request(&WRONG_PATH)
-    }
-}
-
 fn judges_parameters(set: &AssemblySet) -> bool {
-    let (single, group, none) = (
-        ConnectionType::PointToPoint,
-        ConnectionType::Multicast,
-        ConnectionType::Null,
-    );
-    refusal(set, &[], &wrong(2, 0x01, single, single)) == Some(Refusal::PacketInterval)
-        && refusal(set, &[], &wrong(8, 0x01, single, single)) == Some(Refusal::Parameter)
-        && refusal(set, &[], &wrong(8, 0x21, single, single)) == Some(Refusal::Trigger)
-        && refusal(set, &[], &wrong(8, 0x21, none, single)) == Some(Refusal::ProducedType)
-        && refusal(set, &[], &wrong(8, 0x21, none, group)) == Some(Refusal::ConsumedType)
+    let interval = OpenRequest {
+        t_o_rpi: 0,
+        ..request(&WRONG_PATH)
+    };
+    let multiplier = OpenRequest {
+        multiplier: 8,
+        ..interval
+    };
+    let trigger = OpenRequest {
+        trigger: 0x21,
+        ..multiplier
+    };
+    let produced = OpenRequest {
+        t_o_params: params(6, ConnectionType::Null),
+        ..trigger
+    };
+    let consumed = OpenRequest {
+        o_t_params: params(10, ConnectionType::Multicast),
+        ..produced
+    };
+    refusal(set, &[], &interval) == Some(Refusal::PacketInterval)
+        && refusal(set, &[], &multiplier) == Some(Refusal::Parameter)
+        && refusal(set, &[], &trigger) == Some(Refusal::Trigger)
+        && refusal(set, &[], &produced) == Some(Refusal::ProducedType)
+        && refusal(set, &[], &consumed) == Some(Refusal::ConsumedType)
 }
 
 #[test]

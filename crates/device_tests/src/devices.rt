@@ -153,17 +153,11 @@ fn runs(alloc: Global, device: &mut PlainAdapter, events: &[Event]) -> bool {
     }
 }
 
-fn open_and_tick(alloc: Global) -> Result<Vec<Event>, Fail> {
-    let mut events = Vec::new(alloc);
-    events.push(Deed::Request(PEER, &OPEN).event(alloc)?)?;
-    events.push(Event::Tick { ms: 60_001 })?;
-    Ok(events)
-}
-
 #[test]
 fn a_run_has_an_outcome_for_each_event(rt: HostRuntime) -> Result<(), Fail> {
     let mut device = adapter(rt.alloc())?;
-    assert!(rt; runs(rt.alloc(), &mut device, &open_and_tick(rt.alloc())?));
+    let open = Deed::Request(PEER, &OPEN).event(rt.alloc())?;
+    assert!(rt; runs(rt.alloc(), &mut device, &[open, Event::Tick { ms: 60_001 }]));
     Ok(())
 }
 
@@ -256,27 +250,19 @@ fn a_copy_is_a_device_of_its_own_that_goes_on_alike(rt: HostRuntime) -> Result<(
     Ok(())
 }
 
-/// The table of a device once it has drawn all ids but the last.
-fn nearly_used(device: &PlainAdapter) -> Result<TableCopy, Fail> {
-    let copy = device.copy()?;
+/// A fresh adapter that has drawn all ids but the last.
+fn nearly_used(alloc: Global) -> Result<PlainAdapter, Fail> {
+    let copy = adapter(alloc)?.copy()?;
     let DeviceTable::Adapter(table) = copy.table();
     if table.next_id > 16_777_215 {
         return Err("used up".into());
     }
-    Ok(copy.with_next_id(16_777_215))
-}
-
-fn draws_the_last_id(alloc: Global, table: &TableCopy) -> bool {
-    match PlainAdapter::from_copy(alloc, table) {
-        Ok(mut device) => goes(alloc, &mut device, &copies::LAST_ID),
-        Err(_) => false,
-    }
+    Ok(PlainAdapter::from_copy(alloc, &copy.with_next_id(16_777_215))?)
 }
 
 #[test]
 fn the_last_id_is_not_enough_for_a_new_group(rt: HostRuntime) -> Result<(), Fail> {
-    let table = nearly_used(&adapter(rt.alloc())?)?;
-    assert!(rt; draws_the_last_id(rt.alloc(), &table));
+    assert!(rt; goes(rt.alloc(), &mut nearly_used(rt.alloc())?, &copies::LAST_ID));
     Ok(())
 }
 

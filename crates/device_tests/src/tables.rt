@@ -189,29 +189,12 @@ fn has_counter(copy: &TableCopy, counter: u32) -> bool {
     table.next_id == counter
 }
 
-/// Whether two fresh tables are equal, with the first counter.
-fn begin_alike(copy: &TableCopy, other: &TableCopy) -> bool {
-    copy.same(other) && has_counter(copy, 1)
-}
-
-/// Whether a table that goes on with the last counter has it, and differs from another.
-fn goes_on_later(later: &TableCopy, other: &TableCopy) -> bool {
-    has_counter(later, 16_777_216) && !later.same(other)
-}
-
-/// A fresh table that has drawn all ids.
-fn used_up(alloc: Global) -> Result<TableCopy, Fail> {
-    Ok(fresh(alloc)?.with_next_id(16_777_216))
-}
-
-#[test]
-fn fresh_tables_are_equal(rt: HostRuntime) -> Result<(), Fail> {
-    assert!(rt; begin_alike(&fresh(rt.alloc())?, &fresh(rt.alloc())?));
-    Ok(())
-}
-
 #[test]
 fn tables_go_on_with_a_later_counter(rt: HostRuntime) -> Result<(), Fail> {
-    assert!(rt; goes_on_later(&used_up(rt.alloc())?, &fresh(rt.alloc())?));
+    let copy = fresh(rt.alloc())?;
+    let same = fresh(rt.alloc())?;
+    assert!(rt; copy.same(&same) && has_counter(&copy, 1));
+    let later = copy.with_next_id(16_777_216);
+    assert!(rt; has_counter(&later, 16_777_216) && !later.same(&same));
     Ok(())
 }
