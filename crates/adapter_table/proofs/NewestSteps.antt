@@ -225,6 +225,7 @@ fed_own t peer d row delivery last found sound remembers =
       opening_kept : (b : Bool) (clock : Ms) (other : Row) → (cond b (accepted_row clock d other) other).opening ≡ other.opening
       opening_kept true clock other = refl
       opening_kept false clock other = refl
+
       fed_only : (other : Row) → SameOpening other row → RemembersLast row.opening (Some (acceptance_of d delivery).datagram) (fed_row t.clock peer d other)
       fed_only other only = λ same.
           let is_it = only (sym (opening_kept (is_for peer d.connection other) t.clock other) ∙ same) in
@@ -259,9 +260,10 @@ goes_judged : (R : Option Accepted → Acceptance → Type 0) (accepted own : Bo
 goes_judged R true true opening last t peer d row delivery found own sound holds remembers =
     let same : row.opening ≡ opening = grind (arith, nat_tests) in
     let remembers' = subst (λ (n : ℕ). TableRemembers n last t) (sym same) remembers in
-    let lasts : row.last ≡ last = each_found (RemembersLast opening last) (is_for peer d.connection) t.rows row found remembers.there same in
-    ((subst (λ (l : Option Accepted). R l (acceptance_of d delivery)) lasts (holds refl), tt),
-    subst (λ (n : ℕ). TableRemembers n (Some (acceptance_of d delivery).datagram) (fed_table t peer d row delivery)) same (fed_own t peer d row delivery last found sound remembers'))
+    let lasts : row.last ≡ last = each_found (RemembersLast opening last) (is_for peer d.connection) t.rows row found remembers.there same in (
+      (subst (λ (l : Option Accepted). R l (acceptance_of d delivery)) lasts (holds refl), tt),
+      subst (λ (n : ℕ). TableRemembers n (Some (acceptance_of d delivery).datagram) (fed_table t peer d row delivery)) same (fed_own t peer d row delivery last found sound remembers'),
+    )
 goes_judged R true false opening last t peer d row delivery found own sound holds remembers = (tt, fed_other t peer d row delivery opening last found own sound remembers)
 goes_judged R false true opening last t peer d row delivery found own sound holds remembers = (tt, remembers)
 goes_judged R false false opening last t peer d row delivery found own sound holds remembers = (tt, remembers)
