@@ -2,15 +2,7 @@
 -- so on.
 use Rattle.std.proofs.Common.{◌≡◌, Bool, true, false, cond, List, [], ◌∷◌, ◌++◌, map, filter, find, Option, Some, sym, subst}
 use Rattle.adapter_table.specs.declared.row.Row.{Row}
-use Rattle.adapter_table.specs.Rows.{Each, EachTwo, without_first}
-
-pub each_without : (P : Row → Type 0) (p : Row → Bool) (rows : List Row) → Each P rows → Each P (without_first p rows)
-each_without P p [] all = tt
-each_without P p (row ∷ rows) all =
-    elim (p row) as (λ b. Each P (cond b rows (row ∷ without_first p rows))) [
-      | true ↦ all.1
-      | false ↦ (all.0, each_without P p rows all.1)
-    ]
+use Rattle.adapter_table.specs.Rows.{Each, EachTwo}
 
 pub each_filter : (P : Row → Type 0) (p : Row → Bool) (rows : List Row) → Each P rows → Each P (filter p rows)
 each_filter P p [] all = tt
@@ -50,14 +42,6 @@ each_both P Q S both [] first second = tt
 each_both P Q S both (row ∷ rows) first second = (both row first.0 second.0, each_both P Q S both rows first.1 second.1)
 
 -- ---- each two
-
-pub two_without : (R : Row → Row → Type 0) (p : Row → Bool) (rows : List Row) → EachTwo R rows → EachTwo R (without_first p rows)
-two_without R p [] all = tt
-two_without R p (row ∷ rows) all =
-    elim (p row) as (λ b. EachTwo R (cond b rows (row ∷ without_first p rows))) [
-      | true ↦ all.1
-      | false ↦ (each_without (R row) p rows all.0, two_without R p rows all.1)
-    ]
 
 pub two_filter : (R : Row → Row → Type 0) (p : Row → Bool) (rows : List Row) → EachTwo R rows → EachTwo R (filter p rows)
 two_filter R p [] all = tt

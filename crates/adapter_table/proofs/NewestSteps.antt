@@ -1,5 +1,5 @@
 -- What each step accepts on a connection is newer than what the table remembers of it, and the next table remembers it.
-use Rattle.std.proofs.Common.{◌≡◌, ◌≢◌, ◌≤◌, ◌<◌, ℕ, ◌+◌, ◌-◌, ◌*◌, ◌^◌, ◌==◌, nat_le, length, Bool, true, false, cond, ◌&&◌, List, [], ◌∷◌, map, find, Option, Some, None, Result, Ok, Err, refl, sym, ◌∙◌, ap, subst, arith}
+use Rattle.std.proofs.Common.{◌≡◌, ◌≢◌, ◌≤◌, ◌<◌, ℕ, ◌+◌, ◌-◌, ◌*◌, ◌^◌, ◌==◌, nat_le, length, Bool, true, false, cond, not, ◌&&◌, List, [], ◌∷◌, map, find, Option, Some, None, Result, Ok, Err, refl, sym, ◌∙◌, ap, subst, arith}
 use Rattle.std.proofs.lemmas.Bool.{and_parts}
 use Rattle.std.proofs.lemmas.Bool.Decides.{nat_tests}
 use Rattle.cip_types.specs.declared.names.Ms.{Ms}
@@ -38,7 +38,7 @@ use Rattle.adapter_table.specs.Step.{read, read_of, written_table, prompt_table}
 use Rattle.adapter_table.specs.Sound.{IdsAreDrawn, IsSound, OpensBefore}
 use Rattle.adapter_table.specs.Newest.{Acceptance, run_bit, is_applied, acceptance_of, accepted_found, accepted_read, EachAfter, last_accepted, HasNewerNumber, HasOtherCount, IsAppliedNew, IsNotAgain, RemembersLast, TableRemembers}
 use Rattle.adapter_table.specs.Laws.{StepsAcceptAfter, RefusalsAcceptNothing}
-use Rattle.adapter_table.proofs.EachLemmas.{each_without, each_filter, each_append, each_map, each_found, each_both, each_changed, two_weak, two_found}
+use Rattle.adapter_table.proofs.EachLemmas.{each_filter, each_append, each_map, each_found, each_both, each_changed, two_weak, two_found}
 use Rattle.adapter_table.proofs.ProducerLemmas.{found_passes}
 use Rattle.adapter_table.proofs.RequestLemmas.{RequestsDo, answered_does, frame_does, next_is, IsStreamed, streamed_is, cut_does}
 use Rattle.adapter_table.proofs.EffectLemmas.{IsWrite, write_is, IsTick, tick_is}
@@ -108,7 +108,7 @@ remembers_closed : (opening : ℕ) (last : Option Accepted) (t : AdapterTable) (
 unfolding closed_table
 remembers_closed opening last t row remembers =
     let left = without_triad row.triad t.rows in
-    remembers_rows opening last t (closed_table t row) (omega arith) (each_filter (RemembersLast opening last) (stays left) left (each_without (RemembersLast opening last) (has_triad row.triad) t.rows remembers.there)) remembers
+    remembers_rows opening last t (closed_table t row) (omega arith) (each_filter (RemembersLast opening last) (stays left) left (each_filter (RemembersLast opening last) (λ r. not (has_triad row.triad r)) t.rows remembers.there)) remembers
 
 -- what is opened has accepted nothing
 remembers_opened : (opening : ℕ) (last : Option Accepted) (t : AdapterTable) (peer : Node) (request : OpenFields) (admitted : Admitted) → TableRemembers opening last t → TableRemembers opening last (opened_table t (opened_row t peer request admitted) admitted)
@@ -117,7 +117,7 @@ remembers_opened opening last t peer request admitted remembers =
     let row = opened_row t peer request admitted in
     let new : RemembersLast opening last row = λ same. sym (remembers.unopened (omega arith)) in
     remembers_rows opening last t (opened_table t row admitted) (omega arith)
-    (each_append (RemembersLast opening last) _ row (each_without (RemembersLast opening last) (makes_room t.rows request.triad) t.rows remembers.there) new) remembers
+    (each_append (RemembersLast opening last) _ row (each_filter (RemembersLast opening last) (λ r. not (makes_room t.rows request.triad r)) t.rows remembers.there) new) remembers
 
 remembers_written : (opening : ℕ) (last : Option Accepted) (t : AdapterTable) (point : ℕ) (bytes : List ℕ) → TableRemembers opening last t → TableRemembers opening last (prompt_table (written_table t point bytes) point)
 unfolding written_table prompt_table
@@ -225,6 +225,7 @@ fed_own t peer d row delivery last found sound remembers =
       opening_kept : (b : Bool) (clock : Ms) (other : Row) → (cond b (accepted_row clock d other) other).opening ≡ other.opening
       opening_kept true clock other = refl
       opening_kept false clock other = refl
+
       fed_only : (other : Row) → SameOpening other row → RemembersLast row.opening (Some (acceptance_of d delivery).datagram) (fed_row t.clock peer d other)
       fed_only other only = λ same.
           let is_it = only (sym (opening_kept (is_for peer d.connection other) t.clock other) ∙ same) in
@@ -259,9 +260,10 @@ goes_judged : (R : Option Accepted → Acceptance → Type 0) (accepted own : Bo
 goes_judged R true true opening last t peer d row delivery found own sound holds remembers =
     let same : row.opening ≡ opening = grind (arith, nat_tests) in
     let remembers' = subst (λ (n : ℕ). TableRemembers n last t) (sym same) remembers in
-    let lasts : row.last ≡ last = each_found (RemembersLast opening last) (is_for peer d.connection) t.rows row found remembers.there same in
-    ((subst (λ (l : Option Accepted). R l (acceptance_of d delivery)) lasts (holds refl), tt),
-    subst (λ (n : ℕ). TableRemembers n (Some (acceptance_of d delivery).datagram) (fed_table t peer d row delivery)) same (fed_own t peer d row delivery last found sound remembers'))
+    let lasts : row.last ≡ last = each_found (RemembersLast opening last) (is_for peer d.connection) t.rows row found remembers.there same in (
+      (subst (λ (l : Option Accepted). R l (acceptance_of d delivery)) lasts (holds refl), tt),
+      subst (λ (n : ℕ). TableRemembers n (Some (acceptance_of d delivery).datagram) (fed_table t peer d row delivery)) same (fed_own t peer d row delivery last found sound remembers'),
+    )
 goes_judged R true false opening last t peer d row delivery found own sound holds remembers = (tt, fed_other t peer d row delivery opening last found own sound remembers)
 goes_judged R false true opening last t peer d row delivery found own sound holds remembers = (tt, remembers)
 goes_judged R false false opening last t peer d row delivery found own sound holds remembers = (tt, remembers)

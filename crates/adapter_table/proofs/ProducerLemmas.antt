@@ -4,25 +4,16 @@ use Rattle.cip_types.specs.declared.names.Ms.{Ms}
 use Rattle.adapter_table.specs.declared.profile.Profile.{Profile}
 use Rattle.adapter_table.specs.declared.row.Row.{Row}
 use Rattle.adapter_table.specs.declared.row.State.TheVariants.{TimedOut}
-use Rattle.adapter_table.specs.Rows.{is_established, is_member, Each, without_first}
+use Rattle.adapter_table.specs.Rows.{is_established, is_member, Each}
 use Rattle.adapter_table.specs.Productions.{producer_of}
 use Rattle.adapter_table.specs.Opening.{connection_id}
 use Rattle.adapter_table.specs.Ticks.{has_expired, expired_row, expired_rows}
 use Rattle.adapter_table.specs.Sound.{IdsAreDrawn, SharesProducer, OpensBefore, ProducerIsDrawn, SingleHasItsOwn, MulticastIdIsDrawn, ShareInGroup, ProducersAreSound}
-use Rattle.adapter_table.proofs.EachLemmas.{each_without, each_filter, each_append, each_map, each_found, each_weak, two_without, two_filter, two_append, two_map, two_found}
+use Rattle.adapter_table.proofs.EachLemmas.{each_filter, each_append, each_map, each_found, each_weak, two_filter, two_append, two_map, two_found}
 use Rattle.adapter_table.proofs.GroupLemmas.{produced_is, member_parts}
 use Rattle.adapter_table.proofs.LikeLemmas.{IsLike, Keeps}
 
 -- ---- some are taken out
-
-pub producers_without : (p : Row → Bool) (profile : Profile) (next_id : ℕ) (rows : List Row) → ProducersAreSound profile next_id rows → ProducersAreSound profile next_id (without_first p rows)
-producers_without p profile next_id rows sound = record {
-  openings_rise = two_without OpensBefore p rows sound.openings_rise;
-  are_drawn = each_without (ProducerIsDrawn next_id) p rows sound.are_drawn;
-  single = each_without SingleHasItsOwn p rows sound.single;
-  multicast = each_without (MulticastIdIsDrawn profile next_id) p rows sound.multicast;
-  shared = two_without ShareInGroup p rows sound.shared;
-}
 
 pub producers_filter : (p : Row → Bool) (profile : Profile) (next_id : ℕ) (rows : List Row) → ProducersAreSound profile next_id rows → ProducersAreSound profile next_id (filter p rows)
 producers_filter p profile next_id rows sound = record {
@@ -224,18 +215,18 @@ begins profile next_id next rows new is (is_joiner m many found shares) ids soun
           (two_found ShareInGroup back (is_member new.produced) rows m found (itself new.produced m member) sound.shared);
     }
 
--- `left` are those of the connections that the new one leaves
-pub producers_opened : (p : Row → Bool) (profile : Profile) (next_id next : ℕ) (rows : List Row) (new : Row) → IsNext next_id next new → Produces profile next_id next rows new → IdsAreDrawn profile next_id rows → ProducersAreSound profile next_id rows → ProducersAreSound profile next (without_first p rows ++ new ∷ [])
+-- those that pass a test are left
+pub producers_opened : (p : Row → Bool) (profile : Profile) (next_id next : ℕ) (rows : List Row) (new : Row) → IsNext next_id next new → Produces profile next_id next rows new → IdsAreDrawn profile next_id rows → ProducersAreSound profile next_id rows → ProducersAreSound profile next (filter p rows ++ new ∷ [])
 producers_opened p profile next_id next rows new is produces ids sound =
     let begin = begins profile next_id next rows new is produces ids sound in
     let more = is.more in
-    let later = producers_later profile next_id next (without_first p rows) (omega arith) (producers_without p profile next_id rows sound) in
+    let later = producers_later profile next_id next (filter p rows) (omega arith) (producers_filter p profile next_id rows sound) in
     record {
       openings_rise =
-          two_append OpensBefore (without_first p rows) new later.openings_rise
-          (each_without (λ row. OpensBefore row new) p rows (each_weak (Earlier next_id) (λ row. OpensBefore row new) (before_new next_id next new is) rows (earlier profile next_id rows ids)));
-      are_drawn = each_append (ProducerIsDrawn next) (without_first p rows) new later.are_drawn begin.drawn;
-      single = each_append SingleHasItsOwn (without_first p rows) new later.single begin.single;
-      multicast = each_append (MulticastIdIsDrawn profile next) (without_first p rows) new later.multicast begin.multicast;
-      shared = two_append ShareInGroup (without_first p rows) new later.shared (each_without (λ row. ShareInGroup row new) p rows begin.share);
+          two_append OpensBefore (filter p rows) new later.openings_rise
+          (each_filter (λ row. OpensBefore row new) p rows (each_weak (Earlier next_id) (λ row. OpensBefore row new) (before_new next_id next new is) rows (earlier profile next_id rows ids)));
+      are_drawn = each_append (ProducerIsDrawn next) (filter p rows) new later.are_drawn begin.drawn;
+      single = each_append SingleHasItsOwn (filter p rows) new later.single begin.single;
+      multicast = each_append (MulticastIdIsDrawn profile next) (filter p rows) new later.multicast begin.multicast;
+      shared = two_append ShareInGroup (filter p rows) new later.shared (each_filter (λ row. ShareInGroup row new) p rows begin.share);
     }

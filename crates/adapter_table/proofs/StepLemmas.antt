@@ -14,12 +14,12 @@ use Rattle.adapter_table.specs.declared.row.Row.{Row}
 use Rattle.adapter_table.specs.declared.table.AdapterTable.{AdapterTable}
 use Rattle.adapter_table.specs.declared.table.PointValue.{PointValue}
 use Rattle.adapter_table.specs.declared.table.Stream.{Stream}
-use Rattle.adapter_table.specs.Rows.{without_first, drives, drivers, written_row, is_established, has_triad, holds_triad, is_member, is_supported}
+use Rattle.adapter_table.specs.Rows.{others, drives, drivers, written_row, is_established, has_triad, holds_triad, is_member, is_supported}
 use Rattle.cip_productions.specs.declared.kind.Kind.{Kind}
 use Rattle.cip_productions.specs.Kinds.{is_owner, is_listener}
 use Rattle.adapter_table.specs.Checks.{Admitted, admission, group_of, joined, drawn_ids}
-use Rattle.adapter_table.specs.Opening.{opened_row, opened_table, opened_state, opened_t_o_id}
-use Rattle.adapter_table.specs.Closing.{closed_table, stays}
+use Rattle.adapter_table.specs.Opening.{makes_room_by, opened_row, opened_table, opened_state, opened_t_o_id}
+use Rattle.adapter_table.specs.Closing.{closed_table, stays, without_triad}
 use Rattle.adapter_table.specs.Points.{put_value}
 use Rattle.adapter_table.specs.Streams.{is_other_stream, is_taken, new_stream, with_stream, without_stream, registered_stream, registered_table}
 use Rattle.adapter_table.specs.Datagrams.{fed_row, fed_values, fed_table}
@@ -29,13 +29,13 @@ use Rattle.adapter_table.specs.Step.{adapter_table, written_table, prompt_table}
 use Rattle.adapter_table.specs.Sound.{IsSound, StreamsDiffer}
 use Rattle.adapter_table.proofs.CheckLemmas.{HasSameApi, IsAdmitted, admitted_is, draws_some}
 use Rattle.adapter_table.proofs.EffectLemmas.{EffectsKeep}
-use Rattle.adapter_table.proofs.GroupLemmas.{Joins, is_single, is_first, is_joiner, groups_opened, groups_without, groups_filter}
+use Rattle.adapter_table.proofs.GroupLemmas.{Joins, is_single, is_first, is_joiner, groups_opened, groups_filter}
 use Rattle.adapter_table.proofs.SupportLemmas.{listeners_opened, listeners_staying}
 use Rattle.adapter_table.proofs.LikeLemmas.{Keeps, count_kept, triads_kept, ids_kept, drawn_kept, listeners_kept, groups_kept, written_keeps, fed_keeps, due_keeps, prompt_keeps}
 use Rattle.adapter_table.proofs.FadeLemmas.{count_expired, triads_expired, ids_expired, drawn_expired, groups_expired}
-use Rattle.adapter_table.proofs.ProducerLemmas.{Produces, is_single as is_alone, is_first as is_leader, is_joiner as is_follower, producers_opened, producers_without, producers_filter, producers_kept, producers_expired}
+use Rattle.adapter_table.proofs.ProducerLemmas.{Produces, is_single as is_alone, is_first as is_leader, is_joiner as is_follower, producers_opened, producers_filter, producers_kept, producers_expired}
 use Rattle.adapter_table.proofs.StreamLemmas.{has_room, few_with, few_left, differ_with, differ_left, differ_registered}
-use Rattle.adapter_table.proofs.SoundLemmas.{room_by, length_opened, any_opened, drivers_opened, count_without, filter_none, triads_append, triads_without, ids_append, ids_without, IsDrawn, drawn_new, drawn_append, drawn_without, length_without_le, length_filter_le, count_filter, triads_filter, ids_filter, drawn_filter}
+use Rattle.adapter_table.proofs.SoundLemmas.{length_opened, any_opened, drivers_opened, filter_none, triads_append, ids_append, IsDrawn, drawn_new, drawn_append, length_filter_le, count_filter, triads_filter, ids_filter, drawn_filter}
 
 free_output : (rows : List Row) (kind : Kind) (consumed point : ℕ) → (is_owner kind && list_any (drives consumed) rows) ≡ false → (is_owner kind && consumed == point) ≡ true → drivers point rows ≡ []
 free_output rows kind consumed point free drives_it =
@@ -117,23 +117,24 @@ opened_sound t request admitted row is ok sound =
     let b = list_any (has_triad row.triad) t.rows in
     let c = nat_le 64 (length t.rows) in
     let draws = draws_some admitted.multicast admitted.group in
-    let without = without_first (room_by b c row.triad) t.rows in
-    let drawn = drawn_without (room_by b c row.triad) t.profile t.next_id t.rows sound.ids_are_drawn in
+    let left = others (makes_room_by b c t.rows row.triad) t.rows in
+    let stays_there : Row → Bool = λ r. not (makes_room_by b c t.rows row.triad r) in
+    let drawn = drawn_filter stays_there t.profile t.next_id t.rows sound.ids_are_drawn in
     let held : list_any (holds_triad row.triad) t.rows ≡ false = ap (λ (triad : Triad). list_any (holds_triad triad) t.rows) is.triad ∙ ok.triad_is_free in
     let alone : (is_listener row.kind && not (is_supported t.rows row.kind row.produced)) ≡ false = rw (is.kind, is.produced) ok.is_supported in
     record {
       few = simp length-append (length_opened b c row.triad t.rows refl refl sound.few ok.room_is_left);
       one_owner = λ point.
-          drivers_opened (drives point row) t.rows without row point refl
-          (count_without (room_by b c row.triad) (drives point) t.rows)
+          drivers_opened (drives point row) t.rows left row point refl
+          (count_filter stays_there (drives point) t.rows)
           (λ drives_it. free_output t.rows admitted.kind admitted.consumed point ok.output_is_free (drives_no_other point row admitted.kind admitted.consumed is.kind is.consumed drives_it)) (sound.one_owner point);
-      triads_differ = triads_append without row (triads_without (room_by b c row.triad) t.rows sound.triads_differ) (any_opened b c row.triad t.rows refl sound.triads_differ);
-      ids_differ = ids_append without row (ids_without (room_by b c row.triad) t.rows sound.ids_differ) (drawn_new t.profile t.next_id without row is.drawn drawn);
-      ids_are_drawn = drawn_append t.profile t.next_id (t.next_id + drawn_ids admitted.multicast admitted.group) without row (omega arith) is.drawn drawn;
-      listeners_are_supported = listeners_opened b c row.triad t.rows row held alone sound.listeners_are_supported;
-      groups_agree = groups_opened (room_by b c row.triad) t.rows row (joins_of t request admitted row is ok) sound.groups_agree;
+      triads_differ = triads_append left row (triads_filter stays_there t.rows sound.triads_differ) (any_opened b c row.triad t.rows refl);
+      ids_differ = ids_append left row (ids_filter stays_there t.rows sound.ids_differ) (drawn_new t.profile t.next_id left row is.drawn drawn);
+      ids_are_drawn = drawn_append t.profile t.next_id (t.next_id + drawn_ids admitted.multicast admitted.group) left row (omega arith) is.drawn drawn;
+      listeners_are_supported = listeners_opened b c row.triad t.rows row held sound.producers.openings_rise alone sound.listeners_are_supported;
+      groups_agree = groups_opened stays_there t.rows row (joins_of t request admitted row is ok) sound.groups_agree;
       producers =
-          producers_opened (room_by b c row.triad) t.profile t.next_id (t.next_id + drawn_ids admitted.multicast admitted.group) t.rows row
+          producers_opened stays_there t.profile t.next_id (t.next_id + drawn_ids admitted.multicast admitted.group) t.rows row
           (record { opening = is.drawn.opening; more = omega arith }) (produces_of t request admitted row is ok) sound.ids_are_drawn sound.producers;
       ids_are_left = ok.ids_are_left;
       few_streams = sound.few_streams;
@@ -146,17 +147,17 @@ sound_opened t peer request admitted is sound = opened_sound t request admitted 
 pub sound_closed : (t : AdapterTable) (row : Row) → IsSound t → IsSound (closed_table t row)
 unfolding closed_table
 sound_closed t row sound =
-    let p = has_triad row.triad in
-    let left = without_first (has_triad row.triad) t.rows in
+    let left = without_triad row.triad t.rows in
+    let stays_there : Row → Bool = λ r. not (has_triad row.triad r) in
     record {
-      few = omega (arith, length_filter_le (stays left) left, length_without_le (has_triad row.triad) t.rows, sound.few);
-      one_owner = λ point. omega (arith, count_filter (stays left) (drives point) left, count_without (has_triad row.triad) (drives point) t.rows, sound.one_owner point);
-      triads_differ = triads_filter (stays left) left (triads_without (has_triad row.triad) t.rows sound.triads_differ);
-      ids_differ = ids_filter (stays left) left (ids_without (has_triad row.triad) t.rows sound.ids_differ);
-      ids_are_drawn = drawn_filter (stays left) t.profile t.next_id left (drawn_without (has_triad row.triad) t.profile t.next_id t.rows sound.ids_are_drawn);
+      few = omega (arith, length_filter_le (stays left) left, length_filter_le stays_there t.rows, sound.few);
+      one_owner = λ point. omega (arith, count_filter (stays left) (drives point) left, count_filter stays_there (drives point) t.rows, sound.one_owner point);
+      triads_differ = triads_filter (stays left) left (triads_filter stays_there t.rows sound.triads_differ);
+      ids_differ = ids_filter (stays left) left (ids_filter stays_there t.rows sound.ids_differ);
+      ids_are_drawn = drawn_filter (stays left) t.profile t.next_id left (drawn_filter stays_there t.profile t.next_id t.rows sound.ids_are_drawn);
       listeners_are_supported = listeners_staying left;
-      groups_agree = groups_filter (stays left) left (groups_without (has_triad row.triad) t.rows sound.groups_agree);
-      producers = producers_filter (stays left) t.profile t.next_id left (producers_without (has_triad row.triad) t.profile t.next_id t.rows sound.producers);
+      groups_agree = groups_filter (stays left) left (groups_filter stays_there t.rows sound.groups_agree);
+      producers = producers_filter (stays left) t.profile t.next_id left (producers_filter stays_there t.profile t.next_id t.rows sound.producers);
       ids_are_left = sound.ids_are_left;
       few_streams = sound.few_streams;
       streams_differ = sound.streams_differ;

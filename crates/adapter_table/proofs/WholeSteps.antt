@@ -1,5 +1,5 @@
 -- Each effect keeps a table whole, and so do each step and each run.
-use Rattle.std.proofs.Common.{◌≡◌, ◌≤◌, ℕ, ◌+◌, ◌^◌, false, List, length, map, find, Some, None, Ok, refl, sym, ◌∙◌, arith}
+use Rattle.std.proofs.Common.{Bool, not, ◌≡◌, ◌≤◌, ℕ, ◌+◌, ◌^◌, false, List, length, map, find, Some, None, Ok, refl, sym, ◌∙◌, arith}
 use Rattle.cip_types.specs.declared.names.Ms.{Ms}
 use Rattle.cip_types.specs.declared.names.Node.{Node}
 use Rattle.cip_fwdopen.specs.Open.{OpenFields}
@@ -11,7 +11,7 @@ use Rattle.adapter_table.specs.declared.profile.Profile.{Profile}
 use Rattle.adapter_table.specs.declared.row.Row.{Row}
 use Rattle.adapter_table.specs.declared.table.AdapterTable.{AdapterTable}
 use Rattle.adapter_table.specs.Profiles.{is_at, profile_fault}
-use Rattle.adapter_table.specs.Rows.{has_triad, without_first, written_row}
+use Rattle.adapter_table.specs.Rows.{has_triad, others, written_row}
 use Rattle.adapter_table.specs.Checks.{Admitted, admission}
 use Rattle.adapter_table.specs.Opening.{makes_room, opened_row, opened_table}
 use Rattle.adapter_table.specs.Closing.{without_triad, stays, staying, closed_table}
@@ -25,7 +25,7 @@ use Rattle.adapter_table.specs.Whole.{ConsumesOutput, FitsRow, IsWhole}
 use Rattle.adapter_table.proofs.CheckLemmas.{admitted_is}
 use Rattle.adapter_table.proofs.Fitting.{input_fits, shaped_opening, shaped_put, shaped_closed, shaped_expired, stored_len, shaped_configured}
 use Rattle.adapter_table.proofs.LikeLemmas.{written_keeps, prompt_keeps, fed_keeps, due_keeps}
-use Rattle.adapter_table.proofs.EachLemmas.{each_without, each_filter, each_append, each_map, each_found}
+use Rattle.adapter_table.proofs.EachLemmas.{each_filter, each_append, each_map, each_found}
 use Rattle.adapter_table.proofs.ConsumerLemmas.{consume_kept, consume_expired, admitted_consumes}
 use Rattle.adapter_table.proofs.FedLemmas.{shaped_fed}
 use Rattle.adapter_table.proofs.EffectLemmas.{EffectsKeep, adapter_keeps}
@@ -37,14 +37,15 @@ unfolding opened_table opened_row
 whole_opened t peer request admitted e whole =
     let is = admitted_is t request admitted e in
     let row = opened_row t peer request admitted in
-    let room = makes_room t.rows request.triad in
+    let stays_there : Row → Bool = λ r. not (makes_room t.rows request.triad r) in
+    let left = others (makes_room t.rows request.triad) t.rows in
     record {
       sound = sound_opened t peer request admitted e whole.sound;
       shaped =
           shaped_configured t.profile t.profile.config admitted.segment t.values refl
           (λ point bytes known stands. stored_len t.profile.config is.config is.segment point bytes known (sym is.segment_is ∙ stands) is.segment_fits) whole.shaped;
-      consume = each_append (ConsumesOutput t.profile) (without_first room t.rows) row (each_without (ConsumesOutput t.profile) room t.rows whole.consume) (admitted_consumes t request admitted is);
-      fits = each_append FitsRow (without_first room t.rows) row (each_without FitsRow room t.rows whole.fits) (fits_opened t peer request admitted e whole.fits whole.clock);
+      consume = each_append (ConsumesOutput t.profile) left row (each_filter (ConsumesOutput t.profile) stays_there t.rows whole.consume) (admitted_consumes t request admitted is);
+      fits = each_append FitsRow left row (each_filter FitsRow stays_there t.rows whole.fits) (fits_opened t peer request admitted e whole.fits whole.clock);
       clock = whole.clock;
     }
 
@@ -52,11 +53,12 @@ pub whole_closed : (t : AdapterTable) (row : Row) → IsWhole t → IsWhole (clo
 unfolding closed_table
 whole_closed t row whole =
     let left = without_triad row.triad t.rows in
+    let stays_there : Row → Bool = λ r. not (has_triad row.triad r) in
     record {
       sound = sound_closed t row whole.sound;
       shaped = shaped_closed t.profile row t.values whole.shaped;
-      consume = each_filter (ConsumesOutput t.profile) (stays left) left (each_without (ConsumesOutput t.profile) (has_triad row.triad) t.rows whole.consume);
-      fits = each_filter FitsRow (stays left) left (each_without FitsRow (has_triad row.triad) t.rows whole.fits);
+      consume = each_filter (ConsumesOutput t.profile) (stays left) left (each_filter (ConsumesOutput t.profile) stays_there t.rows whole.consume);
+      fits = each_filter FitsRow (stays left) left (each_filter FitsRow stays_there t.rows whole.fits);
       clock = whole.clock;
     }
 

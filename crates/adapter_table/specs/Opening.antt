@@ -1,7 +1,7 @@
 -- Opening a connection: which one makes room, what the new one is, and the table after it
 -- (Volume 1, chapter 3, Forward_Open, connection ids and first watchdog; Volume 2, chapter 3, multicast
 -- address allocation).
-use Rattle.std.specs.Prelude.{ℕ, ◌+◌, ◌-◌, ◌%◌, ◌*◌, ◌^◌, nat_le, Bool, true, false, if◌then◌else◌, List, [], ◌∷◌, ◌++◌, length, find, Option, Some, None}
+use Rattle.std.specs.Prelude.{ℕ, ◌+◌, ◌-◌, ◌%◌, ◌*◌, ◌^◌, ◌==◌, nat_le, Bool, true, false, if◌then◌else◌, List, [], ◌∷◌, ◌++◌, length, find, Option, Some, None}
 use Rattle.std.specs.Option.{option_map}
 use Rattle.std.specs.List.{list_any, position_or_len}
 use Rattle.cip_types.specs.declared.names.Triad.{Triad}
@@ -22,18 +22,27 @@ use Rattle.adapter_table.specs.declared.table.PointValue.{PointValue}
 use Rattle.adapter_table.specs.declared.table.AdapterTable.{AdapterTable}
 use Rattle.adapter_table.specs.Profiles.{host_id, is_at}
 use Rattle.adapter_table.specs.Points.{put_value}
-use Rattle.adapter_table.specs.Rows.{has_triad, is_timed_out, without_first}
+use Rattle.adapter_table.specs.Rows.{has_triad, is_timed_out, others}
 use Rattle.adapter_table.specs.Checks.{Admitted, drawn_ids}
 use Rattle.cip_productions.specs.Watchdog.{first_deadline}
 
 -- ROOM
 
--- The connection that makes room for a new one: that of the same triad, which has timed out, and among
--- 64 the timed-out one that was opened first.
+-- the connection has the opening number of the one that is found
+abbrev pub is_opened_as : Option Row → Row → Bool
+is_opened_as None row = false
+is_opened_as (Some found) row = row.opening == found.opening
+
+-- Which connection makes room for one of a triad, by whether there is one of this triad, and whether there are 64:
+-- that one, which has timed out; among 64 the timed-out one that was opened first; where there is room none.
+abbrev pub makes_room_by : Bool → Bool → List Row → Triad → Row → Bool
+makes_room_by true full rows triad row = has_triad triad row
+makes_room_by false true rows triad row = is_opened_as (find is_timed_out rows) row
+makes_room_by false false rows triad row = false
+
+-- the connection makes room for a new one
 abbrev pub makes_room : List Row → Triad → Row → Bool
-makes_room rows triad =
-    if list_any (has_triad triad) rows then has_triad triad
-    else (if nat_le 64 (length rows) then is_timed_out else (λ _. false))
+makes_room rows triad row = makes_room_by (list_any (has_triad triad) rows) (nat_le 64 (length rows)) rows triad row
 
 abbrev pub triad_of : Row → Triad
 triad_of row = row.triad
@@ -117,7 +126,7 @@ configured (Some config) (Some segment) values = put_value config.instance segme
 -- what makes room is gone, the new connection is the last, its data segment is stored, its ids are drawn
 unfoldable pub opened_table : AdapterTable → Row → Admitted → AdapterTable
 opened_table t row admitted = record t {
-  rows = without_first (makes_room t.rows row.triad) t.rows ++ row ∷ [];
+  rows = others (makes_room t.rows row.triad) t.rows ++ row ∷ [];
   values = configured t.profile.config admitted.segment t.values;
   next_id = t.next_id + drawn_ids admitted.multicast admitted.group;
 }

@@ -74,7 +74,8 @@ impl Config {
     pub fn copy(&self, alloc: Global) -> Result<Config, OutOfMemory>
         ensures { IfOk result (λ copy. copy ≡ self.now) }
     {
-        let Config::Adapter(profile) = self;
-        Ok(Config::Adapter(profile.copy(alloc)?))
+        match self {
+            Config::Adapter(profile) => Ok(Config::Adapter(profile.copy(alloc)?)),
+        }
     }
 }
