@@ -361,7 +361,9 @@ unfolding computing
 an_inhibit_time_above_the_interval = refl
 
 -- it is the T->O interval that counts, rounded up
-an_inhibit_time_up_to_the_rounded_interval : asked (inhibited 10 (every 5000 9001)) ≡ replies peer (opened_reply owner (id 1) 0x20000001 5000 10000) (opened_notice owner 1 ∷ []) ∷ []
+an_inhibit_time_up_to_the_rounded_interval :
+    asked (inhibited 10 (every 5000 9001))
+    ≡ replies peer (opened_reply owner (id 1) 0x20000001 5000 10000) (opened_notice owner 1 ∷ []) ∷ []
 unfolding computing
 an_inhibit_time_up_to_the_rounded_interval = refl
 
@@ -552,7 +554,9 @@ first_multicast = record owner { t_o_params = 0x2806 }
 abbrev second_multicast : Asking
 second_multicast = record second { t_o_params = 0x2806; t_o_rpi = 20000 }
 
-ownership_before_the_group : said common (opens first_multicast ∷ opens second_multicast ∷ []) ≡ accepts peer owner 1 0x10000002 ∷ refuses peer second 0x0106 ∷ []
+ownership_before_the_group :
+    said common (opens first_multicast ∷ opens second_multicast ∷ [])
+    ≡ accepts peer owner 1 0x10000002 ∷ refuses peer second 0x0106 ∷ []
 unfolding computing
 ownership_before_the_group = refl
 

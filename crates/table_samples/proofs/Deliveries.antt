@@ -102,7 +102,9 @@ half_a_circle_ahead_is_old : then_said common (comes (runs 0x80000001 2 next) �
 unfolding computing
 half_a_circle_ahead_is_old = refl
 
-and_one_less_is_newer : then_said common (comes (runs 0x80000001 2 next) ∷ comes (runs 0x80000000 2 next) ∷ Read 150 ∷ []) ≡ delivers Old ∷ delivers Applied ∷ holds next ∷ []
+and_one_less_is_newer :
+    then_said common (comes (runs 0x80000001 2 next) ∷ comes (runs 0x80000000 2 next) ∷ Read 150 ∷ [])
+    ≡ delivers Old ∷ delivers Applied ∷ holds next ∷ []
 unfolding computing
 and_one_less_is_newer = refl
 
@@ -112,7 +114,9 @@ numbers_go_round :
 unfolding computing
 numbers_go_round = refl
 
-the_first_number_is_any : outcomes_of (after common (opens owner ∷ [])) (comes (runs 0x90000000 1 before) ∷ comes (runs 1 2 next) ∷ []) ≡ delivers Applied ∷ delivers Applied ∷ []
+the_first_number_is_any :
+    outcomes_of (after common (opens owner ∷ [])) (comes (runs 0x90000000 1 before) ∷ comes (runs 1 2 next) ∷ [])
+    ≡ delivers Applied ∷ delivers Applied ∷ []
 unfolding computing
 the_first_number_is_any = refl
 
@@ -128,7 +132,9 @@ the_same_count_is_a_duplicate : then_said common (comes (runs 2 1 next) ∷ Read
 unfolding computing
 the_same_count_is_a_duplicate = refl
 
-a_duplicate_s_number_counts : then_said common (comes (runs 3 1 next) ∷ comes (runs 2 2 next) ∷ Read 150 ∷ []) ≡ delivers Duplicate ∷ delivers Old ∷ holds before ∷ []
+a_duplicate_s_number_counts :
+    then_said common (comes (runs 3 1 next) ∷ comes (runs 2 2 next) ∷ Read 150 ∷ [])
+    ≡ delivers Duplicate ∷ delivers Old ∷ holds before ∷ []
 unfolding computing
 a_duplicate_s_number_counts = refl
 
@@ -140,7 +146,9 @@ any_other_count_is_new : then_said common (comes (runs 2 0 next) ∷ Read 150 �
 unfolding computing
 any_other_count_is_new = refl
 
-an_idle_one_s_count_counts : then_said common (comes (idles 2 2) ∷ comes (runs 3 2 next) ∷ Read 150 ∷ []) ≡ delivers Idle ∷ delivers Duplicate ∷ holds zeros ∷ []
+an_idle_one_s_count_counts :
+    then_said common (comes (idles 2 2) ∷ comes (runs 3 2 next) ∷ Read 150 ∷ [])
+    ≡ delivers Idle ∷ delivers Duplicate ∷ holds zeros ∷ []
 unfolding computing
 an_idle_one_s_count_counts = refl
 
@@ -220,7 +228,9 @@ a_lost_owner_is_unknown :
 unfolding computing
 a_lost_owner_is_unknown = refl
 
-and_drives_nothing : outcomes_of (after common (opens owner ∷ comes first ∷ Tick 160 ∷ [])) (comes (runs 2 2 next) ∷ Read 150 ∷ []) ≡ delivers UnknownId ∷ holds zeros ∷ []
+and_drives_nothing :
+    outcomes_of (after common (opens owner ∷ comes first ∷ Tick 160 ∷ [])) (comes (runs 2 2 next) ∷ Read 150 ∷ [])
+    ≡ delivers UnknownId ∷ holds zeros ∷ []
 unfolding computing
 and_drives_nothing = refl
 

@@ -81,7 +81,9 @@ newer_version = message 0x65 0 0 (hex "02 00 00 00")
 abbrev served_version : Outcome
 served_version = back (hex "65 00 04 00 00 00 00 00 69 00 00 00 01 02 03 04 05 06 07 08 00 00 00 00 01 00 00 00")
 
-another_version : opened (newer_version ∷ message 0x65 7 0 (hex "01 00 01 00") ∷ sent 1 (hex "0E") ∷ []) ≡ served_version ∷ served_version ∷ back (message 0x6F 1 0x64 []) ∷ []
+another_version :
+    opened (newer_version ∷ message 0x65 7 0 (hex "01 00 01 00") ∷ sent 1 (hex "0E") ∷ [])
+    ≡ served_version ∷ served_version ∷ back (message 0x6F 1 0x64 []) ∷ []
 unfolding computing
 another_version = refl
 
@@ -93,7 +95,9 @@ the_version_before_the_second_session : registered (newer_version ∷ []) ≡ se
 unfolding computing
 the_version_before_the_second_session = refl
 
-data_of_another_length : opened (message 0x65 0 0 (hex "02 00 00") ∷ message 0x65 9 0 (hex "01 00 00 00 00") ∷ message 0x65 0 0 [] ∷ []) ≡ back (message 0x65 0 0x65 []) ∷ back (message 0x65 9 0x65 []) ∷ back (message 0x65 0 0x65 []) ∷ []
+data_of_another_length :
+    opened (message 0x65 0 0 (hex "02 00 00") ∷ message 0x65 9 0 (hex "01 00 00 00 00") ∷ message 0x65 0 0 [] ∷ [])
+    ≡ back (message 0x65 0 0x65 []) ∷ back (message 0x65 9 0x65 []) ∷ back (message 0x65 0 0x65 []) ∷ []
 unfolding computing
 data_of_another_length = refl
 
@@ -120,12 +124,16 @@ nothing_is_done : opened (message 0x00 0 0 (hex "01 02") ∷ []) ≡ nothing ∷
 unfolding computing
 nothing_is_done = refl
 
-others_are_not_served : registered (message 0x63 7 0 [] ∷ message 0x64 7 0 (hex "01") ∷ message 0x70 1 0 [] ∷ []) ≡ back (message 0x63 7 0x01 []) ∷ back (message 0x64 7 0x01 []) ∷ back (message 0x70 1 0x01 []) ∷ []
+others_are_not_served :
+    registered (message 0x63 7 0 [] ∷ message 0x64 7 0 (hex "01") ∷ message 0x70 1 0 [] ∷ [])
+    ≡ back (message 0x63 7 0x01 []) ∷ back (message 0x64 7 0x01 []) ∷ back (message 0x70 1 0x01 []) ∷ []
 unfolding computing
 others_are_not_served = refl
 
 -- status and options of a request are not judged, and not sent back
-status_and_options : opened (hex "65 00 04 00 00 00 00 00 FF 00 00 00 01 02 03 04 05 06 07 08 AA 00 00 00 01 00 00 00" ∷ []) ≡ back (message 0x65 1 0 (hex "01 00 00 00")) ∷ []
+status_and_options :
+    opened (hex "65 00 04 00 00 00 00 00 FF 00 00 00 01 02 03 04 05 06 07 08 AA 00 00 00 01 00 00 00" ∷ [])
+    ≡ back (message 0x65 1 0 (hex "01 00 00 00")) ∷ []
 unfolding computing
 status_and_options = refl
 
@@ -139,7 +147,9 @@ fewer_bytes_than_stated : opened (map (λ n. take n register) (from 24 4)) ≡ m
 unfolding computing
 fewer_bytes_than_stated = refl
 
-more_bytes_than_stated : opened ((register ++ hex "00") ∷ (message 0x63 7 0 [] ++ hex "00") ∷ []) ≡ back (message 0x65 0 0x65 []) ∷ back (message 0x63 7 0x65 []) ∷ []
+more_bytes_than_stated :
+    opened ((register ++ hex "00") ∷ (message 0x63 7 0 [] ++ hex "00") ∷ [])
+    ≡ back (message 0x65 0 0x65 []) ∷ back (message 0x63 7 0x65 []) ∷ []
 unfolding computing
 more_bytes_than_stated = refl
 
@@ -148,7 +158,9 @@ unfolding computing
 a_length_before_the_session = refl
 
 -- what never has a reply is a bad frame, and a session does not end so
-bad_frames_without_a_reply : registered ((message 0x00 0 0 [] ++ hex "00") ∷ (message 0x66 1 0 [] ++ hex "00") ∷ register ∷ []) ≡ says BadFrame ∷ says BadFrame ∷ back (message 0x65 0 0x01 []) ∷ []
+bad_frames_without_a_reply :
+    registered ((message 0x00 0 0 [] ++ hex "00") ∷ (message 0x66 1 0 [] ++ hex "00") ∷ register ∷ [])
+    ≡ says BadFrame ∷ says BadFrame ∷ back (message 0x65 0 0x01 []) ∷ []
 unfolding computing
 bad_frames_without_a_reply = refl
 
@@ -166,7 +178,9 @@ the_session_before_the_items : registered (message 0x6F 5 0 (hex "00") ∷ []) �
 unfolding computing
 the_session_before_the_items = refl
 
-bad_items : registered (message 0x6F 1 0 (hex "00 00") ∷ message 0x6F 1 0 (items []) ∷ message 0x6F 1 0 [] ∷ []) ≡ back (message 0x6F 1 0x03 []) ∷ back (message 0x6F 1 0x03 []) ∷ back (message 0x6F 1 0x03 []) ∷ []
+bad_items :
+    registered (message 0x6F 1 0 (hex "00 00") ∷ message 0x6F 1 0 (items []) ∷ message 0x6F 1 0 [] ∷ [])
+    ≡ back (message 0x6F 1 0x03 []) ∷ back (message 0x6F 1 0x03 []) ∷ back (message 0x6F 1 0x03 []) ∷ []
 unfolding computing
 bad_items = refl
 

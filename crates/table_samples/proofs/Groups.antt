@@ -161,12 +161,16 @@ unfolding computing
 the_trigger_before_the_inhibit_time = refl
 
 -- the O->T interval is each connection's own
-another_consumed_interval : beside gatherer (record joiner { o_t_rpi = 20000 }) ≡ gathered ∷ replies other (hex "D4 00 00 00 03 00 00 10 02 00 00 10 07 00 34 12 78 56 34 12 20 4E 00 00 10 27 00 00 00 00") (Opened (own 7) (record { 0 = 0x10000003 }) ∷ []) ∷ []
+another_consumed_interval :
+    beside gatherer (record joiner { o_t_rpi = 20000 })
+    ≡ gathered ∷ replies other (hex "D4 00 00 00 03 00 00 10 02 00 00 10 07 00 34 12 78 56 34 12 20 4E 00 00 10 27 00 00 00 00") (Opened (own 7) (record { 0 = 0x10000003 }) ∷ []) ∷ []
 unfolding computing
 another_consumed_interval = refl
 
 -- a point to point connection joins none
-point_to_point_beside : beside gatherer (record (consumer 7) { t_o_rpi = 9000; trigger = 0x11 }) ≡ gathered ∷ replies other (hex "D4 00 00 00 03 00 00 10 02 00 00 20 07 00 34 12 78 56 34 12 10 27 00 00 28 23 00 00 00 00") (Opened (own 7) (record { 0 = 0x10000003 }) ∷ []) ∷ []
+point_to_point_beside :
+    beside gatherer (record (consumer 7) { t_o_rpi = 9000; trigger = 0x11 })
+    ≡ gathered ∷ replies other (hex "D4 00 00 00 03 00 00 10 02 00 00 20 07 00 34 12 78 56 34 12 10 27 00 00 28 23 00 00 00 00") (Opened (own 7) (record { 0 = 0x10000003 }) ∷ []) ∷ []
 unfolding computing
 point_to_point_beside = refl
 

@@ -6,14 +6,15 @@ use Rattle.cip_events.specs.declared.event.Event.TheVariants.{Request, Read, Tic
 use Rattle.cip_events.specs.declared.event.Sending.{Sending}
 use Rattle.cip_events.specs.declared.event.StepFault.TheVariants.{NoSuchPoint, WrongLength}
 use Rattle.cip_productions.specs.declared.production.Production.{Production}
+use Rattle.adapter_table.specs.declared.row.State.TheVariants.{Established}
 use Rattle.cip_events.specs.Outcomes.{Outcome}
-use Rattle.cip_tables.specs.Run.{outcomes_of}
+use Rattle.cip_tables.specs.Run.{outcomes_of, table_after}
 use Rattle.table_samples.specs.Hex.{hex}
 use Rattle.table_samples.specs.Devices.{common, double, peer, other, group}
 use Rattle.table_samples.specs.Requests.{opening, owner, gatherer, consumer, inhibited}
 use Rattle.table_samples.specs.Datagrams.{datagram, sending, to_one}
 use Rattle.table_samples.specs.Runs.{after, opens, closes, emits, holds}
-use Rattle.table_samples.specs.Rows.{production, producing}
+use Rattle.table_samples.specs.Rows.{row, production, producing, connected_at}
 use Rattle.table_samples.proofs.Computing.{computing}
 
 abbrev zeros : List ℕ
@@ -53,7 +54,9 @@ the_first_and_the_next :
 unfolding computing
 the_first_and_the_next = refl
 
-the_count_rises_with_new_data_alone : owned (Tick 1 ∷ Tick 9 ∷ Tick 10 ∷ Write 100 first ∷ Write 100 second ∷ Tick 10 ∷ Tick 10 ∷ []) ≡ one 1 1 zeros ∷ one 2 1 zeros ∷ one 3 1 zeros ∷ none ∷ none ∷ one 4 2 second ∷ one 5 2 second ∷ []
+the_count_rises_with_new_data_alone :
+    owned (Tick 1 ∷ Tick 9 ∷ Tick 10 ∷ Write 100 first ∷ Write 100 second ∷ Tick 10 ∷ Tick 10 ∷ [])
+    ≡ one 1 1 zeros ∷ one 2 1 zeros ∷ one 3 1 zeros ∷ none ∷ none ∷ one 4 2 second ∷ one 5 2 second ∷ []
 unfolding computing
 the_count_rises_with_new_data_alone = refl
 
@@ -96,6 +99,15 @@ number_and_count_begin_again :
     ≡ consumed 0xFFFFFFFF 0 zeros ∷ none ∷ consumed 0 1 first ∷ []
 unfolding computing
 number_and_count_begin_again = refl
+
+-- also in the table, where there is room for more
+abbrev begun_again : Production
+begun_again = record (production 1) { sequence = 0; count = 0; written = false; due = record { 0 = 10 }; last = Some (record { 0 = 4 }) }
+
+in_the_table_too :
+    table_after (producing at_the_end) (Tick 1 ∷ []) ≡ connected_at 4 (row 1 (Established begun_again) ∷ [])
+unfolding computing
+in_the_table_too = refl
 
 the_greatest_count_stays_without_new_data :
     outcomes_of (producing (record at_the_end { written = false })) (Tick 1 ∷ Tick 10 ∷ []) ≡ consumed 0xFFFFFFFF 0xFFFF zeros ∷ consumed 0 0xFFFF zeros ∷ []
@@ -141,7 +153,9 @@ changes_are_held_back :
 unfolding computing
 changes_are_held_back = refl
 
-without_an_inhibit_time_none_is : changing 0 (Write 100 first ∷ Write 100 second ∷ Tick 9 ∷ Tick 1 ∷ []) ≡ one 1 1 first ∷ one 2 2 second ∷ none ∷ one 3 2 second ∷ []
+without_an_inhibit_time_none_is :
+    changing 0 (Write 100 first ∷ Write 100 second ∷ Tick 9 ∷ Tick 1 ∷ [])
+    ≡ one 1 1 first ∷ one 2 2 second ∷ none ∷ one 3 2 second ∷ []
 unfolding computing
 without_an_inhibit_time_none_is = refl
 
@@ -158,7 +172,9 @@ a_tick_s_production_begins_the_interval : changing 0 (Tick 3 ∷ Tick 9 ∷ Tick
 unfolding computing
 a_tick_s_production_begins_the_interval = refl
 
-a_write_s_production_begins_it_too : changing 0 (Tick 0 ∷ Tick 7 ∷ Write 100 first ∷ Tick 9 ∷ Tick 1 ∷ []) ≡ one 1 1 zeros ∷ none ∷ one 2 2 first ∷ none ∷ one 3 2 first ∷ []
+a_write_s_production_begins_it_too :
+    changing 0 (Tick 0 ∷ Tick 7 ∷ Write 100 first ∷ Tick 9 ∷ Tick 1 ∷ [])
+    ≡ one 1 1 zeros ∷ none ∷ one 2 2 first ∷ none ∷ one 3 2 first ∷ []
 unfolding computing
 a_write_s_production_begins_it_too = refl
 

@@ -109,7 +109,9 @@ five_instances : profile_fault (at 1 2 3 4 5) ≡ None
 unfolding computing ones
 five_instances = refl
 
-an_output_s_again : map profile_fault (at 1 1 3 4 5 ∷ at 1 2 1 4 5 ∷ at 1 2 3 1 5 ∷ at 1 2 3 4 1 ∷ []) ≡ Some SameInstance ∷ Some SameInstance ∷ Some SameInstance ∷ Some SameInstance ∷ []
+an_output_s_again :
+    map profile_fault (at 1 1 3 4 5 ∷ at 1 2 1 4 5 ∷ at 1 2 3 1 5 ∷ at 1 2 3 4 1 ∷ [])
+    ≡ Some SameInstance ∷ Some SameInstance ∷ Some SameInstance ∷ Some SameInstance ∷ []
 unfolding computing ones
 an_output_s_again = refl
 

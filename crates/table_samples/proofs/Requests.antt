@@ -42,12 +42,16 @@ and_every_prefix_of_a_closing : said common (map (λ n. asks (take n (closing 1 
 unfolding computing
 and_every_prefix_of_a_closing = refl
 
-a_byte_more_is_too_long : said common (asks (opening owner ++ hex "00") ∷ asks (closing 1 0x12345678 ++ hex "00") ∷ []) ≡ gets (hex "D4 00 15 00") ∷ gets (hex "CE 00 15 00") ∷ []
+a_byte_more_is_too_long :
+    said common (asks (opening owner ++ hex "00") ∷ asks (closing 1 0x12345678 ++ hex "00") ∷ [])
+    ≡ gets (hex "D4 00 15 00") ∷ gets (hex "CE 00 15 00") ∷ []
 unfolding computing
 a_byte_more_is_too_long = refl
 
 -- the reserved bytes are not judged
-the_reserved_bytes : said common (asks (hex "54 02 20 06 24 01 FF FF 01 02 03 04 01 00 00 20 01 00 34 12 78 56 34 12 02 FF FF FF 10 27 00 00 0A 48 10 27 00 00 06 48 01 04 20 04 24 97 2C 96 2C 64") ∷ []) ≡ accepts peer owner 1 0x20000001 ∷ []
+the_reserved_bytes :
+    said common (asks (hex "54 02 20 06 24 01 FF FF 01 02 03 04 01 00 00 20 01 00 34 12 78 56 34 12 02 FF FF FF 10 27 00 00 0A 48 10 27 00 00 06 48 01 04 20 04 24 97 2C 96 2C 64") ∷ [])
+    ≡ accepts peer owner 1 0x20000001 ∷ []
 unfolding computing
 the_reserved_bytes = refl
 
@@ -56,11 +60,15 @@ the_reserved_bytes = refl
 abbrev large : Asking
 large = record owner { o_t_params = 0x4800000A; t_o_params = 0x48000006 }
 
-a_large_opening : said common (asks (large_opening large) ∷ []) ≡ replies peer (hex "DB 00 00 00 01 00 00 10 01 00 00 20 01 00 34 12 78 56 34 12 10 27 00 00 10 27 00 00 00 00") (opened_notice owner 1 ∷ []) ∷ []
+a_large_opening :
+    said common (asks (large_opening large) ∷ [])
+    ≡ replies peer (hex "DB 00 00 00 01 00 00 10 01 00 00 20 01 00 34 12 78 56 34 12 10 27 00 00 10 27 00 00 00 00") (opened_notice owner 1 ∷ []) ∷ []
 unfolding computing
 a_large_opening = refl
 
-a_large_one_is_refused_alike : said common (opens owner ∷ asks (large_opening large) ∷ []) ≡ accepts peer owner 1 0x20000001 ∷ gets (hex "DB 00 01 01 00 01 01 00 34 12 78 56 34 12 00 00") ∷ []
+a_large_one_is_refused_alike :
+    said common (opens owner ∷ asks (large_opening large) ∷ [])
+    ≡ accepts peer owner 1 0x20000001 ∷ gets (hex "DB 00 01 01 00 01 01 00 34 12 78 56 34 12 00 00") ∷ []
 unfolding computing
 a_large_one_is_refused_alike = refl
 
@@ -75,7 +83,9 @@ a_large_redundant_owner = refl
 abbrev long : Profile
 long = record common { outputs = output 150 1400 Zero Zero ∷ [] }
 
-a_long_output_is_opened_by_a_large_one : said long (opens owner ∷ asks (large_opening (record large { o_t_params = 0x4800057E })) ∷ []) ≡ refuses peer owner 0x0127 ∷ replies peer (hex "DB 00 00 00 01 00 00 10 01 00 00 20 01 00 34 12 78 56 34 12 10 27 00 00 10 27 00 00 00 00") (opened_notice owner 1 ∷ []) ∷ []
+a_long_output_is_opened_by_a_large_one :
+    said long (opens owner ∷ asks (large_opening (record large { o_t_params = 0x4800057E })) ∷ [])
+    ≡ refuses peer owner 0x0127 ∷ replies peer (hex "DB 00 00 00 01 00 00 10 01 00 00 20 01 00 34 12 78 56 34 12 10 27 00 00 10 27 00 00 00 00") (opened_notice owner 1 ∷ []) ∷ []
 unfolding computing
 a_long_output_is_opened_by_a_large_one = refl
 
@@ -85,17 +95,23 @@ a_close_of_no_connection : said common (asks (closing 1 0x12345678) ∷ []) ≡ 
 unfolding computing
 a_close_of_no_connection = refl
 
-any_peer_closes : said common (opens owner ∷ Request other (closing 1 0x12345678) ∷ asks (closing 1 0x12345678) ∷ []) ≡ accepts peer owner 1 0x20000001 ∷ replies other (hex "CE 00 00 00 01 00 34 12 78 56 34 12 00 00") (Closed (own 1) ∷ []) ∷ gets (hex "CE 00 01 01 07 01 01 00 34 12 78 56 34 12 00 00") ∷ []
+any_peer_closes :
+    said common (opens owner ∷ Request other (closing 1 0x12345678) ∷ asks (closing 1 0x12345678) ∷ [])
+    ≡ accepts peer owner 1 0x20000001 ∷ replies other (hex "CE 00 00 00 01 00 34 12 78 56 34 12 00 00") (Closed (own 1) ∷ []) ∷ gets (hex "CE 00 01 01 07 01 01 00 34 12 78 56 34 12 00 00") ∷ []
 unfolding computing
 any_peer_closes = refl
 
 -- the path of a close is counted and not read
-an_unread_path : said common (opens owner ∷ asks (hex "4E 02 20 06 24 01 0A 0E 01 00 34 12 78 56 34 12 01 FF 91 02") ∷ []) ≡ accepts peer owner 1 0x20000001 ∷ replies peer (hex "CE 00 00 00 01 00 34 12 78 56 34 12 00 00") (Closed (own 1) ∷ []) ∷ []
+an_unread_path :
+    said common (opens owner ∷ asks (hex "4E 02 20 06 24 01 0A 0E 01 00 34 12 78 56 34 12 01 FF 91 02") ∷ [])
+    ≡ accepts peer owner 1 0x20000001 ∷ replies peer (hex "CE 00 00 00 01 00 34 12 78 56 34 12 00 00") (Closed (own 1) ∷ []) ∷ []
 unfolding computing
 an_unread_path = refl
 
 -- an attribute in the Connection Manager's path is not judged
-an_attribute_of_the_manager : said common (asks (hex "4E 03 20 06 24 01 30 09 0A 0E 01 00 34 12 78 56 34 12 00 00") ∷ []) ≡ gets (hex "CE 00 01 01 07 01 01 00 34 12 78 56 34 12 00 00") ∷ []
+an_attribute_of_the_manager :
+    said common (asks (hex "4E 03 20 06 24 01 30 09 0A 0E 01 00 34 12 78 56 34 12 00 00") ∷ [])
+    ≡ gets (hex "CE 00 01 01 07 01 01 00 34 12 78 56 34 12 00 00") ∷ []
 unfolding computing
 an_attribute_of_the_manager = refl
 
@@ -117,7 +133,9 @@ of_the_configuration : asked (hex "0E 03 20 04 24 97 30 03") ≡ gets (hex "8E 0
 unfolding computing
 of_the_configuration = refl
 
-a_stored_configuration : said configured (opens (followed (hex "80 01 AA BB") owner) ∷ asks (hex "0E 03 20 04 24 97 30 03") ∷ []) ≡ accepts peer owner 1 0x20000001 ∷ gets (hex "8E 00 00 00 AA BB") ∷ []
+a_stored_configuration :
+    said configured (opens (followed (hex "80 01 AA BB") owner) ∷ asks (hex "0E 03 20 04 24 97 30 03") ∷ [])
+    ≡ accepts peer owner 1 0x20000001 ∷ gets (hex "8E 00 00 00 AA BB") ∷ []
 unfolding computing
 a_stored_configuration = refl
 

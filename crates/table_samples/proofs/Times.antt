@@ -102,7 +102,9 @@ by_deadline : happens (opens patient ∷ opens owner ∷ []) (Tick 10240 ∷ [])
 unfolding computing
 by_deadline = refl
 
-and_then_in_opening_order : happens (opens (consumer 9) ∷ opens owner ∷ opens (consumer 3) ∷ []) (Tick 10000 ∷ []) ≡ (Expired (own 9) ∷ Expired (own 1) ∷ Expired (own 3) ∷ []) ∷ []
+and_then_in_opening_order :
+    happens (opens (consumer 9) ∷ opens owner ∷ opens (consumer 3) ∷ []) (Tick 10000 ∷ [])
+    ≡ (Expired (own 9) ∷ Expired (own 1) ∷ Expired (own 3) ∷ []) ∷ []
 unfolding computing
 and_then_in_opening_order = refl
 
@@ -140,6 +142,8 @@ unfolding computing
 a_lost_connection_can_be_closed = refl
 
 -- and its triad can be opened again
-a_lost_triad_is_free : happens (opens (consumer 2) ∷ Tick 10000 ∷ []) (opens (consumer 2) ∷ []) ≡ (Replaced (own 2) ∷ Opened (own 2) (record { 0 = 0x10000002 }) ∷ []) ∷ []
+a_lost_triad_is_free :
+    happens (opens (consumer 2) ∷ Tick 10000 ∷ []) (opens (consumer 2) ∷ [])
+    ≡ (Replaced (own 2) ∷ Opened (own 2) (record { 0 = 0x10000002 }) ∷ []) ∷ []
 unfolding computing
 a_lost_triad_is_free = refl

@@ -67,9 +67,13 @@ alive opening = row opening (Established (production opening))
 abbrev pub lost : ℕ → Row
 lost opening = row opening TimedOut
 
--- a device with these connections, at clock 3; the next one is the 65th
+-- a device with these connections, at a clock; the next one is the 65th
+abbrev pub connected_at : ℕ → List Row → DeviceTable
+connected_at ms rows = Adapter (record (adapter_table common) { rows = rows; clock = record { 0 = ms }; next_id = 65 })
+
+-- the same at clock 3
 abbrev pub connected : List Row → DeviceTable
-connected rows = Adapter (record (adapter_table common) { rows = rows; clock = record { 0 = 3 }; next_id = 65 })
+connected rows = connected_at 3 rows
 
 -- a device with one connection that has this producer
 abbrev pub producing : Production → DeviceTable

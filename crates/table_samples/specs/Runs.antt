@@ -88,8 +88,3 @@ ends to a dropped = replies to (closed_reply a.serial a.originator) (Closed (tri
 abbrev pub notices_of : Outcome → List Notice
 notices_of (Ok answer) = answer.notices
 notices_of (Err fault) = []
-
--- the datagrams that went out
-abbrev pub sent_of : Outcome → List Sending
-sent_of (Ok answer) = answer.datagrams
-sent_of (Err fault) = []
