@@ -12,11 +12,12 @@ use Rattle.cip_epath.specs.Written.{logical_text, target_text}
 use Rattle.cip_fwdopen.specs.declared.fault.ReadFault.{ReadFault}
 use Rattle.cip_fwdopen.specs.declared.fault.ReadFault.TheVariants.{NotEnough}
 use Rattle.cip_fwdopen.specs.Readings.{seen}
-use Rattle.cip_fwdopen.specs.Reply.{Unread, unread_reading}
+use Rattle.cip_fwdopen.specs.Reply.{IsFailureText, failure_reading, Unread, unread_reading}
 use Rattle.cip_fwdopen.specs.Request.{IsRequestText, request_reading}
-use Rattle.cip_fwdopen.specs.Get.{get_text, get_request, got_text, Gotten, value, refusal, GetFields, got_reply, IsGottenText, IsGetReplyText, IsGetReplyReading, refusal_reading, gotten_reading, with_gotten, get_reply_reading}
+use Rattle.cip_fwdopen.specs.Get.{get_text, get_request, got_text, Gotten, value, refusal, GetFields, got_reply, IsGottenText, IsGetReplyText, IsGetReplyReading, refusal_by, gotten_reading, with_gotten, get_reply_reading}
 use Rattle.cip_fwdopen.proofs.RequestLaws.{request_reads}
-use Rattle.cip_fwdopen.proofs.AmongLaws.{IsAnswered}
+use Rattle.cip_fwdopen.proofs.AmongLaws.{IsAnswered, answered_seen}
+use Rattle.cip_fwdopen.proofs.AnswerLaws.{failure_reads, failure_is_answered}
 use Rattle.cip_fwdopen.proofs.ReplyLaws as reply
 use Rattle.cip_fwdopen.proofs.WrittenLaws.{front_stands}
 
@@ -25,7 +26,7 @@ use Rattle.cip_fwdopen.proofs.WrittenLaws.{front_stands}
 on_success : (fault : Fault) (t : List ℕ) → eqb fault.general 0 ≡ true → gotten_reading fault t ≡ Ok (value t)
 on_success fault t e = rw e refl
 
-on_failure : (fault : Fault) (t : List ℕ) → eqb fault.general 0 ≡ false → gotten_reading fault t ≡ refusal_reading fault t
+on_failure : (fault : Fault) (t : List ℕ) → eqb fault.general 0 ≡ false → gotten_reading fault t ≡ seen (refusal_by fault) (failure_reading t)
 on_failure fault t e = rw e refl
 
 answer_reads : (fault : Fault) (t : List ℕ) (a : Gotten) → IsGottenText fault t a → gotten_reading fault t ≡ Ok a
@@ -33,26 +34,22 @@ answer_reads fault t (value bytes) is = on_success fault t (eq-eqb fault.general
 answer_reads fault t (refusal f) is =
     elim (cases_Bool (eqb fault.general 0)) [
       | inl e ↦ absurd (is.0 (eqb-true fault.general 0 e))
-      | inr e ↦ on_failure fault t e ∙ ap (refusal_reading fault) is.2 ∙ ap (λ (x : Fault). Ok (refusal x)) (sym is.1)
+      | inr e ↦ on_failure fault t e ∙ ap (seen (refusal_by fault)) (failure_reads t is.2.0 is.2.1) ∙ ap (λ (x : Fault). Ok (refusal x)) (sym is.1)
     ]
-
--- data of a refusal is too much, whatever follows
-refusal_answered : (fault : Fault) (bytes : List ℕ) → eqb fault.general 0 ≡ false → IsAnswered (IsGottenText fault) (gotten_reading fault) bytes (refusal_reading fault bytes)
-refusal_answered fault [] e = (eqb-false fault.general 0 e, refl, refl)
-refusal_answered fault (b ∷ bytes) e = (([], b ∷ bytes, omega arith, refl, (refusal fault, (eqb-false fault.general 0 e, refl, refl))), λ more. on_failure fault (b ∷ (bytes ++ more)) e)
 
 answer_is_answered : (fault : Fault) (bytes : List ℕ) → IsBytes bytes → IsAnswered (IsGottenText fault) (gotten_reading fault) bytes (gotten_reading fault bytes)
 answer_is_answered fault bytes fits =
     elim (cases_Bool (eqb fault.general 0)) [
       | inl e ↦ subst (IsAnswered (IsGottenText fault) (gotten_reading fault) bytes) (sym (on_success fault bytes e)) (eqb-true fault.general 0 e, refl)
-      | inr e ↦ subst (IsAnswered (IsGottenText fault) (gotten_reading fault) bytes) (sym (on_failure fault bytes e)) (refusal_answered fault bytes e)
+      | inr e ↦ subst (IsAnswered (IsGottenText fault) (gotten_reading fault) bytes) (sym (on_failure fault bytes e))
+          (answered_seen (refusal_by fault) IsFailureText (IsGottenText fault) failure_reading (gotten_reading fault) (λ t named is. (eqb-false fault.general 0 e, refl, (named, is))) (λ t. on_failure fault t e) bytes (failure_reading bytes) (failure_is_answered bytes fits))
     ]
 
 some_answer : (fault : Fault) → reply.SomeAnswer IsGottenText fault
 some_answer fault =
     elim (cases_Bool (eqb fault.general 0)) [
       | inl e ↦ record { text = []; answer = value []; is = (eqb-true fault.general 0 e, refl) }
-      | inr e ↦ record { text = []; answer = refusal fault; is = (eqb-false fault.general 0 e, refl, refl) }
+      | inr e ↦ record { text = []; answer = refusal fault; is = (eqb-false fault.general 0 e, refl, (None, refl)) }
     ]
 
 content : reply.IsRead IsGottenText gotten_reading
