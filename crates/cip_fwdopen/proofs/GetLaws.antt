@@ -3,23 +3,25 @@ use Rattle.std.proofs.Common.{◌≡◌, ℕ, ◌+◌, ◌*◌, ◌/◌, ◌%◌
 use Rattle.std.proofs.lemmas.Bool.{cases_Bool, eqb-true, eqb-false, eq-eqb}
 use Rattle.std.proofs.lemmas.List.{append-nil, length-append}
 use Rattle.cip_types.specs.declared.Fault.{Fault}
+use Rattle.cip_types.specs.declared.Triad.{Triad}
 use Rattle.cip_types.proofs.FieldLaws.{IsBytes}
 use Rattle.cip_epath.specs.declared.path.Target.{Target}
 use Rattle.cip_epath.specs.declared.segment.LogicalType.{LogicalType}
 use Rattle.cip_epath.specs.declared.segment.LogicalType.TheVariants.{Class, Instance, Attribute}
 use Rattle.cip_epath.specs.Path.{IsTarget, IsTextOf}
-use Rattle.cip_epath.specs.Written.{logical_text, target_text}
+use Rattle.cip_epath.specs.Written.{logical_text, target_text, TargetFits}
+use Rattle.cip_epath.proofs.Texts.{target_text_is}
 use Rattle.cip_fwdopen.specs.declared.fault.ReadFault.{ReadFault}
 use Rattle.cip_fwdopen.specs.declared.fault.ReadFault.TheVariants.{NotEnough}
 use Rattle.cip_fwdopen.specs.Readings.{seen}
-use Rattle.cip_fwdopen.specs.Reply.{IsFailureText, failure_reading, Unread, unread_reading}
+use Rattle.cip_fwdopen.specs.Reply.{IsFailureText, failure_reading, RefusedFits, refused_text, Unread, unread_reading}
 use Rattle.cip_fwdopen.specs.Request.{IsRequestText, request_reading}
-use Rattle.cip_fwdopen.specs.Get.{get_text, get_request, got_text, Gotten, value, refusal, GetFields, got_reply, IsGottenText, IsGetReplyText, IsGetReplyReading, refusal_by, gotten_reading, with_gotten, get_reply_reading}
+use Rattle.cip_fwdopen.specs.Get.{get_text, get_request, got_text, Gotten, value, refusal, GetFields, got_reply, refused_get, IsGottenText, IsGetReplyText, IsGetReplyReading, refusal_by, gotten_reading, with_gotten, get_reply_reading}
 use Rattle.cip_fwdopen.proofs.RequestLaws.{request_reads}
 use Rattle.cip_fwdopen.proofs.AmongLaws.{IsAnswered, answered_seen}
 use Rattle.cip_fwdopen.proofs.AnswerLaws.{failure_reads, failure_is_answered}
 use Rattle.cip_fwdopen.proofs.ReplyLaws as reply
-use Rattle.cip_fwdopen.proofs.WrittenLaws.{front_stands}
+use Rattle.cip_fwdopen.proofs.WrittenLaws.{front_stands, refused_among}
 
 -- ---- the data of a reply
 
@@ -94,6 +96,12 @@ got_text_is bytes = ((0x8E ∷ 0 ∷ 0 ∷ 0 ∷ [], []), bytes, front_stands 0x
 pub got_text_reads : (bytes : List ℕ) → get_reply_reading (got_text bytes) ≡ Ok (got_reply bytes)
 got_text_reads bytes = reply_reads (got_text bytes) (got_reply bytes) (got_text_is bytes)
 
+-- what is written of a refusal reads as it
+pub refused_get_reads : (service : ℕ) (fault : Fault) (triad : Option Triad) → RefusedFits fault triad → get_reply_reading (refused_text service fault triad) ≡ Ok (refused_get service fault)
+refused_get_reads service fault triad fits =
+    reply_reads (refused_text service fault triad) (refused_get service fault)
+    (refused_among IsGottenText (refusal fault) service fault.general fault.extra triad (λ f text refuses same is. (refuses, same, (triad, is))) fits)
+
 -- ---- the request
 
 -- a number of bytes that is one, two or three words
@@ -146,3 +154,7 @@ get_text_is t is =
 -- what is written of a request reads as it
 pub get_text_reads : (t : Target) → IsTextOf IsTarget (target_text t) t → request_reading (get_text t) ≡ Ok (get_request t)
 get_text_reads t is = request_reads (get_text t) (get_request t) (get_text_is t is)
+
+-- what is written of a target whose numbers fit their fields reads as it
+pub get_reads : (t : Target) → TargetFits t → request_reading (get_text t) ≡ Ok (get_request t)
+get_reads t fits = get_text_reads t (target_text_is t fits)

@@ -13,7 +13,7 @@ use Rattle.cip_fwdopen.specs.declared.get.GetAnswer.{GetAnswer}
 use Rattle.cip_fwdopen.specs.declared.get.GetAnswer.TheVariants.{Got, Refused}
 use Rattle.cip_fwdopen.specs.declared.get.GetReply.{GetReply}
 use Rattle.cip_fwdopen.specs.Readings.{IsReadingAmong, seen}
-use Rattle.cip_fwdopen.specs.Reply.{IsFailureText, failure_reading, IsReplyText, unread_reading, reply_of}
+use Rattle.cip_fwdopen.specs.Reply.{reply_service, IsFailureText, failure_reading, IsReplyText, unread_reading, reply_of}
 use Rattle.cip_fwdopen.specs.Request.{RequestFields}
 
 -- ---- requests
@@ -54,6 +54,10 @@ view_get r = record { service = r.service; answer = view_answer r.answer }
 -- what the reply that has the value says
 abbrev pub got_reply : List ℕ → GetFields
 got_reply bytes = record { service = 0x8E; answer = value bytes }
+
+-- what the reply that refuses a request of the service says
+abbrev pub refused_get : ℕ → Fault → GetFields
+refused_get service fault = record { service = reply_service service; answer = refusal fault }
 
 -- the text is the data of what a reply with the fault says; general status 0 is a success, and the connection
 -- that a failure names is not kept

@@ -9,8 +9,6 @@ mod place;
 mod search;
 mod slots;
 mod sweep;
-#[cfg(test)]
-mod tests;
 
 use cip_types::OutOfMemory;
 use place::{FREE, Timer, slot_of};
