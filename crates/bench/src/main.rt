@@ -1,0 +1,68 @@
+//! How long the parts of the line take, each beside a plain way of the same work.
+//!
+//! With no word, or the word `check`: short runs, and what they came to. With the word `wheel`: the wheel
+//! beside a sorted list and a binary heap. `splitter`: a stream of messages that comes in pieces beside a
+//! copy of the pieces. `datagrams`: writing datagrams beside a copy of their data. `engine`: datagrams and
+//! ticks at a plain adapter, on one thread, with no network.
+#![tactic(auto)]
+
+mod clock;
+mod datagrams;
+mod engine;
+mod fault;
+mod heap;
+mod list;
+mod race;
+mod splitter;
+mod timers;
+mod wheel;
+
+use fault::BenchFault;
+use std::alloc::Global;
+use std::env;
+use std::process::ExitCode;
+use std::rt::CpuClock;
+
+/// Short runs of all.
+fn check(rt: &(impl Print + CpuClock), alloc: Global) -> Result<(), BenchFault> {
+    race::check(rt, alloc)?;
+    splitter::check(rt, alloc)?;
+    datagrams::check(rt, alloc)?;
+    engine::check(rt, alloc)
+}
+
+/// Does what the word asks for.
+fn bench(
+    rt: &(impl Print + CpuClock),
+    alloc: Global,
+    word: Option<String>,
+) -> Result<(), BenchFault> {
+    let Some(word) = word else {
+        return check(rt, alloc);
+    };
+    match word.as_str() {
+        "check" => check(rt, alloc),
+        "wheel" => race::print_times(rt, alloc),
+        "splitter" => splitter::print_times(rt, alloc),
+        "datagrams" => datagrams::print_times(rt, alloc),
+        "engine" => engine::print_times(rt, alloc),
+        _ => Err(BenchFault::Usage),
+    }
+}
+
+/// The first word behind the program's name, and what it asks for.
+fn asked(rt: &(impl Print + CpuClock + Env), alloc: Global) -> Result<(), BenchFault> {
+    let mut args = env::args(rt)?;
+    let _program = args.next();
+    bench(rt, alloc, args.next())
+}
+
+fn main(rt: HostRuntime) -> ExitCode {
+    match asked(&rt, rt.alloc()) {
+        Ok(()) => ExitCode::SUCCESS,
+        Err(fault) => {
+            let _ = eprintln!(rt; "{fault}");
+            ExitCode::from(1)
+        }
+    }
+}
