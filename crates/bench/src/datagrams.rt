@@ -2,14 +2,12 @@
 
 ghost use Rattle.std.specs.Prelude.{◌≤◌, length};
 
-use crate::clock::{Quotient, cpu_nanos};
+use crate::clock::{Quotient, ROUNDS, copy_nanos, cpu_nanos};
 use crate::fault::BenchFault;
 use cip_datagram::{Datagram, write_datagram};
 use cip_types::ConnId;
 use std::alloc::Global;
 use std::rt::CpuClock;
-
-const ROUNDS: u32 = 9;
 
 const DATAGRAMS: u32 = 1_000_000;
 
@@ -45,15 +43,6 @@ fn write_nanos(rt: &impl CpuClock, out: &mut Vec<u8>, data: &[u8]) -> Result<u64
     Ok(cpu_nanos(rt)?.wrapping_sub(start))
 }
 
-fn copy_nanos(rt: &impl CpuClock, out: &mut Vec<u8>, data: &[u8]) -> Result<u64, BenchFault> {
-    let start = cpu_nanos(rt)?;
-    for _ in 0..DATAGRAMS {
-        out.clear();
-        out.extend_from_slice(data)?;
-    }
-    Ok(cpu_nanos(rt)?.wrapping_sub(start))
-}
-
 /// Writes a datagram of each length.
 pub fn check(rt: &impl Print, alloc: Global) -> Result<(), BenchFault> {
     let mut out = Vec::with_capacity(alloc, FRONT + 1_400)?;
@@ -72,7 +61,7 @@ pub fn print_times(rt: &(impl Print + CpuClock), alloc: Global) -> Result<(), Be
         let (mut write, mut copy) = (u64::MAX, u64::MAX);
         for _ in 0..ROUNDS {
             write = write.min(write_nanos(rt, &mut out, data)?);
-            copy = copy.min(copy_nanos(rt, &mut out, data)?);
+            copy = copy.min(copy_nanos(rt, &mut out, data, 1_400, DATAGRAMS)?);
         }
         let times = u64::from(DATAGRAMS);
         println!(rt;

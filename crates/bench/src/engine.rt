@@ -1,6 +1,6 @@
 //! A plain adapter under a load, on one thread, with no network.
 
-use crate::clock::cpu_nanos;
+use crate::clock::{ROUNDS, cpu_nanos};
 use crate::fault::BenchFault;
 use cip_tables::{
     Action, Config, Delivery, Device, Event, InputPoint, Notice, OutputPoint, Profile,
@@ -9,8 +9,6 @@ use cip_types::{ConnId, Identity, Items, Node, OutOfMemory};
 use plain_engine::PlainAdapter;
 use std::alloc::Global;
 use std::rt::CpuClock;
-
-const ROUNDS: u32 = 7;
 
 const DATAGRAMS: u32 = 200_000;
 
@@ -30,49 +28,36 @@ const OWN: [u8; 50] = [
     0x24, 0x97, 0x2C, 0x96, 0x2C, 0x64,
 ];
 
-/// The same, input only, with this serial number.
-const fn gather(serial: u8) -> [u8; 50] {
-    let mut bytes = OWN;
-    bytes[12] = serial;
-    bytes[16] = serial;
-    bytes[32] = 2;
-    bytes[47] = 0x98;
-    bytes
-}
-
 /// A datagram of the owner in run mode, with four bytes of data, before it is numbered.
 const DATAGRAM: [u8; 28] = [
     2, 0, 2, 0x80, 8, 0, 0, 0, 0, 0, 0, 0, 0, 0, 0xB1, 0, 10, 0, 0, 0, 1, 0, 0, 0, 9, 8, 7, 6,
 ];
 
-const OUTPUT: OutputPoint = OutputPoint {
-    instance: 150,
-    len: 4,
-    idle: Action::Zero,
-    fault: Action::Zero,
-};
-
-const fn input(instance: u32, len: u64) -> InputPoint {
+const fn point(instance: u32, len: u64) -> InputPoint {
     InputPoint { instance, len }
 }
 
-const IDENTITY: Identity = Identity {
-    vendor: 1,
-    device_type: 12,
-    product: 7,
-    major: 2,
-    minor: 3,
-};
-
 fn profile(alloc: Global) -> Result<Profile, OutOfMemory> {
+    let output = OutputPoint {
+        instance: 150,
+        len: 4,
+        idle: Action::Zero,
+        fault: Action::Zero,
+    };
     Ok(Profile {
         incarnation: 0x10,
         node: Node(0xC0A8_010A),
         mask: 0xFFFF_FF00,
-        identity: IDENTITY,
-        outputs: Items::one(alloc, OUTPUT)?,
-        inputs: Items::one(alloc, input(100, 4))?,
-        config: Some(input(151, 0)),
+        identity: Identity {
+            vendor: 1,
+            device_type: 12,
+            product: 7,
+            major: 2,
+            minor: 3,
+        },
+        outputs: Items::one(alloc, output)?,
+        inputs: Items::one(alloc, point(100, 4))?,
+        config: Some(point(151, 0)),
         input_only: 152,
         listen_only: 153,
     })
@@ -97,8 +82,12 @@ fn open(alloc: Global, device: &mut PlainAdapter, bytes: &[u8]) -> Result<ConnId
 
 /// Opens so many input-only connections.
 fn open_gatherers(alloc: Global, device: &mut PlainAdapter, count: u8) -> Result<(), BenchFault> {
+    let mut bytes = OWN;
+    (bytes[32], bytes[47]) = (2, 0x98);
     for index in 0..count {
-        let _id = open(alloc, device, &gather(index.wrapping_add(2)))?;
+        let serial = index.wrapping_add(2);
+        (bytes[12], bytes[16]) = (serial, serial);
+        let _id = open(alloc, device, &bytes)?;
     }
     Ok(())
 }

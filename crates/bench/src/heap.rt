@@ -1,6 +1,6 @@
 //! Timers in a binary heap.
 
-use crate::timers::{Timers, period};
+use crate::timers::Timers;
 use std::alloc::{AllocError, Global};
 use std::cmp::Reverse;
 use std::collections::BinaryHeap;
@@ -79,14 +79,6 @@ impl Timers for Heap {
                 }
                 out.push(token)?;
             }
-        }
-        Ok(())
-    }
-
-    fn turn(&mut self, count: u64, out: &mut Vec<Token>) -> Result<(), AllocError> {
-        self.tick(1, out)?;
-        for token in &*out {
-            self.start(*token, period(count, *token))?;
         }
         Ok(())
     }

@@ -1,6 +1,6 @@
 //! Timers in a sorted list.
 
-use crate::timers::{Timers, period};
+use crate::timers::Timers;
 use std::alloc::{AllocError, Global};
 use timer_wheel::Token;
 
@@ -44,14 +44,6 @@ impl Timers for SortedList {
         }
         if due > 0 {
             let _due = self.timers.drain(..due);
-        }
-        Ok(())
-    }
-
-    fn turn(&mut self, count: u64, out: &mut Vec<Token>) -> Result<(), AllocError> {
-        self.tick(1, out)?;
-        for token in &*out {
-            self.start(*token, period(count, *token))?;
         }
         Ok(())
     }

@@ -20,7 +20,6 @@ mod wheel;
 use fault::BenchFault;
 use std::alloc::Global;
 use std::env;
-use std::process::ExitCode;
 use std::rt::CpuClock;
 
 /// Short runs of all.
@@ -50,19 +49,8 @@ fn bench(
     }
 }
 
-/// The first word behind the program's name, and what it asks for.
-fn asked(rt: &(impl Print + CpuClock + Env), alloc: Global) -> Result<(), BenchFault> {
-    let mut args = env::args(rt)?;
+fn main(rt: HostRuntime) -> Result<(), BenchFault> {
+    let mut args = env::args(&rt)?;
     let _program = args.next();
-    bench(rt, alloc, args.next())
-}
-
-fn main(rt: HostRuntime) -> ExitCode {
-    match asked(&rt, rt.alloc()) {
-        Ok(()) => ExitCode::SUCCESS,
-        Err(fault) => {
-            let _ = eprintln!(rt; "{fault}");
-            ExitCode::from(1)
-        }
-    }
+    bench(&rt, rt.alloc(), args.next())
 }

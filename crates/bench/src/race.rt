@@ -9,68 +9,55 @@
 //! | 128 | 23, 53 | 55, 142 | 79, 197 |
 //! | 1,024 | 6, 60 | 41, 134 | 61, 203 |
 
-use crate::clock::Quotient;
+use crate::clock::{Quotient, ROUNDS, cpu_nanos};
 use crate::fault::BenchFault;
 use crate::heap::Heap;
 use crate::list::SortedList;
-use crate::timers::{Run, Timers, run_busy, run_idle};
+use crate::timers::{Load, Timers, Work};
 use std::alloc::Global;
 use std::rt::CpuClock;
 use timer_wheel::Wheel;
 
 const TICKS: u32 = 200_000;
 
-const ROUNDS: u32 = 5;
-
-/// A steady load, or ticks of so many milliseconds in which nothing is due.
-#[derive(Clone, Copy)]
-enum Work {
-    Busy,
-    Idle(u32),
-}
-
-fn run<T: Timers>(
-    rt: &impl CpuClock,
-    alloc: Global,
-    timers: T,
-    count: u64,
-    ticks: u32,
-    work: Work,
-) -> Result<Run, BenchFault> {
-    match work {
-        Work::Busy => run_busy(rt, alloc, timers, count, ticks),
-        Work::Idle(ms) => run_idle(rt, alloc, timers, count, ticks, ms.min(60_000)),
-    }
-}
-
-/// The wheel's run, the list's and the heap's, which have to fire the same.
-fn three(
-    rt: &impl CpuClock,
-    alloc: Global,
-    count: u64,
-    ticks: u32,
-    work: Work,
-) -> Result<[u64; 3], BenchFault> {
+/// Whether the three fire the same tokens in the same order.
+fn agree(alloc: Global, count: u64, work: Work, ticks: u32) -> Result<bool, BenchFault> {
     let room = count as usize;
-    let wheel = run(rt, alloc, Wheel::new(alloc, room)?, count, ticks, work)?;
-    let list = run(rt, alloc, SortedList::new(alloc, room)?, count, ticks, work)?;
-    let heap = run(rt, alloc, Heap::new(alloc, room)?, count, ticks, work)?;
-    if wheel.sum != list.sum || wheel.sum != heap.sum {
-        return Err(BenchFault::Differs);
+    let mut wheel = Load::new(alloc, Wheel::new(alloc, room)?, count, work)?;
+    let mut list = Load::new(alloc, SortedList::new(alloc, room)?, count, work)?;
+    let mut heap = Load::new(alloc, Heap::new(alloc, room)?, count, work)?;
+    for _ in 0..ticks {
+        wheel.step()?;
+        list.step()?;
+        heap.step()?;
+        if wheel.fired() != list.fired() || wheel.fired() != heap.fired() {
+            return Ok(false);
+        }
     }
-    Ok([wheel.nanos, list.nanos, heap.nanos])
+    Ok(true)
 }
 
-/// Short runs in which all fire the same tokens in the same order, the last ones those of idle timers too.
-pub fn check(rt: &(impl Print + CpuClock), alloc: Global) -> Result<(), BenchFault> {
+/// Short runs, in the last steps of which idle timers fire too.
+pub fn check(rt: &impl Print, alloc: Global) -> Result<(), BenchFault> {
     for count in [8, 128, 1_024] {
-        let _busy = three(rt, alloc, count, 2_000, Work::Busy)?;
-        let _idle = three(rt, alloc, count, 300, Work::Idle(60_000))?;
+        if !agree(alloc, count, Work::Busy, 2_000)? || !agree(alloc, count, Work::Idle(60_000), 300)? {
+            return Err(BenchFault::Differs);
+        }
     }
     println!(rt; "wheel, list and heap agree")?;
     Ok(())
 }
 
+/// The nanoseconds of a tick.
+fn tick_nanos<T: Timers>(rt: &impl CpuClock, mut load: Load<T>) -> Result<u64, BenchFault> {
+    let start = cpu_nanos(rt)?;
+    for _ in 0..TICKS {
+        load.step()?;
+    }
+    Ok(cpu_nanos(rt)?.wrapping_sub(start) / u64::from(TICKS))
+}
+
+/// A line on the three, each the best of some rounds.
 fn report(
     rt: &(impl Print + CpuClock),
     alloc: Global,
@@ -78,24 +65,25 @@ fn report(
     name: &str,
     work: Work,
 ) -> Result<(), BenchFault> {
-    let [mut wheel, mut list, mut heap] = [u64::MAX; 3];
+    let room = count as usize;
+    let (mut wheel, mut list, mut heap) = (u64::MAX, u64::MAX, u64::MAX);
     for _ in 0..ROUNDS {
-        let [a, b, c] = three(rt, alloc, count, TICKS, work)?;
-        (wheel, list, heap) = (wheel.min(a), list.min(b), heap.min(c));
+        let load = Load::new(alloc, Wheel::new(alloc, room)?, count, work)?;
+        wheel = wheel.min(tick_nanos(rt, load)?);
+        let load = Load::new(alloc, SortedList::new(alloc, room)?, count, work)?;
+        list = list.min(tick_nanos(rt, load)?);
+        let load = Load::new(alloc, Heap::new(alloc, room)?, count, work)?;
+        heap = heap.min(tick_nanos(rt, load)?);
     }
-    let ticks = u64::from(TICKS);
     println!(rt;
-        "{count} timers, {name}: wheel {} ns a tick, list {}, heap {}: {} of the list, {} of the heap",
-        wheel / ticks,
-        list / ticks,
-        heap / ticks,
+        "{count} timers, {name}: wheel {wheel} ns a tick, list {list}, heap {heap}: {} of the list, {} of the heap",
         Quotient(wheel, list),
         Quotient(wheel, heap)
     )?;
     Ok(())
 }
 
-/// Prints the nanoseconds of a tick of each, the best of some rounds.
+/// Prints the nanoseconds of a tick of each.
 pub fn print_times(rt: &(impl Print + CpuClock), alloc: Global) -> Result<(), BenchFault> {
     for count in [8, 128, 1_024] {
         report(rt, alloc, count, "busy", Work::Busy)?;

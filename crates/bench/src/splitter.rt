@@ -2,13 +2,11 @@
 
 ghost use Rattle.std.specs.Prelude.{◌<◌};
 
-use crate::clock::{Quotient, cpu_nanos};
+use crate::clock::{Quotient, ROUNDS, copy_nanos, cpu_nanos};
 use crate::fault::BenchFault;
 use cip_encap::{MessageView, Splitter, write_message};
 use std::alloc::Global;
 use std::rt::CpuClock;
-
-const ROUNDS: u32 = 9;
 
 /// How often each length of a message comes in a long run, which makes 4.5 million bytes.
 const TIMES: u32 = 4;
@@ -40,21 +38,13 @@ fn stream(alloc: Global, times: u32) -> Result<Vec<u8>, BenchFault> {
     Ok(stream)
 }
 
-/// What a splitter gave of a stream, and how long it took.
-#[derive(Clone, Copy)]
-struct Cut {
-    nanos: u64,
-    messages: u64,
-    bytes: u64,
-}
-
-/// Feeds a splitter with the whole stream in pieces of so many bytes.
-fn cut(
+/// Feeds a splitter with the whole stream in pieces of so many bytes: the time, and how many messages came.
+fn feed(
     rt: &impl CpuClock,
     alloc: Global,
     stream: &[u8],
     piece_len: usize,
-) -> Result<Cut, BenchFault>
+) -> Result<(u64, u64), BenchFault>
     requires { 0 < piece_len }
 {
     let mut splitter = Splitter::new(alloc);
@@ -70,38 +60,15 @@ fn cut(
     if bytes != stream.len() as u64 {
         return Err(BenchFault::Differs);
     }
-    Ok(Cut {
-        nanos,
-        messages,
-        bytes,
-    })
-}
-
-/// The time of copying the whole stream in pieces of so many bytes.
-fn copy_nanos(
-    rt: &impl CpuClock,
-    copy: &mut Vec<u8>,
-    stream: &[u8],
-    piece_len: usize,
-) -> Result<u64, BenchFault>
-    requires { 0 < piece_len }
-{
-    copy.clear();
-    let start = cpu_nanos(rt)?;
-    for piece in stream.chunks(piece_len) {
-        copy.extend_from_slice(piece)?;
-    }
-    Ok(cpu_nanos(rt)?.wrapping_sub(start))
+    Ok((nanos, messages))
 }
 
 /// Cuts a short stream in pieces of 1, 64 and 1,460 bytes.
 pub fn check(rt: &(impl Print + CpuClock), alloc: Global) -> Result<(), BenchFault> {
     let stream = stream(alloc, 1)?;
     for piece_len in [1, 64, 1_460] {
-        let Cut {
-            messages, bytes, ..
-        } = cut(rt, alloc, &stream, piece_len)?;
-        println!(rt; "in pieces of {piece_len}: {messages} messages of {bytes} bytes")?;
+        let (_nanos, messages) = feed(rt, alloc, &stream, piece_len)?;
+        println!(rt; "in pieces of {piece_len}: {messages} messages, {} bytes", stream.len())?;
     }
     Ok(())
 }
@@ -111,17 +78,18 @@ pub fn print_times(rt: &(impl Print + CpuClock), alloc: Global) -> Result<(), Be
     let stream = stream(alloc, TIMES)?;
     let mut copied = Vec::with_capacity(alloc, stream.len())?;
     for piece_len in [1, 64, 1_460] {
-        let (mut feed, mut copy) = (u64::MAX, u64::MAX);
+        let (mut fed, mut copy) = (u64::MAX, u64::MAX);
         for _ in 0..ROUNDS {
-            feed = feed.min(cut(rt, alloc, &stream, piece_len)?.nanos);
-            copy = copy.min(copy_nanos(rt, &mut copied, &stream, piece_len)?);
+            let (nanos, _messages) = feed(rt, alloc, &stream, piece_len)?;
+            fed = fed.min(nanos);
+            copy = copy.min(copy_nanos(rt, &mut copied, &stream, piece_len, 1)?);
         }
         let bytes = stream.len() as u64;
         println!(rt;
             "pieces of {piece_len}: feed {} ns a byte, copy {} ns, {} times as long",
-            Quotient(feed, bytes),
+            Quotient(fed, bytes),
             Quotient(copy, bytes),
-            Quotient(feed, copy)
+            Quotient(fed, copy)
         )?;
     }
     Ok(())

@@ -2,10 +2,7 @@
 
 ghost use Rattle.std.specs.Prelude.{◌^◌, ◌<◌, ◌≤◌};
 
-use crate::clock::cpu_nanos;
-use crate::fault::BenchFault;
 use std::alloc::{AllocError, Global};
-use std::rt::CpuClock;
 use timer_wheel::Token;
 
 /// A set of timers, with a clock in milliseconds.
@@ -23,7 +20,13 @@ pub trait Timers: Drop {
         requires { delta ≤ 60000 };
 
     /// The same by a millisecond, where each token that was due is armed again after its period.
-    fn turn(&mut self, count: u64, out: &mut Vec<Token>) -> Result<(), AllocError>;
+    fn turn(&mut self, count: u64, out: &mut Vec<Token>) -> Result<(), AllocError> {
+        self.tick(1, out)?;
+        for token in &*out {
+            self.start(*token, period(count, *token))?;
+        }
+        Ok(())
+    }
 }
 
 /// From one firing of a token to the next, in milliseconds, where there are so many tokens: the first
@@ -38,73 +41,70 @@ pub fn period(count: u64, token: Token) -> u64
     }
 }
 
-/// How long a run took, and a sum that tells which tokens fired in which order.
+/// A steady load, or ticks of so many milliseconds in which nothing is due for 16,000 s.
 #[derive(Clone, Copy)]
-pub struct Run {
-    pub nanos: u64,
-    pub sum: u64,
+pub enum Work {
+    Busy,
+    Idle(u32),
 }
 
-fn summed(sum: u64, fired: &[Token]) -> u64 {
-    let mut sum = sum;
-    for token in fired {
-        sum = sum.wrapping_mul(31).wrapping_add(token.0).wrapping_add(1);
-    }
-    sum
-}
-
-/// So many milliseconds under a steady load: productions fire and are armed again, and watchdogs are
-/// refreshed, at 128 timers six in each millisecond.
-pub fn run_busy<T: Timers>(
-    rt: &impl CpuClock,
-    alloc: Global,
-    mut timers: T,
+/// Timers under a load.
+#[derive(Drop)]
+pub struct Load<T: Timers> {
+    timers: T,
+    fired: Vec<Token>,
     count: u64,
-    ticks: u32,
-) -> Result<Run, BenchFault> {
-    for token in 0..count {
-        timers.start(Token(token), period(count, Token(token)))?;
-    }
-    let mut fired = Vec::with_capacity(alloc, count as usize)?;
+    work: Work,
     // How many 64ths of a refresh are owed, and whose turn it is.
-    let (mut owed, mut next, mut sum) = (0u64, 0u64, 0u64);
-    let start = cpu_nanos(rt)?;
-    for _ in 0..ticks {
-        timers.turn(count, &mut fired)?;
-        sum = summed(sum, &fired);
-        owed = owed.wrapping_add(count.wrapping_mul(3));
-        for _ in 0..owed / 64 {
-            timers.refresh(Token(next), 160)?;
-            let after = next.wrapping_add(1);
-            next = if after < count / 2 { after } else { 0 };
-        }
-        owed %= 64;
-    }
-    let nanos = cpu_nanos(rt)?.wrapping_sub(start);
-    Ok(Run { nanos, sum })
+    owed: u64,
+    next: u64,
 }
 
-/// So many ticks of so many milliseconds, of timers none of which is due for 16,000 s.
-pub fn run_idle<T: Timers>(
-    rt: &impl CpuClock,
-    alloc: Global,
-    mut timers: T,
-    count: u64,
-    ticks: u32,
-    delta: u32,
-) -> Result<Run, BenchFault>
-    requires { delta ≤ 60000 }
-{
-    for token in 0..count {
-        timers.start(Token(token), 16_000_000 + token % 4096)?;
+impl<T: Timers> Load<T> {
+    /// So many tokens, all armed.
+    pub fn new(
+        alloc: Global,
+        mut timers: T,
+        count: u64,
+        work: Work,
+    ) -> Result<Self, AllocError> {
+        for token in 0..count {
+            let after = match work {
+                Work::Busy => period(count, Token(token)),
+                Work::Idle(_) => 16_000_000 + token % 4096,
+            };
+            timers.start(Token(token), after)?;
+        }
+        let fired = Vec::with_capacity(alloc, count as usize)?;
+        Ok(Load {
+            timers,
+            fired,
+            count,
+            work,
+            owed: 0,
+            next: 0,
+        })
     }
-    let mut fired = Vec::with_capacity(alloc, count as usize)?;
-    let mut sum = 0u64;
-    let start = cpu_nanos(rt)?;
-    for _ in 0..ticks {
-        timers.tick(delta, &mut fired)?;
-        sum = summed(sum, &fired);
+
+    /// A tick. Under the steady load it is a millisecond, in which productions fire and are armed again,
+    /// and watchdogs are refreshed, at 128 timers six of them.
+    pub fn step(&mut self) -> Result<(), AllocError> {
+        if let Work::Idle(ms) = self.work {
+            return self.timers.tick(ms.min(60_000), &mut self.fired);
+        }
+        self.timers.turn(self.count, &mut self.fired)?;
+        self.owed = self.owed.wrapping_add(self.count.wrapping_mul(3));
+        for _ in 0..self.owed / 64 {
+            self.timers.refresh(Token(self.next), 160)?;
+            let after = self.next.wrapping_add(1);
+            self.next = if after < self.count / 2 { after } else { 0 };
+        }
+        self.owed %= 64;
+        Ok(())
     }
-    let nanos = cpu_nanos(rt)?.wrapping_sub(start);
-    Ok(Run { nanos, sum })
+
+    /// What fired in the last step.
+    pub fn fired(&self) -> &[Token] {
+        &self.fired
+    }
 }

@@ -15,7 +15,7 @@ use cip_types::{Fault, OutOfMemory};
 use std::alloc::Global;
 
 /// What a reply to a Get_Attribute_Single says.
-#[derive(Clone, Copy, Debug, PartialEq, Eq)]
+#[derive(Clone, Copy, PartialEq, Eq)]
 pub enum GetAnswer<'a> {
     /// The attribute's value. It is not read.
     Got(&'a [u8]),
@@ -25,7 +25,7 @@ pub enum GetAnswer<'a> {
 /// A reply to a Get_Attribute_Single.
 ///
 /// Volume 1, appendix A, Get_Attribute_Single service.
-#[derive(Clone, Copy, Debug, PartialEq, Eq)]
+#[derive(Clone, Copy, PartialEq, Eq)]
 pub struct GetReply<'a> {
     /// The reply's service byte. It is not judged.
     pub service: u8,

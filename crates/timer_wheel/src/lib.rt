@@ -19,7 +19,7 @@ use std::marker::Model;
 use sweep::{Step, sweep};
 
 /// What names a timer of a wheel.
-#[derive(Clone, Copy, Debug, PartialEq, Eq, PartialOrd, Ord)]
+#[derive(Clone, Copy, PartialEq, Eq, PartialOrd, Ord)]
 pub struct Token(pub u64);
 
 /// A map from tokens to deadlines, with a clock in milliseconds.
