@@ -40,7 +40,9 @@ fn agree(alloc: Global, count: u64, work: Work, ticks: u32) -> Result<bool, Benc
 /// Short runs, in the last steps of which idle timers fire too.
 pub fn check(rt: &impl Print, alloc: Global) -> Result<(), BenchFault> {
     for count in [8, 128, 1_024] {
-        if !agree(alloc, count, Work::Busy, 2_000)? || !agree(alloc, count, Work::Idle(60_000), 300)? {
+        if !agree(alloc, count, Work::Busy, 2_000)?
+            || !agree(alloc, count, Work::Idle(60_000), 300)?
+        {
             return Err(BenchFault::Differs);
         }
     }

@@ -68,7 +68,10 @@ pub fn check(rt: &(impl Print + CpuClock), alloc: Global) -> Result<(), BenchFau
     let stream = stream(alloc, 1)?;
     for piece_len in [1, 64, 1_460] {
         let (_nanos, messages) = feed(rt, alloc, &stream, piece_len)?;
-        println!(rt; "in pieces of {piece_len}: {messages} messages, {} bytes", stream.len())?;
+        println!(rt;
+            "in pieces of {piece_len}: {messages} messages, {} bytes",
+            stream.len()
+        )?;
     }
     Ok(())
 }

@@ -62,12 +62,7 @@ pub struct Load<T: Timers> {
 
 impl<T: Timers> Load<T> {
     /// So many tokens, all armed.
-    pub fn new(
-        alloc: Global,
-        mut timers: T,
-        count: u64,
-        work: Work,
-    ) -> Result<Self, AllocError> {
+    pub fn new(alloc: Global, mut timers: T, count: u64, work: Work) -> Result<Self, AllocError> {
         for token in 0..count {
             let after = match work {
                 Work::Busy => period(count, Token(token)),

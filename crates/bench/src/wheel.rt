@@ -1,7 +1,8 @@
 //! Timers in the wheel.
 
-ghost use Rattle.std.specs.Prelude.{◌≡◌, ◌≢◌, None, All, AllPairs};
+ghost use Rattle.std.specs.Prelude.{◌≡◌, ◌≢◌, ◌+◌, ◌^◌, ◌≤◌, [], None, All, AllPairs, vec_capacity};
 ghost use Rattle.std.specs.FinMap as map;
+ghost use Rattle.timer_wheel.specs.Timers.{Fires, later_than};
 
 use crate::timers::{Timers, period};
 use std::alloc::AllocError;
@@ -9,6 +10,22 @@ use timer_wheel::{Token, Wheel};
 
 // No step is taken after this time.
 const END: u64 = 1 << 47;
+
+// Moves the clock on, and writes what is due over `out`.
+fn advance_over(wheel: &mut Wheel, delta: u32, out: &mut Vec<Token>)
+    requires step { delta ≤ 60000 }
+    requires end { wheel.old.time + delta ≤ 2 ^ 48 }
+    requires room { wheel.old.capacity ≤ vec_capacity out.old }
+    ensures clock { wheel.new ≡ record wheel.old {
+      time = wheel.old.time + delta;
+      armed = later_than (wheel.old.time + delta) wheel.old.armed;
+    } }
+    ensures fired { Fires wheel.old.armed (wheel.old.time + delta) [] out.new.items }
+{
+    out.clear();
+    let _capacity = wheel.capacity();
+    wheel.advance(delta, out);
+}
 
 // Arms each of these tokens after its period.
 fn arm_anew(wheel: &mut Wheel, tokens: &[Token], count: u64)
@@ -44,7 +61,7 @@ impl Timers for Wheel {
     fn tick(&mut self, delta: u32, out: &mut Vec<Token>) -> Result<(), AllocError> {
         out.clear();
         if self.now() < END && self.capacity() <= out.capacity() {
-            self.advance(delta, out);
+            advance_over(self, delta, out);
         }
         Ok(())
     }
@@ -52,7 +69,7 @@ impl Timers for Wheel {
     fn turn(&mut self, count: u64, out: &mut Vec<Token>) -> Result<(), AllocError> {
         out.clear();
         if self.now() < END && self.capacity() <= out.capacity() {
-            self.advance(1, out);
+            advance_over(self, 1, out);
             arm_anew(self, out, count);
         }
         Ok(())
