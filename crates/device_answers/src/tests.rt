@@ -5,7 +5,6 @@ ghost use Rattle.std.specs.Prelude.{◌≤◌};
 use crate::*;
 use cip_encap::{MessageHeader, MessageView};
 use cip_fwdopen::Opened;
-use cip_netparams::ConnectionType;
 use cip_tables::{
     EncapStatus, InputPoint, Kind, Notice, Production, Profile, Recipient, Reply, Row, State,
     Stream, Verdict,
@@ -103,14 +102,8 @@ fn a_group_has_an_address(rt: HostRuntime) -> Result<(), Fail> {
         input_only: 152,
         listen_only: 153,
     };
-    assert_eq!(rt;
-        address_of(&profile, PEER, ConnectionType::Multicast, 100),
-        GROUP
-    );
-    assert_eq!(rt;
-        address_of(&profile, PEER, ConnectionType::PointToPoint, 100),
-        PEER
-    );
+    assert_eq!(rt; address_of(&profile, PEER, true, 100), GROUP);
+    assert_eq!(rt; address_of(&profile, PEER, false, 100), PEER);
     Ok(())
 }
 
