@@ -6,6 +6,7 @@ use adapter_table::Profile;
 /// its connections, and the counter of the next connection id.
 ///
 /// Volume 1, chapter 3, Connection Manager object.
+#[derive(Drop)]
 pub struct View<'a, C> {
     pub profile: &'a Profile,
     pub config: Option<&'a [u8]>,

@@ -13,7 +13,7 @@ use cip_datagram::{Datagram, read_header};
 use cip_netparams::timeout_of;
 use cip_tables::{Accepted, Delivery, Kind, Row};
 use cip_types::{ConnId, Ms, Node, newer32, same16};
-use open_checks::is_established;
+use adapter_table::is_established;
 
 /// The bytes of a run/idle header.
 const HEADER: u64 = 4;

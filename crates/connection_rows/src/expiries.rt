@@ -8,7 +8,7 @@ use crate::order::{By, sorted};
 use crate::rows::{copied, is_forsaken};
 use cip_tables::{Notice, Row, State};
 use cip_types::{Ms, OutOfMemory};
-use open_checks::is_established;
+use adapter_table::is_established;
 use std::alloc::Global;
 
 /// Whether a connection is established, and its deadline has come.

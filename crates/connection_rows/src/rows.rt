@@ -9,7 +9,7 @@ ghost use Rattle.adapter_table.specs.Opening.{makes_room, triad_of, replaced_tri
 
 use cip_tables::{Kind, Notice, Production, Row, State};
 use cip_types::{OutOfMemory, Triad};
-use open_checks::{MOST_ROWS, has_triad, is_established, is_supported, is_timed_out};
+use adapter_table::{MOST_ROWS, has_triad, is_established, is_supported, is_timed_out};
 use std::alloc::Global;
 
 fn is_known(rows: &[Row], triad: Triad) -> bool
