@@ -18,10 +18,8 @@ use Rattle.cip_tables.specs.declared.table.DeviceTable.{DeviceTable}
 use Rattle.cip_tables.specs.declared.table.DeviceTable.TheVariants.{Adapter}
 use Rattle.cip_tables.specs.Step.{DeviceNext, as_adapter, step, opening_table}
 use Rattle.cip_tables.specs.Run.{Runs}
-use Rattle.cip_tables.specs.Sound.{IsSoundDevice, OverEveryRun}
-use Rattle.adapter_table.specs.Sound.{StepsCountOn, RunsCountOn}
-use Rattle.cip_tables.specs.Whole.{IsWholeDevice, next_id_of, TablesAreWhole}
-use Rattle.adapter_table.specs.Whole.{RunsKeepWhole, FreshDevicesAreWhole}
+use Rattle.cip_tables.specs.Sound.{IsSoundDevice, OverEveryRun, StepsCountOn, RunsCountOn}
+use Rattle.cip_tables.specs.Whole.{IsWholeDevice, next_id_of, RunsKeepWhole, FreshDevicesAreWhole, TablesAreWhole}
 
 abbrev pub InDevice : (AdapterTable → Type 0) → DeviceTable → Type 0
 InDevice P (Adapter t) = P t

@@ -20,8 +20,7 @@ use Rattle.cip_tables.specs.declared.table.DeviceTable.TheVariants.{Adapter}
 use Rattle.cip_tables.specs.Step.{DeviceNext, as_adapter, step, bytes_in}
 use Rattle.cip_tables.specs.Run.{Runs, table_of, performed}
 use Rattle.cip_tables.specs.Whole.{IsWholeDevice}
-use Rattle.cip_tables.specs.Scratch.{touched, last_touched, OutputsAreFromScratch}
-use Rattle.adapter_table.specs.Scratch.{outputs_of, FreshOutputsAreFromScratch}
+use Rattle.cip_tables.specs.Scratch.{touched, last_touched, outputs_of, OutputsAreFromScratch, FreshOutputsAreFromScratch}
 use Rattle.cip_tables.proofs.RunKeeps.{InDevice, ok_is, follows_keeps, run_keeps}
 
 -- what is known of an adapter's steps

@@ -2,8 +2,7 @@
 
 ghost use Rattle.std.specs.Prelude.{◌≡◌, ◌≢◌, ◌↔◌, false, true, Ok, Err, None, Some, Result, filter, IfOk, IfErr, OnErr, IsErr};
 ghost use Rattle.cip_tables.specs.declared.table.DeviceTable.{DeviceTable};
-ghost use Rattle.cip_tables.specs.Step.{step, opening_table, config_fault, bytes_in, produces_at_once};
-ghost use Rattle.adapter_table.specs.Step.{is_datagram};
+ghost use Rattle.cip_tables.specs.Step.{step, opening_table, config_fault, bytes_in, produces_at_once, is_datagram};
 ghost use Rattle.cip_events.specs.Answers.{plain_answer};
 ghost use Rattle.cip_events.specs.Outcomes.{Follows, found_memory};
 ghost use Rattle.cip_tables.specs.Run.{Runs, outcomes_of, performed, table_after};

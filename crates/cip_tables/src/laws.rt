@@ -3,12 +3,9 @@
 
 ghost use Rattle.std.specs.Prelude.{◌≤◌, length};
 ghost use Rattle.cip_tables.specs.Newest.{OverEveryConnection};
-ghost use Rattle.cip_tables.specs.Scratch.{OutputsAreFromScratch};
-ghost use Rattle.adapter_table.specs.Scratch.{FreshOutputsAreFromScratch};
-ghost use Rattle.cip_tables.specs.Whole.{TablesAreWhole};
-ghost use Rattle.adapter_table.specs.Whole.{RunsKeepWhole, FreshDevicesAreWhole};
-ghost use Rattle.cip_tables.specs.Sound.{OverEveryRun};
-ghost use Rattle.adapter_table.specs.Sound.{StepsCountOn, RunsCountOn};
+ghost use Rattle.cip_tables.specs.Scratch.{OutputsAreFromScratch, FreshOutputsAreFromScratch};
+ghost use Rattle.cip_tables.specs.Whole.{TablesAreWhole, RunsKeepWhole, FreshDevicesAreWhole};
+ghost use Rattle.cip_tables.specs.Sound.{OverEveryRun, StepsCountOn, RunsCountOn};
 ghost use Rattle.adapter_table.specs.Newest.{HasNewerNumber, IsAppliedNew, IsNotAgain};
 ghost use Rattle.adapter_table.specs.Sound.{IsSound, HasOneOwner, TriadsDiffer, IdsDiffer, IdsAreDrawn, ListenersAreSupported, GroupsAgree, StreamsDiffer, OpeningsRise, ProducersAreDrawn, SinglesHaveTheirOwn, GroupsAloneShare, MulticastIdsAreDrawn};
 
