@@ -17,7 +17,7 @@ use Rattle.adapter_table.specs.declared.admission.Consumer.{Consumer}
 use Rattle.adapter_table.specs.declared.table.AdapterTable.{AdapterTable}
 use Rattle.adapter_table.specs.declared.table.PointValue.{PointValue}
 use Rattle.adapter_table.specs.declared.table.Stream.{Stream}
-use Rattle.adapter_table.specs.Rows.{others, drives, drivers, written_row, is_established, has_triad, holds_triad, is_member, is_supported}
+use Rattle.adapter_table.specs.Rows.{others, drives, drivers, written_row, is_established, is_timed_out, has_triad, holds_triad, is_member, is_supported}
 use Rattle.cip_productions.specs.Kinds.{is_owner, is_listener}
 use Rattle.adapter_table.specs.Checks.{Admitted, standing, verdict, is_owned, is_multicast, group_of, joined, drawn_ids}
 use Rattle.adapter_table.specs.Opening.{makes_room_by, opened_row, opened_table, opened_state, opened_t_o_id}
@@ -120,8 +120,8 @@ opened_sound t request admitted row is ok sound =
     let c = nat_le 64 (length t.rows) in
     let draws = draws_some request admitted.group in
     let free = or_false (nat_lt 16777216 (t.next_id + drawn_ids request admitted.group)) _ ok.not_used_up in
-    let left = others (makes_room_by b c t.rows row.triad) t.rows in
-    let stays_there : Row → Bool = λ r. not (makes_room_by b c t.rows row.triad r) in
+    let left = others (makes_room_by b c (find is_timed_out t.rows) row.triad) t.rows in
+    let stays_there : Row → Bool = λ r. not (makes_room_by b c (find is_timed_out t.rows) row.triad r) in
     let drawn = drawn_filter stays_there t.profile t.next_id t.rows sound.ids_are_drawn in
     let held : list_any (holds_triad row.triad) t.rows ≡ false = ap (λ (triad : Triad). list_any (holds_triad triad) t.rows) is.triad ∙ ok.triad_is_free in
     let alone : (is_listener row.kind && not (is_supported t.rows row.kind row.produced)) ≡ false = rw (is.kind, is.produced) ok.is_supported in
