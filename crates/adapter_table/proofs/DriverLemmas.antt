@@ -10,7 +10,7 @@ use Rattle.adapter_table.specs.declared.row.Row.{Row}
 use Rattle.cip_productions.specs.declared.kind.Kind.{Kind}
 use Rattle.cip_productions.specs.declared.kind.Kind.TheVariants.{ExclusiveOwner, InputOnly, ListenOnly}
 use Rattle.cip_productions.specs.Kinds.{is_owner, is_listener}
-use Rattle.adapter_table.specs.Rows.{is_established, is_supported, same_triad, has_triad, holds_triad, drives, drivers, others, Each, EachTwo}
+use Rattle.adapter_table.specs.Rows.{is_established, is_timed_out, is_supported, same_triad, has_triad, holds_triad, drives, drivers, others, Each, EachTwo}
 use Rattle.adapter_table.specs.Closing.{without_triad, stays, staying}
 use Rattle.adapter_table.specs.Scratch.{is_lost}
 use Rattle.adapter_table.specs.Opening.{makes_room_by}
@@ -40,10 +40,10 @@ driver_lives : (point : ℕ) (row : Row) → drives point row ≡ true → is_es
 driver_lives point row is = (and_parts (is_established row) _ is).0
 
 -- an opening takes no owner from an output
-pub owner_opened : (b c : Bool) (triad : Triad) (rows : List Row) (new : Row) (point : ℕ) → list_any (holds_triad triad) rows ≡ false → OpeningsRise rows → is_lost point rows (others (makes_room_by b c rows triad) rows ++ new ∷ []) ≡ false
+pub owner_opened : (b c : Bool) (triad : Triad) (rows : List Row) (new : Row) (point : ℕ) → list_any (holds_triad triad) rows ≡ false → OpeningsRise rows → is_lost point rows (others (makes_room_by b c (find is_timed_out rows) triad) rows ++ new ∷ []) ≡ false
 owner_opened b c triad rows new point free rise =
-    let kept = any_kept (makes_room_by b c rows triad) (drives point) rows (driver_lives point) (gone_room b c triad rows free rise) in
-    kept_owner point rows (others (makes_room_by b c rows triad) rows ++ new ∷ []) (λ is. list_any-append (drives point) (others (makes_room_by b c rows triad) rows) (new ∷ []) ∙ or_left _ _ (kept ∙ is))
+    let kept = any_kept (makes_room_by b c (find is_timed_out rows) triad) (drives point) rows (driver_lives point) (gone_room b c triad rows free rise) in
+    kept_owner point rows (others (makes_room_by b c (find is_timed_out rows) triad) rows ++ new ∷ []) (λ is. list_any-append (drives point) (others (makes_room_by b c (find is_timed_out rows) triad) rows) (new ∷ []) ∙ or_left _ _ (kept ∙ is))
 
 -- ---- what is closed is found by its triad
 

@@ -14,7 +14,7 @@ use Rattle.adapter_table.specs.declared.row.Row.{Row}
 use Rattle.adapter_table.specs.declared.table.AdapterTable.{AdapterTable}
 use Rattle.adapter_table.specs.declared.table.PointValue.{PointValue}
 use Rattle.adapter_table.specs.declared.table.Stream.{Stream}
-use Rattle.adapter_table.specs.Rows.{others, drives, drivers, written_row, is_established, has_triad, holds_triad, is_member, is_supported}
+use Rattle.adapter_table.specs.Rows.{others, drives, drivers, written_row, is_established, is_timed_out, has_triad, holds_triad, is_member, is_supported}
 use Rattle.cip_productions.specs.declared.kind.Kind.{Kind}
 use Rattle.cip_productions.specs.Kinds.{is_owner, is_listener}
 use Rattle.adapter_table.specs.Checks.{Admitted, admission, group_of, joined, drawn_ids}
@@ -117,8 +117,8 @@ opened_sound t request admitted row is ok sound =
     let b = list_any (has_triad row.triad) t.rows in
     let c = nat_le 64 (length t.rows) in
     let draws = draws_some admitted.multicast admitted.group in
-    let left = others (makes_room_by b c t.rows row.triad) t.rows in
-    let stays_there : Row → Bool = λ r. not (makes_room_by b c t.rows row.triad r) in
+    let left = others (makes_room_by b c (find is_timed_out t.rows) row.triad) t.rows in
+    let stays_there : Row → Bool = λ r. not (makes_room_by b c (find is_timed_out t.rows) row.triad r) in
     let drawn = drawn_filter stays_there t.profile t.next_id t.rows sound.ids_are_drawn in
     let held : list_any (holds_triad row.triad) t.rows ≡ false = ap (λ (triad : Triad). list_any (holds_triad triad) t.rows) is.triad ∙ ok.triad_is_free in
     let alone : (is_listener row.kind && not (is_supported t.rows row.kind row.produced)) ≡ false = rw (is.kind, is.produced) ok.is_supported in

@@ -75,7 +75,7 @@ gone_none : (rows : List Row) → Gone (λ _. false) rows
 gone_none [] = tt
 gone_none (row ∷ rows) = (λ out. absurd cc, gone_none rows)
 
-pub gone_room : (b c : Bool) (triad : Triad) (rows : List Row) → list_any (holds_triad triad) rows ≡ false → OpeningsRise rows → Gone (makes_room_by b c rows triad) rows
+pub gone_room : (b c : Bool) (triad : Triad) (rows : List Row) → list_any (holds_triad triad) rows ≡ false → OpeningsRise rows → Gone (makes_room_by b c (find is_timed_out rows) triad) rows
 gone_room true c triad rows none rise = gone_triad triad rows none
 gone_room false true triad rows none rise = gone_timed_out rows rise
 gone_room false false triad rows none rise = gone_none rows
@@ -123,10 +123,10 @@ or_left : (a b : Bool) → a ≡ true → (a || b) ≡ true
 or_left true b h = refl
 or_left false b h = absurd cc
 
-supported_opened : (b c : Bool) (triad : Triad) (rows : List Row) (new : Row) → list_any (holds_triad triad) rows ≡ false → OpeningsRise rows → (kind : Kind) (point : ℕ) → is_supported rows kind point ≡ true → is_supported (others (makes_room_by b c rows triad) rows ++ new ∷ []) kind point ≡ true
+supported_opened : (b c : Bool) (triad : Triad) (rows : List Row) (new : Row) → list_any (holds_triad triad) rows ≡ false → OpeningsRise rows → (kind : Kind) (point : ℕ) → is_supported rows kind point ≡ true → is_supported (others (makes_room_by b c (find is_timed_out rows) triad) rows ++ new ∷ []) kind point ≡ true
 supported_opened b c triad rows new free rise kind point is =
-    let kept = any_kept (makes_room_by b c rows triad) (supports kind point) rows (supporter_lives kind point) (gone_room b c triad rows free rise) in
-    list_any-append (supports kind point) (others (makes_room_by b c rows triad) rows) (new ∷ []) ∙ or_left _ _ (kept ∙ is)
+    let kept = any_kept (makes_room_by b c (find is_timed_out rows) triad) (supports kind point) rows (supporter_lives kind point) (gone_room b c triad rows free rise) in
+    list_any-append (supports kind point) (others (makes_room_by b c (find is_timed_out rows) triad) rows) (new ∷ []) ∙ or_left _ _ (kept ∙ is)
 
 -- a listener that is opened is supported
 new_supported : (rows more : List Row) (new : Row) → (is_listener new.kind && not (is_supported rows new.kind new.produced)) ≡ false → ((kind : Kind) (point : ℕ) → is_supported rows kind point ≡ true → is_supported more kind point ≡ true) → is_forsaken more new ≡ false
@@ -135,13 +135,13 @@ new_supported rows more new alone all = less_forsaken rows more all new (and_les
   and_less true b h = h
   and_less false b h = refl
 
-pub listeners_opened : (b c : Bool) (triad : Triad) (rows : List Row) (new : Row) → list_any (holds_triad triad) rows ≡ false → OpeningsRise rows → (is_listener new.kind && not (is_supported rows new.kind new.produced)) ≡ false → ListenersAreSupported rows → ListenersAreSupported (others (makes_room_by b c rows triad) rows ++ new ∷ [])
+pub listeners_opened : (b c : Bool) (triad : Triad) (rows : List Row) (new : Row) → list_any (holds_triad triad) rows ≡ false → OpeningsRise rows → (is_listener new.kind && not (is_supported rows new.kind new.produced)) ≡ false → ListenersAreSupported rows → ListenersAreSupported (others (makes_room_by b c (find is_timed_out rows) triad) rows ++ new ∷ [])
 listeners_opened b c triad rows new free rise alone supported =
-    let all = others (makes_room_by b c rows triad) rows ++ new ∷ [] in
+    let all = others (makes_room_by b c (find is_timed_out rows) triad) rows ++ new ∷ [] in
     let more = supported_opened b c triad rows new free rise in
-    let old = any_filter (λ row. not (makes_room_by b c rows triad row)) (is_forsaken all) rows (any_less (is_forsaken rows) (is_forsaken all) rows (less_forsaken rows all more) supported) in
-    let fresh = new_supported rows (others (makes_room_by b c rows triad) rows ++ new ∷ []) new alone more in
-    rw (list_any-append (is_forsaken (others (makes_room_by b c rows triad) rows ++ new ∷ [])) (others (makes_room_by b c rows triad) rows) (new ∷ []), old, fresh) refl
+    let old = any_filter (λ row. not (makes_room_by b c (find is_timed_out rows) triad row)) (is_forsaken all) rows (any_less (is_forsaken rows) (is_forsaken all) rows (less_forsaken rows all more) supported) in
+    let fresh = new_supported rows (others (makes_room_by b c (find is_timed_out rows) triad) rows ++ new ∷ []) new alone more in
+    rw (list_any-append (is_forsaken (others (makes_room_by b c (find is_timed_out rows) triad) rows ++ new ∷ [])) (others (makes_room_by b c (find is_timed_out rows) triad) rows) (new ∷ []), old, fresh) refl
 
 -- ---- the listeners that are left alone go
 

@@ -33,16 +33,17 @@ abbrev pub is_opened_as : Option Row → Row → Bool
 is_opened_as None row = false
 is_opened_as (Some found) row = row.opening == found.opening
 
--- Which connection makes room for one of a triad, by whether there is one of this triad, and whether there are 64:
--- that one, which has timed out; among 64 the timed-out one that was opened first; where there is room none.
-abbrev pub makes_room_by : Bool → Bool → List Row → Triad → Row → Bool
-makes_room_by true full rows triad row = has_triad triad row
-makes_room_by false true rows triad row = is_opened_as (find is_timed_out rows) row
-makes_room_by false false rows triad row = false
+-- Which connection makes room for one of a triad: the one of this triad, which has timed out, where there is one; among
+-- 64 the first timed-out one; where there is room none.
+abbrev pub makes_room_by : Bool → Bool → Option Row → Triad → Row → Bool
+makes_room_by true full first triad row = has_triad triad row
+makes_room_by false true first triad row = is_opened_as first row
+makes_room_by false false first triad row = false
 
 -- the connection makes room for a new one
 abbrev pub makes_room : List Row → Triad → Row → Bool
-makes_room rows triad row = makes_room_by (list_any (has_triad triad) rows) (nat_le 64 (length rows)) rows triad row
+makes_room rows triad row =
+    makes_room_by (list_any (has_triad triad) rows) (nat_le 64 (length rows)) (find is_timed_out rows) triad row
 
 abbrev pub triad_of : Row → Triad
 triad_of row = row.triad

@@ -5,8 +5,8 @@ ghost use Rattle.cip_datagram.specs.Datagram.{view_datagram};
 ghost use Rattle.cip_datagram.specs.Header.{header_at};
 ghost use Rattle.adapter_table.specs.Datagrams.{is_for, expected_len, owned_delivery, accepted_delivery, sized_delivery, row_delivery, later_deadline, accepted_row, fed_row};
 ghost use Rattle.cip_productions.specs.Acceptance.{is_news, is_repeated};
-ghost use Rattle.adapter_table.specs.declared.profile.Profile.{Profile};
-ghost use Rattle.adapter_table.specs.Whole.{FitsRow, RowsFit};
+
+ghost use Rattle.adapter_table.specs.Whole.{RowsFit};
 
 use assembly_set::AssemblySet;
 use cip_datagram::{Datagram, read_header};
@@ -129,7 +129,7 @@ fn feed_row(row: &mut Row, clock: Ms, peer: Node, datagram: &Datagram<'_>)
 ///
 /// Volume 1, chapter 3, inactivity watchdog.
 pub fn accept_rows(rows: &mut [Row], clock: Ms, peer: Node, datagram: &Datagram<'_>)
-    requires fit { (profile : Profile) × RowsFit profile rows.old }
+    requires fit { RowsFit rows.old }
     requires time { clock.0 ≤ 2 ^ 48 }
     ensures { rows.new ≡ map (fed_row clock peer (view_datagram datagram.now)) rows.old }
 {

@@ -1,7 +1,6 @@
 //! Productions that are due.
 
 ghost use Rattle.std.specs.Prelude.{◌≡◌, ◌≤◌, ◌+◌, ◌^◌, map, filter, flat_map, length, IfOk};
-ghost use Rattle.adapter_table.specs.declared.profile.Profile.{Profile};
 ghost use Rattle.adapter_table.specs.Productions.{due_of, is_due, due_leaders, input_of, due_sending, due_sendings, due_state, due_row, leaders};
 ghost use Rattle.cip_productions.specs.Productions.{due_again, produced};
 ghost use Rattle.adapter_table.specs.Whole.{RowsFit};
@@ -141,7 +140,7 @@ fn produce_row(row: &mut Row, clock: Ms)
 }
 
 fn produce_rows(rows: &mut [Row], clock: Ms)
-    requires fit { (profile : Profile) × RowsFit profile rows.old }
+    requires fit { RowsFit rows.old }
     requires time { clock.0 ≤ 2 ^ 48 }
     ensures { rows.new ≡ map (due_row clock) rows.old }
 {
@@ -154,7 +153,7 @@ fn produce_rows(rows: &mut [Row], clock: Ms)
 ///
 /// Volume 1, chapter 3, production triggers.
 pub fn produced_rows(rows: Vec<Row>, clock: Ms) -> Vec<Row>
-    requires fit { (profile : Profile) × RowsFit profile rows.items }
+    requires fit { RowsFit rows.items }
     requires time { clock.0 ≤ 2 ^ 48 }
     ensures { result.items ≡ map (due_row clock) rows.items }
 {

@@ -2,7 +2,6 @@
 
 ghost use Rattle.std.specs.Prelude.{◌≡◌, ◌≤◌, ◌+◌, ◌^◌, map, filter, flat_map, length, IfOk};
 ghost use Rattle.std.specs.List.{list_any};
-ghost use Rattle.adapter_table.specs.declared.profile.Profile.{Profile};
 ghost use Rattle.adapter_table.specs.Productions.{due_of, state_is_prompt, is_prompt, prompt_leaders, sending, prompt_sendings, prompt_by, prompt_state, prompt_row};
 ghost use Rattle.cip_productions.specs.Productions.{is_over, is_free, sooner_due, held, prompt_production};
 ghost use Rattle.adapter_table.specs.Rows.{written_row};
@@ -169,7 +168,7 @@ fn prompt_row(row: &mut Row, clock: Ms, point: u32)
 
 /// The change-of-state producers of an input have done what a write asks of them.
 fn prompt_rows(rows: &mut [Row], clock: Ms, point: u32)
-    requires fit { (profile : Profile) × RowsFit profile rows.old }
+    requires fit { RowsFit rows.old }
     requires time { clock.0 ≤ 2 ^ 48 }
     ensures { rows.new ≡ map (prompt_row clock point) rows.old }
 {
@@ -192,7 +191,7 @@ pub fn written_rows(alloc: Global, rows: &[Row], point: u32) -> Result<Vec<Row>,
 ///
 /// Volume 1, chapter 3, production triggers and production inhibit time.
 pub fn prompted_rows(rows: Vec<Row>, clock: Ms, point: u32) -> Vec<Row>
-    requires fit { (profile : Profile) × RowsFit profile rows.items }
+    requires fit { RowsFit rows.items }
     requires time { clock.0 ≤ 2 ^ 48 }
     ensures { result.items ≡ map (prompt_row clock point) rows.items }
 {
@@ -204,7 +203,7 @@ pub fn prompted_rows(rows: Vec<Row>, clock: Ms, point: u32) -> Vec<Row>
 /// The producers of an input have new data, and its change-of-state producers have done what a write asks
 /// of them. Takes no memory.
 pub fn write_and_prompt_rows(rows: &mut [Row], clock: Ms, point: u32)
-    requires fit { (profile : Profile) × RowsFit profile rows.old }
+    requires fit { RowsFit rows.old }
     requires time { clock.0 ≤ 2 ^ 48 }
     ensures { rows.new ≡ map (prompt_row clock point) (map (written_row point) rows.old) }
 {

@@ -1,4 +1,4 @@
-use Rattle.std.proofs.Common.{◌≡◌, ap, sym, ◌∙◌, arith}
+use Rattle.std.proofs.Common.{arith}
 use Rattle.adapter_table.specs.Productions.{same_node}
 use Rattle.connection_rows.proofs.Orders.{first_taken, nodes_transitive}
 use Rattle.connection_rows.proofs.sendings.each_once.Goals as goal

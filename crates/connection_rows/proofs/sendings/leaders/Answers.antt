@@ -1,4 +1,4 @@
-use Rattle.std.proofs.Common.{◌≡◌, ap, sym, ◌∙◌, arith}
+use Rattle.std.proofs.Common.{arith}
 use Rattle.adapter_table.specs.Productions.{shares_producer}
 use Rattle.connection_rows.proofs.Orders.{first_taken, producers_transitive}
 use Rattle.connection_rows.proofs.sendings.leaders.Goals as goal
