@@ -8,12 +8,12 @@ ghost use Rattle.cip_productions.specs.Acceptance.{is_news, is_repeated};
 
 ghost use Rattle.adapter_table.specs.Whole.{RowsFit};
 
+use adapter_table::is_established;
 use assembly_set::AssemblySet;
 use cip_datagram::{Datagram, read_header};
 use cip_netparams::timeout_of;
 use cip_tables::{Accepted, Delivery, Kind, Row};
 use cip_types::{ConnId, Ms, Node, newer32, same16};
-use adapter_table::is_established;
 
 /// The bytes of a run/idle header.
 const HEADER: u64 = 4;

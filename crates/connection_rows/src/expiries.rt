@@ -6,9 +6,9 @@ ghost use Rattle.adapter_table.specs.Ticks.{has_expired, expired, expired_row, e
 
 use crate::order::{By, sorted};
 use crate::rows::{copied, is_forsaken};
+use adapter_table::is_established;
 use cip_tables::{Notice, Row, State};
 use cip_types::{Ms, OutOfMemory};
-use adapter_table::is_established;
 use std::alloc::Global;
 
 /// Whether a connection is established, and its deadline has come.

@@ -6,9 +6,9 @@ ghost use Rattle.adapter_table.specs.Rows.{has_triad, is_timed_out, is_forsaken,
 ghost use Rattle.adapter_table.specs.Closing.{without_triad, staying, forsaken, dropped_notice};
 ghost use Rattle.adapter_table.specs.Opening.{is_opened_as, makes_room_by, makes_room, replaced_triad};
 
+use adapter_table::{MOST_ROWS, has_triad, is_established, is_supported, is_timed_out};
 use cip_tables::{Kind, Notice, Production, Row, State};
 use cip_types::{OutOfMemory, Triad};
-use adapter_table::{MOST_ROWS, has_triad, is_established, is_supported, is_timed_out};
 use std::alloc::Global;
 
 fn is_known(rows: &[Row], triad: Triad) -> bool

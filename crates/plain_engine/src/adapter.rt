@@ -120,14 +120,14 @@ impl PlainAdapter {
     fn production(&self, peer: Node, admission: &Admission<'_>) -> Production
         ensures { result ≡ opened_production self.now peer (view_admission admission.now) }
     {
-        let profile = self.assemblies.profile();
+        let point = admission.produced;
         Production {
             producer: self.next_id,
             sequence: 1,
             count: 0,
             written: true,
             due: self.clock,
-            address: address_of(profile, peer, admission.multicast, admission.produced),
+            address: address_of(self.assemblies.profile(), peer, admission.multicast, point),
             trigger: admission.trigger,
             inhibit: admission.inhibit,
             last: None,

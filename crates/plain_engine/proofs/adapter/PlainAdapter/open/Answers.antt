@@ -29,8 +29,10 @@ opened_reply-requires-clause-t_o c = let e = ap (λ (row : Row). row.t_o_api) c.
 
 pub configure-requires : goal.configure-requires
 configure-requires c =
+    let own = c.self.inside in
+    let t : AdapterTable = record { profile = own.assemblies.profile; rows = own.rows.items; values = own.assemblies.values; clock = own.clock; next_id = own.next_id; streams = own.streams.items } in
     let admitted = rw (← c.self.view_is) at c.requires in
-    stored_fits _ _ _ admitted
+    stored_fits t (view_open c.args.request.now) (view_admission c.args.admitted.now) admitted
 
 pub overflow_add-self : goal.overflow_add-self
 overflow_add-self c =
