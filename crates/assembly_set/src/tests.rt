@@ -1,7 +1,8 @@
 //! Two outputs, an input and a configuration: what they hold.
 
 use crate::*;
-use cip_tables::{Action, InputPoint, OutputPoint, Profile, StepFault};
+use adapter_table::{Action, InputPoint, OutputPoint, Profile};
+use cip_events::StepFault;
 use cip_types::{Identity, Items, Node};
 use std::alloc::Global;
 use std::test::Fail;

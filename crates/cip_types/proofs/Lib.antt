@@ -1,2 +1,4 @@
 pub mod FieldLaws
 pub mod TextLaws
+pub mod Places
+pub mod Orders

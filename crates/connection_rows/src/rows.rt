@@ -7,9 +7,12 @@ ghost use Rattle.adapter_table.specs.Rows.{has_triad, is_timed_out, is_forsaken,
 ghost use Rattle.adapter_table.specs.Closing.{without_triad, staying, forsaken, dropped_notice};
 ghost use Rattle.adapter_table.specs.Opening.{makes_room, triad_of, replaced_triad};
 
-use cip_tables::{Kind, Notice, Production, Row, State};
+use adapter_table::{
+    MOST_ROWS, Row, has_triad, is_established, is_supported, is_timed_out, written_row,
+};
+use cip_events::Notice;
+use cip_productions::Kind;
 use cip_types::{OutOfMemory, Triad};
-use open_checks::{MOST_ROWS, has_triad, is_established, is_supported, is_timed_out};
 use std::alloc::Global;
 
 fn is_known(rows: &[Row], triad: Triad) -> bool
@@ -31,7 +34,7 @@ fn first_timed_out(rows: &[Row]) -> Option<usize>
 }
 
 /// Where the connection is that makes room for a new one, or how many there are where none is.
-#[tactic(auto, using(crate::proofs::Places::none_passes, crate::proofs::Places::position_or))]
+#[tactic(auto, using(cip_types::proofs::Places::none_passes, cip_types::proofs::Places::position_or))]
 fn leaving(rows: &[Row], triad: Triad) -> usize
     ensures { result ≡ position_or_len (makes_room rows.now triad) rows.now }
 {
@@ -57,7 +60,7 @@ pub fn replaced(rows: &[Row], triad: Triad) -> Option<Triad>
 }
 
 /// Takes out the connection at a place, if there is one.
-#[tactic(auto, using(crate::proofs::Places::remove_past))]
+#[tactic(auto, using(cip_types::proofs::Places::remove_past))]
 fn remove_at(rows: &mut Vec<Row>, at: usize)
     ensures items { rows.new.items ≡ remove rows.old.items at }
     ensures len { vec_len rows.new ≤ vec_len rows.old }
@@ -76,7 +79,7 @@ pub fn find_row(rows: &[Row], triad: Triad) -> Option<Row>
 }
 
 /// Takes out the connection of a triad, if there is one. Takes no memory.
-#[tactic(auto, using(crate::proofs::Places::without_first_at, crate::proofs::Places::position_or))]
+#[tactic(auto, using(crate::proofs::Places::without_first_at, cip_types::proofs::Places::position_or))]
 fn remove_triad(rows: &mut Vec<Row>, triad: Triad)
     ensures { rows.new.items ≡ without_triad triad rows.old.items }
 {
@@ -136,27 +139,12 @@ pub fn closed_notices(alloc: Global, left: &[Row], triad: Triad) -> Result<Vec<N
     Ok(notices)
 }
 
-/// An established connection's producer has new data, where the input is its own.
-fn write_row(row: &mut Row, point: u32)
-    ensures { row.new ≡ written_row point row.old }
-{
-    if row.produced == point {
-        row.state = match row.state {
-            State::Established(production) => State::Established(Production {
-                written: true,
-                ..production
-            }),
-            State::TimedOut => State::TimedOut,
-        };
-    }
-}
-
 /// The producers of an input have new data. Takes no memory.
 pub fn write_rows(rows: &mut [Row], point: u32)
     ensures { rows.new ≡ map (written_row point) rows.old }
 {
     for row in rows.iter_mut() {
-        write_row(row, point);
+        *row = written_row(*row, point);
     }
 }
 

@@ -1,7 +1,7 @@
 use Rattle.std.proofs.Common.{ap, sym}
 use Rattle.std.specs.Option.{option_map}
 use Rattle.adapter_table.specs.Opening.{triad_of}
-use Rattle.connection_rows.proofs.Places.{find_some, find_none}
+use Rattle.cip_types.proofs.Places.{find_some, find_none}
 use Rattle.connection_rows.proofs.rows.replaced.Goals as goal
 
 pub returns-then-at-rows : goal.returns-then-at-rows
