@@ -6,7 +6,8 @@ ghost use Rattle.adapter_table.specs.Profiles.{is_output_at};
 ghost use Rattle.adapter_table.specs.Datagrams.{is_for, output_len, expected_len, owned_delivery, accepted_delivery, sized_delivery, row_delivery, later_deadline, accepted_row, fed_row};
 
 use crate::profile::{OutputPoint, Profile};
-use crate::row::{Row, lives};
+use crate::row::Row;
+use crate::rows::is_established;
 use cip_datagram::{Datagram, read_header};
 use cip_events::Delivery;
 use cip_netparams::timeout_of;
@@ -22,7 +23,7 @@ const HEADER: u64 = 4;
 pub fn is_for(row: &Row, peer: Node, id: ConnId) -> bool
     ensures { result ≡ is_for peer id.0 row.now }
 {
-    lives(&row.state) && row.peer.0 == peer.0 && row.o_t_id.0 == id.0
+    is_established(row) && row.peer.0 == peer.0 && row.o_t_id.0 == id.0
 }
 
 fn output_at(outputs: &[OutputPoint], point: u32) -> Option<OutputPoint>

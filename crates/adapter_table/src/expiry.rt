@@ -3,7 +3,8 @@
 ghost use Rattle.std.specs.Prelude.{◌≡◌};
 ghost use Rattle.adapter_table.specs.Ticks.{has_expired, expired_row, by_deadline};
 
-use crate::row::{Row, State, lives};
+use crate::row::{Row, State};
+use crate::rows::is_established;
 use cip_types::Ms;
 
 /// Whether a connection is established, and its deadline has come.
@@ -12,7 +13,7 @@ use cip_types::Ms;
 pub fn has_expired(row: &Row, clock: Ms) -> bool
     ensures { result ≡ has_expired clock row.now }
 {
-    lives(&row.state) && row.deadline.0 <= clock.0
+    is_established(row) && row.deadline.0 <= clock.0
 }
 
 /// A connection that has timed out, where its deadline has come; any other stays.

@@ -1,8 +1,5 @@
 //! One connection.
 
-ghost use Rattle.std.specs.Prelude.{◌≡◌};
-ghost use Rattle.adapter_table.specs.Rows.{lives};
-
 use cip_productions::{Accepted, Kind, Production};
 use cip_types::{ConnId, Ms, Node, Triad};
 
@@ -36,16 +33,4 @@ pub struct Row {
     pub last: Option<Accepted>,
     pub deadline: Ms,
     pub state: State,
-}
-
-/// Whether a connection in this state lives: no deadline of its consumer has passed.
-///
-/// Volume 1, chapter 3, connection instance states.
-pub fn lives(state: &State) -> bool
-    ensures { result ≡ lives state.now }
-{
-    match state {
-        State::Established(_) => true,
-        State::TimedOut => false,
-    }
 }

@@ -6,8 +6,11 @@ ghost use Rattle.adapter_table.specs.Rows.{has_triad, is_timed_out, is_forsaken,
 ghost use Rattle.adapter_table.specs.Closing.{without_triad, staying, forsaken, dropped_notice};
 ghost use Rattle.adapter_table.specs.Opening.{is_opened_as, makes_room_by, makes_room, replaced_triad};
 
-use adapter_table::{MOST_ROWS, has_triad, is_established, is_supported, is_timed_out};
-use cip_tables::{Kind, Notice, Production, Row, State};
+use adapter_table::{
+    MOST_ROWS, Row, has_triad, is_established, is_supported, is_timed_out, written_row,
+};
+use cip_events::Notice;
+use cip_productions::Kind;
 use cip_types::{OutOfMemory, Triad};
 use std::alloc::Global;
 
@@ -159,27 +162,12 @@ pub fn closed_notices(alloc: Global, left: &[Row], triad: Triad) -> Result<Vec<N
     Ok(notices)
 }
 
-/// An established connection's producer has new data, where the input is its own.
-fn write_row(row: &mut Row, point: u32)
-    ensures { row.new ≡ written_row point row.old }
-{
-    if row.produced == point {
-        row.state = match row.state {
-            State::Established(production) => State::Established(Production {
-                written: true,
-                ..production
-            }),
-            State::TimedOut => State::TimedOut,
-        };
-    }
-}
-
 /// The producers of an input have new data. Takes no memory.
 pub fn write_rows(rows: &mut [Row], point: u32)
     ensures { rows.new ≡ map (written_row point) rows.old }
 {
     for row in rows.iter_mut() {
-        write_row(row, point);
+        *row = written_row(*row, point);
     }
 }
 

@@ -5,7 +5,7 @@ ghost use Rattle.std.specs.List.{position, position_or_len};
 ghost use Rattle.adapter_table.specs.Profiles.{is_at, host_id};
 ghost use Rattle.adapter_table.specs.Opening.{multicast_address, address_of};
 
-use cip_tables::{InputPoint, Profile};
+use adapter_table::{InputPoint, Profile};
 use cip_types::Node;
 
 /// The first multicast address of all, 239.192.1.0.
@@ -17,7 +17,7 @@ fn input_position(inputs: &[InputPoint], point: u32) -> Option<usize>
     inputs.iter().position(|input| input.instance == point)
 }
 
-#[tactic(auto, using(connection_rows::proofs::Places::position_or, connection_rows::proofs::Places::place_bound))]
+#[tactic(auto, using(cip_types::proofs::Places::position_or, cip_types::proofs::Places::place_bound))]
 fn place_of_input(inputs: &[InputPoint], point: u32) -> usize
     ensures value { result ≡ position_or_len (is_at point) inputs.now }
     ensures bound { result ≤ length inputs.now }

@@ -8,7 +8,7 @@ ghost use Rattle.device_answers.specs.Routes.{view_echo, view_frame_reply, IsWri
 
 use crate::routes::Echo;
 use cip_encap::{MessageView, SocketAddress, write_items, write_message};
-use cip_tables::{EncapStatus, Reply};
+use cip_router::{EncapStatus, Reply};
 use cip_types::{Node, OutOfMemory};
 use std::alloc::Global;
 

@@ -19,17 +19,17 @@ use Rattle.adapter_table.specs.declared.table.AdapterTable.{AdapterTable}
 use Rattle.adapter_table.specs.Profiles.{is_at}
 use Rattle.adapter_table.specs.Shapes.{len_of}
 use Rattle.adapter_table.specs.Rows.{written_state, written_row}
-use Rattle.cip_types.specs.Order.{differs}
 use Rattle.adapter_table.specs.Closing.{stays, staying}
 use Rattle.adapter_table.specs.Datagrams.{is_for, row_delivery, run_data}
-use Rattle.adapter_table.specs.Productions.{shares_producer, leaders, state_is_prompt, is_prompt, prompt_sendings, prompt_row}
+use Rattle.cip_productions.specs.Productions.{sent}
+use Rattle.adapter_table.specs.Productions.{state_is_prompt, is_prompt, productions_on_change, prompt_row}
 use Rattle.adapter_table.specs.Ticks.{expired_row, expired_rows}
 use Rattle.adapter_table.specs.Whole.{RowsFit, IsWhole}
 use Rattle.adapter_table.specs.Whole.{ConsumesOutput}
 use Rattle.adapter_table.proofs.EachLemmas.{each_found}
 use Rattle.adapter_table.proofs.FedLemmas.{applied_fits, applied_output}
 use Rattle.adapter_table.proofs.WholeLemmas.{fits_filter, fits_map, fits_expired, fits_written}
-use Rattle.assembly_set.proofs.Shaping.{written_back}
+use Rattle.cip_types.proofs.Places.{written_back}
 use Rattle.std.proofs.lemmas.List.{length-map}
 use Rattle.assembly_set.specs.declared.fault.PointFault.TheVariants.{WrongLength}
 use Rattle.assembly_set.specs.Assemblies.{is_output, input_fault, write_fault}
@@ -113,21 +113,6 @@ any_written : (clock : Ms) (point : ℕ) (rows : List Row) → list_any (is_prom
 any_written clock point [] = refl
 any_written clock point (row ∷ rows) = rw (prompt_step (row.produced == point) clock point row) (ap (λ b. is_prompt clock point row || b) (any_written clock point rows))
 
-any_filter : (p q : Row → Bool) (rows : List Row) → list_any q rows ≡ false → list_any q (filter p rows) ≡ false
-any_filter p q [] none = refl
-any_filter p q (row ∷ rows) none =
-    let parts = or_false (q row) (list_any q rows) none in
-    filter_step (p row) (any_filter p q rows parts.1) where
-      filter_step : (b : Bool) → list_any q (filter p rows) ≡ false → list_any q (cond b (row ∷ filter p rows) (filter p rows)) ≡ false
-      filter_step true rest = rw (or_false (q row) (list_any q rows) none).0 rest
-      filter_step false rest = rest
-
-any_leader : (q : Row → Bool) (rows : List Row) → list_any q rows ≡ false → list_any q (leaders rows) ≡ false
-any_leader q [] none = refl
-any_leader q (row ∷ rows) none =
-    let parts = or_false (q row) (list_any q rows) none in
-    rw parts.0 (any_filter (differs shares_producer row) q (leaders rows) (any_leader q rows parts.1))
-
 none_passes : (q : Row → Bool) (rows : List Row) → list_any q rows ≡ false → filter q rows ≡ []
 none_passes q [] none = refl
 none_passes q (row ∷ rows) none =
@@ -135,7 +120,7 @@ none_passes q (row ∷ rows) none =
     rw parts.0 (none_passes q rows parts.1)
 
 -- so where none was prompt before, nothing is sent
-pub nothing_prompt : (clock : Ms) (point : ℕ) (bytes : List ℕ) (rows : List Row) → list_any (is_prompt clock point) rows ≡ false → prompt_sendings clock point bytes (map (written_row point) rows) ≡ []
+pub nothing_prompt : (clock : Ms) (point : ℕ) (bytes : List ℕ) (rows : List Row) → list_any (is_prompt clock point) rows ≡ false → map sent (productions_on_change clock point bytes (map (written_row point) rows)) ≡ []
 nothing_prompt clock point bytes rows none =
     let none_written = any_written clock point rows ∙ none in
-    rw (none_passes (is_prompt clock point) (leaders (map (written_row point) rows)) (any_leader (is_prompt clock point) (map (written_row point) rows) none_written)) refl
+    rw (none_passes (is_prompt clock point) (map (written_row point) rows) none_written) refl

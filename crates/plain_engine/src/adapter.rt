@@ -27,7 +27,7 @@ ghost use Rattle.cip_events.specs.Outcomes.{Follows};
 ghost use Rattle.assembly_set.specs.Assemblies.{config_len, is_output, write_fault};
 ghost use Rattle.std.specs.List.{list_any};
 
-use adapter_table::drives;
+use adapter_table::{drives, row_delivery};
 use app_rules::{Listed, View, admit, drawn_ids};
 use assembly_set::AssemblySet;
 use cip_datagram::{Datagram, read_datagram, read_header};
@@ -39,9 +39,9 @@ use cip_tables::{
 };
 use cip_types::{ConnId, Items, Ms, Node, OutOfMemory};
 use connection_rows::{
-    accept_rows, append_row, closed_notices, copied, due_sendings, expired, expiry_notices, faded,
-    find_row, find_target, is_prompted, judge, make_room, others, produced_rows, prompt_sendings,
-    prompted_rows, replaced, staying, write_and_prompt_rows, written_rows,
+    accept_rows, append_row, closed_notices, copied, expired, expired_rows, expiry_notices,
+    find_row, find_target, make_room, others, produced_rows, produces_at_once, prompted_rows,
+    replaced, sent_on_change, sent_when_due, staying, write_and_prompt_rows, written_rows,
 };
 use device_answers::{
     Route, address_of, copied_streams, opened_address, opened_reply, opening_notices, plain_answer,
@@ -351,7 +351,7 @@ impl PlainAdapter {
         let Some(row) = find_target(&self.rows, peer, datagram.connection) else {
             return Delivery::UnknownId;
         };
-        let delivery = judge(&self.assemblies, &row, datagram);
+        let delivery = row_delivery(self.assemblies.profile(), &row, datagram);
         if is_accepted(delivery) {
             self.feed(peer, datagram, &row, delivery);
         }
@@ -429,10 +429,10 @@ impl PlainAdapter {
     {
         let clock = Ms(self.clock.0 + u64::from(ms));
         let gone = expired(self.alloc, &self.rows, clock)?;
-        let faded = faded(self.alloc, &self.rows, clock)?;
-        let notices = expiry_notices(self.alloc, &gone, &faded)?;
-        let left = staying(self.alloc, &faded)?;
-        let datagrams = due_sendings(self.alloc, &left, &self.assemblies, clock)?;
+        let after = expired_rows(self.alloc, &self.rows, clock)?;
+        let notices = expiry_notices(self.alloc, &gone, &after)?;
+        let left = staying(self.alloc, &after)?;
+        let datagrams = sent_when_due(self.alloc, &left, &self.assemblies, clock)?;
         self.pass(clock, &gone, produced_rows(left, clock));
         Ok(told_answer(self.alloc, datagrams, notices))
     }
@@ -495,7 +495,7 @@ impl PlainAdapter {
         ensures { Follows (Ok (written (written_table self.old point bytes.now) point bytes.now)) self.old result self.new }
     {
         let rows = written_rows(self.alloc, &self.rows, point)?;
-        let datagrams = prompt_sendings(self.alloc, &rows, self.clock, point, bytes)?;
+        let datagrams = sent_on_change(self.alloc, &rows, self.clock, point, bytes)?;
         self.put(point, bytes, prompted_rows(rows, self.clock, point));
         Ok(told_answer(self.alloc, datagrams, Vec::new(self.alloc)))
     }
@@ -512,7 +512,7 @@ impl PlainAdapter {
         if bytes.len() as u64 != input.len {
             return Err(StepFault::WrongLength);
         }
-        if is_prompted(&self.rows, self.clock, point) {
+        if produces_at_once(&self.rows, self.clock, point) {
             return self.write_promptly(point, bytes);
         }
         self.write_quietly(point, bytes)
