@@ -18,14 +18,14 @@ use Rattle.cip_events.specs.declared.event.StepFault.{StepFault}
 use Rattle.cip_types.specs.contracts.names.NodePartialEq.TheImpl as node
 use Rattle.cip_types.specs.contracts.names.ConnIdPartialEq.TheImpl as id
 use Rattle.cip_types.specs.contracts.names.TriadPartialEq.TheImpl as triad
-use Rattle.cip_tables.specs.contracts.event.RecipientPartialEq.TheImpl as recipient
-use Rattle.cip_tables.specs.contracts.event.FramePartialEq.TheImpl as frame
-use Rattle.cip_tables.specs.contracts.event.SendingPartialEq.TheImpl as sending
-use Rattle.cip_tables.specs.contracts.event.DeliveryPartialEq.TheImpl as delivery
-use Rattle.cip_tables.specs.contracts.event.VerdictPartialEq.TheImpl as verdict
-use Rattle.cip_tables.specs.contracts.event.NoticePartialEq.TheImpl as notice
-use Rattle.cip_tables.specs.contracts.event.AnswerPartialEq.TheImpl as answer
-use Rattle.cip_tables.specs.contracts.event.StepFaultPartialEq.TheImpl as fault
+use Rattle.cip_events.specs.contracts.event.RecipientPartialEq.TheImpl as recipient
+use Rattle.cip_events.specs.contracts.event.FramePartialEq.TheImpl as frame
+use Rattle.cip_events.specs.contracts.event.SendingPartialEq.TheImpl as sending
+use Rattle.cip_events.specs.contracts.event.DeliveryPartialEq.TheImpl as delivery
+use Rattle.cip_events.specs.contracts.event.VerdictPartialEq.TheImpl as verdict
+use Rattle.cip_events.specs.contracts.event.NoticePartialEq.TheImpl as notice
+use Rattle.cip_events.specs.contracts.event.AnswerPartialEq.TheImpl as answer
+use Rattle.cip_events.specs.contracts.event.StepFaultPartialEq.TheImpl as fault
 
 node_decides : (a b : Node) → Decides ((node.ghosts).eq a b) (a ≡ b)
 node_decides a b = search rules

@@ -617,6 +617,8 @@ impl Device for PlainAdapter {
             streams: Items::copy_of(self.alloc, &self.streams)?,
         }))
     }
+
+    fn is_whole(&self) {}
 }
 
 impl PlainAdapter {
