@@ -618,7 +618,10 @@ impl Device for PlainAdapter {
         }))
     }
 
-    fn is_whole(&self) {}
+    fn is_whole(&self) {
+        // A look at a field tells what holds of them all.
+        let _clock = self.clock;
+    }
 }
 
 impl PlainAdapter {
