@@ -21,7 +21,7 @@ pub use producing::{
     due_row, is_due, is_produced_by, is_prompt, producer_in, prompt_row, written_row,
 };
 pub use profile::{Action, InputPoint, OutputPoint, Profile};
-pub use row::{Row, State, lives};
+pub use row::{Row, State};
 pub use rows::{
     MOST_ROWS, drives, has_triad, holds_triad, is_established, is_member, is_supported,
     is_timed_out, supports,
