@@ -28,13 +28,8 @@ use Rattle.adapter_table.specs.Whole.{FitsRow, RowsFit, IsWhole}
 use Rattle.adapter_table.specs.Whole.{ConsumesOutput}
 use Rattle.adapter_table.proofs.EachLemmas.{each_filter, each_map, each_found}
 use Rattle.adapter_table.proofs.FedLemmas.{applied_fits, applied_output}
-<<<<<<< HEAD
-use Rattle.adapter_table.proofs.WholeLemmas.{fits_filter, fits_map, fits_expired, fits_written}
-use Rattle.cip_types.proofs.Places.{written_back}
-=======
 use Rattle.adapter_table.proofs.WholeLemmas.{fits_expired, fits_written}
-use Rattle.assembly_set.proofs.Shaping.{written_back}
->>>>>>> laws
+use Rattle.cip_types.proofs.Places.{written_back}
 use Rattle.std.proofs.lemmas.List.{length-map}
 use Rattle.assembly_set.specs.declared.fault.PointFault.TheVariants.{WrongLength}
 use Rattle.assembly_set.specs.Assemblies.{is_output, input_fault, write_fault}
