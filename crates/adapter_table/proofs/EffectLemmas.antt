@@ -17,7 +17,7 @@ use Rattle.adapter_table.specs.declared.row.Row.{Row}
 use Rattle.adapter_table.specs.declared.table.AdapterTable.{AdapterTable}
 use Rattle.adapter_table.specs.Profiles.{is_at}
 use Rattle.adapter_table.specs.Points.{bytes_at}
-use Rattle.adapter_table.specs.Checks.{Admitted, standing, verdict}
+use Rattle.adapter_table.specs.Checks.{Admitted, admission}
 use Rattle.adapter_table.specs.Opening.{opened_row, opened_table}
 use Rattle.adapter_table.specs.Closing.{closed_table}
 use Rattle.cip_router.specs.Asking.{asked_reading}
@@ -70,7 +70,7 @@ tick_is t ms next is = tick_step (nat_lt longest_tick ms) (nat_lt clock_end (t.c
 -- ---- what each effect keeps
 
 pub record EffectsKeep (P : AdapterTable → Type 0) : Type 0 where
-  pub opened : (t : AdapterTable) (peer : Node) (request : OpenFields) (admitted : Admitted) → verdict (standing t) request ≡ Ok admitted → P t → P (opened_table t request (opened_row t peer request admitted) admitted)
+  pub opened : (t : AdapterTable) (peer : Node) (request : OpenFields) (admitted : Admitted) → admission t request ≡ Ok admitted → P t → P (opened_table t (opened_row t peer request admitted) admitted)
   pub closed : (t : AdapterTable) (row : Row) → P t → P (closed_table t row)
   pub written : (t : AdapterTable) (point : ℕ) (bytes : List ℕ) (input : InputPoint) → find (is_at point) t.profile.inputs ≡ Some input → length bytes ≡ input.len → P t → P (prompt_table (written_table t point bytes) point)
   pub fed : (t : AdapterTable) (peer : Node) (d : DatagramFields) (row : Row) (delivery : Delivery) → row_delivery t.profile row d ≡ delivery → find (is_for peer d.connection) t.rows ≡ Some row → P t → P (fed_table t peer d row delivery)

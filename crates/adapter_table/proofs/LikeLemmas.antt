@@ -15,8 +15,8 @@ use Rattle.adapter_table.specs.Rows.{lives, has_triad, drives, drivers, is_membe
 use Rattle.cip_netparams.specs.declared.Trigger.{Trigger}
 use Rattle.cip_netparams.specs.declared.Trigger.TheVariants.{Cyclic, ChangeOfState}
 use Rattle.cip_productions.specs.declared.production.Production.{Production}
-use Rattle.cip_productions.specs.Productions.{produced}
-use Rattle.adapter_table.specs.Productions.{due_state, due_row, prompt_state, prompt_row}
+use Rattle.cip_productions.specs.Productions.{produced, changed, changed_by, held, is_free}
+use Rattle.adapter_table.specs.Productions.{producer_of, due_state, due_row, prompt_state, prompt_row}
 use Rattle.adapter_table.specs.Datagrams.{is_for, accepted_row, fed_row}
 use Rattle.adapter_table.specs.Sound.{TriadsDiffer, has_o_t_id, IdsDiffer, IdsAreDrawn, ListenersAreSupported, Agree, AllAgree, GroupsAgree}
 use Rattle.adapter_table.proofs.GroupLemmas.{produced_is}
@@ -24,6 +24,7 @@ use Rattle.adapter_table.proofs.GroupLemmas.{produced_is}
 -- a connection in the place of another
 pub record IsLike (row row' : Row) : Type 0 where
   pub lives : lives row'.state ≡ lives row.state
+  pub producer : producer_of row'.state ≡ producer_of row.state
   pub kind : row'.kind ≡ row.kind
   pub multicast : row'.multicast ≡ row.multicast
   pub produced : row'.produced ≡ row.produced
@@ -40,7 +41,7 @@ pub record Keeps (f : Row → Row) : Type 0 where
   pub same : (a b : Row) → a.produced ≡ b.produced → a.t_o_api ≡ b.t_o_api → a.state ≡ b.state → (f a).state ≡ (f b).state
 
 like_itself : (row : Row) → IsLike row row
-like_itself row = record { lives = refl; kind = refl; multicast = refl; produced = refl; consumed = refl; triad = refl; o_t_id = refl; opening = refl; t_o_id = refl; t_o_api = refl }
+like_itself row = record { lives = refl; producer = refl; kind = refl; multicast = refl; produced = refl; consumed = refl; triad = refl; o_t_id = refl; opening = refl; t_o_id = refl; t_o_api = refl }
 
 -- ---- drivers, triads, ids
 
@@ -132,13 +133,13 @@ groups_kept f keeps (row ∷ rows) agree = (all_agree f keeps row rows agree.0, 
 
 -- ---- the state alone is changed
 
-like_stated : (row : Row) (state : State) → lives state ≡ lives row.state → IsLike row (record row { state = state })
-like_stated row state live = record { lives = live; kind = refl; multicast = refl; produced = refl; consumed = refl; triad = refl; o_t_id = refl; opening = refl; t_o_id = refl; t_o_api = refl }
+like_stated : (row : Row) (state : State) → lives state ≡ lives row.state → producer_of state ≡ producer_of row.state → IsLike row (record row { state = state })
+like_stated row state live same = record { lives = live; producer = same; kind = refl; multicast = refl; produced = refl; consumed = refl; triad = refl; o_t_id = refl; opening = refl; t_o_id = refl; t_o_api = refl }
 
 -- a connection in another state where a test says so
-stated_like : (b : Bool) (row : Row) (state : State) → lives state ≡ lives row.state → IsLike row (cond b (record row { state = state }) row)
-stated_like true row state live = like_stated row state live
-stated_like false row state live = like_itself row
+stated_like : (b : Bool) (row : Row) (state : State) → lives state ≡ lives row.state → producer_of state ≡ producer_of row.state → IsLike row (cond b (record row { state = state }) row)
+stated_like true row state live same = like_stated row state live same
+stated_like false row state live same = like_itself row
 
 stated_same : (x y : Bool) (a b : Row) (s t : State) → x ≡ y → s ≡ t → a.state ≡ b.state → (cond x (record a { state = s }) a).state ≡ (cond y (record b { state = t }) b).state
 stated_same true true a b s t e changed state = changed
@@ -152,9 +153,13 @@ lives_written : (state : State) → lives (written_state state) ≡ lives state
 lives_written (Established production) = refl
 lives_written TimedOut = refl
 
+producer_written : (state : State) → producer_of (written_state state) ≡ producer_of state
+producer_written (Established production) = refl
+producer_written TimedOut = refl
+
 pub written_keeps : (point : ℕ) → Keeps (written_row point)
 written_keeps point = record {
-  like = λ row. stated_like (row.produced == point) row (written_state row.state) (lives_written row.state);
+  like = λ row. stated_like (row.produced == point) row (written_state row.state) (lives_written row.state) (producer_written row.state);
   same = λ a b produced api state.
       stated_same (a.produced == point) (b.produced == point) a b (written_state a.state) (written_state b.state)
       (ap (λ (n : ℕ). n == point) produced) (ap written_state state) state;
@@ -167,7 +172,7 @@ fed_state true clock d row = refl
 fed_state false clock d row = refl
 
 fed_like : (b : Bool) (clock : Ms) (d : DatagramFields) (row : Row) → IsLike row (cond b (accepted_row clock d row) row)
-fed_like true clock d row = record { lives = refl; kind = refl; multicast = refl; produced = refl; consumed = refl; triad = refl; o_t_id = refl; opening = refl; t_o_id = refl; t_o_api = refl }
+fed_like true clock d row = record { lives = refl; producer = refl; kind = refl; multicast = refl; produced = refl; consumed = refl; triad = refl; o_t_id = refl; opening = refl; t_o_id = refl; t_o_api = refl }
 fed_like false clock d row = like_itself row
 
 pub fed_keeps : (clock : Ms) (peer : Node) (d : DatagramFields) → Keeps (fed_row clock peer d)
@@ -186,9 +191,17 @@ lives_due : (clock : Ms) (api : ℕ) (state : State) → lives (due_state clock 
 lives_due clock api (Established production) = lives_established (nat_le production.due.0 clock.0) (produced clock api production) production
 lives_due clock api TimedOut = refl
 
+producer_either : (b : Bool) (x y : Production) → x.producer ≡ y.producer → producer_of (cond b (Established x) (Established y)) ≡ y.producer
+producer_either true x y same = same
+producer_either false x y same = refl
+
+producer_due : (clock : Ms) (api : ℕ) (state : State) → producer_of (due_state clock api state) ≡ producer_of state
+producer_due clock api (Established production) = producer_either (nat_le production.due.0 clock.0) (produced clock api production) production refl
+producer_due clock api TimedOut = refl
+
 pub due_keeps : (clock : Ms) → Keeps (due_row clock)
 due_keeps clock = record {
-  like = λ row. like_stated row (due_state clock row.t_o_api row.state) (lives_due clock row.t_o_api row.state);
+  like = λ row. like_stated row (due_state clock row.t_o_api row.state) (lives_due clock row.t_o_api row.state) (producer_due clock row.t_o_api row.state);
   same = λ a b produced api state. ap (λ (n : ℕ). due_state clock n a.state) api ∙ ap (due_state clock b.t_o_api) state;
 }
 
@@ -196,9 +209,21 @@ lives_prompted : (clock : Ms) (api : ℕ) (state : State) → lives (prompt_stat
 lives_prompted clock api (Established production) = refl
 lives_prompted clock api TimedOut = refl
 
+prompt_producer : (b : Bool) (x y : Production) (n : ℕ) → x.producer ≡ n → y.producer ≡ n → (cond b x y).producer ≡ n
+prompt_producer true x y n first second = first
+prompt_producer false x y n first second = second
+
+producer_prompt : (trigger : Trigger) (clock : Ms) (api : ℕ) (production : Production) → (changed_by trigger clock api production).producer ≡ production.producer
+producer_prompt Cyclic clock api production = refl
+producer_prompt ChangeOfState clock api production = prompt_producer (is_free clock production) (produced clock api production) (held production) production.producer refl refl
+
+producer_prompted : (clock : Ms) (api : ℕ) (state : State) → producer_of (prompt_state clock api state) ≡ producer_of state
+producer_prompted clock api (Established production) = producer_prompt production.trigger clock api production
+producer_prompted clock api TimedOut = refl
+
 pub prompt_keeps : (clock : Ms) (point : ℕ) → Keeps (prompt_row clock point)
 prompt_keeps clock point = record {
-  like = λ row. stated_like (row.produced == point) row (prompt_state clock row.t_o_api row.state) (lives_prompted clock row.t_o_api row.state);
+  like = λ row. stated_like (row.produced == point) row (prompt_state clock row.t_o_api row.state) (lives_prompted clock row.t_o_api row.state) (producer_prompted clock row.t_o_api row.state);
   same = λ a b produced api state.
       stated_same (a.produced == point) (b.produced == point) a b (prompt_state clock a.t_o_api a.state) (prompt_state clock b.t_o_api b.state)
       (ap (λ (n : ℕ). n == point) produced)

@@ -9,11 +9,11 @@ use Rattle.adapter_table.specs.declared.row.Row.{Row}
 use Rattle.adapter_table.specs.declared.table.PointValue.{PointValue}
 use Rattle.adapter_table.specs.declared.table.AdapterTable.{AdapterTable}
 use Rattle.adapter_table.specs.Points.{lost_values}
-use Rattle.adapter_table.specs.Rows.{has_triad, drives, is_forsaken, without_first}
+use Rattle.adapter_table.specs.Rows.{has_triad, drives, is_forsaken, others}
 
 -- the connections without that of the triad
 abbrev pub without_triad : Triad → List Row → List Row
-without_triad triad rows = without_first (has_triad triad) rows
+without_triad triad rows = others (has_triad triad) rows
 
 -- the listen-only connections that lose their support, in opening order
 abbrev pub forsaken : List Row → List Row

@@ -6,7 +6,6 @@ use Rattle.std.specs.List.{filter_map}
 use Rattle.cip_types.specs.declared.names.Node.{Node}
 use Rattle.cip_types.specs.declared.names.Ms.{Ms}
 use Rattle.cip_types.specs.Order.{in_order, first_of_each}
-use Rattle.cip_productions.specs.declared.production.Production.{Production}
 use Rattle.cip_productions.specs.declared.production.Producer.{Producer}
 use Rattle.cip_productions.specs.Productions.{produced, is_production_due, changed, is_produced_on_change, Produced, produced_by, same_producer, by_number, by_due}
 use Rattle.adapter_table.specs.declared.row.Row.{Row}
@@ -56,6 +55,11 @@ abbrev pub production_of : List Row → List ℕ → Producer → Produced
 production_of rows input producer = produced_by (consumers producer.production.producer rows) input producer
 
 -- PRODUCTIONS THAT ARE DUE
+
+-- the number of the producer of an established connection
+abbrev pub producer_of : State → ℕ
+producer_of (Established production) = production.producer
+producer_of TimedOut = 0
 
 abbrev pub due_of : State → ℕ
 due_of (Established production) = production.due.0

@@ -1,6 +1,6 @@
 -- Requests to the message router: what is replied, and what becomes of the table
 -- (Volume 1, chapter 2, message router request and reply formats, and chapter 3, Connection Manager).
-use Rattle.std.specs.Prelude.{ℕ, ◌==◌, not, length, find, if◌then◌else◌, Bool, true, false, List, [], ◌∷◌, Option, Some, None, Result, Ok, Err}
+use Rattle.std.specs.Prelude.{ℕ, ◌==◌, not, length, find, Bool, true, false, List, [], ◌∷◌, Option, Some, None, Result, Ok, Err}
 use Rattle.cip_types.specs.Cases.{first_case_or}
 use Rattle.cip_types.specs.declared.names.Node.{Node}
 use Rattle.cip_fwdopen.specs.Open.{OpenFields}
@@ -23,7 +23,7 @@ use Rattle.cip_router.specs.Replies as replies
 use Rattle.cip_router.specs.declared.refusal.Refusal.{Refusal}
 use Rattle.cip_router.specs.declared.refusal.Status.{Status}
 use Rattle.cip_router.specs.Refusals.{refusal_fault, status_fault}
-use Rattle.adapter_table.specs.Checks.{Admitted, standing, verdict}
+use Rattle.adapter_table.specs.Checks.{Admitted, admission}
 use Rattle.adapter_table.specs.Opening.{opened_row, opened_table, opened_reply, opened_address, opened_notices}
 use Rattle.cip_events.specs.Answers.{plain_answer}
 
@@ -58,7 +58,7 @@ admitted_open t peer large request admitted =
       reply = opened large (opened_reply row);
       address = opened_address row;
       notices = opened_notices t.rows row;
-      table = opened_table t request row admitted;
+      table = opened_table t row admitted;
     }
 
 abbrev pub judged_open : AdapterTable → Node → Bool → OpenFields → Result Admitted Refusal → Served
@@ -67,7 +67,7 @@ judged_open t peer large request (Ok admitted) = admitted_open t peer large requ
 
 -- a Forward_Open
 unfoldable pub served_open : AdapterTable → Node → Bool → OpenFields → Served
-served_open t peer large request = judged_open t peer large request (verdict (standing t) request)
+served_open t peer large request = judged_open t peer large request (admission t request)
 
 -- a close of no connection
 abbrev pub unknown_close : AdapterTable → CloseFields → Served

@@ -1,6 +1,6 @@
 -- The value of an output from scratch: what the last event that touched it left there
 -- (Volume 1, chapter 3, run/idle and connection timeouts; chapter 5, Assembly object).
-use Rattle.std.specs.Prelude.{ℕ, ◌==◌, ◌&&◌, not, Bool, if◌then◌else◌, List, find, replicate, Option, Some, None, Result, Ok, Err}
+use Rattle.std.specs.Prelude.{ℕ, ◌≡◌, ◌==◌, ◌&&◌, not, Bool, if◌then◌else◌, List, find, replicate, Option, Some, None, Result, Ok, Err}
 use Rattle.std.specs.List.{list_any}
 use Rattle.cip_types.specs.declared.names.Node.{Node}
 use Rattle.cip_datagram.specs.declared.datagram.DatagramFault.{DatagramFault}
@@ -18,6 +18,7 @@ use Rattle.adapter_table.specs.declared.profile.Profile.{Profile}
 use Rattle.adapter_table.specs.declared.row.Row.{Row}
 use Rattle.adapter_table.specs.declared.table.AdapterTable.{AdapterTable}
 use Rattle.adapter_table.specs.Profiles.{is_output_at}
+use Rattle.adapter_table.specs.Points.{bytes_at}
 use Rattle.adapter_table.specs.Rows.{drives}
 use Rattle.adapter_table.specs.Datagrams.{is_for, row_delivery, run_data}
 
@@ -90,3 +91,9 @@ lost point old new = if is_lost point old.rows new.rows then left_lost (find (is
 -- what an event that leads from one table to another leaves at an output, where it touches it
 abbrev pub left_at : ℕ → AdapterTable → Event → AdapterTable → Option (List ℕ)
 left_at point old event new = or_else (fed point old event) (lost point old new)
+
+-- it leaves at each output what it says where it touches it, and otherwise what the output held
+abbrev pub Leaves : AdapterTable → Event → AdapterTable → Type 0
+Leaves t event next =
+    (point : ℕ) (output : OutputPoint) → find (is_output_at point) t.profile.outputs ≡ Some output →
+    bytes_at next.values point ≡ or_else (left_at point t event next) (bytes_at t.values point)

@@ -6,6 +6,7 @@ mod acceptance;
 mod admission;
 mod copy;
 mod expiry;
+pub mod laws;
 mod producing;
 mod profile;
 mod profile_check;

@@ -6,7 +6,7 @@ ghost use Rattle.cip_productions.specs.Acceptance.{is_news, is_repeated};
 use cip_types::{newer32, same16};
 
 /// The sequence number and the sequence count of the datagram that was last accepted.
-#[derive(Clone, Copy, Debug, PartialEq, Eq)]
+#[derive(Clone, Copy, PartialEq, Eq)]
 pub struct Accepted {
     pub number: u32,
     pub count: u16,

@@ -6,7 +6,7 @@ use cip_types::{ConnId, Ms, Node};
 /// The production of a connection's data.
 ///
 /// Volume 1, chapter 3, transport class 1 and production triggers.
-#[derive(Clone, Copy, Debug, PartialEq, Eq)]
+#[derive(Clone, Copy, PartialEq, Eq)]
 pub struct Production {
     /// Which producer it is: the opening number of the connection that began it.
     pub producer: u32,

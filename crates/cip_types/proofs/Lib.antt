@@ -2,3 +2,4 @@ pub mod FieldLaws
 pub mod TextLaws
 pub mod Places
 pub mod Orders
+pub mod Samples

@@ -1,14 +1,15 @@
--- Edits of a list at the first place that passes a test.
-use Rattle.std.proofs.Common.{◌≡◌, ℕ, ◌+◌, Bool, true, false, cond, not, List, [], ◌∷◌, refl, arith}
-use Rattle.std.specs.List.{position_or_len, remove}
-use Rattle.std.proofs.lemmas.Grind.{common_steps}
+-- Room for a new connection.
+use Rattle.std.proofs.Common.{◌≡◌, Bool, List, length, Option, nat_le, find, refl}
+use Rattle.std.specs.List.{list_any}
+use Rattle.std.specs.Option.{option_map}
+use Rattle.cip_types.specs.declared.names.Triad.{Triad}
 use Rattle.adapter_table.specs.declared.row.Row.{Row}
-use Rattle.adapter_table.specs.Rows.{without_first}
+use Rattle.adapter_table.specs.Rows.{has_triad, is_timed_out, others}
+use Rattle.adapter_table.specs.Opening.{makes_room_by, makes_room, triad_of, replaced_triad}
 
-remove_step : {X : Type 0} (b : Bool) (x : X) (xs without : List X) (n : ℕ) → without ≡ remove xs n → cond b xs (x ∷ without) ≡ remove (x ∷ xs) (cond (not b) (1 + n) 0)
-remove_step true x xs without n same = grind (arith, common_steps)
-remove_step false x xs without n same = grind (arith, common_steps)
+-- those that the looked-up facts leave are those that the definition does
+pub room_left : (known full : Bool) (first : Option Row) (triad wanted : Triad) (rows : List Row) → triad ≡ wanted → known ≡ list_any (has_triad wanted) rows → full ≡ nat_le 64 (length rows) → first ≡ find is_timed_out rows → others (makes_room_by known full first triad) rows ≡ others (makes_room rows wanted) rows
+room_left known full first triad wanted rows a b c d = rw (a, b, c, d) refl
 
-pub without_first_at : (p : Row → Bool) (rows : List Row) → without_first p rows ≡ remove rows (position_or_len p rows)
-without_first_at p [] = refl
-without_first_at p (row ∷ rows) = remove_step (p row) row rows _ _ (without_first_at p rows)
+pub room_found : (known full : Bool) (first : Option Row) (triad wanted : Triad) (rows : List Row) → triad ≡ wanted → known ≡ list_any (has_triad wanted) rows → full ≡ nat_le 64 (length rows) → first ≡ find is_timed_out rows → option_map triad_of (find (makes_room_by known full first triad) rows) ≡ replaced_triad rows wanted
+room_found known full first triad wanted rows a b c d = rw (a, b, c, d) refl

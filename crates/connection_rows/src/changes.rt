@@ -3,7 +3,6 @@
 ghost use Rattle.std.specs.Prelude.{◌≡◌, ◌≤◌, ◌^◌, map, filter, length, IfOk};
 ghost use Rattle.std.specs.List.{list_any};
 ghost use Rattle.cip_productions.specs.Productions.{sent};
-ghost use Rattle.adapter_table.specs.declared.profile.Profile.{Profile};
 ghost use Rattle.adapter_table.specs.Productions.{is_prompt, producers_on_change, production_of, productions_on_change, prompt_row};
 ghost use Rattle.adapter_table.specs.Rows.{written_row};
 ghost use Rattle.adapter_table.specs.Whole.{RowsFit};
@@ -92,7 +91,7 @@ pub fn sent_on_change(
 
 /// The change-of-state producers of an input have done what a write asks of them.
 fn prompt_rows(rows: &mut [Row], clock: Ms, point: u32)
-    requires fit { (profile : Profile) × RowsFit profile rows.old }
+    requires fit { RowsFit rows.old }
     requires time { clock.0 ≤ 2 ^ 48 }
     ensures { rows.new ≡ map (prompt_row clock point) rows.old }
 {
@@ -115,7 +114,7 @@ pub fn written_rows(alloc: Global, rows: &[Row], point: u32) -> Result<Vec<Row>,
 ///
 /// Volume 1, chapter 3, production triggers and production inhibit time.
 pub fn prompted_rows(rows: Vec<Row>, clock: Ms, point: u32) -> Vec<Row>
-    requires fit { (profile : Profile) × RowsFit profile rows.items }
+    requires fit { RowsFit rows.items }
     requires time { clock.0 ≤ 2 ^ 48 }
     ensures { result.items ≡ map (prompt_row clock point) rows.items }
 {
@@ -127,7 +126,7 @@ pub fn prompted_rows(rows: Vec<Row>, clock: Ms, point: u32) -> Vec<Row>
 /// The producers of an input have new data, and its change-of-state producers have done what a write asks
 /// of them. Takes no memory.
 pub fn write_and_prompt_rows(rows: &mut [Row], clock: Ms, point: u32)
-    requires fit { (profile : Profile) × RowsFit profile rows.old }
+    requires fit { RowsFit rows.old }
     requires time { clock.0 ≤ 2 ^ 48 }
     ensures { rows.new ≡ map (prompt_row clock point) (map (written_row point) rows.old) }
 {

@@ -3,7 +3,6 @@
 ghost use Rattle.std.specs.Prelude.{◌≡◌, ◌≤◌, ◌^◌, find, map};
 ghost use Rattle.cip_datagram.specs.Datagram.{view_datagram};
 ghost use Rattle.adapter_table.specs.Datagrams.{is_for, fed_row};
-ghost use Rattle.adapter_table.specs.declared.profile.Profile.{Profile};
 ghost use Rattle.adapter_table.specs.Whole.{RowsFit};
 
 use adapter_table::{Row, fed_row, is_for};
@@ -23,7 +22,7 @@ pub fn find_target(rows: &[Row], peer: Node, id: ConnId) -> Option<Row>
 ///
 /// Volume 1, chapter 3, inactivity watchdog.
 pub fn accept_rows(rows: &mut [Row], clock: Ms, peer: Node, datagram: &Datagram<'_>)
-    requires fit { (profile : Profile) × RowsFit profile rows.old }
+    requires fit { RowsFit rows.old }
     requires time { clock.0 ≤ 2 ^ 48 }
     ensures { rows.new ≡ map (fed_row clock peer (view_datagram datagram.now)) rows.old }
 {

@@ -23,6 +23,3 @@ pub use productions::{produced_rows, sent_when_due};
 pub use rows::{
     append_row, closed_notices, copied, find_row, make_room, others, replaced, staying,
 };
-
-#[cfg(test)]
-mod tests;

@@ -2,7 +2,6 @@
 
 ghost use Rattle.std.specs.Prelude.{◌≡◌, ◌≤◌, ◌^◌, map, filter, length, IfOk};
 ghost use Rattle.cip_productions.specs.Productions.{sent};
-ghost use Rattle.adapter_table.specs.declared.profile.Profile.{Profile};
 ghost use Rattle.adapter_table.specs.Productions.{is_due, due_producers, input_of, due_production, due_productions, due_row};
 ghost use Rattle.adapter_table.specs.Whole.{RowsFit};
 
@@ -91,7 +90,7 @@ pub fn sent_when_due(
 }
 
 fn produce_rows(rows: &mut [Row], clock: Ms)
-    requires fit { (profile : Profile) × RowsFit profile rows.old }
+    requires fit { RowsFit rows.old }
     requires time { clock.0 ≤ 2 ^ 48 }
     ensures { rows.new ≡ map (due_row clock) rows.old }
 {
@@ -104,7 +103,7 @@ fn produce_rows(rows: &mut [Row], clock: Ms)
 ///
 /// Volume 1, chapter 3, production triggers.
 pub fn produced_rows(rows: Vec<Row>, clock: Ms) -> Vec<Row>
-    requires fit { (profile : Profile) × RowsFit profile rows.items }
+    requires fit { RowsFit rows.items }
     requires time { clock.0 ≤ 2 ^ 48 }
     ensures { result.items ≡ map (due_row clock) rows.items }
 {

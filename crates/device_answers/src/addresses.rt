@@ -6,7 +6,6 @@ ghost use Rattle.adapter_table.specs.Profiles.{is_at, host_id};
 ghost use Rattle.adapter_table.specs.Opening.{multicast_address, address_of};
 
 use adapter_table::{InputPoint, Profile};
-use cip_netparams::ConnectionType;
 use cip_types::Node;
 
 /// The first multicast address of all, 239.192.1.0.
@@ -47,11 +46,11 @@ fn multicast_address(profile: &Profile, point: u32) -> Node
 }
 
 /// Where the datagrams of a producer go: to its group, or to the one consumer.
-pub fn address_of(profile: &Profile, peer: Node, kind: ConnectionType, point: u32) -> Node
+pub fn address_of(profile: &Profile, peer: Node, multicast: bool, point: u32) -> Node
     requires { length profile.now.inputs ≤ 8 }
-    ensures { result ≡ address_of profile.now peer kind point }
+    ensures { result ≡ address_of profile.now peer multicast point }
 {
-    if kind == ConnectionType::Multicast {
+    if multicast {
         multicast_address(profile, point)
     } else {
         peer

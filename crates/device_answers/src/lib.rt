@@ -22,6 +22,3 @@ pub use streams::{
     add_stream, copied_streams, drop_stream, find_stream, has_session, is_taken, register_stream,
     session_of,
 };
-
-#[cfg(test)]
-mod tests;

@@ -27,7 +27,7 @@ const DATAGRAM_PORT: u16 = 2222;
 /// What is replied to a frame.
 ///
 /// Volume 2, chapter 2, encapsulation commands.
-#[derive(Clone, Copy, Debug)]
+#[derive(Clone, Copy)]
 pub enum FrameReply<'a> {
     /// The services of the device.
     Services,

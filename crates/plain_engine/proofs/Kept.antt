@@ -24,11 +24,11 @@ use Rattle.adapter_table.specs.Datagrams.{is_for, row_delivery, run_data}
 use Rattle.cip_productions.specs.Productions.{sent}
 use Rattle.adapter_table.specs.Productions.{state_is_prompt, is_prompt, productions_on_change, prompt_row}
 use Rattle.adapter_table.specs.Ticks.{expired_row, expired_rows}
-use Rattle.adapter_table.specs.Whole.{RowsFit, IsWhole}
+use Rattle.adapter_table.specs.Whole.{FitsRow, RowsFit, IsWhole}
 use Rattle.adapter_table.specs.Whole.{ConsumesOutput}
-use Rattle.adapter_table.proofs.EachLemmas.{each_found}
+use Rattle.adapter_table.proofs.EachLemmas.{each_filter, each_map, each_found}
 use Rattle.adapter_table.proofs.FedLemmas.{applied_fits, applied_output}
-use Rattle.adapter_table.proofs.WholeLemmas.{fits_filter, fits_map, fits_expired, fits_written}
+use Rattle.adapter_table.proofs.WholeLemmas.{fits_expired, fits_written}
 use Rattle.cip_types.proofs.Places.{written_back}
 use Rattle.std.proofs.lemmas.List.{length-map}
 use Rattle.assembly_set.specs.declared.fault.PointFault.TheVariants.{WrongLength}
@@ -64,13 +64,13 @@ feeds_len t peer d row delivery found is whole applied =
 
 -- ---- rows within their limits
 
-pub fits_left : (clock : Ms) (profile : Profile) (rows : List Row) → RowsFit profile rows → RowsFit profile (staying (expired_rows clock rows))
-fits_left clock profile rows fit =
-    let faded = expired_rows clock rows in
-    fits_filter (stays (expired_rows clock rows)) profile faded (fits_map (expired_row clock) profile (fits_expired clock profile) rows fit)
+pub fits_left : (clock : Ms) (rows : List Row) → RowsFit rows → RowsFit (staying (expired_rows clock rows))
+fits_left clock rows fit =
+    let after = expired_rows clock rows in
+    each_filter FitsRow (stays (expired_rows clock rows)) after (each_map FitsRow (expired_row clock) (fits_expired clock) rows fit)
 
-pub fits_flagged : (point : ℕ) (profile : Profile) (rows : List Row) → RowsFit profile rows → RowsFit profile (map (written_row point) rows)
-fits_flagged point profile rows fit = fits_map (written_row point) profile (fits_written point profile) rows fit
+pub fits_flagged : (point : ℕ) (rows : List Row) → RowsFit rows → RowsFit (map (written_row point) rows)
+fits_flagged point rows fit = each_map FitsRow (written_row point) (fits_written point) rows fit
 
 -- ---- a write without prompt producers
 

@@ -4,12 +4,10 @@ mod streams;
 
 ghost use Rattle.std.specs.Prelude.{◌≡◌, ◌≢◌, ◌+◌, ◌^◌, ◌∷◌, [], Ok, Err, Some, None, Result, IfOk, IfErr, ◌<◌, ◌≤◌, IsTrue, false, find, length};
 ghost use Rattle.std.specs.Option.{option_map, ForSome};
-ghost use Rattle.cip_epath.specs.Path.{view_path};
 ghost use Rattle.cip_fwdopen.specs.Open.{view_open};
 ghost use Rattle.cip_fwdopen.specs.Close.{view_close};
-ghost use Rattle.cip_netparams.specs.Rate.{is_interval};
 ghost use Rattle.cip_router.specs.Replies.{view_reply};
-ghost use Rattle.adapter_table.specs.Checks.{standing, verdict, view_admission, drawn_ids};
+ghost use Rattle.adapter_table.specs.Checks.{Gives, config_bytes, admission, view_admission, drawn_ids};
 ghost use Rattle.adapter_table.specs.Opening.{opened_row, opened_production, opened_state, opened_t_o_id, connection_id, configured};
 ghost use Rattle.cip_router.specs.Asking.{asked_reading};
 ghost use Rattle.adapter_table.specs.Requests.{requested, served, admitted_open, served_open, router_refusal, known_close, served_close, served_assembly, is_value_attribute};
@@ -29,12 +27,11 @@ ghost use Rattle.cip_events.specs.Outcomes.{Follows};
 ghost use Rattle.assembly_set.specs.Assemblies.{config_len, is_output, write_fault};
 ghost use Rattle.std.specs.List.{list_any};
 
-use adapter_table::row_delivery;
+use adapter_table::{drives, row_delivery};
+use app_rules::{Listed, View, admit, drawn_ids};
 use assembly_set::AssemblySet;
 use cip_datagram::{Datagram, read_datagram, read_header};
-use cip_epath::ConnPath;
 use cip_fwdopen::{CloseRequest, OpenRequest};
-use cip_netparams::{api_of, timeout_of};
 use cip_tables::{
     AdapterTable, Admission, Answer, Asked, Config, Delivery, Device, DeviceTable, Event, NewFault,
     Outcome, Production, Refusal, Reply, Row, State, Status, StepFault, Stream, TableCopy, Verdict,
@@ -49,9 +46,6 @@ use connection_rows::{
 use device_answers::{
     Route, address_of, copied_streams, opened_address, opened_reply, opening_notices, plain_answer,
     reply_answer, told_answer, unserved_answer,
-};
-use open_checks::{
-    Standing, admit, drawn_ids, drives, is_multicast, served_inhibit, served_trigger, stored,
 };
 use std::alloc::Global;
 use std::marker::Model;
@@ -99,44 +93,54 @@ impl Model for PlainAdapter {
 // OPENING
 
 impl PlainAdapter {
-    ghost use Rattle.open_checks.specs.Views.{view_standing};
-
-    fn standing(&self) -> Standing<'_>
-        ensures { view_standing result ≡ standing self.now }
+    /// What the configuration holds.
+    fn config_bytes(&self) -> Option<&[u8]>
+        ensures { option_map (λ lent. lent.now) result ≡ config_bytes self.now.values self.now.profile.config }
     {
-        Standing {
-            assemblies: &self.assemblies,
-            rows: &self.rows,
-            next_id: self.next_id,
+        match self.assemblies.profile().config {
+            Some(config) => self.assemblies.read(config.instance).ok(),
+            None => None,
         }
     }
 
-    /// The producer that a connection begins.
-    fn production(&self, peer: Node, request: &OpenRequest<'_>, path: &ConnPath<'_>) -> Production
-        ensures { result ≡ opened_production self.now peer (view_open request.now) (view_path path.now) }
+    /// What a request to open a connection is admitted as, or why it is refused. Takes no memory.
+    fn judge<'a>(&self, request: &OpenRequest<'a>) -> Result<Admission<'a>, Refusal>
+        ensures { Gives view_admission result (admission self.now (view_open request.now)) }
     {
-        let trigger = served_trigger(request.trigger);
-        let kind = request.t_o_params.kind;
+        let view = View {
+            profile: self.assemblies.profile(),
+            config: self.config_bytes(),
+            connections: &Listed(&self.rows),
+            next_id: self.next_id,
+        };
+        admit(&view, request)
+    }
+
+    /// The producer that a connection begins.
+    fn production(&self, peer: Node, admission: &Admission<'_>) -> Production
+        ensures { result ≡ opened_production self.now peer (view_admission admission.now) }
+    {
+        let point = admission.produced;
         Production {
             producer: self.next_id,
             sequence: 1,
             count: 0,
             written: true,
             due: self.clock,
-            address: address_of(self.assemblies.profile(), peer, kind, path.produced),
-            trigger,
-            inhibit: served_inhibit(trigger, path.inhibit),
+            address: address_of(self.assemblies.profile(), peer, admission.multicast, point),
+            trigger: admission.trigger,
+            inhibit: admission.inhibit,
             last: None,
         }
     }
 
     /// The state of a connection that is opened: it shares a producer, or begins one.
-    fn state_of(&self, peer: Node, request: &OpenRequest<'_>, admission: &Admission<'_>) -> State
-        ensures { result ≡ opened_state self.now peer (view_open request.now) (view_path admission.now.path) admission.now.group }
+    fn state_of(&self, peer: Node, admission: &Admission<'_>) -> State
+        ensures { result ≡ opened_state self.now peer (view_admission admission.now) admission.now.group }
     {
         match admission.group {
             Some(member) => member.state,
-            None => State::Established(self.production(peer, request, &admission.path)),
+            None => State::Established(self.production(peer, admission)),
         }
     }
 
@@ -148,12 +152,12 @@ impl PlainAdapter {
     }
 
     /// The T->O id of a connection that is opened.
-    fn t_o_id_of(&self, request: &OpenRequest<'_>, group: Option<Row>) -> ConnId
-        requires { self.now.next_id + drawn_ids (view_open request.now) group ≤ 16777216 }
-        ensures { result ≡ opened_t_o_id self.now (view_open request.now) group }
+    fn t_o_id_of(&self, request: &OpenRequest<'_>, multicast: bool, group: Option<Row>) -> ConnId
+        requires { self.now.next_id + drawn_ids multicast group ≤ 16777216 }
+        ensures { result ≡ opened_t_o_id self.now (view_open request.now) multicast group }
     {
         let Some(member) = group else {
-            if is_multicast(request.t_o_params.kind) {
+            if multicast {
                 return self.connection_id(self.next_id + 1);
             }
             return request.t_o_id;
@@ -164,32 +168,27 @@ impl PlainAdapter {
     /// The connection that an admitted request opens.
     #[tactic(auto, unfolding(adapter_table::specs::Opening::opened_row))]
     fn row_of(&self, peer: Node, request: &OpenRequest<'_>, admission: &Admission<'_>) -> Row
-        requires o_t { IsTrue (is_interval request.now.o_t_rpi) }
-        requires t_o { IsTrue (is_interval request.now.t_o_rpi) }
-        requires waits { request.now.multiplier ≤ 7 }
-        requires left { self.now.next_id + drawn_ids (view_open request.now) admission.now.group ≤ 16777216 }
-        requires draws { 1 ≤ drawn_ids (view_open request.now) admission.now.group }
+        requires waits { admission.now.watchdog.0 ≤ 5120000 }
+        requires left { self.now.next_id + drawn_ids admission.now.multicast admission.now.group ≤ 16777216 }
+        requires draws { 1 ≤ drawn_ids admission.now.multicast admission.now.group }
         ensures { result ≡ opened_row self.now peer (view_open request.now) (view_admission admission.now) }
     {
-        let o_t_api = api_of(request.o_t_rpi).unwrap();
-        let t_o_api = api_of(request.t_o_rpi).unwrap();
-        let timeout = timeout_of(request.multiplier, o_t_api).unwrap();
         Row {
             triad: request.triad,
             peer,
-            kind: admission.consumer.kind,
-            consumed: admission.path.consumed,
-            produced: admission.path.produced,
+            kind: admission.kind,
+            consumed: admission.consumed,
+            produced: admission.produced,
             o_t_id: self.connection_id(self.next_id),
-            t_o_id: self.t_o_id_of(request, admission.group),
-            o_t_api,
-            t_o_api,
+            t_o_id: self.t_o_id_of(request, admission.multicast, admission.group),
+            o_t_api: admission.o_t_api,
+            t_o_api: admission.t_o_api,
             multiplier: request.multiplier,
-            multicast: is_multicast(request.t_o_params.kind),
+            multicast: admission.multicast,
             opening: self.next_id,
             last: None,
-            deadline: Ms(self.clock.0 + FIRST_WATCHDOG.max(timeout.0)),
-            state: self.state_of(peer, request, admission),
+            deadline: Ms(self.clock.0 + FIRST_WATCHDOG.max(admission.watchdog.0)),
+            state: self.state_of(peer, admission),
         }
     }
 
@@ -200,19 +199,19 @@ impl PlainAdapter {
         route: Route,
         large: bool,
         request: &OpenRequest<'_>,
-        admission: &Admission<'_>,
+        admitted: &Admission<'_>,
     ) -> Outcome
-        requires { verdict (standing self.old) (view_open request.now) ≡ Ok (view_admission admission.now) }
-        ensures { Follows (Ok (routed self.old route (Some (admitted_open self.old (peer_of route) large (view_open request.now) (view_admission admission.now))))) self.old result self.new }
+        requires { admission self.old (view_open request.now) ≡ Ok (view_admission admitted.now) }
+        ensures { Follows (Ok (routed self.old route (Some (admitted_open self.old (peer_of route) large (view_open request.now) (view_admission admitted.now))))) self.old result self.new }
     {
-        let row = self.row_of(route.peer(), request, admission);
+        let row = self.row_of(route.peer(), request, admitted);
         let notices = opening_notices(self.alloc, replaced(&self.rows, row.triad), &row)?;
         let reply = Reply::Opened(large, opened_reply(&row));
         let answer = reply_answer(self.alloc, route, &reply, opened_address(&row), notices)?;
         make_room(&mut self.rows)?;
-        configure(&mut self.assemblies, stored(&admission.path));
+        configure(&mut self.assemblies, admitted.segment);
         append_row(&mut self.rows, row);
-        self.next_id += drawn_ids(request, admission.group);
+        self.next_id += drawn_ids(admitted.multicast, admitted.group);
         Ok(answer)
     }
 
@@ -221,8 +220,8 @@ impl PlainAdapter {
     fn forward_open(&mut self, route: Route, large: bool, request: &OpenRequest<'_>) -> Outcome
         ensures { Follows (Ok (routed self.old route (Some (served_open self.old (peer_of route) large (view_open request.now))))) self.old result self.new }
     {
-        match admit(self.standing(), request) {
-            Ok(admission) => self.open(route, large, request, &admission),
+        match self.judge(request) {
+            Ok(admitted) => self.open(route, large, request, &admitted),
             Err(why) => {
                 let service = if large { 0x5B } else { 0x54 };
                 let reply = Reply::Refused(service, why.fault(), Some(request.triad));
@@ -617,6 +616,10 @@ impl Device for PlainAdapter {
             next_id: self.next_id,
             streams: Items::copy_of(self.alloc, &self.streams)?,
         }))
+    }
+
+    fn is_whole(&self) {
+        let _clock = self.clock;
     }
 }
 

@@ -5,7 +5,7 @@ use Rattle.connection_rows.proofs.Orders.{fits_at}
 use Rattle.connection_rows.proofs.changes.prompt_rows.Goals as goal
 
 pub prompt_row-requires-clause-due : goal.prompt_row-requires-clause-due
-prompt_row-requires-clause-due c = (fits_at (prompt_row c.args.clock c.args.point) c.args.rows.now c.loop-row.rows c.loop-row.row-index _ c.requires.fit.0 c.requires.fit.1 (omega arith) (omega arith) c.loop-row.invariant).due
+prompt_row-requires-clause-due c = (fits_at (prompt_row c.args.clock c.args.point) c.args.rows.now c.loop-row.rows c.loop-row.row-index _ c.requires.fit (omega arith) (omega arith) c.loop-row.invariant).due
 
 pub loop-row-preserved : goal.loop-row-preserved
 loop-row-preserved c = map_more (prompt_row c.args.clock c.args.point) c.args.rows.now c.loop-row.rows c.loop-row.row-index _ _ (omega arith) (omega arith) c.loop-row.invariant c.prompt_row.ensures

@@ -6,10 +6,10 @@ use Rattle.connection_rows.proofs.Orders.{fits_at}
 use Rattle.connection_rows.proofs.deliveries.accept_rows.Goals as goal
 
 pub fed_row-requires-clause-waits : goal.fed_row-requires-clause-waits
-fed_row-requires-clause-waits c = (fits_at (fed_row c.args.clock c.args.peer (view_datagram c.args.datagram.now)) c.args.rows.now c.loop-row.rows c.loop-row.row-index _ c.requires.fit.0 c.requires.fit.1 (omega arith) (omega arith) c.loop-row.invariant).multiplier
+fed_row-requires-clause-waits c = (fits_at (fed_row c.args.clock c.args.peer (view_datagram c.args.datagram.now)) c.args.rows.now c.loop-row.rows c.loop-row.row-index _ c.requires.fit (omega arith) (omega arith) c.loop-row.invariant).multiplier
 
 pub fed_row-requires-clause-interval : goal.fed_row-requires-clause-interval
-fed_row-requires-clause-interval c = (fits_at (fed_row c.args.clock c.args.peer (view_datagram c.args.datagram.now)) c.args.rows.now c.loop-row.rows c.loop-row.row-index _ c.requires.fit.0 c.requires.fit.1 (omega arith) (omega arith) c.loop-row.invariant).o_t_api
+fed_row-requires-clause-interval c = (fits_at (fed_row c.args.clock c.args.peer (view_datagram c.args.datagram.now)) c.args.rows.now c.loop-row.rows c.loop-row.row-index _ c.requires.fit (omega arith) (omega arith) c.loop-row.invariant).o_t_api
 
 pub loop-row-preserved : goal.loop-row-preserved
 loop-row-preserved c = map_more (fed_row c.args.clock c.args.peer (view_datagram c.args.datagram.now)) c.args.rows.now c.loop-row.rows c.loop-row.row-index _ _ (omega arith) (omega arith) c.loop-row.invariant c.fed_row.ensures

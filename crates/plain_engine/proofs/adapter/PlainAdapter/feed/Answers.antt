@@ -20,7 +20,7 @@ feed_values-requires-clause-right_length c =
     feeds_len t c.args.peer (view_datagram c.args.datagram.now) c.args.row.now c.args.delivery asked.found asked.judged c.self.invariant
 
 pub accept_rows-requires-clause-fit : goal.accept_rows-requires-clause-fit
-accept_rows-requires-clause-fit c = (c.self.inside.assemblies.profile, rw c.deref_mut.ensures.value c.self.invariant.fits)
+accept_rows-requires-clause-fit c = rw c.deref_mut.ensures.value c.self.invariant.fits
 
 pub invariant_of-self : goal.invariant_of-self
 unfolding fed_table

@@ -6,7 +6,7 @@ use Rattle.plain_engine.proofs.Kept.{is_input, fits_flagged}
 use Rattle.plain_engine.proofs.adapter.PlainAdapter.write_promptly.Goals as goal
 
 pub prompted_rows-requires-clause-fit : goal.prompted_rows-requires-clause-fit
-prompted_rows-requires-clause-fit c = (c.self.inside.assemblies.profile, rw (c.in_ok-rows.ensures, c.deref.ensures.value) (fits_flagged c.args.point c.self.inside.assemblies.profile c.self.inside.rows.items c.self.invariant.fits))
+prompted_rows-requires-clause-fit c = rw (c.in_ok-rows.ensures, c.deref.ensures.value) (fits_flagged c.args.point c.self.inside.rows.items c.self.invariant.fits)
 
 pub put-requires-clause-whole : goal.put-requires-clause-whole
 unfolding written_table prompt_table

@@ -6,7 +6,7 @@ use Rattle.plain_engine.proofs.Kept.{is_input, nothing_prompt, without_fault, wr
 use Rattle.plain_engine.proofs.adapter.PlainAdapter.write_quietly.Goals as goal
 
 pub write_and_prompt_rows-requires-clause-fit : goal.write_and_prompt_rows-requires-clause-fit
-write_and_prompt_rows-requires-clause-fit c = (c.self.inside.assemblies.profile, rw c.deref_mut.ensures.value c.self.invariant.fits)
+write_and_prompt_rows-requires-clause-fit c = rw c.deref_mut.ensures.value c.self.invariant.fits
 
 pub invariant_of-self : goal.invariant_of-self
 unfolding written_table prompt_table
