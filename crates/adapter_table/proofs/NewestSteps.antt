@@ -30,13 +30,13 @@ use Rattle.adapter_table.specs.Checks.{Admitted}
 use Rattle.adapter_table.specs.Opening.{connection_id, opened_row, opened_table, makes_room}
 use Rattle.adapter_table.specs.Closing.{without_triad, stays, closed_table}
 use Rattle.adapter_table.specs.Streams.{with_stream, without_stream, registered_table}
-use Rattle.adapter_table.specs.Datagrams.{is_for, expected_len, moded, accepted_delivery, row_delivery, accepted_row, fed_row, fed_table, delivered, found_datagram, datagram_of, received}
+use Rattle.adapter_table.specs.Datagrams.{is_for, expected_len, run_bit, moded, accepted_delivery, row_delivery, accepted_row, fed_row, fed_table, delivered, found_datagram, datagram_of, received}
 use Rattle.adapter_table.specs.Productions.{due_row, prompt_state, prompt_row}
 use Rattle.adapter_table.specs.Requests.{Next, requested}
 use Rattle.adapter_table.specs.Ticks.{has_expired, expired_row, expired_rows, clocked_table, expired_table, produced_table}
 use Rattle.adapter_table.specs.Step.{read, read_of, written_table, prompt_table}
 use Rattle.adapter_table.specs.Sound.{IdsAreDrawn, IsSound, OpensBefore}
-use Rattle.adapter_table.specs.Newest.{Acceptance, run_bit, is_applied, acceptance_of, accepted_found, accepted_read, EachAfter, last_accepted, HasNewerNumber, HasOtherCount, IsAppliedNew, IsNotAgain, RemembersLast, TableRemembers}
+use Rattle.adapter_table.specs.Newest.{Acceptance, is_applied, acceptance_of, accepted_found, accepted_read, EachAfter, last_accepted, HasNewerNumber, HasOtherCount, IsAppliedNew, IsNotAgain, RemembersLast, TableRemembers}
 use Rattle.adapter_table.specs.Laws.{StepsAcceptAfter, RefusalsAcceptNothing}
 use Rattle.adapter_table.proofs.EachLemmas.{each_filter, each_append, each_map, each_found, each_both, each_changed, two_weak, two_found}
 use Rattle.adapter_table.proofs.ProducerLemmas.{found_passes}

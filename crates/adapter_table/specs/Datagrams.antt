@@ -1,7 +1,7 @@
 -- Class 1 datagrams that come to an adapter: which connection they are for, whether they are accepted, and
 -- what they do to its output (Volume 1, chapter 3, class 1 transport, run/idle, connection timeouts;
 -- Volume 2, chapter 2, sequenced address item).
-use Rattle.std.specs.Prelude.{ℕ, ◌+◌, ◌==◌, ◌&&◌, Bool, if◌then◌else◌, List, [], length, map, find, Option, Some, None, Result, Ok, Err}
+use Rattle.std.specs.Prelude.{ℕ, ◌+◌, ◌==◌, ◌&&◌, Bool, false, if◌then◌else◌, List, [], length, map, find, Option, Some, None, Result, Ok, Err}
 use Rattle.cip_types.specs.declared.names.Node.{Node}
 use Rattle.cip_types.specs.declared.names.Ms.{Ms}
 use Rattle.cip_netparams.specs.Rate.{timeout}
@@ -39,10 +39,14 @@ output_len (Some output) = output.len
 abbrev pub expected_len : Profile → Row → ℕ
 expected_len profile row = if is_owner row.kind then output_len (find (is_output_at row.consumed) profile.outputs) + 4 else 0
 
+-- the run bit of a run/idle header, which data of an owner's size have
+abbrev pub run_bit : Option (Bool × List ℕ) → Bool
+run_bit None = false
+run_bit (Some header) = header.0
+
 -- an owner's data by their run/idle header
 abbrev pub moded : Option (Bool × List ℕ) → Delivery
-moded None = WrongSize
-moded (Some x) = if x.0 then Applied else Idle
+moded header = if run_bit header then Applied else Idle
 
 -- what becomes of an owner's accepted datagram
 abbrev pub owned_delivery : Row → DatagramFields → Delivery

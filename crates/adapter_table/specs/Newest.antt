@@ -18,7 +18,7 @@ use Rattle.adapter_table.specs.declared.profile.Profile.{Profile}
 use Rattle.adapter_table.specs.declared.row.Row.{Row}
 use Rattle.adapter_table.specs.declared.table.AdapterTable.{AdapterTable}
 use Rattle.adapter_table.specs.Rows.{Each}
-use Rattle.adapter_table.specs.Datagrams.{is_for, row_delivery}
+use Rattle.adapter_table.specs.Datagrams.{is_for, run_bit, row_delivery}
 
 -- ---- what is accepted
 
@@ -27,11 +27,6 @@ pub record Acceptance : Type 0 where
   pub datagram : Accepted
   pub says_run : Bool
   pub applied : Bool
-
--- the run bit of a run/idle header, where there is one
-abbrev pub run_bit : Option (Bool × List ℕ) → Bool
-run_bit None = false
-run_bit (Some header) = header.0
 
 abbrev pub is_applied : Delivery → Bool
 is_applied Applied = true

@@ -2,8 +2,9 @@
 
 ghost use Rattle.std.specs.Prelude.{◌≡◌, ◌≤◌, ◌+◌, ◌==◌, ◌^◌, find};
 ghost use Rattle.cip_datagram.specs.Datagram.{view_datagram};
+ghost use Rattle.cip_datagram.specs.Header.{header_at};
 ghost use Rattle.adapter_table.specs.Profiles.{is_output_at};
-ghost use Rattle.adapter_table.specs.Datagrams.{is_for, output_len, expected_len, owned_delivery, accepted_delivery, sized_delivery, row_delivery, later_deadline, accepted_row, fed_row};
+ghost use Rattle.adapter_table.specs.Datagrams.{is_for, output_len, expected_len, run_bit, owned_delivery, accepted_delivery, sized_delivery, row_delivery, later_deadline, accepted_row, fed_row};
 
 use crate::profile::{OutputPoint, Profile};
 use crate::row::Row;
@@ -48,17 +49,26 @@ fn has_expected_len(profile: &Profile, row: &Row, len: u64) -> bool
     }
 }
 
+/// The run bit of a datagram's run/idle header.
+fn run_bit(datagram: &Datagram<'_>) -> bool
+    ensures { result ≡ run_bit (header_at (view_datagram datagram.now).payload) }
+{
+    match read_header(datagram.data) {
+        Some((run, _)) => run,
+        None => false,
+    }
+}
+
 /// What becomes of an owner's accepted datagram.
 fn owned_delivery(row: &Row, datagram: &Datagram<'_>) -> Delivery
     ensures { result ≡ owned_delivery row.now (view_datagram datagram.now) }
 {
     if is_repeated(row.last, datagram.count) {
-        return Delivery::Duplicate;
-    }
-    match read_header(datagram.data) {
-        Some((true, _)) => Delivery::Applied,
-        Some((false, _)) => Delivery::Idle,
-        None => Delivery::WrongSize,
+        Delivery::Duplicate
+    } else if run_bit(datagram) {
+        Delivery::Applied
+    } else {
+        Delivery::Idle
     }
 }
 

@@ -1,6 +1,7 @@
 -- One event at a device's table, of whatever kind the device is.
 use Rattle.std.specs.Prelude.{ℕ, Bool, true, false, List, Option, Result, Ok, Err}
 use Rattle.std.specs.List.{list_any}
+use Rattle.cip_types.specs.declared.names.Node.{Node}
 use Rattle.cip_events.specs.declared.event.Event.{Event}
 use Rattle.cip_events.specs.declared.event.Event.TheVariants.{Request, StreamOpened, Frame, StreamCut, Datagram, Write, Read, Tick}
 use Rattle.cip_events.specs.declared.event.Answer.{Answer}
@@ -29,6 +30,13 @@ step (Adapter t) event = as_adapter (adapter_step t event)
 
 abbrev pub opening_table : Config → DeviceTable
 opening_table (config.Adapter profile) = Adapter (adapter_table profile)
+
+-- the address of a device, and the byte that its connection ids begin with
+abbrev pub node_of : DeviceTable → Node
+node_of (Adapter t) = t.profile.node
+
+abbrev pub incarnation_of : DeviceTable → ℕ
+incarnation_of (Adapter t) = t.profile.incarnation
 
 -- what is wrong with what a device is to be made of
 abbrev pub config_fault : Config → Option ProfileFault

@@ -10,7 +10,7 @@ use cip_tables::{
 use cip_types::{ConnId, OutOfMemory};
 use device_answers::{
     Echo, FrameReply, FrameView, Route, add_stream, address_of, copied_streams, drop_stream,
-    ended_answer, find_stream, frame_answer, has_session, is_protocol, is_taken, mark_registered,
+    ended_answer, find_stream, frame_answer, has_session, is_protocol, is_taken, register_stream,
     opened_address, opened_reply, opening_notices, plain_answer, read_frame, reply_answer,
     session_of, unserved_answer, write_frame_reply,
 };
@@ -267,7 +267,7 @@ fn streams_are_found_and_dropped(rt: HostRuntime) -> Result<(), Fail> {
 }
 
 fn registers(streams: &mut Vec<Stream>) -> bool {
-    mark_registered(streams, 7);
+    register_stream(streams, 7);
     streams.as_slice() == [stream(7, true), stream(3, true)].as_slice()
 }
 

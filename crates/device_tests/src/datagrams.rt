@@ -3,11 +3,12 @@
 use crate::fixtures::{
     GATHERER, LISTENER, OTHER_PEER, OWNER, PEER, are_rows, are_told, lost, points, triad,
 };
+use adapter_table::row_delivery;
 use assembly_set::AssemblySet;
 use cip_datagram::Datagram;
 use cip_tables::{Accepted, Delivery, Notice, Row};
 use cip_types::{ConnId, Ms};
-use connection_rows::{accept_rows, expired, expiry_notices, faded, find_target, judge, staying};
+use connection_rows::{accept_rows, expired, expired_rows, expiry_notices, find_target, staying};
 use std::alloc::Global;
 use std::test::Fail;
 
@@ -37,13 +38,13 @@ fn fed() -> Row {
 }
 
 fn judges_an_owners(set: &AssemblySet, row: &Row) -> bool {
-    judge(set, row, &datagram(6, 10, &RUN)) == Delivery::Applied
-        && judge(set, row, &datagram(6, 10, &IDLE)) == Delivery::Idle
-        && judge(set, row, &datagram(6, 9, &RUN)) == Delivery::Duplicate
-        && judge(set, row, &datagram(5, 10, &RUN)) == Delivery::Old
-        && judge(set, row, &datagram(0x7FFF_FFFF, 10, &RUN)) == Delivery::Applied
-        && judge(set, row, &datagram(0x8000_0005, 10, &RUN)) == Delivery::Old
-        && judge(set, row, &datagram(6, 10, &[1, 0, 0, 0])) == Delivery::WrongSize
+    row_delivery(set.profile(), row, &datagram(6, 10, &RUN)) == Delivery::Applied
+        && row_delivery(set.profile(), row, &datagram(6, 10, &IDLE)) == Delivery::Idle
+        && row_delivery(set.profile(), row, &datagram(6, 9, &RUN)) == Delivery::Duplicate
+        && row_delivery(set.profile(), row, &datagram(5, 10, &RUN)) == Delivery::Old
+        && row_delivery(set.profile(), row, &datagram(0x7FFF_FFFF, 10, &RUN)) == Delivery::Applied
+        && row_delivery(set.profile(), row, &datagram(0x8000_0005, 10, &RUN)) == Delivery::Old
+        && row_delivery(set.profile(), row, &datagram(6, 10, &[1, 0, 0, 0])) == Delivery::WrongSize
 }
 
 #[test]
@@ -53,8 +54,8 @@ fn owners_datagrams_are_judged(rt: HostRuntime) -> Result<(), Fail> {
 }
 
 fn judges_a_listeners(set: &AssemblySet) -> bool {
-    judge(set, &LISTENER, &datagram(1, 0, &[])) == Delivery::Heartbeat
-        && judge(set, &LISTENER, &datagram(1, 0, &[0])) == Delivery::WrongSize
+    row_delivery(set.profile(), &LISTENER, &datagram(1, 0, &[])) == Delivery::Heartbeat
+        && row_delivery(set.profile(), &LISTENER, &datagram(1, 0, &[0])) == Delivery::WrongSize
 }
 
 #[test]
@@ -113,7 +114,7 @@ fn expires_with_support(alloc: Global, listener: Row) -> bool {
     let late = lost(OWNER);
     let left = [late, listener];
     let told = [Notice::Expired(triad(1)), Notice::Dropped(triad(2))];
-    are_rows(faded(alloc, &[OWNER, listener], Ms(10_000)), &left)
+    are_rows(expired_rows(alloc, &[OWNER, listener], Ms(10_000)), &left)
         && are_told(expiry_notices(alloc, &[OWNER], &left), &told)
         && are_rows(staying(alloc, &left), &[late])
 }

@@ -7,7 +7,7 @@ use assembly_set::AssemblySet;
 use cip_tables::{Production, Row, Sending, State};
 use cip_types::{Ms, Node, OutOfMemory};
 use connection_rows::{
-    copied, due_sendings, is_prompted, produced_rows, prompt_sendings, prompted_rows,
+    copied, produced_rows, produces_at_once, prompted_rows, sent_on_change, sent_when_due,
     write_and_prompt_rows, written_rows,
 };
 use std::alloc::Global;
@@ -54,9 +54,9 @@ fn sends(
 
 fn sends_for_all(alloc: Global, set: &AssemblySet) -> bool {
     let rows = [OWNER, LISTENER, GATHERER];
-    is_silent(due_sendings(alloc, &rows, set, Ms(99)))
+    is_silent(sent_when_due(alloc, &rows, set, Ms(99)))
         && sends(
-            due_sendings(alloc, &rows, set, Ms(100)),
+            sent_when_due(alloc, &rows, set, Ms(100)),
             GROUP,
             &[PEER, OTHER_PEER],
             &GROUPS,
@@ -124,10 +124,10 @@ fn a_write_is_new_data_of_its_input(rt: HostRuntime) {
 }
 
 fn prompts_changes(rows: &[Row]) -> bool {
-    !is_prompted(rows, Ms(109), 100)
-        && is_prompted(rows, Ms(110), 100)
-        && !is_prompted(rows, Ms(110), 101)
-        && !is_prompted(&[OWNER], Ms(110), 100)
+    !produces_at_once(rows, Ms(109), 100)
+        && produces_at_once(rows, Ms(110), 100)
+        && !produces_at_once(rows, Ms(110), 101)
+        && !produces_at_once(&[OWNER], Ms(110), 100)
 }
 
 fn sends_changes(alloc: Global) -> bool {
@@ -135,7 +135,7 @@ fn sends_changes(alloc: Global) -> bool {
         written: true,
         ..CHANGING
     });
-    let sent = prompt_sendings(alloc, &[OWNER, new], Ms(110), 100, &[1, 2, 3, 4]);
+    let sent = sent_on_change(alloc, &[OWNER, new], Ms(110), 100, &[1, 2, 3, 4]);
     sends(sent, PEER, &[PEER], &GATHERERS)
 }
 

@@ -66,8 +66,8 @@ feeds_len t peer d row delivery found is whole applied =
 
 pub fits_left : (clock : Ms) (rows : List Row) → RowsFit rows → RowsFit (staying (expired_rows clock rows))
 fits_left clock rows fit =
-    let faded = expired_rows clock rows in
-    each_filter FitsRow (stays (expired_rows clock rows)) faded (each_map FitsRow (expired_row clock) (fits_expired clock) rows fit)
+    let after = expired_rows clock rows in
+    each_filter FitsRow (stays (expired_rows clock rows)) after (each_map FitsRow (expired_row clock) (fits_expired clock) rows fit)
 
 pub fits_flagged : (point : ℕ) (rows : List Row) → RowsFit rows → RowsFit (map (written_row point) rows)
 fits_flagged point rows fit = each_map FitsRow (written_row point) (fits_written point) rows fit

@@ -619,7 +619,6 @@ impl Device for PlainAdapter {
     }
 
     fn is_whole(&self) {
-        // A look at a field tells what holds of them all.
         let _clock = self.clock;
     }
 }
