@@ -5,7 +5,6 @@ ghost use Rattle.cip_datagram.specs.Datagram.{view_datagram};
 ghost use Rattle.cip_datagram.specs.Header.{header_at};
 ghost use Rattle.adapter_table.specs.Datagrams.{is_for, expected_len, owned_delivery, accepted_delivery, sized_delivery, row_delivery, later_deadline, accepted_row, fed_row};
 ghost use Rattle.cip_productions.specs.Acceptance.{is_news, is_repeated};
-
 ghost use Rattle.adapter_table.specs.Whole.{RowsFit};
 
 use assembly_set::AssemblySet;
