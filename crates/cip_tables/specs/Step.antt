@@ -50,6 +50,10 @@ bytes_in (Adapter t) point = bytes_at t.values point
 abbrev pub produces_at_once : DeviceTable → ℕ → Bool
 produces_at_once (Adapter t) point = list_any (is_prompt t.clock point) t.rows
 
+-- the device is an adapter
+abbrev pub is_adapter : DeviceTable → Bool
+is_adapter (Adapter t) = true
+
 -- the event is a class 1 datagram, at which a device takes no memory
 abbrev pub is_datagram : Event → Bool
 is_datagram (Request peer bytes) = false

@@ -1,9 +1,9 @@
 //! What a device is, and runs of one.
 
-ghost use Rattle.std.specs.Prelude.{◌≡◌, ◌≢◌, ◌↔◌, false, true, Ok, Err, None, Some, Result, filter, IfOk, IfErr, OnErr, IsErr};
+ghost use Rattle.std.specs.Prelude.{◌≡◌, ◌≢◌, ◌↔◌, Bool, false, true, Ok, Err, None, Some, Result, filter, IfOk, IfErr, OnErr, IsErr};
 ghost use Rattle.cip_tables.specs.declared.table.DeviceTable.{DeviceTable};
-ghost use Rattle.cip_tables.specs.Step.{step, opening_table, config_fault, bytes_in, produces_at_once, is_datagram};
-ghost use Rattle.cip_events.specs.Answers.{plain_answer};
+ghost use Rattle.cip_tables.specs.Step.{step, opening_table, config_fault, bytes_in, produces_at_once, is_datagram, is_adapter};
+ghost use Rattle.cip_events.specs.Answers.{plain_answer, value_answer};
 ghost use Rattle.cip_events.specs.Outcomes.{Follows, found_memory};
 ghost use Rattle.cip_tables.specs.Run.{Runs, outcomes_of, performed, table_after};
 ghost use Rattle.cip_tables.specs.Sound.{IsSoundDevice};
@@ -21,11 +21,17 @@ use std::alloc::Global;
 pub trait Device {
     ghost table: { Self → DeviceTable };
 
+    ghost ADAPTER: { Bool };
+
+    /// Whether devices of this type are adapters.
+    const ADAPTER: bool;
+
     /// A fresh device. Its configuration is taken, and dropped where it is refused.
     ///
     /// The faults, in order: `Profile` with the first thing that is wrong, `OutOfMemory`.
     fn new(alloc: Global, config: Config) -> Result<Self, NewFault>
         ensures table { IfOk result (λ device. table device ≡ opening_table config) }
+        ensures kind { IfOk result (λ device. is_adapter (table device) ≡ ADAPTER) }
         ensures valid { IfOk result (λ _. config_fault config ≡ None) }
         ensures fault { IfErr result (λ fault. IsRefusedAs (config_fault config) fault) };
 
@@ -46,9 +52,11 @@ pub trait Device {
         ensures step { Follows (step (table self.old) (Event.Write point bytes.now)) (table self.old) result (table self.new) }
         ensures no_memory { produces_at_once (table self.old) point ≡ false → result ≢ Err StepFault.OutOfMemory };
 
-    /// What an output, an input or the configuration holds. Takes no memory. The one fault is
-    /// `NoSuchPoint`.
+    /// What an output, an input or the configuration holds, as the event Read answers it. Takes no memory.
+    /// The one fault is `NoSuchPoint`.
     fn read_point(&self, point: u32) -> Result<&[u8], StepFault>
+        ensures step { IfOk result (λ bytes. step (table self.now) (Event.Read point) ≡ Ok (value_answer bytes.now, table self.now)) }
+        ensures refused { IfErr result (λ fault. step (table self.now) (Event.Read point) ≡ Err fault) }
         ensures found { IfOk result (λ bytes. bytes_in (table self.now) point ≡ Some bytes.now) }
         ensures none { IfErr result (λ fault. (fault ≡ StepFault.NoSuchPoint) × (bytes_in (table self.now) point ≡ None)) };
 

@@ -2,7 +2,7 @@
 
 mod streams;
 
-ghost use Rattle.std.specs.Prelude.{◌≡◌, ◌≢◌, ◌+◌, ◌^◌, ◌∷◌, [], Ok, Err, Some, None, Result, IfOk, IfErr, ◌<◌, ◌≤◌, IsTrue, false, find, length};
+ghost use Rattle.std.specs.Prelude.{◌≡◌, ◌≢◌, ◌+◌, ◌^◌, ◌∷◌, [], Ok, Err, Some, None, Result, IfOk, IfErr, ◌<◌, ◌≤◌, IsTrue, false, true, find, length};
 ghost use Rattle.std.specs.Option.{option_map, ForSome};
 ghost use Rattle.cip_fwdopen.specs.Open.{view_open};
 ghost use Rattle.cip_fwdopen.specs.Close.{view_close};
@@ -562,6 +562,10 @@ impl Device for PlainAdapter {
 
     ghost table = { λ adapter. Adapter adapter };
 
+    ghost ADAPTER = { true };
+
+    const ADAPTER: bool = true;
+
     fn new(alloc: Global, config: Config) -> Result<Self, NewFault> {
         let Config::Adapter(profile) = config;
         profile.check()?;
@@ -603,6 +607,7 @@ impl Device for PlainAdapter {
         self.write(point, bytes)
     }
 
+    #[tactic(auto, unfolding(cip_tables::specs::Step::step, adapter_table::specs::Step::read))]
     fn read_point(&self, point: u32) -> Result<&[u8], StepFault> {
         Ok(self.assemblies.read(point)?)
     }
