@@ -1,9 +1,8 @@
 -- What passing the checks says.
-use Rattle.std.proofs.Common.{◌≡◌, ◌≤◌, ℕ, ◌+◌, nat_lt, nat_le, Bool, true, false, cond, not, ◌&&◌, ◌==◌, subst, List, [], ◌∷◌, length, Option, Some, None, Result, Ok, Err, refl, sym, ◌∙◌, ap, arith}
+use Rattle.std.proofs.Common.{◌≡◌, ◌≤◌, ℕ, ◌+◌, nat_lt, nat_le, Bool, true, false, not, ◌&&◌, ◌==◌, subst, List, [], ◌∷◌, length, Option, Some, None, Result, Ok, Err, refl, sym, ◌∙◌, ap, arith}
 use Rattle.std.specs.List.{list_any}
 use Rattle.std.specs.Result.{result_ok}
 use Rattle.std.proofs.lemmas.Bool.Decides.{nat_tests}
-use Rattle.cip_types.specs.declared.names.Ms.{Ms}
 use Rattle.cip_router.specs.declared.refusal.Refusal.{Refusal}
 use Rattle.cip_router.specs.declared.refusal.Refusal.TheVariants as refusal
 use Rattle.cip_epath.specs.declared.fault.PathFault.{PathFault}
@@ -20,7 +19,7 @@ use Rattle.adapter_table.specs.declared.profile.Profile.{Profile}
 use Rattle.adapter_table.specs.declared.table.AdapterTable.{AdapterTable}
 use Rattle.adapter_table.specs.declared.admission.Consumer.{Consumer}
 use Rattle.adapter_table.specs.Rows.{holds_triad, is_timed_out, drives, is_supported}
-use Rattle.adapter_table.specs.Checks.{Check, check, first_of, View, view_of, Points, points_of, named_points, path_check, consumer_of, input_of, is_known_config, is_multicast, named_len, has_other_length, stored, is_unserved, are_intervals, fails_at, is_owned, is_unsupported, group_of, joined, joins, drawn_ids, checks, judged, judged_path, verdict, admission, Admitted, admitted_at}
+use Rattle.adapter_table.specs.Checks.{Check, check, first_of, View, view_of, Points, points_of, named_points, path_check, consumer_of, input_of, is_known_config, is_multicast, named_len, has_other_length, stored, is_unserved, are_intervals, group_of, joined, joins, drawn_ids, checks, judged, verdict, admission, Admitted, admitted_at}
 
 -- each check passes
 abbrev pub AllPass : List Check → Type 0

@@ -1,5 +1,5 @@
 -- Each effect keeps the table sound, and so do each step and each run.
-use Rattle.std.proofs.Common.{◌≡◌, ◌≤◌, ℕ, ◌+◌, Bool, true, false, not, find, filter, ◌&&◌, nat_lt, nat_le, ◌==◌, List, [], ◌∷◌, ◌++◌, length, map, Option, Some, None, Ok, refl, sym, ◌∙◌, ap, subst, arith, length-append}
+use Rattle.std.proofs.Common.{◌≡◌, ◌≤◌, ℕ, ◌+◌, Bool, true, false, not, find, filter, ◌&&◌, nat_le, ◌==◌, List, [], ◌∷◌, ◌++◌, length, map, Option, Some, None, Ok, refl, sym, ◌∙◌, ap, subst, arith, length-append}
 use Rattle.std.specs.List.{list_any}
 use Rattle.std.proofs.lemmas.Bool.{and_parts}
 use Rattle.std.proofs.lemmas.Bool.Decides.{nat_tests}
@@ -34,7 +34,7 @@ use Rattle.adapter_table.proofs.SupportLemmas.{listeners_opened, listeners_stayi
 use Rattle.adapter_table.proofs.LikeLemmas.{Keeps, count_kept, triads_kept, ids_kept, drawn_kept, listeners_kept, groups_kept, written_keeps, fed_keeps, due_keeps, prompt_keeps}
 use Rattle.adapter_table.proofs.FadeLemmas.{count_expired, triads_expired, ids_expired, drawn_expired, groups_expired}
 use Rattle.adapter_table.proofs.StreamLemmas.{has_room, few_with, few_left, differ_with, differ_left, differ_registered}
-use Rattle.adapter_table.proofs.SoundLemmas.{or_false, room_by, length_opened, any_opened, drivers_opened, count_without, filter_none, triads_append, triads_without, ids_append, ids_without, IsDrawn, drawn_new, drawn_append, drawn_without, length_without_le, length_filter_le, count_filter, triads_filter, ids_filter, drawn_filter}
+use Rattle.adapter_table.proofs.SoundLemmas.{room_by, length_opened, any_opened, drivers_opened, count_without, filter_none, triads_append, triads_without, ids_append, ids_without, IsDrawn, drawn_new, drawn_append, drawn_without, length_without_le, length_filter_le, count_filter, triads_filter, ids_filter, drawn_filter}
 
 free_output : (rows : List Row) (kind : Kind) (consumed point : ℕ) → (is_owner kind && list_any (drives consumed) rows) ≡ false → (is_owner kind && consumed == point) ≡ true → drivers point rows ≡ []
 free_output rows kind consumed point free drives_it =
