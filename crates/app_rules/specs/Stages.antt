@@ -9,7 +9,7 @@ use Rattle.cip_netparams.specs.Rate.{interval_ms, timeout}
 use Rattle.cip_fwdopen.specs.Open.{OpenFields}
 use Rattle.cip_router.specs.declared.refusal.Refusal.{Refusal}
 use Rattle.cip_router.specs.declared.refusal.Refusal.TheVariants as refusal
-use Rattle.adapter_table.specs.Checks.{View, Points, Check, check, first_of, joins, has_other_trigger, has_other_inhibit, checks, segment_check, points_of, served_trigger, stored, Admitted, admitted_at}
+use Rattle.adapter_table.specs.Checks.{View, Points, Check, check, first_of, is_point_to_point, is_produced_type, joins, has_other_trigger, has_other_inhibit, checks, segment_check, points_of, served_trigger, stored, Admitted, admitted_at}
 use Rattle.adapter_table.specs.declared.row.Row.{Row}
 use Rattle.app_rules.specs.declared.request.Terms.{Terms}
 
@@ -27,6 +27,15 @@ and_then (Err why) next = Err why
 abbrev pub path_read : Option PathFields → Result PathFields PathFault
 path_read None = Err path_fault.Shape
 path_read (Some path) = Ok path
+
+-- check 5
+abbrev pub type_check : OpenFields → Check
+type_check request =
+    first_of (
+    check (not (is_point_to_point request.o_t_params.kind)) refusal.ConsumedType
+    ∷ check (not (is_produced_type request.t_o_params.kind)) refusal.ProducedType
+    ∷ []
+    )
 
 -- checks 3 to 8, of a path that reads or is misarranged
 abbrev pub request_checks : View → OpenFields → Option PathFields → List Check

@@ -5,9 +5,9 @@ ghost use Rattle.std.specs.Option.{option_map};
 ghost use Rattle.cip_epath.specs.Path.{view_path};
 ghost use Rattle.cip_fwdopen.specs.Open.{view_open};
 ghost use Rattle.cip_epath.specs.Reading.{path_reading};
-ghost use Rattle.adapter_table.specs.Checks.{Gives, key_of, key_check, inhibit_of, is_point_to_point, is_produced_type, is_multicast, is_change_of_state, served_inhibit};
+ghost use Rattle.adapter_table.specs.Checks.{Gives, key_of, key_check, inhibit_of, is_point_to_point, is_produced_type, is_multicast, is_unserved, is_change_of_state, served_inhibit};
 ghost use Rattle.app_rules.specs.Views.{seen};
-ghost use Rattle.app_rules.specs.Stages.{readable, request_check, terms_of};
+ghost use Rattle.app_rules.specs.Stages.{readable, type_check, request_check, terms_of};
 
 use crate::connections::Connections;
 use crate::view::View;
@@ -74,6 +74,26 @@ fn is_produced_type(kind: ConnectionType) -> bool
     is_multicast(kind) || is_point_to_point(kind)
 }
 
+/// Why the connection types are not served.
+fn type_check(request: &OpenRequest<'_>) -> Option<Refusal>
+    ensures { result ≡ type_check (view_open request.now) }
+{
+    if !is_point_to_point(request.o_t_params.kind) {
+        return Some(Refusal::ConsumedType);
+    }
+    if !is_produced_type(request.t_o_params.kind) {
+        return Some(Refusal::ProducedType);
+    }
+    None
+}
+
+/// Whether the multiplier is none, or an owner asks to be redundant.
+fn is_unserved(request: &OpenRequest<'_>) -> bool
+    ensures { result ≡ is_unserved (view_open request.now) }
+{
+    request.multiplier > 7 || request.o_t_params.redundant || request.t_o_params.redundant
+}
+
 /// The production inhibit time that a path asks for, in milliseconds.
 fn inhibit_of(path: &Option<ConnPath<'_>>) -> u8
     ensures { result ≡ inhibit_of (option_map view_path path.now) }
@@ -122,22 +142,16 @@ pub fn terms_of<C: Connections>(
     if let Some(why) = key_check(&view.profile.identity, path) {
         return Err(why);
     }
-    if !is_point_to_point(request.o_t_params.kind) {
-        return Err(Refusal::ConsumedType);
-    }
-    if !is_produced_type(request.t_o_params.kind) {
-        return Err(Refusal::ProducedType);
+    if let Some(why) = type_check(request) {
+        return Err(why);
     }
     let Some(trigger) = Trigger::read(request.trigger) else {
         return Err(Refusal::Trigger);
     };
-    if request.multiplier > 7 || request.o_t_params.redundant || request.t_o_params.redundant {
+    if is_unserved(request) {
         return Err(Refusal::Parameter);
     }
-    let Some(o_t_api) = api_of(request.o_t_rpi) else {
-        return Err(Refusal::PacketInterval);
-    };
-    let Some(t_o_api) = api_of(request.t_o_rpi) else {
+    let (Some(o_t_api), Some(t_o_api)) = (api_of(request.o_t_rpi), api_of(request.t_o_rpi)) else {
         return Err(Refusal::PacketInterval);
     };
     if is_held_back(trigger, t_o_api, inhibit_of(path)) {
