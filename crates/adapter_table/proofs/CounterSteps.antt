@@ -5,9 +5,9 @@ use Rattle.adapter_table.specs.declared.table.AdapterTable.{AdapterTable}
 use Rattle.adapter_table.specs.Opening.{opened_table}
 use Rattle.adapter_table.specs.Closing.{closed_table}
 use Rattle.adapter_table.specs.Streams.{with_stream, without_stream, registered_table}
-use Rattle.adapter_table.specs.Datagrams.{fed_table}
+use Rattle.adapter_table.specs.Datagrams.{accepted_table}
 use Rattle.adapter_table.specs.Ticks.{clocked_table, expired_table, produced_table}
-use Rattle.adapter_table.specs.Step.{written_table, prompt_table}
+use Rattle.adapter_table.specs.Step.{written_table, changed_table}
 use Rattle.adapter_table.specs.Laws.{StepsKeep}
 use Rattle.adapter_table.proofs.EffectLemmas.{EffectsKeep, adapter_keeps}
 
@@ -16,7 +16,7 @@ abbrev Counts : ℕ → AdapterTable → Type 0
 Counts n t = n ≤ t.next_id
 
 counter_effects : (n : ℕ) → EffectsKeep (Counts n)
-unfolding opened_table closed_table written_table prompt_table fed_table clocked_table expired_table produced_table with_stream without_stream registered_table
+unfolding opened_table closed_table written_table changed_table accepted_table clocked_table expired_table produced_table with_stream without_stream registered_table
 counter_effects n = record {
   opened = λ t peer request admitted is le. omega arith;
   closed = λ t row le. le;
@@ -36,7 +36,7 @@ abbrev HasProfile : Profile → AdapterTable → Type 0
 HasProfile profile t = t.profile ≡ profile
 
 profile_effects : (profile : Profile) → EffectsKeep (HasProfile profile)
-unfolding opened_table closed_table written_table prompt_table fed_table clocked_table expired_table produced_table with_stream without_stream registered_table
+unfolding opened_table closed_table written_table changed_table accepted_table clocked_table expired_table produced_table with_stream without_stream registered_table
 profile_effects profile = record {
   opened = λ t peer request admitted is same. same;
   closed = λ t row same. same;

@@ -30,11 +30,11 @@ use Rattle.adapter_table.specs.Checks.{Admitted}
 use Rattle.adapter_table.specs.Opening.{connection_id, opened_row, opened_table, makes_room}
 use Rattle.adapter_table.specs.Closing.{without_triad, stays, closed_table}
 use Rattle.adapter_table.specs.Streams.{with_stream, without_stream, registered_table}
-use Rattle.adapter_table.specs.Datagrams.{is_for, expected_len, run_bit, moded, accepted_delivery, row_delivery, accepted_row, fed_row, fed_table, delivered, found_datagram, datagram_of, received}
-use Rattle.adapter_table.specs.Productions.{due_row, prompt_state, prompt_row}
+use Rattle.adapter_table.specs.Datagrams.{is_for, expected_len, run_bit, moded, accepted_delivery, row_delivery, accepted_row, accepted_if_for, accepted_table, delivered, found_datagram, datagram_of, received}
+use Rattle.adapter_table.specs.Productions.{produced_row, changed_state, changed_row}
 use Rattle.adapter_table.specs.Requests.{Next, requested}
 use Rattle.adapter_table.specs.Ticks.{has_expired, expired_row, expired_rows, clocked_table, expired_table, produced_table}
-use Rattle.adapter_table.specs.Step.{read, read_of, written_table, prompt_table}
+use Rattle.adapter_table.specs.Step.{read, read_of, written_table, changed_table}
 use Rattle.adapter_table.specs.Sound.{IdsAreDrawn, IsSound, OpensBefore}
 use Rattle.adapter_table.specs.Newest.{Acceptance, is_applied, acceptance_of, accepted_found, accepted_read, EachAfter, last_accepted, HasNewerNumber, HasOtherCount, IsAppliedNew, IsNotAgain, RemembersLast, TableRemembers}
 use Rattle.adapter_table.specs.Laws.{StepsAcceptAfter, RefusalsAcceptNothing}
@@ -119,11 +119,11 @@ remembers_opened opening last t peer request admitted remembers =
     remembers_rows opening last t (opened_table t row admitted) (omega arith)
     (each_append (RemembersLast opening last) _ row (each_filter (RemembersLast opening last) (λ r. not (makes_room t.rows request.triad r)) t.rows remembers.there) new) remembers
 
-remembers_written : (opening : ℕ) (last : Option Accepted) (t : AdapterTable) (point : ℕ) (bytes : List ℕ) → TableRemembers opening last t → TableRemembers opening last (prompt_table (written_table t point bytes) point)
-unfolding written_table prompt_table
+remembers_written : (opening : ℕ) (last : Option Accepted) (t : AdapterTable) (point : ℕ) (bytes : List ℕ) → TableRemembers opening last t → TableRemembers opening last (changed_table (written_table t point bytes) point)
+unfolding written_table changed_table
 remembers_written opening last t point bytes remembers =
-    remembers_rows opening last t (prompt_table (written_table t point bytes) point) (omega arith)
-    (each_map (RemembersLast opening last) (prompt_row t.clock point) (λ row. remembers_step (row.produced == point) opening last row (prompt_state t.clock row.t_o_api row.state)) (map (written_row point) t.rows)
+    remembers_rows opening last t (changed_table (written_table t point bytes) point) (omega arith)
+    (each_map (RemembersLast opening last) (changed_row t.clock point) (λ row. remembers_step (row.produced == point) opening last row (changed_state t.clock row.t_o_api row.state)) (map (written_row point) t.rows)
     (each_map (RemembersLast opening last) (written_row point) (λ row. remembers_step (row.produced == point) opening last row (written_state row.state)) t.rows remembers.there)) remembers
 
 remembers_elapsed : (opening : ℕ) (last : Option Accepted) (t : AdapterTable) (ms : ℕ) → TableRemembers opening last t → TableRemembers opening last (produced_table (expired_table (clocked_table t ms)))
@@ -132,7 +132,7 @@ remembers_elapsed opening last t ms remembers =
     let clock : Ms = record { 0 = t.clock.0 + ms } in
     let left = expired_rows clock t.rows in
     remembers_rows opening last t (produced_table (expired_table (clocked_table t ms))) (omega arith)
-    (each_map (RemembersLast opening last) (due_row clock) (λ row remembers. remembers) _
+    (each_map (RemembersLast opening last) (produced_row clock) (λ row remembers. remembers) _
     (each_filter (RemembersLast opening last) (stays left) left
     (each_map (RemembersLast opening last) (expired_row clock) (λ row. remembers_step (has_expired clock row) opening last row TimedOut) t.rows remembers.there))) remembers
 
@@ -210,15 +210,15 @@ fed_beside true clock d opening last row other remembers = λ same. absurd (othe
 fed_beside false clock d opening last row other remembers = remembers
 
 -- of the connection that accepts it
-fed_own : (t : AdapterTable) (peer : Node) (d : DatagramFields) (row : Row) (delivery : Delivery) (last : Option Accepted) → find (is_for peer d.connection) t.rows ≡ Some row → IsSound t → TableRemembers row.opening last t → TableRemembers row.opening (Some (acceptance_of d delivery).datagram) (fed_table t peer d row delivery)
-unfolding fed_table
+fed_own : (t : AdapterTable) (peer : Node) (d : DatagramFields) (row : Row) (delivery : Delivery) (last : Option Accepted) → find (is_for peer d.connection) t.rows ≡ Some row → IsSound t → TableRemembers row.opening last t → TableRemembers row.opening (Some (acceptance_of d delivery).datagram) (accepted_table t peer d row delivery)
+unfolding accepted_table
 fed_own t peer d row delivery last found sound remembers =
     let here = found_passes (is_for peer d.connection) t.rows row found in
     let alone = two_found SameOpening same_back (is_for peer d.connection) t.rows row found (λ _. refl) (two_weak OpensBefore SameOpening rising t.rows sound.producers.openings_rise) in
     let below : row.opening < t.next_id = each_found (IsBelow t.next_id) (is_for peer d.connection) t.rows row found (below_next t.profile t.next_id t.rows sound.ids_are_drawn) in
     record {
       there =
-          each_changed (λ other. SameOpening other row) (RemembersLast row.opening (Some (acceptance_of d delivery).datagram)) (fed_row t.clock peer d)
+          each_changed (λ other. SameOpening other row) (RemembersLast row.opening (Some (acceptance_of d delivery).datagram)) (accepted_if_for t.clock peer d)
           (λ other only. fed_only other only) t.rows alone;
       unopened = λ later. absurd (omega arith);
     } where
@@ -226,21 +226,21 @@ fed_own t peer d row delivery last found sound remembers =
       opening_kept true clock other = refl
       opening_kept false clock other = refl
 
-      fed_only : (other : Row) → SameOpening other row → RemembersLast row.opening (Some (acceptance_of d delivery).datagram) (fed_row t.clock peer d other)
+      fed_only : (other : Row) → SameOpening other row → RemembersLast row.opening (Some (acceptance_of d delivery).datagram) (accepted_if_for t.clock peer d other)
       fed_only other only = λ same.
           let is_it = only (sym (opening_kept (is_for peer d.connection other) t.clock other) ∙ same) in
           fed_here (is_for peer d.connection other) t.clock d other delivery (ap (is_for peer d.connection) is_it ∙ found_passes (is_for peer d.connection) t.rows row found)
 
 -- of another one
-fed_other : (t : AdapterTable) (peer : Node) (d : DatagramFields) (row : Row) (delivery : Delivery) (opening : ℕ) (last : Option Accepted) → find (is_for peer d.connection) t.rows ≡ Some row → (row.opening == opening) ≡ false → IsSound t → TableRemembers opening last t → TableRemembers opening last (fed_table t peer d row delivery)
-unfolding fed_table
+fed_other : (t : AdapterTable) (peer : Node) (d : DatagramFields) (row : Row) (delivery : Delivery) (opening : ℕ) (last : Option Accepted) → find (is_for peer d.connection) t.rows ≡ Some row → (row.opening == opening) ≡ false → IsSound t → TableRemembers opening last t → TableRemembers opening last (accepted_table t peer d row delivery)
+unfolding accepted_table
 fed_other t peer d row delivery opening last found differs sound remembers =
     let here = found_passes (is_for peer d.connection) t.rows row found in
     let drawn = drawn_ids t.profile t.next_id t.rows sound.ids_are_drawn in
     let own = each_found (IsDrawnId t.profile) (is_for peer d.connection) t.rows row found drawn in
     record {
       there =
-          each_changed (λ other. RemembersLast opening last other × IsDrawnId t.profile other) (RemembersLast opening last) (fed_row t.clock peer d)
+          each_changed (λ other. RemembersLast opening last other × IsDrawnId t.profile other) (RemembersLast opening last) (accepted_if_for t.clock peer d)
           (λ other both. fed_beside (is_for peer d.connection other) t.clock d opening last other (λ for_it same. other_opening row.opening other.opening opening differs (one_opening t.profile peer d.connection row other own both.1 here for_it) same) both.0) t.rows
           (each_both (RemembersLast opening last) (IsDrawnId t.profile) (λ other. RemembersLast opening last other × IsDrawnId t.profile other) (λ other first second. (first, second)) t.rows remembers.there drawn);
       unopened = remembers.unopened;
@@ -256,13 +256,13 @@ Goes R opening last taken next = EachAfter R last taken × TableRemembers openin
 abbrev pub OfAccepted : (Option Accepted → Acceptance → Type 0) → Type 0
 OfAccepted R = (profile : Profile) (row : Row) (d : DatagramFields) → is_accepted (row_delivery profile row d) ≡ true → R row.last (acceptance_of d (row_delivery profile row d))
 
-goes_judged : (R : Option Accepted → Acceptance → Type 0) (accepted own : Bool) (opening : ℕ) (last : Option Accepted) (t : AdapterTable) (peer : Node) (d : DatagramFields) (row : Row) (delivery : Delivery) → find (is_for peer d.connection) t.rows ≡ Some row → (row.opening == opening) ≡ own → IsSound t → (accepted ≡ true → R row.last (acceptance_of d delivery)) → TableRemembers opening last t → Goes R opening last (cond (own && accepted) (acceptance_of d delivery ∷ []) []) (cond accepted (delivered delivery (fed_table t peer d row delivery)) (delivered delivery t)).1
+goes_judged : (R : Option Accepted → Acceptance → Type 0) (accepted own : Bool) (opening : ℕ) (last : Option Accepted) (t : AdapterTable) (peer : Node) (d : DatagramFields) (row : Row) (delivery : Delivery) → find (is_for peer d.connection) t.rows ≡ Some row → (row.opening == opening) ≡ own → IsSound t → (accepted ≡ true → R row.last (acceptance_of d delivery)) → TableRemembers opening last t → Goes R opening last (cond (own && accepted) (acceptance_of d delivery ∷ []) []) (cond accepted (delivered delivery (accepted_table t peer d row delivery)) (delivered delivery t)).1
 goes_judged R true true opening last t peer d row delivery found own sound holds remembers =
     let same : row.opening ≡ opening = grind (arith, nat_tests) in
     let remembers' = subst (λ (n : ℕ). TableRemembers n last t) (sym same) remembers in
     let lasts : row.last ≡ last = each_found (RemembersLast opening last) (is_for peer d.connection) t.rows row found remembers.there same in (
       (subst (λ (l : Option Accepted). R l (acceptance_of d delivery)) lasts (holds refl), tt),
-      subst (λ (n : ℕ). TableRemembers n (Some (acceptance_of d delivery).datagram) (fed_table t peer d row delivery)) same (fed_own t peer d row delivery last found sound remembers'),
+      subst (λ (n : ℕ). TableRemembers n (Some (acceptance_of d delivery).datagram) (accepted_table t peer d row delivery)) same (fed_own t peer d row delivery last found sound remembers'),
     )
 goes_judged R true false opening last t peer d row delivery found own sound holds remembers = (tt, fed_other t peer d row delivery opening last found own sound remembers)
 goes_judged R false true opening last t peer d row delivery found own sound holds remembers = (tt, remembers)

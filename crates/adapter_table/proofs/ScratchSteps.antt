@@ -19,19 +19,19 @@ use Rattle.adapter_table.specs.Points.{data_points, put_value, bytes_at}
 use Rattle.adapter_table.specs.Rows.{written_row}
 use Rattle.cip_router.specs.Asking.{asked_reading}
 use Rattle.adapter_table.specs.Requests.{Next, requested}
-use Rattle.adapter_table.specs.Datagrams.{is_for, row_delivery, fed_row, fed_table, judged_datagram, found_datagram, datagram_of, received}
-use Rattle.adapter_table.specs.Productions.{prompt_row}
+use Rattle.adapter_table.specs.Datagrams.{is_for, row_delivery, accepted_if_for, accepted_table, judged_datagram, found_datagram, datagram_of, received}
+use Rattle.adapter_table.specs.Productions.{changed_row}
 use Rattle.adapter_table.specs.Ticks.{clocked_table, expired, expired_table, produced_table}
-use Rattle.adapter_table.specs.Step.{adapter_step, read, read_of, written_table, prompt_table}
+use Rattle.adapter_table.specs.Step.{adapter_step, read, read_of, written_table, changed_table}
 use Rattle.adapter_table.specs.Shapes.{IsShaped}
 use Rattle.adapter_table.specs.Whole.{IsWhole}
-use Rattle.adapter_table.specs.Scratch.{or_else, left_lost, left_fed, fed_by, read_fed, is_lost, lost, left_at}
+use Rattle.adapter_table.specs.Scratch.{or_else, left_lost, left_accepted, accepted_by, read_accepted, is_lost, lost, left_at}
 use Rattle.adapter_table.specs.Laws.{StepsLeave, RefusalsTouchNothing, FreshOutputsAreZeros}
 use Rattle.adapter_table.proofs.Shaping.{input_no_output, output_found}
 use Rattle.adapter_table.proofs.Fitting.{output_fits, length_is}
 use Rattle.adapter_table.proofs.ValueLemmas.{put_beside, zeros_at}
 use Rattle.adapter_table.proofs.DriverLemmas.{same_owner}
-use Rattle.adapter_table.proofs.LikeLemmas.{any_driver_kept, written_keeps, prompt_keeps, fed_keeps}
+use Rattle.adapter_table.proofs.LikeLemmas.{any_driver_kept, written_keeps, changed_keeps, fed_keeps}
 use Rattle.adapter_table.proofs.FedLemmas.{fed_value}
 use Rattle.adapter_table.proofs.RequestLemmas.{answered_does, frame_does, next_is, IsStreamed, streamed_is, cut_does}
 use Rattle.adapter_table.proofs.EffectLemmas.{IsWrite, write_is, IsTick, tick_is}
@@ -45,13 +45,13 @@ LeavesHeld t event next = (point : ℕ) (output : OutputPoint) (held : List ℕ)
 -- ---- a write
 
 -- an input is no output
-leaves_written : (t : AdapterTable) (other : ℕ) (bytes : List ℕ) (input : InputPoint) → find (is_at other) t.profile.inputs ≡ Some input → IsShaped t.profile t.values → LeavesHeld t (Write other bytes) (prompt_table (written_table t other bytes) other)
-unfolding written_table prompt_table
+leaves_written : (t : AdapterTable) (other : ℕ) (bytes : List ℕ) (input : InputPoint) → find (is_at other) t.profile.inputs ≡ Some input → IsShaped t.profile t.values → LeavesHeld t (Write other bytes) (changed_table (written_table t other bytes) other)
+unfolding written_table changed_table
 leaves_written t other bytes input there shaped = λ point output held is holds.
     let rows = map (written_row other) t.rows in
-    let same = any_driver_kept (prompt_row t.clock other) (prompt_keeps t.clock other) point rows ∙ any_driver_kept (written_row other) (written_keeps other) point t.rows in
-    unlost (is_lost point t.rows (map (prompt_row t.clock other) rows)) (left_lost (find (is_output_at point) t.profile.outputs)) held (bytes_at (put_value other bytes t.values) point)
-    (same_owner point t.rows (map (prompt_row t.clock other) rows) same)
+    let same = any_driver_kept (changed_row t.clock other) (changed_keeps t.clock other) point rows ∙ any_driver_kept (written_row other) (written_keeps other) point t.rows in
+    unlost (is_lost point t.rows (map (changed_row t.clock other) rows)) (left_lost (find (is_output_at point) t.profile.outputs)) held (bytes_at (put_value other bytes t.values) point)
+    (same_owner point t.rows (map (changed_row t.clock other) rows) same)
     (put_beside point other bytes t.values held (input_no_output t.profile point other output input shaped.faultless is there) holds)
 
 leaves_write : (t : AdapterTable) (point : ℕ) (bytes : List ℕ) (next : Next) → IsWrite t point bytes next → IsShaped t.profile t.values → LeavesHeld t (Write point bytes) next.1
@@ -85,10 +85,10 @@ record Feeds (t next : AdapterTable) (left : ℕ → Option (List ℕ)) : Type 0
 feeds_nothing : (t : AdapterTable) → Feeds t t (λ _. None)
 feeds_nothing t = record { owners = λ point. same_owner point t.rows t.rows refl; leaves = λ point output held is holds. holds }
 
-feeds_by : (t : AdapterTable) (peer : Node) (d : DatagramFields) (row : Row) (delivery : Delivery) → IsShaped t.profile t.values → Feeds t (fed_table t peer d row delivery) (λ point. cond (row.consumed == point) (left_fed (find (is_output_at point) t.profile.outputs) d delivery) None)
-unfolding fed_table
+feeds_by : (t : AdapterTable) (peer : Node) (d : DatagramFields) (row : Row) (delivery : Delivery) → IsShaped t.profile t.values → Feeds t (accepted_table t peer d row delivery) (λ point. cond (row.consumed == point) (left_accepted (find (is_output_at point) t.profile.outputs) d delivery) None)
+unfolding accepted_table
 feeds_by t peer d row delivery shaped = record {
-  owners = λ point. same_owner point t.rows (map (fed_row t.clock peer d) t.rows) (any_driver_kept (fed_row t.clock peer d) (fed_keeps t.clock peer d) point t.rows);
+  owners = λ point. same_owner point t.rows (map (accepted_if_for t.clock peer d) t.rows) (any_driver_kept (accepted_if_for t.clock peer d) (fed_keeps t.clock peer d) point t.rows);
   leaves = λ point output held there holds. fed_value t.profile point row.consumed output d delivery t.values held shaped there holds;
 }
 
@@ -103,7 +103,7 @@ feeds_none t row = record {
   leaves = λ point output held is holds. no_left (row.consumed == point) held (bytes_at t.values point) holds;
 }
 
-feeds_judged : (t : AdapterTable) (peer : Node) (d : DatagramFields) (row : Row) (delivery : Delivery) → IsShaped t.profile t.values → Feeds t (judged_datagram t peer d row delivery).1 (λ point. cond (row.consumed == point) (left_fed (find (is_output_at point) t.profile.outputs) d delivery) None)
+feeds_judged : (t : AdapterTable) (peer : Node) (d : DatagramFields) (row : Row) (delivery : Delivery) → IsShaped t.profile t.values → Feeds t (judged_datagram t peer d row delivery).1 (λ point. cond (row.consumed == point) (left_accepted (find (is_output_at point) t.profile.outputs) d delivery) None)
 feeds_judged t peer d row Applied shaped = feeds_by t peer d row Applied shaped
 feeds_judged t peer d row Idle shaped = feeds_by t peer d row Idle shaped
 feeds_judged t peer d row Heartbeat shaped = feeds_by t peer d row Heartbeat shaped
@@ -113,17 +113,17 @@ feeds_judged t peer d row UnknownId shaped = feeds_none t row
 feeds_judged t peer d row WrongSize shaped = feeds_none t row
 feeds_judged t peer d row Malformed shaped = feeds_none t row
 
-feeds_found : (t : AdapterTable) (peer : Node) (d : DatagramFields) (found : Option Row) → IsShaped t.profile t.values → Feeds t (found_datagram t peer d found).1 (λ point. fed_by point t.profile d found)
+feeds_found : (t : AdapterTable) (peer : Node) (d : DatagramFields) (found : Option Row) → IsShaped t.profile t.values → Feeds t (found_datagram t peer d found).1 (λ point. accepted_by point t.profile d found)
 feeds_found t peer d None shaped = feeds_nothing t
 feeds_found t peer d (Some row) shaped = feeds_judged t peer d row (row_delivery t.profile row d) shaped
 
-feeds_read : (t : AdapterTable) (peer : Node) (reading : Result DatagramFields DatagramFault) → IsShaped t.profile t.values → Feeds t (datagram_of t peer reading).1 (λ point. read_fed point t peer reading)
+feeds_read : (t : AdapterTable) (peer : Node) (reading : Result DatagramFields DatagramFault) → IsShaped t.profile t.values → Feeds t (datagram_of t peer reading).1 (λ point. read_accepted point t peer reading)
 feeds_read t peer (Err fault) shaped = feeds_nothing t
 feeds_read t peer (Ok d) shaped = feeds_found t peer d (find (is_for peer d.connection) t.rows) shaped
 
-leaves_datagram : (t next : AdapterTable) (peer : Node) (bytes : List ℕ) → Feeds t next (λ point. read_fed point t peer (datagram_reading bytes)) → LeavesHeld t (Datagram peer bytes) next
+leaves_datagram : (t next : AdapterTable) (peer : Node) (bytes : List ℕ) → Feeds t next (λ point. read_accepted point t peer (datagram_reading bytes)) → LeavesHeld t (Datagram peer bytes) next
 leaves_datagram t next peer bytes feeds = λ point output held is holds.
-    or_unlost (read_fed point t peer (datagram_reading bytes)) (is_lost point t.rows next.rows) (left_lost (find (is_output_at point) t.profile.outputs)) held (bytes_at next.values point) (feeds.owners point) (feeds.leaves point output held is holds)
+    or_unlost (read_accepted point t peer (datagram_reading bytes)) (is_lost point t.rows next.rows) (left_lost (find (is_output_at point) t.profile.outputs)) held (bytes_at next.values point) (feeds.owners point) (feeds.leaves point output held is holds)
 
 -- ---- an event
 

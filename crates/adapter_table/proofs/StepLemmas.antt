@@ -22,16 +22,16 @@ use Rattle.adapter_table.specs.Opening.{makes_room_by, opened_row, opened_table,
 use Rattle.adapter_table.specs.Closing.{closed_table, stays, without_triad}
 use Rattle.adapter_table.specs.Points.{put_value}
 use Rattle.adapter_table.specs.Streams.{is_other_stream, is_taken, new_stream, with_stream, without_stream, registered_stream, registered_table}
-use Rattle.adapter_table.specs.Datagrams.{fed_row, fed_values, fed_table}
-use Rattle.adapter_table.specs.Productions.{producer_of, due_row, prompt_row}
+use Rattle.adapter_table.specs.Datagrams.{accepted_if_for, accepted_values, accepted_table}
+use Rattle.adapter_table.specs.Productions.{producer_of, produced_row, changed_row}
 use Rattle.adapter_table.specs.Ticks.{clocked_table, expired_row, expired_rows, expired_table, produced_table}
-use Rattle.adapter_table.specs.Step.{adapter_table, written_table, prompt_table}
+use Rattle.adapter_table.specs.Step.{adapter_table, written_table, changed_table}
 use Rattle.adapter_table.specs.Sound.{IsSound, StreamsDiffer}
 use Rattle.adapter_table.proofs.CheckLemmas.{HasSameApi, IsAdmitted, admitted_is, draws_some}
 use Rattle.adapter_table.proofs.EffectLemmas.{EffectsKeep}
 use Rattle.adapter_table.proofs.GroupLemmas.{Joins, is_single, is_first, is_joiner, groups_opened, groups_filter}
 use Rattle.adapter_table.proofs.SupportLemmas.{listeners_opened, listeners_staying}
-use Rattle.adapter_table.proofs.LikeLemmas.{Keeps, count_kept, triads_kept, ids_kept, drawn_kept, listeners_kept, groups_kept, written_keeps, fed_keeps, due_keeps, prompt_keeps}
+use Rattle.adapter_table.proofs.LikeLemmas.{Keeps, count_kept, triads_kept, ids_kept, drawn_kept, listeners_kept, groups_kept, written_keeps, fed_keeps, due_keeps, changed_keeps}
 use Rattle.adapter_table.proofs.FadeLemmas.{count_expired, triads_expired, ids_expired, drawn_expired, groups_expired}
 use Rattle.adapter_table.proofs.ProducerLemmas.{Produces, is_single as is_alone, is_first as is_leader, is_joiner as is_follower, producers_opened, producers_filter, producers_kept, producers_expired}
 use Rattle.adapter_table.proofs.StreamLemmas.{has_room, few_with, few_left, differ_with, differ_left, differ_registered}
@@ -183,15 +183,15 @@ sound_put : (t : AdapterTable) (point : ℕ) (bytes : List ℕ) → IsSound t �
 unfolding written_table
 sound_put t point bytes sound = sound_kept (written_row point) (written_keeps point) t (put_value point bytes t.values) sound
 
-pub sound_written : (t : AdapterTable) (point : ℕ) (bytes : List ℕ) → IsSound t → IsSound (prompt_table (written_table t point bytes) point)
-unfolding prompt_table
+pub sound_written : (t : AdapterTable) (point : ℕ) (bytes : List ℕ) → IsSound t → IsSound (changed_table (written_table t point bytes) point)
+unfolding changed_table
 sound_written t point bytes sound =
     let at = written_table t point bytes in
-    sound_kept (prompt_row at.clock point) (prompt_keeps at.clock point) at at.values (sound_put t point bytes sound)
+    sound_kept (changed_row at.clock point) (changed_keeps at.clock point) at at.values (sound_put t point bytes sound)
 
-pub sound_fed : (t : AdapterTable) (peer : Node) (d : DatagramFields) (row : Row) (delivery : Delivery) → IsSound t → IsSound (fed_table t peer d row delivery)
-unfolding fed_table
-sound_fed t peer d row delivery sound = sound_kept (fed_row t.clock peer d) (fed_keeps t.clock peer d) t (fed_values t.profile row.consumed d delivery t.values) sound
+pub sound_fed : (t : AdapterTable) (peer : Node) (d : DatagramFields) (row : Row) (delivery : Delivery) → IsSound t → IsSound (accepted_table t peer d row delivery)
+unfolding accepted_table
+sound_fed t peer d row delivery sound = sound_kept (accepted_if_for t.clock peer d) (fed_keeps t.clock peer d) t (accepted_values t.profile row.consumed d delivery t.values) sound
 
 sound_clocked : (t : AdapterTable) (ms : ℕ) → IsSound t → IsSound (clocked_table t ms)
 unfolding clocked_table
@@ -218,7 +218,7 @@ sound_expired t sound =
 
 sound_produced : (t : AdapterTable) → IsSound t → IsSound (produced_table t)
 unfolding produced_table
-sound_produced t sound = sound_kept (due_row t.clock) (due_keeps t.clock) t t.values sound
+sound_produced t sound = sound_kept (produced_row t.clock) (due_keeps t.clock) t t.values sound
 
 pub sound_elapsed : (t : AdapterTable) (ms : ℕ) → IsSound t → IsSound (produced_table (expired_table (clocked_table t ms)))
 sound_elapsed t ms sound = sound_produced (expired_table (clocked_table t ms)) (sound_expired (clocked_table t ms) (sound_clocked t ms sound))

@@ -9,7 +9,7 @@ use Rattle.adapter_table.specs.declared.row.Row.{Row}
 use Rattle.cip_productions.specs.declared.kind.Kind.{Kind}
 use Rattle.cip_productions.specs.declared.kind.Kind.TheVariants.{ExclusiveOwner, InputOnly, ListenOnly}
 use Rattle.cip_productions.specs.Kinds.{is_listener, same_kind}
-use Rattle.adapter_table.specs.Rows.{is_established, is_timed_out, has_triad, holds_triad, is_member, supports, is_supported, is_forsaken, others, Each}
+use Rattle.adapter_table.specs.Rows.{is_established, is_timed_out, has_triad, holds_triad, is_member, supports, is_supported, is_unsupported, others, Each}
 use Rattle.adapter_table.specs.Closing.{stays, staying}
 use Rattle.adapter_table.specs.Sound.{ListenersAreSupported, OpensBefore, OpeningsRise}
 use Rattle.adapter_table.specs.Opening.{is_opened_as, makes_room_by}
@@ -107,8 +107,8 @@ any_less p q (row ∷ rows) less none =
     rw (less row parts.0) (any_less p q rows less parts.1)
 
 -- more rows to support leave no more without support
-less_forsaken : (rows more : List Row) → ((kind : Kind) (point : ℕ) → is_supported rows kind point ≡ true → is_supported more kind point ≡ true) → (row : Row) → is_forsaken rows row ≡ false → is_forsaken more row ≡ false
-less_forsaken rows more all row none = less_step (is_established row) (is_listener row.kind) (is_supported rows row.kind row.produced) (is_supported more row.kind row.produced) (all row.kind row.produced) none where
+less_unsupported : (rows more : List Row) → ((kind : Kind) (point : ℕ) → is_supported rows kind point ≡ true → is_supported more kind point ≡ true) → (row : Row) → is_unsupported rows row ≡ false → is_unsupported more row ≡ false
+less_unsupported rows more all row none = less_step (is_established row) (is_listener row.kind) (is_supported rows row.kind row.produced) (is_supported more row.kind row.produced) (all row.kind row.produced) none where
   less_step : (a b c d : Bool) → (c ≡ true → d ≡ true) → (a && (b && not c)) ≡ false → (a && (b && not d)) ≡ false
   less_step true true true d more none = rw (more refl) refl
   less_step true true false d more none = absurd cc
@@ -129,8 +129,8 @@ supported_opened b c triad rows new free rise kind point is =
     list_any-append (supports kind point) (others (makes_room_by b c (find is_timed_out rows) triad) rows) (new ∷ []) ∙ or_left _ _ (kept ∙ is)
 
 -- a listener that is opened is supported
-new_supported : (rows more : List Row) (new : Row) → (is_listener new.kind && not (is_supported rows new.kind new.produced)) ≡ false → ((kind : Kind) (point : ℕ) → is_supported rows kind point ≡ true → is_supported more kind point ≡ true) → is_forsaken more new ≡ false
-new_supported rows more new alone all = less_forsaken rows more all new (and_less (is_established new) _ alone) where
+new_supported : (rows more : List Row) (new : Row) → (is_listener new.kind && not (is_supported rows new.kind new.produced)) ≡ false → ((kind : Kind) (point : ℕ) → is_supported rows kind point ≡ true → is_supported more kind point ≡ true) → is_unsupported more new ≡ false
+new_supported rows more new alone all = less_unsupported rows more all new (and_less (is_established new) _ alone) where
   and_less : (a b : Bool) → b ≡ false → (a && b) ≡ false
   and_less true b h = h
   and_less false b h = refl
@@ -139,9 +139,9 @@ pub listeners_opened : (b c : Bool) (triad : Triad) (rows : List Row) (new : Row
 listeners_opened b c triad rows new free rise alone supported =
     let all = others (makes_room_by b c (find is_timed_out rows) triad) rows ++ new ∷ [] in
     let more = supported_opened b c triad rows new free rise in
-    let old = any_filter (λ row. not (makes_room_by b c (find is_timed_out rows) triad row)) (is_forsaken all) rows (any_less (is_forsaken rows) (is_forsaken all) rows (less_forsaken rows all more) supported) in
+    let old = any_filter (λ row. not (makes_room_by b c (find is_timed_out rows) triad row)) (is_unsupported all) rows (any_less (is_unsupported rows) (is_unsupported all) rows (less_unsupported rows all more) supported) in
     let fresh = new_supported rows (others (makes_room_by b c (find is_timed_out rows) triad) rows ++ new ∷ []) new alone more in
-    rw (list_any-append (is_forsaken (others (makes_room_by b c (find is_timed_out rows) triad) rows ++ new ∷ [])) (others (makes_room_by b c (find is_timed_out rows) triad) rows) (new ∷ []), old, fresh) refl
+    rw (list_any-append (is_unsupported (others (makes_room_by b c (find is_timed_out rows) triad) rows ++ new ∷ [])) (others (makes_room_by b c (find is_timed_out rows) triad) rows) (new ∷ []), old, fresh) refl
 
 -- ---- the listeners that are left alone go
 
@@ -180,22 +180,22 @@ supported_left all [] kind point listens is = absurd cc
 supported_left all (row ∷ rows) kind point listens is =
     filtered_step (stays all row) (supports kind point) row rows (filter (stays all) rows) (stays_there all kind point row listens) (supported_left all rows kind point listens) is
 
-left_not_forsaken : (rows : List Row) (row : Row) → is_forsaken rows row ≡ false → is_forsaken (staying rows) row ≡ false
-left_not_forsaken rows row none = left_step (is_established row) (is_listener row.kind) (is_supported rows row.kind row.produced) (is_supported (staying rows) row.kind row.produced) (supported_left rows rows row.kind row.produced) none where
+left_not_unsupported : (rows : List Row) (row : Row) → is_unsupported rows row ≡ false → is_unsupported (staying rows) row ≡ false
+left_not_unsupported rows row none = left_step (is_established row) (is_listener row.kind) (is_supported rows row.kind row.produced) (is_supported (staying rows) row.kind row.produced) (supported_left rows rows row.kind row.produced) none where
   left_step : (a b c d : Bool) → (b ≡ true → c ≡ true → d ≡ true) → (a && (b && not c)) ≡ false → (a && (b && not d)) ≡ false
   left_step true true true d more none = rw (more refl refl) refl
   left_step true true false d more none = absurd cc
   left_step true false c d more none = refl
   left_step false b c d more none = refl
 
-staying_step : (b : Bool) (all : List Row) (row : Row) (kept : List Row) → stays all row ≡ b → list_any (is_forsaken (staying all)) kept ≡ false → list_any (is_forsaken (staying all)) (cond b (row ∷ kept) kept) ≡ false
-staying_step true all row kept is rest = rw (left_not_forsaken all row (not_not (is_forsaken all row) is)) rest where
+staying_step : (b : Bool) (all : List Row) (row : Row) (kept : List Row) → stays all row ≡ b → list_any (is_unsupported (staying all)) kept ≡ false → list_any (is_unsupported (staying all)) (cond b (row ∷ kept) kept) ≡ false
+staying_step true all row kept is rest = rw (left_not_unsupported all row (not_not (is_unsupported all row) is)) rest where
   not_not : (b : Bool) → not b ≡ true → b ≡ false
   not_not true h = absurd cc
   not_not false h = refl
 staying_step false all row kept is rest = rest
 
-staying_supported : (all rows : List Row) → list_any (is_forsaken (staying all)) (filter (stays all) rows) ≡ false
+staying_supported : (all rows : List Row) → list_any (is_unsupported (staying all)) (filter (stays all) rows) ≡ false
 staying_supported all [] = refl
 staying_supported all (row ∷ rows) = staying_step (stays all row) all row (filter (stays all) rows) refl (staying_supported all rows)
 

@@ -20,8 +20,8 @@ use Rattle.adapter_table.specs.declared.table.AdapterTable.{AdapterTable}
 use Rattle.adapter_table.specs.Rows.{is_member, written_state, written_row}
 use Rattle.adapter_table.specs.Checks.{Admitted, admission, group_of, joined, drawn_ids}
 use Rattle.adapter_table.specs.Opening.{opened_row, opened_state}
-use Rattle.adapter_table.specs.Datagrams.{is_for, accepted_row, fed_row}
-use Rattle.adapter_table.specs.Productions.{due_of, due_state, due_row, prompt_state, prompt_row}
+use Rattle.adapter_table.specs.Datagrams.{is_for, accepted_row, accepted_if_for}
+use Rattle.adapter_table.specs.Productions.{due_of, produced_state, produced_row, changed_state, changed_row}
 use Rattle.cip_productions.specs.Productions.{due_again, produced, is_free, sooner_due, held, changed_by}
 use Rattle.adapter_table.specs.Ticks.{has_expired, expired_row}
 use Rattle.adapter_table.specs.Sound.{IdsAreDrawn}
@@ -66,32 +66,32 @@ due_step : (b : Bool) (clock : Ms) (api : ℕ) (production : Production) → nat
 due_step true clock api production is time short due = again_fits production.trigger clock.0 production.due.0 api time (le_of _ _ is) short
 due_step false clock api production is time short due = due
 
-due_fits : (clock : Ms) (api : ℕ) (state : State) → clock.0 ≤ 2 ^ 48 → api ≤ 10000 → due_of state ≤ 2 ^ 48 + 10000 → due_of (due_state clock api state) ≤ 2 ^ 48 + 10000
+due_fits : (clock : Ms) (api : ℕ) (state : State) → clock.0 ≤ 2 ^ 48 → api ≤ 10000 → due_of state ≤ 2 ^ 48 + 10000 → due_of (produced_state clock api state) ≤ 2 ^ 48 + 10000
 due_fits clock api (Established production) time short due = due_step (nat_le production.due.0 clock.0) clock api production refl time short due
 due_fits clock api TimedOut time short due = due
 
-pub fits_due : (clock : Ms) → clock.0 ≤ 2 ^ 48 → (row : Row) → FitsRow row → FitsRow (due_row clock row)
-fits_due clock time row fits = fits_stated row (due_state clock row.t_o_api row.state) (due_fits clock row.t_o_api row.state time fits.t_o_api fits.due) fits
+pub fits_due : (clock : Ms) → clock.0 ≤ 2 ^ 48 → (row : Row) → FitsRow row → FitsRow (produced_row clock row)
+fits_due clock time row fits = fits_stated row (produced_state clock row.t_o_api row.state) (due_fits clock row.t_o_api row.state time fits.t_o_api fits.due) fits
 
 sooner_fits : (last : Option Ms) (inhibit : ℕ) (due : Ms) → due.0 ≤ 2 ^ 48 + 10000 → (sooner_due last inhibit due).0 ≤ 2 ^ 48 + 10000
 sooner_fits None inhibit due fits = fits
 sooner_fits (Some last) inhibit due fits = omega arith
 
-prompt_step : (b : Bool) (clock : Ms) (api : ℕ) (production : Production) → production.trigger ≡ ChangeOfState → clock.0 ≤ 2 ^ 48 → api ≤ 10000 → production.due.0 ≤ 2 ^ 48 + 10000 → due_of (Established (cond b (produced clock api production) (held production))) ≤ 2 ^ 48 + 10000
-prompt_step true clock api production is time short due = rw is (omega arith)
-prompt_step false clock api production is time short due = sooner_fits production.last production.inhibit production.due due
+changed_step : (b : Bool) (clock : Ms) (api : ℕ) (production : Production) → production.trigger ≡ ChangeOfState → clock.0 ≤ 2 ^ 48 → api ≤ 10000 → production.due.0 ≤ 2 ^ 48 + 10000 → due_of (Established (cond b (produced clock api production) (held production))) ≤ 2 ^ 48 + 10000
+changed_step true clock api production is time short due = rw is (omega arith)
+changed_step false clock api production is time short due = sooner_fits production.last production.inhibit production.due due
 
-prompt_by_fits : (trigger : Trigger) (clock : Ms) (api : ℕ) (production : Production) → production.trigger ≡ trigger → clock.0 ≤ 2 ^ 48 → api ≤ 10000 → production.due.0 ≤ 2 ^ 48 + 10000 → (changed_by trigger clock api production).due.0 ≤ 2 ^ 48 + 10000
-prompt_by_fits Cyclic clock api production is time short due = due
-prompt_by_fits ChangeOfState clock api production is time short due = prompt_step (is_free clock production) clock api production is time short due
+changed_by_fits : (trigger : Trigger) (clock : Ms) (api : ℕ) (production : Production) → production.trigger ≡ trigger → clock.0 ≤ 2 ^ 48 → api ≤ 10000 → production.due.0 ≤ 2 ^ 48 + 10000 → (changed_by trigger clock api production).due.0 ≤ 2 ^ 48 + 10000
+changed_by_fits Cyclic clock api production is time short due = due
+changed_by_fits ChangeOfState clock api production is time short due = changed_step (is_free clock production) clock api production is time short due
 
-prompt_fits : (clock : Ms) (api : ℕ) (state : State) → clock.0 ≤ 2 ^ 48 → api ≤ 10000 → due_of state ≤ 2 ^ 48 + 10000 → due_of (prompt_state clock api state) ≤ 2 ^ 48 + 10000
-prompt_fits clock api (Established production) time short due = prompt_by_fits production.trigger clock api production refl time short due
-prompt_fits clock api TimedOut time short due = due
+changed_fits : (clock : Ms) (api : ℕ) (state : State) → clock.0 ≤ 2 ^ 48 → api ≤ 10000 → due_of state ≤ 2 ^ 48 + 10000 → due_of (changed_state clock api state) ≤ 2 ^ 48 + 10000
+changed_fits clock api (Established production) time short due = changed_by_fits production.trigger clock api production refl time short due
+changed_fits clock api TimedOut time short due = due
 
-pub fits_prompt : (clock : Ms) (point : ℕ) → clock.0 ≤ 2 ^ 48 → (row : Row) → FitsRow row → FitsRow (prompt_row clock point row)
-fits_prompt clock point time row fits =
-    fits_chosen (row.produced == point) row (prompt_state clock row.t_o_api row.state) (prompt_fits clock row.t_o_api row.state time fits.t_o_api fits.due) fits
+pub fits_changed : (clock : Ms) (point : ℕ) → clock.0 ≤ 2 ^ 48 → (row : Row) → FitsRow row → FitsRow (changed_row clock point row)
+fits_changed clock point time row fits =
+    fits_chosen (row.produced == point) row (changed_state clock row.t_o_api row.state) (changed_fits clock row.t_o_api row.state time fits.t_o_api fits.due) fits
 
 -- ---- a datagram is accepted
 
@@ -99,7 +99,7 @@ fed_step : (b : Bool) (clock : Ms) (d : DatagramFields) (row : Row) → FitsRow 
 fed_step true clock d row fits = record { multiplier = fits.multiplier; o_t_api = fits.o_t_api; t_o_api = fits.t_o_api; due = fits.due }
 fed_step false clock d row fits = fits
 
-pub fits_fed : (clock : Ms) (peer : Node) (d : DatagramFields) (row : Row) → FitsRow row → FitsRow (fed_row clock peer d row)
+pub fits_fed : (clock : Ms) (peer : Node) (d : DatagramFields) (row : Row) → FitsRow row → FitsRow (accepted_if_for clock peer d row)
 fits_fed clock peer d row fits = fed_step (is_for peer d.connection row) clock d row fits
 
 -- ---- a connection is opened

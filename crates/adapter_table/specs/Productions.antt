@@ -88,37 +88,37 @@ due_production rows values producer = production_of rows (input_of values produc
 abbrev pub due_productions : Ms → List Row → List PointValue → List Produced
 due_productions clock rows values = map (due_production rows values) (due_producers clock rows)
 
-abbrev pub due_state : Ms → ℕ → State → State
-due_state clock api TimedOut = TimedOut
-due_state clock api (Established production) =
+abbrev pub produced_state : Ms → ℕ → State → State
+produced_state clock api TimedOut = TimedOut
+produced_state clock api (Established production) =
     if is_production_due clock production then Established (produced clock api production) else Established production
 
 -- a connection's producer has produced, where it was due
-abbrev pub due_row : Ms → Row → Row
-due_row clock row = record row { state = due_state clock row.t_o_api row.state }
+abbrev pub produced_row : Ms → Row → Row
+produced_row clock row = record row { state = produced_state clock row.t_o_api row.state }
 
 -- CHANGES OF STATE
 
-abbrev pub state_is_prompt : Ms → State → Bool
-state_is_prompt clock (Established production) = is_produced_on_change clock production
-state_is_prompt clock TimedOut = false
+abbrev pub state_produces_on_change : Ms → State → Bool
+state_produces_on_change clock (Established production) = is_produced_on_change clock production
+state_produces_on_change clock TimedOut = false
 
 -- the connection is established, and a write of this input makes its producer produce at once
-abbrev pub is_prompt : Ms → ℕ → Row → Bool
-is_prompt clock point row = row.produced == point && state_is_prompt clock row.state
+abbrev pub produces_on_change : Ms → ℕ → Row → Bool
+produces_on_change clock point row = row.produced == point && state_produces_on_change clock row.state
 
 -- the producers of an input that produce at once when it is written, by their numbers
 abbrev pub producers_on_change : Ms → ℕ → List Row → List Producer
-producers_on_change clock point rows = in_order by_number (producers (filter (is_prompt clock point) rows))
+producers_on_change clock point rows = in_order by_number (producers (filter (produces_on_change clock point) rows))
 
 -- what they produce, when the input holds these bytes
 abbrev pub productions_on_change : Ms → ℕ → List ℕ → List Row → List Produced
 productions_on_change clock point input rows = map (production_of rows input) (producers_on_change clock point rows)
 
-abbrev pub prompt_state : Ms → ℕ → State → State
-prompt_state clock api TimedOut = TimedOut
-prompt_state clock api (Established production) = Established (changed clock api production)
+abbrev pub changed_state : Ms → ℕ → State → State
+changed_state clock api TimedOut = TimedOut
+changed_state clock api (Established production) = Established (changed clock api production)
 
 -- a connection's producer has done what a write of its input asks of it
-abbrev pub prompt_row : Ms → ℕ → Row → Row
-prompt_row clock point row = if row.produced == point then record row { state = prompt_state clock row.t_o_api row.state } else row
+abbrev pub changed_row : Ms → ℕ → Row → Row
+changed_row clock point row = if row.produced == point then record row { state = changed_state clock row.t_o_api row.state } else row

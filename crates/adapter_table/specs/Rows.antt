@@ -50,8 +50,8 @@ abbrev pub is_supported : List Row → Kind → ℕ → Bool
 is_supported rows kind point = list_any (supports kind point) rows
 
 -- the connection is an established listen-only one without support
-abbrev pub is_forsaken : List Row → Row → Bool
-is_forsaken rows row = is_established row && (is_listener row.kind && not (is_supported rows row.kind row.produced))
+abbrev pub is_unsupported : List Row → Row → Bool
+is_unsupported rows row = is_established row && (is_listener row.kind && not (is_supported rows row.kind row.produced))
 
 -- the connections that fail a test
 abbrev pub others : (Row → Bool) → List Row → List Row

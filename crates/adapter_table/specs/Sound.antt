@@ -6,7 +6,7 @@ use Rattle.adapter_table.specs.declared.profile.Profile.{Profile}
 use Rattle.adapter_table.specs.declared.row.Row.{Row}
 use Rattle.adapter_table.specs.declared.table.Stream.{Stream}
 use Rattle.adapter_table.specs.declared.table.AdapterTable.{AdapterTable}
-use Rattle.adapter_table.specs.Rows.{has_triad, drivers, is_established, is_forsaken, is_member, Each, EachTwo}
+use Rattle.adapter_table.specs.Rows.{has_triad, drivers, is_established, is_unsupported, is_member, Each, EachTwo}
 use Rattle.adapter_table.specs.Opening.{connection_id}
 use Rattle.adapter_table.specs.Productions.{producer_of}
 use Rattle.adapter_table.specs.Streams.{is_stream}
@@ -35,7 +35,7 @@ HasOneOwner rows = (point : ℕ) → length (drivers point rows) ≤ 1
 
 -- no established listen-only connection is without support
 abbrev pub ListenersAreSupported : List Row → Type 0
-ListenersAreSupported rows = list_any (is_forsaken rows) rows ≡ false
+ListenersAreSupported rows = list_any (is_unsupported rows) rows ≡ false
 
 -- two established multicast connections of one input have one T->O id, one packet interval, and equal
 -- productions, the producer's number among them

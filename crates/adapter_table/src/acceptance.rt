@@ -4,7 +4,7 @@ ghost use Rattle.std.specs.Prelude.{◌≡◌, ◌≤◌, ◌+◌, ◌==◌, ◌
 ghost use Rattle.cip_datagram.specs.Datagram.{view_datagram};
 ghost use Rattle.cip_datagram.specs.Header.{header_at};
 ghost use Rattle.adapter_table.specs.Profiles.{is_output_at};
-ghost use Rattle.adapter_table.specs.Datagrams.{is_for, output_len, expected_len, run_bit, owned_delivery, accepted_delivery, sized_delivery, row_delivery, later_deadline, accepted_row, fed_row};
+ghost use Rattle.adapter_table.specs.Datagrams.{is_for, output_len, expected_len, run_bit, owned_delivery, accepted_delivery, sized_delivery, row_delivery, later_deadline, accepted_row, accepted_if_for};
 
 use crate::profile::{OutputPoint, Profile};
 use crate::row::Row;
@@ -113,11 +113,11 @@ pub fn accepted_row(row: Row, clock: Ms, datagram: &Datagram<'_>) -> Row
 }
 
 /// The same where the datagram is for the connection; any other connection stays.
-pub fn fed_row(row: Row, clock: Ms, peer: Node, datagram: &Datagram<'_>) -> Row
+pub fn accepted_if_for(row: Row, clock: Ms, peer: Node, datagram: &Datagram<'_>) -> Row
     requires waits { row.multiplier ≤ 7 }
     requires interval { row.o_t_api ≤ 10000 }
     requires time { clock.0 ≤ 2 ^ 48 }
-    ensures { result ≡ fed_row clock peer (view_datagram datagram.now) row }
+    ensures { result ≡ accepted_if_for clock peer (view_datagram datagram.now) row }
 {
     if is_for(&row, peer, datagram.connection) {
         accepted_row(row, clock, datagram)

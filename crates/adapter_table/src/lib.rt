@@ -14,11 +14,11 @@ mod row;
 mod rows;
 mod table;
 
-pub use acceptance::{accepted_row, fed_row, is_for, row_delivery};
+pub use acceptance::{accepted_if_for, accepted_row, is_for, row_delivery};
 pub use admission::{Admission, Consumer};
 pub use expiry::{by_deadline, expired_row, has_expired};
 pub use producing::{
-    due_row, is_due, is_produced_by, is_prompt, producer_in, prompt_row, written_row,
+    changed_row, is_due, is_produced_by, produced_row, producer_in, produces_on_change, written_row,
 };
 pub use profile::{Action, InputPoint, OutputPoint, Profile};
 pub use row::{Row, State};

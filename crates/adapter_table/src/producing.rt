@@ -2,7 +2,7 @@
 
 ghost use Rattle.std.specs.Prelude.{◌≡◌, ◌≤◌, ◌+◌, ◌^◌};
 ghost use Rattle.adapter_table.specs.Rows.{written_row, written_state};
-ghost use Rattle.adapter_table.specs.Productions.{producer_in, is_produced_by, due_of, is_due, due_state, due_row, is_prompt, state_is_prompt, prompt_state, prompt_row};
+ghost use Rattle.adapter_table.specs.Productions.{producer_in, is_produced_by, due_of, is_due, produced_state, produced_row, produces_on_change, state_produces_on_change, changed_state, changed_row};
 
 use crate::row::{Row, State};
 use cip_productions::{
@@ -48,10 +48,10 @@ pub fn is_due(row: &Row, clock: Ms) -> bool
     }
 }
 
-fn due_state(state: State, clock: Ms, api: u32) -> State
+fn produced_state(state: State, clock: Ms, api: u32) -> State
     requires time { clock.0 ≤ 2 ^ 48 }
     requires due { due_of state ≤ 2 ^ 48 + 10000 }
-    ensures { result ≡ due_state clock api state }
+    ensures { result ≡ produced_state clock api state }
 {
     match state {
         State::Established(production) if is_production_due(&production, clock) => {
@@ -64,13 +64,13 @@ fn due_state(state: State, clock: Ms, api: u32) -> State
 /// A connection whose producer has produced, where it was due.
 ///
 /// Volume 1, chapter 3, production triggers.
-pub fn due_row(row: Row, clock: Ms) -> Row
+pub fn produced_row(row: Row, clock: Ms) -> Row
     requires time { clock.0 ≤ 2 ^ 48 }
     requires due { due_of row.state ≤ 2 ^ 48 + 10000 }
-    ensures { result ≡ due_row clock row }
+    ensures { result ≡ produced_row clock row }
 {
     Row {
-        state: due_state(row.state, clock, row.t_o_api),
+        state: produced_state(row.state, clock, row.t_o_api),
         ..row
     }
 }
@@ -78,9 +78,9 @@ pub fn due_row(row: Row, clock: Ms) -> Row
 /// Whether a connection is established, and a write of this input makes its producer produce at once.
 ///
 /// Volume 1, chapter 3, production triggers and production inhibit time.
-pub fn is_prompt(row: &Row, clock: Ms, point: u32) -> bool
+pub fn produces_on_change(row: &Row, clock: Ms, point: u32) -> bool
     requires { clock.0 ≤ 2 ^ 48 }
-    ensures { result ≡ is_prompt clock point row.now }
+    ensures { result ≡ produces_on_change clock point row.now }
 {
     match row.state {
         State::Established(production) => {
@@ -90,10 +90,10 @@ pub fn is_prompt(row: &Row, clock: Ms, point: u32) -> bool
     }
 }
 
-fn prompt_state(state: State, clock: Ms, api: u32) -> State
+fn changed_state(state: State, clock: Ms, api: u32) -> State
     requires time { clock.0 ≤ 2 ^ 48 }
     requires due { due_of state ≤ 2 ^ 48 + 10000 }
-    ensures { result ≡ prompt_state clock api state }
+    ensures { result ≡ changed_state clock api state }
 {
     match state {
         State::Established(production) => State::Established(changed(production, clock, api)),
@@ -104,16 +104,16 @@ fn prompt_state(state: State, clock: Ms, api: u32) -> State
 /// A connection whose producer has done what a write of the input asks of it, where the input is its own.
 ///
 /// Volume 1, chapter 3, production triggers and production inhibit time.
-pub fn prompt_row(row: Row, clock: Ms, point: u32) -> Row
+pub fn changed_row(row: Row, clock: Ms, point: u32) -> Row
     requires time { clock.0 ≤ 2 ^ 48 }
     requires due { due_of row.state ≤ 2 ^ 48 + 10000 }
-    ensures { result ≡ prompt_row clock point row }
+    ensures { result ≡ changed_row clock point row }
 {
     if row.produced != point {
         return row;
     }
     Row {
-        state: prompt_state(row.state, clock, row.t_o_api),
+        state: changed_state(row.state, clock, row.t_o_api),
         ..row
     }
 }

@@ -14,7 +14,7 @@ use Rattle.adapter_table.specs.Profiles.{profile_fault}
 use Rattle.cip_events.specs.declared.profile_fault.ProfileFault.{ProfileFault}
 use Rattle.adapter_table.specs.Points.{bytes_at}
 use Rattle.adapter_table.specs.Requests.{Next}
-use Rattle.adapter_table.specs.Productions.{is_prompt}
+use Rattle.adapter_table.specs.Productions.{produces_on_change}
 use Rattle.adapter_table.specs.Step.{adapter_step, adapter_table}
 
 -- an answer and the device's table after it
@@ -48,7 +48,7 @@ bytes_in (Adapter t) point = bytes_at t.values point
 
 -- a write of the input makes a change-of-state producer produce at once
 abbrev pub produces_at_once : DeviceTable → ℕ → Bool
-produces_at_once (Adapter t) point = list_any (is_prompt t.clock point) t.rows
+produces_at_once (Adapter t) point = list_any (produces_on_change t.clock point) t.rows
 
 -- the device is an adapter
 abbrev pub is_adapter : DeviceTable → Bool

@@ -3,14 +3,14 @@
 ghost use Rattle.std.specs.Prelude.{◌≡◌, ◌≤◌, ◌^◌, map, filter, length, IfOk};
 ghost use Rattle.std.specs.List.{list_any};
 ghost use Rattle.cip_productions.specs.Productions.{sent};
-ghost use Rattle.adapter_table.specs.Productions.{is_prompt, producers_on_change, production_of, productions_on_change, prompt_row};
+ghost use Rattle.adapter_table.specs.Productions.{produces_on_change, producers_on_change, production_of, productions_on_change, changed_row};
 ghost use Rattle.adapter_table.specs.Rows.{written_row};
 ghost use Rattle.adapter_table.specs.Whole.{RowsFit};
 
 use crate::order::{By, sorted};
 use crate::producers::{producers, sending};
 use crate::rows::{copied, write_rows};
-use adapter_table::{Row, is_prompt, prompt_row};
+use adapter_table::{Row, changed_row, produces_on_change};
 use cip_events::Sending;
 use cip_productions::Producer;
 use cip_types::{Ms, OutOfMemory};
@@ -21,22 +21,27 @@ use std::alloc::Global;
 /// Volume 1, chapter 3, production triggers and production inhibit time.
 pub fn produces_at_once(rows: &[Row], clock: Ms, point: u32) -> bool
     requires { clock.0 ≤ 2 ^ 48 }
-    ensures { result ≡ list_any (is_prompt clock point) rows.now }
+    ensures { result ≡ list_any (produces_on_change clock point) rows.now }
 {
-    rows.iter().any(|row| is_prompt(row, clock, point))
+    rows.iter().any(|row| produces_on_change(row, clock, point))
 }
 
-fn prompt_only(alloc: Global, rows: &[Row], clock: Ms, point: u32) -> Result<Vec<Row>, OutOfMemory>
+fn on_change_only(
+    alloc: Global,
+    rows: &[Row],
+    clock: Ms,
+    point: u32,
+) -> Result<Vec<Row>, OutOfMemory>
     requires { clock.0 ≤ 2 ^ 48 }
-    ensures { IfOk result (λ prompt. prompt.items ≡ filter (is_prompt clock point) rows.now) }
+    ensures { IfOk result (λ changing. changing.items ≡ filter (produces_on_change clock point) rows.now) }
 {
-    let mut prompt = Vec::new(alloc);
+    let mut changing = Vec::new(alloc);
     for row in rows {
-        if is_prompt(row, clock, point) {
-            prompt.push(*row)?;
+        if produces_on_change(row, clock, point) {
+            changing.push(*row)?;
         }
     }
-    Ok(prompt)
+    Ok(changing)
 }
 
 /// The producers of an input that produce at once when it is written, by their numbers.
@@ -47,10 +52,10 @@ fn producers_on_change(
     point: u32,
 ) -> Result<Vec<Producer>, OutOfMemory>
     requires { clock.0 ≤ 2 ^ 48 }
-    ensures { IfOk result (λ prompt. prompt.items ≡ producers_on_change clock point rows.now) }
+    ensures { IfOk result (λ changing. changing.items ≡ producers_on_change clock point rows.now) }
 {
-    let prompt = prompt_only(alloc, rows, clock, point)?;
-    let producers = producers(alloc, &prompt)?;
+    let changing = on_change_only(alloc, rows, clock, point)?;
+    let producers = producers(alloc, &changing)?;
     sorted(alloc, &producers, &By::Number)
 }
 
@@ -59,13 +64,13 @@ fn sendings(
     alloc: Global,
     rows: &[Row],
     input: &[u8],
-    prompt: &[Producer],
+    changing: &[Producer],
 ) -> Result<Vec<Sending>, OutOfMemory>
     requires { length input.now ≤ 65533 }
-    ensures { IfOk result (λ sendings. sendings.items ≡ map sent (map (production_of rows.now input.now) prompt.now)) }
+    ensures { IfOk result (λ sendings. sendings.items ≡ map sent (map (production_of rows.now input.now) changing.now)) }
 {
     let mut sendings = Vec::new(alloc);
-    for producer in prompt {
+    for producer in changing {
         sendings.push(sending(alloc, rows, input, producer)?)?;
     }
     Ok(sendings)
@@ -85,18 +90,18 @@ pub fn sent_on_change(
     requires short { length input.now ≤ 65533 }
     ensures { IfOk result (λ sendings. sendings.items ≡ map sent (productions_on_change clock point input.now rows.now)) }
 {
-    let prompt = producers_on_change(alloc, rows, clock, point)?;
-    sendings(alloc, rows, input, &prompt)
+    let changing = producers_on_change(alloc, rows, clock, point)?;
+    sendings(alloc, rows, input, &changing)
 }
 
 /// The change-of-state producers of an input have done what a write asks of them.
-fn prompt_rows(rows: &mut [Row], clock: Ms, point: u32)
+fn change_rows(rows: &mut [Row], clock: Ms, point: u32)
     requires fit { RowsFit rows.old }
     requires time { clock.0 ≤ 2 ^ 48 }
-    ensures { rows.new ≡ map (prompt_row clock point) rows.old }
+    ensures { rows.new ≡ map (changed_row clock point) rows.old }
 {
     for row in rows.iter_mut() {
-        *row = prompt_row(*row, clock, point);
+        *row = changed_row(*row, clock, point);
     }
 }
 
@@ -113,23 +118,23 @@ pub fn written_rows(alloc: Global, rows: &[Row], point: u32) -> Result<Vec<Row>,
 /// Takes no memory.
 ///
 /// Volume 1, chapter 3, production triggers and production inhibit time.
-pub fn prompted_rows(rows: Vec<Row>, clock: Ms, point: u32) -> Vec<Row>
+pub fn changed_rows(rows: Vec<Row>, clock: Ms, point: u32) -> Vec<Row>
     requires fit { RowsFit rows.items }
     requires time { clock.0 ≤ 2 ^ 48 }
-    ensures { result.items ≡ map (prompt_row clock point) rows.items }
+    ensures { result.items ≡ map (changed_row clock point) rows.items }
 {
     let mut after = rows;
-    prompt_rows(&mut after, clock, point);
+    change_rows(&mut after, clock, point);
     after
 }
 
 /// The producers of an input have new data, and its change-of-state producers have done what a write asks
 /// of them. Takes no memory.
-pub fn write_and_prompt_rows(rows: &mut [Row], clock: Ms, point: u32)
+pub fn write_and_change_rows(rows: &mut [Row], clock: Ms, point: u32)
     requires fit { RowsFit rows.old }
     requires time { clock.0 ≤ 2 ^ 48 }
-    ensures { rows.new ≡ map (prompt_row clock point) (map (written_row point) rows.old) }
+    ensures { rows.new ≡ map (changed_row clock point) (map (written_row point) rows.old) }
 {
     write_rows(rows, point);
-    prompt_rows(rows, clock, point);
+    change_rows(rows, clock, point);
 }

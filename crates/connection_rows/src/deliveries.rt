@@ -2,10 +2,10 @@
 
 ghost use Rattle.std.specs.Prelude.{◌≡◌, ◌≤◌, ◌^◌, find, map};
 ghost use Rattle.cip_datagram.specs.Datagram.{view_datagram};
-ghost use Rattle.adapter_table.specs.Datagrams.{is_for, fed_row};
+ghost use Rattle.adapter_table.specs.Datagrams.{is_for, accepted_if_for};
 ghost use Rattle.adapter_table.specs.Whole.{RowsFit};
 
-use adapter_table::{Row, fed_row, is_for};
+use adapter_table::{Row, accepted_if_for, is_for};
 use cip_datagram::Datagram;
 use cip_types::{ConnId, Ms, Node};
 
@@ -24,9 +24,9 @@ pub fn find_target(rows: &[Row], peer: Node, id: ConnId) -> Option<Row>
 pub fn accept_rows(rows: &mut [Row], clock: Ms, peer: Node, datagram: &Datagram<'_>)
     requires fit { RowsFit rows.old }
     requires time { clock.0 ≤ 2 ^ 48 }
-    ensures { rows.new ≡ map (fed_row clock peer (view_datagram datagram.now)) rows.old }
+    ensures { rows.new ≡ map (accepted_if_for clock peer (view_datagram datagram.now)) rows.old }
 {
     for row in rows.iter_mut() {
-        *row = fed_row(*row, clock, peer, datagram);
+        *row = accepted_if_for(*row, clock, peer, datagram);
     }
 }

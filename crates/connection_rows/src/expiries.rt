@@ -1,11 +1,11 @@
 //! Connections that time out.
 
 ghost use Rattle.std.specs.Prelude.{◌≡◌, ◌++◌, map, filter, IfOk};
-ghost use Rattle.adapter_table.specs.Closing.{forsaken, dropped_notice};
+ghost use Rattle.adapter_table.specs.Closing.{unsupported, dropped_notice};
 ghost use Rattle.adapter_table.specs.Ticks.{has_expired, expired, expired_row, expired_rows, expired_notice};
 
 use crate::order::{Deadlines, sorted};
-use crate::rows::{copied, is_forsaken};
+use crate::rows::{copied, is_unsupported};
 use adapter_table::{Row, expired_row, has_expired};
 use cip_events::Notice;
 use cip_types::{Ms, OutOfMemory};
@@ -55,11 +55,11 @@ pub fn expired_rows(alloc: Global, rows: &[Row], clock: Ms) -> Result<Vec<Row>, 
 /// What is told of connections that time out, in this order, and then of the listen-only ones among those
 /// left that are dropped.
 pub fn expiry_notices(alloc: Global, gone: &[Row], left: &[Row]) -> Result<Vec<Notice>, OutOfMemory>
-    ensures { IfOk result (λ notices. notices.items ≡ map expired_notice gone.now ++ map dropped_notice (forsaken left.now)) }
+    ensures { IfOk result (λ notices. notices.items ≡ map expired_notice gone.now ++ map dropped_notice (unsupported left.now)) }
 {
     let mut notices = expired_notices(alloc, gone)?;
     for row in left {
-        if is_forsaken(left, row) {
+        if is_unsupported(left, row) {
             notices.push(Notice::Dropped(row.triad))?;
         }
     }

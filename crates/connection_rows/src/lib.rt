@@ -15,7 +15,7 @@ mod productions;
 mod rows;
 
 pub use changes::{
-    produces_at_once, prompted_rows, sent_on_change, write_and_prompt_rows, written_rows,
+    changed_rows, produces_at_once, sent_on_change, write_and_change_rows, written_rows,
 };
 pub use deliveries::{accept_rows, find_target};
 pub use expiries::{expired, expired_rows, expiry_notices};

@@ -2,12 +2,12 @@
 
 ghost use Rattle.std.specs.Prelude.{◌≡◌, ◌≤◌, ◌^◌, map, filter, length, IfOk};
 ghost use Rattle.cip_productions.specs.Productions.{sent};
-ghost use Rattle.adapter_table.specs.Productions.{is_due, due_producers, input_of, due_production, due_productions, due_row};
+ghost use Rattle.adapter_table.specs.Productions.{is_due, due_producers, input_of, due_production, due_productions, produced_row};
 ghost use Rattle.adapter_table.specs.Whole.{RowsFit};
 
 use crate::order::{By, sorted};
 use crate::producers::{producers, sending};
-use adapter_table::{Row, due_row, is_due};
+use adapter_table::{Row, is_due, produced_row};
 use assembly_set::AssemblySet;
 use cip_events::Sending;
 use cip_productions::Producer;
@@ -92,10 +92,10 @@ pub fn sent_when_due(
 fn produce_rows(rows: &mut [Row], clock: Ms)
     requires fit { RowsFit rows.old }
     requires time { clock.0 ≤ 2 ^ 48 }
-    ensures { rows.new ≡ map (due_row clock) rows.old }
+    ensures { rows.new ≡ map (produced_row clock) rows.old }
 {
     for row in rows.iter_mut() {
-        *row = due_row(*row, clock);
+        *row = produced_row(*row, clock);
     }
 }
 
@@ -105,7 +105,7 @@ fn produce_rows(rows: &mut [Row], clock: Ms)
 pub fn produced_rows(rows: Vec<Row>, clock: Ms) -> Vec<Row>
     requires fit { RowsFit rows.items }
     requires time { clock.0 ≤ 2 ^ 48 }
-    ensures { result.items ≡ map (due_row clock) rows.items }
+    ensures { result.items ≡ map (produced_row clock) rows.items }
 {
     let mut after = rows;
     produce_rows(&mut after, clock);

@@ -2,8 +2,8 @@
 
 ghost use Rattle.std.specs.Prelude.{◌≡◌, ◌≤◌, vec_len, vec_capacity, ◌<◌, ◌∷◌, ◌++◌, [], find, OnOk, IfOk, map, length, nat_le};
 ghost use Rattle.std.specs.List.{list_any};
-ghost use Rattle.adapter_table.specs.Rows.{has_triad, is_timed_out, is_forsaken, written_row, others};
-ghost use Rattle.adapter_table.specs.Closing.{without_triad, staying, forsaken, dropped_notice};
+ghost use Rattle.adapter_table.specs.Rows.{has_triad, is_timed_out, is_unsupported, written_row, others};
+ghost use Rattle.adapter_table.specs.Closing.{without_triad, staying, unsupported, dropped_notice};
 ghost use Rattle.adapter_table.specs.Opening.{is_opened_as, makes_room_by, makes_room, replaced_triad};
 
 use adapter_table::{
@@ -127,8 +127,8 @@ pub fn others(alloc: Global, rows: &[Row], triad: Triad) -> Result<Vec<Row>, Out
 }
 
 /// Whether a connection is an established listen-only one without support.
-pub fn is_forsaken(rows: &[Row], row: &Row) -> bool
-    ensures { result ≡ is_forsaken rows.now row.now }
+pub fn is_unsupported(rows: &[Row], row: &Row) -> bool
+    ensures { result ≡ is_unsupported rows.now row.now }
 {
     is_established(row)
         && row.kind == Kind::ListenOnly
@@ -141,7 +141,7 @@ pub fn staying(alloc: Global, rows: &[Row]) -> Result<Vec<Row>, OutOfMemory>
 {
     let mut left = Vec::new(alloc);
     for row in rows {
-        if !is_forsaken(rows, row) {
+        if !is_unsupported(rows, row) {
             left.push(*row)?;
         }
     }
@@ -150,12 +150,12 @@ pub fn staying(alloc: Global, rows: &[Row]) -> Result<Vec<Row>, OutOfMemory>
 
 /// What is told of the close of a connection, the others being left.
 pub fn closed_notices(alloc: Global, left: &[Row], triad: Triad) -> Result<Vec<Notice>, OutOfMemory>
-    ensures { IfOk result (λ notices. notices.items ≡ Notice.Closed triad ∷ map dropped_notice (forsaken left.now)) }
+    ensures { IfOk result (λ notices. notices.items ≡ Notice.Closed triad ∷ map dropped_notice (unsupported left.now)) }
 {
     let mut notices = Vec::new(alloc);
     notices.push(Notice::Closed(triad))?;
     for row in left {
-        if is_forsaken(left, row) {
+        if is_unsupported(left, row) {
             notices.push(Notice::Dropped(row.triad))?;
         }
     }

@@ -7,8 +7,8 @@ use assembly_set::AssemblySet;
 use cip_tables::{Production, Row, Sending, State};
 use cip_types::{Ms, Node, OutOfMemory};
 use connection_rows::{
-    copied, produced_rows, produces_at_once, prompted_rows, sent_on_change, sent_when_due,
-    write_and_prompt_rows, written_rows,
+    copied, produced_rows, produces_at_once, changed_rows, sent_on_change, sent_when_due,
+    write_and_change_rows, written_rows,
 };
 use std::alloc::Global;
 use std::test::Fail;
@@ -155,7 +155,7 @@ fn goes_on_at_a_write() -> bool {
         ..CHANGING
     });
     let mut rows = [GATHERER];
-    write_and_prompt_rows(&mut rows, Ms(110), 100);
+    write_and_change_rows(&mut rows, Ms(110), 100);
     rows == [free]
 }
 
@@ -165,7 +165,7 @@ fn waits_at_a_write(alloc: Global) -> bool {
         ..CHANGING
     });
     match copied(alloc, &[GATHERER]) {
-        Ok(rows) => are_rows(Ok(prompted_rows(rows, Ms(109), 100)), &[held]),
+        Ok(rows) => are_rows(Ok(changed_rows(rows, Ms(109), 100)), &[held]),
         Err(_) => false,
     }
 }

@@ -22,7 +22,7 @@ use Rattle.adapter_table.specs.Rows.{written_state, written_row}
 use Rattle.adapter_table.specs.Closing.{stays, staying}
 use Rattle.adapter_table.specs.Datagrams.{is_for, row_delivery, run_data}
 use Rattle.cip_productions.specs.Productions.{sent}
-use Rattle.adapter_table.specs.Productions.{state_is_prompt, is_prompt, productions_on_change, prompt_row}
+use Rattle.adapter_table.specs.Productions.{state_produces_on_change, produces_on_change, productions_on_change, changed_row}
 use Rattle.adapter_table.specs.Ticks.{expired_row, expired_rows}
 use Rattle.adapter_table.specs.Whole.{FitsRow, RowsFit, IsWhole}
 use Rattle.adapter_table.specs.Whole.{ConsumesOutput}
@@ -45,10 +45,10 @@ rows_by f n rows lent new same long is =
     written_back n rows new (ap (length {A = Row}) is ∙ length-map lent f ∙ long) ∙ is ∙ ap (map f) same
 
 -- the same of rows whose input is written
-pub written_back_rows : (n : ℕ) (rows lent new : List Row) (clock : Ms) (point : ℕ) → lent ≡ rows → length lent ≡ n → new ≡ map (prompt_row clock point) (map (written_row point) lent) → take n (new ++ drop (length new) rows) ≡ map (prompt_row clock point) (map (written_row point) rows)
+pub written_back_rows : (n : ℕ) (rows lent new : List Row) (clock : Ms) (point : ℕ) → lent ≡ rows → length lent ≡ n → new ≡ map (changed_row clock point) (map (written_row point) lent) → take n (new ++ drop (length new) rows) ≡ map (changed_row clock point) (map (written_row point) rows)
 written_back_rows n rows lent new clock point same long is =
-    written_back n rows new (ap (length {A = Row}) is ∙ length-map (map (written_row point) lent) (prompt_row clock point) ∙ length-map lent (written_row point) ∙ long)
-    ∙ is ∙ ap (λ (l : List Row). map (prompt_row clock point) (map (written_row point) l)) same
+    written_back n rows new (ap (length {A = Row}) is ∙ length-map (map (written_row point) lent) (changed_row clock point) ∙ length-map lent (written_row point) ∙ long)
+    ∙ is ∙ ap (λ (l : List Row). map (changed_row clock point) (map (written_row point) l)) same
 
 -- ---- a datagram is applied
 
@@ -72,7 +72,7 @@ fits_left clock rows fit =
 pub fits_flagged : (point : ℕ) (rows : List Row) → RowsFit rows → RowsFit (map (written_row point) rows)
 fits_flagged point rows fit = each_map FitsRow (written_row point) (fits_written point) rows fit
 
--- ---- a write without prompt producers
+-- ---- a write that makes no producer produce
 
 or_false : (a b : Bool) → (a || b) ≡ false → (a ≡ false) × (b ≡ false)
 or_false true b h = absurd cc
@@ -100,18 +100,18 @@ pub without_fault : {P : Type 0} (given : Result (Unit {0}) PointFault) → resu
 without_fault (Ok done) none holds = holds
 without_fault (Err fault) none holds = absurd cc
 
--- a write leaves open whether a producer is prompt
-prompt_written : (clock : Ms) (state : State) → state_is_prompt clock (written_state state) ≡ state_is_prompt clock state
-prompt_written clock (Established production) = refl
-prompt_written clock TimedOut = refl
+-- a write leaves open whether a producer produces at it
+changed_written : (clock : Ms) (state : State) → state_produces_on_change clock (written_state state) ≡ state_produces_on_change clock state
+changed_written clock (Established production) = refl
+changed_written clock TimedOut = refl
 
-prompt_step : (b : Bool) (clock : Ms) (point : ℕ) (row : Row) → is_prompt clock point (cond b (record row { state = written_state row.state }) row) ≡ is_prompt clock point row
-prompt_step true clock point row = ap (λ b. row.produced == point && b) (prompt_written clock row.state)
-prompt_step false clock point row = refl
+changed_step : (b : Bool) (clock : Ms) (point : ℕ) (row : Row) → produces_on_change clock point (cond b (record row { state = written_state row.state }) row) ≡ produces_on_change clock point row
+changed_step true clock point row = ap (λ b. row.produced == point && b) (changed_written clock row.state)
+changed_step false clock point row = refl
 
-any_written : (clock : Ms) (point : ℕ) (rows : List Row) → list_any (is_prompt clock point) (map (written_row point) rows) ≡ list_any (is_prompt clock point) rows
+any_written : (clock : Ms) (point : ℕ) (rows : List Row) → list_any (produces_on_change clock point) (map (written_row point) rows) ≡ list_any (produces_on_change clock point) rows
 any_written clock point [] = refl
-any_written clock point (row ∷ rows) = rw (prompt_step (row.produced == point) clock point row) (ap (λ b. is_prompt clock point row || b) (any_written clock point rows))
+any_written clock point (row ∷ rows) = rw (changed_step (row.produced == point) clock point row) (ap (λ b. produces_on_change clock point row || b) (any_written clock point rows))
 
 none_passes : (q : Row → Bool) (rows : List Row) → list_any q rows ≡ false → filter q rows ≡ []
 none_passes q [] none = refl
@@ -119,8 +119,8 @@ none_passes q (row ∷ rows) none =
     let parts = or_false (q row) (list_any q rows) none in
     rw parts.0 (none_passes q rows parts.1)
 
--- so where none was prompt before, nothing is sent
-pub nothing_prompt : (clock : Ms) (point : ℕ) (bytes : List ℕ) (rows : List Row) → list_any (is_prompt clock point) rows ≡ false → map sent (productions_on_change clock point bytes (map (written_row point) rows)) ≡ []
-nothing_prompt clock point bytes rows none =
+-- so where none would, nothing is sent
+pub nothing_on_change : (clock : Ms) (point : ℕ) (bytes : List ℕ) (rows : List Row) → list_any (produces_on_change clock point) rows ≡ false → map sent (productions_on_change clock point bytes (map (written_row point) rows)) ≡ []
+nothing_on_change clock point bytes rows none =
     let none_written = any_written clock point rows ∙ none in
-    rw (none_passes (is_prompt clock point) (map (written_row point) rows) none_written) refl
+    rw (none_passes (produces_on_change clock point) (map (written_row point) rows) none_written) refl

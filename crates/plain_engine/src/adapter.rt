@@ -15,14 +15,14 @@ ghost use Rattle.device_answers.specs.Routes.{peer_of, routed, routed_answer, Is
 ghost use Rattle.adapter_table.specs.Closing.{closed_values};
 ghost use Rattle.cip_datagram.specs.Datagram.{view_datagram};
 ghost use Rattle.cip_datagram.specs.Header.{header_at};
-ghost use Rattle.adapter_table.specs.Datagrams.{is_for, row_delivery, run_data, fed_values, fed_table, delivered, found_datagram, received};
+ghost use Rattle.adapter_table.specs.Datagrams.{is_for, row_delivery, run_data, accepted_values, accepted_table, delivered, found_datagram, received};
 ghost use Rattle.cip_events.specs.Answers.{is_accepted};
-ghost use Rattle.adapter_table.specs.Productions.{is_prompt};
+ghost use Rattle.adapter_table.specs.Productions.{produces_on_change};
 ghost use Rattle.adapter_table.specs.Ticks.{clocked_table, elapsed, expired_values, tick};
 ghost use Rattle.adapter_table.specs.Points.{put_value};
 ghost use Rattle.adapter_table.specs.Shapes.{len_of};
 ghost use Rattle.adapter_table.specs.Whole.{IsWhole};
-ghost use Rattle.adapter_table.specs.Step.{write, read, written_table, prompt_table, write_answer, written};
+ghost use Rattle.adapter_table.specs.Step.{write, read, written_table, changed_table, write_answer, written};
 ghost use Rattle.cip_events.specs.Outcomes.{Follows};
 ghost use Rattle.assembly_set.specs.Assemblies.{config_len, is_output, write_fault};
 ghost use Rattle.std.specs.List.{list_any};
@@ -39,9 +39,9 @@ use cip_tables::{
 };
 use cip_types::{ConnId, Items, Ms, Node, OutOfMemory};
 use connection_rows::{
-    accept_rows, append_row, closed_notices, copied, expired, expired_rows, expiry_notices,
-    find_row, find_target, make_room, others, produced_rows, produces_at_once, prompted_rows,
-    replaced, sent_on_change, sent_when_due, staying, write_and_prompt_rows, written_rows,
+    accept_rows, append_row, changed_rows, closed_notices, copied, expired, expired_rows,
+    expiry_notices, find_row, find_target, make_room, others, produced_rows, produces_at_once,
+    replaced, sent_on_change, sent_when_due, staying, write_and_change_rows, written_rows,
 };
 use device_answers::{
     Route, address_of, copied_streams, opened_address, opened_reply, opening_notices, plain_answer,
@@ -135,7 +135,7 @@ impl PlainAdapter {
     }
 
     /// The state of a connection that is opened: it shares a producer, or begins one.
-    fn state_of(&self, peer: Node, admission: &Admission<'_>) -> State
+    fn opened_state(&self, peer: Node, admission: &Admission<'_>) -> State
         ensures { result ≡ opened_state self.now peer (view_admission admission.now) admission.now.group }
     {
         match admission.group {
@@ -152,7 +152,12 @@ impl PlainAdapter {
     }
 
     /// The T->O id of a connection that is opened.
-    fn t_o_id_of(&self, request: &OpenRequest<'_>, multicast: bool, group: Option<Row>) -> ConnId
+    fn opened_t_o_id(
+        &self,
+        request: &OpenRequest<'_>,
+        multicast: bool,
+        group: Option<Row>,
+    ) -> ConnId
         requires { self.now.next_id + drawn_ids multicast group ≤ 16777216 }
         ensures { result ≡ opened_t_o_id self.now (view_open request.now) multicast group }
     {
@@ -167,7 +172,7 @@ impl PlainAdapter {
 
     /// The connection that an admitted request opens.
     #[tactic(auto, unfolding(adapter_table::specs::Opening::opened_row))]
-    fn row_of(&self, peer: Node, request: &OpenRequest<'_>, admission: &Admission<'_>) -> Row
+    fn opened_row(&self, peer: Node, request: &OpenRequest<'_>, admission: &Admission<'_>) -> Row
         requires waits { admission.now.watchdog.0 ≤ 5120000 }
         requires left { self.now.next_id + drawn_ids admission.now.multicast admission.now.group ≤ 16777216 }
         requires draws { 1 ≤ drawn_ids admission.now.multicast admission.now.group }
@@ -180,7 +185,7 @@ impl PlainAdapter {
             consumed: admission.consumed,
             produced: admission.produced,
             o_t_id: self.connection_id(self.next_id),
-            t_o_id: self.t_o_id_of(request, admission.multicast, admission.group),
+            t_o_id: self.opened_t_o_id(request, admission.multicast, admission.group),
             o_t_api: admission.o_t_api,
             t_o_api: admission.t_o_api,
             multiplier: request.multiplier,
@@ -188,7 +193,7 @@ impl PlainAdapter {
             opening: self.next_id,
             last: None,
             deadline: Ms(self.clock.0 + FIRST_WATCHDOG.max(admission.watchdog.0)),
-            state: self.state_of(peer, admission),
+            state: self.opened_state(peer, admission),
         }
     }
 
@@ -204,7 +209,7 @@ impl PlainAdapter {
         requires { admission self.old (view_open request.now) ≡ Ok (view_admission admitted.now) }
         ensures { Follows (Ok (routed self.old route (Some (admitted_open self.old (peer_of route) large (view_open request.now) (view_admission admitted.now))))) self.old result self.new }
     {
-        let row = self.row_of(route.peer(), request, admitted);
+        let row = self.opened_row(route.peer(), request, admitted);
         let notices = opening_notices(self.alloc, replaced(&self.rows, row.triad), &row)?;
         let reply = Reply::Opened(large, opened_reply(&row));
         let answer = reply_answer(self.alloc, route, &reply, opened_address(&row), notices)?;
@@ -334,13 +339,13 @@ impl PlainAdapter {
 impl PlainAdapter {
     /// The connection that a datagram is for has accepted it: its data stand at the output, or the idle
     /// action is done, as its delivery says.
-    #[tactic(auto, unfolding(adapter_table::specs::Datagrams::fed_table))]
-    fn feed(&mut self, peer: Node, datagram: &Datagram<'_>, row: &Row, delivery: Delivery)
+    #[tactic(auto, unfolding(adapter_table::specs::Datagrams::accepted_table))]
+    fn accept(&mut self, peer: Node, datagram: &Datagram<'_>, row: &Row, delivery: Delivery)
         requires found { find (is_for peer datagram.now.connection.0) self.old.rows ≡ Some row.now }
         requires judged { row_delivery self.old.profile row.now (view_datagram datagram.now) ≡ delivery }
-        ensures { self.new ≡ fed_table self.old peer (view_datagram datagram.now) row.now delivery }
+        ensures { self.new ≡ accepted_table self.old peer (view_datagram datagram.now) row.now delivery }
     {
-        feed_values(&mut self.assemblies, row.consumed, datagram, delivery);
+        accept_values(&mut self.assemblies, row.consumed, datagram, delivery);
         accept_rows(&mut self.rows, self.clock, peer, datagram);
     }
 
@@ -353,7 +358,7 @@ impl PlainAdapter {
         };
         let delivery = row_delivery(self.assemblies.profile(), &row, datagram);
         if is_accepted(delivery) {
-            self.feed(peer, datagram, &row, delivery);
+            self.accept(peer, datagram, &row, delivery);
         }
         delivery
     }
@@ -390,7 +395,7 @@ fn run_data<'a>(datagram: &Datagram<'a>) -> &'a [u8]
 }
 
 /// What a datagram with this delivery does to the output of its connection. Takes no memory.
-fn feed_values(
+fn accept_values(
     assemblies: &mut AssemblySet,
     point: u32,
     datagram: &Datagram<'_>,
@@ -398,7 +403,7 @@ fn feed_values(
 )
     requires output { delivery ≡ Delivery.Applied → IsTrue (is_output assemblies.old.profile point) }
     requires right_length { delivery ≡ Delivery.Applied → len_of assemblies.old.profile point ≡ Some (length (run_data (header_at (view_datagram datagram.now).payload))) }
-    ensures { assemblies.new ≡ record assemblies.old { values = fed_values assemblies.old.profile point (view_datagram datagram.now) delivery assemblies.old.values } }
+    ensures { assemblies.new ≡ record assemblies.old { values = accepted_values assemblies.old.profile point (view_datagram datagram.now) delivery assemblies.old.values } }
 {
     match delivery {
         Delivery::Applied => assemblies.apply(point, run_data(datagram)),
@@ -465,15 +470,15 @@ fn lose_owners(assemblies: &mut AssemblySet, gone: &[Row])
 
 impl PlainAdapter {
     /// Sets what an input holds, where no producer produces at once.
-    #[tactic(auto, unfolding(adapter_table::specs::Step::written_table, adapter_table::specs::Step::prompt_table))]
+    #[tactic(auto, unfolding(adapter_table::specs::Step::written_table, adapter_table::specs::Step::changed_table))]
     fn write_quietly(&mut self, point: u32, bytes: &[u8]) -> Outcome
         requires input { write_fault self.old.profile point (length bytes.now) ≡ None }
-        requires quiet { list_any (is_prompt self.old.clock point) self.old.rows ≡ false }
+        requires quiet { list_any (produces_on_change self.old.clock point) self.old.rows ≡ false }
         ensures answer { result ≡ Ok (write_answer (written_table self.old point bytes.now) point bytes.now) }
-        ensures table { self.new ≡ prompt_table (written_table self.old point bytes.now) point }
+        ensures table { self.new ≡ changed_table (written_table self.old point bytes.now) point }
     {
         let _written = self.assemblies.write(point, bytes);
-        write_and_prompt_rows(&mut self.rows, self.clock, point);
+        write_and_change_rows(&mut self.rows, self.clock, point);
         Ok(plain_answer(self.alloc, Verdict::Done))
     }
 
@@ -488,15 +493,15 @@ impl PlainAdapter {
     }
 
     /// Sets what an input holds, and its change-of-state producers produce.
-    #[tactic(auto, unfolding(adapter_table::specs::Step::written_table, adapter_table::specs::Step::prompt_table))]
-    fn write_promptly(&mut self, point: u32, bytes: &[u8]) -> Outcome
+    #[tactic(auto, unfolding(adapter_table::specs::Step::written_table, adapter_table::specs::Step::changed_table))]
+    fn write_on_change(&mut self, point: u32, bytes: &[u8]) -> Outcome
         requires input { write_fault self.old.profile point (length bytes.now) ≡ None }
         requires short { length bytes.now ≤ 1400 }
         ensures { Follows (Ok (written (written_table self.old point bytes.now) point bytes.now)) self.old result self.new }
     {
         let rows = written_rows(self.alloc, &self.rows, point)?;
         let datagrams = sent_on_change(self.alloc, &rows, self.clock, point, bytes)?;
-        self.put(point, bytes, prompted_rows(rows, self.clock, point));
+        self.put(point, bytes, changed_rows(rows, self.clock, point));
         Ok(told_answer(self.alloc, datagrams, Vec::new(self.alloc)))
     }
 
@@ -504,7 +509,7 @@ impl PlainAdapter {
     #[tactic(auto, unfolding(adapter_table::specs::Step::write))]
     fn write(&mut self, point: u32, bytes: &[u8]) -> Outcome
         ensures step { Follows (write self.old point bytes.now) self.old result self.new }
-        ensures no_memory { list_any (is_prompt self.old.clock point) self.old.rows ≡ false → result ≢ Err StepFault.OutOfMemory }
+        ensures no_memory { list_any (produces_on_change self.old.clock point) self.old.rows ≡ false → result ≢ Err StepFault.OutOfMemory }
     {
         let Some(input) = self.assemblies.input(point) else {
             return Err(StepFault::NoSuchPoint);
@@ -513,7 +518,7 @@ impl PlainAdapter {
             return Err(StepFault::WrongLength);
         }
         if produces_at_once(&self.rows, self.clock, point) {
-            return self.write_promptly(point, bytes);
+            return self.write_on_change(point, bytes);
         }
         self.write_quietly(point, bytes)
     }

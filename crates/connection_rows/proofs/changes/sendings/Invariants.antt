@@ -4,4 +4,4 @@ use Rattle.adapter_table.specs.Productions.{production_of}
 use Rattle.connection_rows.proofs.changes.sendings.Given as goal
 
 abbrev pub invariant-loop-producer : goal.invariant-loop-producer
-invariant-loop-producer l = l.sendings.items ≡ map sent (map (production_of l.rows l.input) (take l.producer-index l.prompt))
+invariant-loop-producer l = l.sendings.items ≡ map sent (map (production_of l.rows l.input) (take l.producer-index l.changing))

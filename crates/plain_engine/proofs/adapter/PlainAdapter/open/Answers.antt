@@ -10,22 +10,22 @@ use Rattle.device_answers.specs.Routes.{peer_of}
 use Rattle.plain_engine.proofs.Admitted.{stored_fits}
 use Rattle.plain_engine.proofs.adapter.PlainAdapter.open.Goals as goal
 
-pub row_of-row-requires-clause-waits : goal.row_of-row-requires-clause-waits
-row_of-row-requires-clause-waits c = (is_timed c.args.self.now _ _ c.requires).watchdog
+pub opened_row-row-requires-clause-waits : goal.opened_row-row-requires-clause-waits
+opened_row-row-requires-clause-waits c = (is_timed c.args.self.now _ _ c.requires).watchdog
 
-pub row_of-row-requires-clause-left : goal.row_of-row-requires-clause-left
-row_of-row-requires-clause-left c = (is_timed c.args.self.now _ _ c.requires).left
+pub opened_row-row-requires-clause-left : goal.opened_row-row-requires-clause-left
+opened_row-row-requires-clause-left c = (is_timed c.args.self.now _ _ c.requires).left
 
-pub row_of-row-requires-clause-draws : goal.row_of-row-requires-clause-draws
-row_of-row-requires-clause-draws c = (is_timed c.args.self.now _ _ c.requires).draws
+pub opened_row-row-requires-clause-draws : goal.opened_row-row-requires-clause-draws
+opened_row-row-requires-clause-draws c = (is_timed c.args.self.now _ _ c.requires).draws
 
 pub opened_reply-requires-clause-o_t : goal.opened_reply-requires-clause-o_t
 unfolding opened_row
-opened_reply-requires-clause-o_t c = let e = ap (λ (row : Row). row.o_t_api) c.row_of-row.ensures in rw e (is_timed c.args.self.now _ _ c.requires).o_t_api
+opened_reply-requires-clause-o_t c = let e = ap (λ (row : Row). row.o_t_api) c.opened_row-row.ensures in rw e (is_timed c.args.self.now _ _ c.requires).o_t_api
 
 pub opened_reply-requires-clause-t_o : goal.opened_reply-requires-clause-t_o
 unfolding opened_row
-opened_reply-requires-clause-t_o c = let e = ap (λ (row : Row). row.t_o_api) c.row_of-row.ensures in rw e (is_timed c.args.self.now _ _ c.requires).t_o_api
+opened_reply-requires-clause-t_o c = let e = ap (λ (row : Row). row.t_o_api) c.opened_row-row.ensures in rw e (is_timed c.args.self.now _ _ c.requires).t_o_api
 
 pub configure-requires : goal.configure-requires
 configure-requires c =
@@ -49,4 +49,4 @@ invariant_of-self-2 c =
     let t : AdapterTable = record { profile = own.assemblies.profile; rows = own.rows.items; values = own.assemblies.values; clock = own.clock; next_id = own.next_id; streams = own.streams.items } in
     let admitted = rw (← c.self.view_is) at c.requires in
     let opened = whole_opened t (peer_of c.args.route) (view_open c.args.request.now) (view_admission c.args.admitted.now) admitted c.self.invariant in
-    rw (c.configure.ensures, c.append_row.ensures, c.make_room.ensures.same, c.row_of-row.ensures, c.peer.ensures, ← c.self.view_is, c.drawn_ids.ensures.value) opened
+    rw (c.configure.ensures, c.append_row.ensures, c.make_room.ensures.same, c.opened_row-row.ensures, c.peer.ensures, ← c.self.view_is, c.drawn_ids.ensures.value) opened
