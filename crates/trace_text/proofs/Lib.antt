@@ -1,0 +1,5 @@
+mod LineWords
+mod NodeWords
+mod NumberWords
+mod TextLines
+mod ToldLemmas
