@@ -12,7 +12,6 @@ use Rattle.cip_tables.specs.declared.event.Frame.{Frame}
 use Rattle.cip_tables.specs.declared.event.Recipient.{Recipient}
 use Rattle.cip_tables.specs.declared.event.Recipient.TheVariants as recipient
 use Rattle.cip_tables.specs.declared.event.Sending.{Sending}
-use Rattle.cip_tables.specs.declared.event.Delivery.{Delivery}
 use Rattle.cip_tables.specs.declared.event.Delivery.TheVariants as delivery
 use Rattle.cip_tables.specs.declared.event.Verdict.{Verdict}
 use Rattle.cip_tables.specs.declared.event.Verdict.TheVariants as verdict

@@ -4,3 +4,4 @@ pub mod Reader
 pub mod Reading
 pub mod Told
 pub mod Words
+pub mod Written

@@ -1,5 +1,5 @@
 -- Readers of the words of a line: what they read, and the words behind it; None where they refuse.
-use Rattle.std.specs.Prelude.{ℕ, ◌≡◌, ◌==◌, if◌then◌else◌, List, [], ◌∷◌, option_map, option_and_then, Option, Some, None, Result, Ok, Err}
+use Rattle.std.specs.Prelude.{ℕ, ◌≡◌, if◌then◌else◌, List, [], ◌∷◌, option_map, option_and_then, Option, Some, None, Result, Ok, Err}
 use Rattle.std.specs.Borrow.{Bor}
 use Rattle.trace_text.specs.declared.words.Words.{Words}
 use Rattle.trace_text.specs.declared.words.LineFault.{LineFault}

@@ -1,7 +1,7 @@
 -- What a text tells as a trace, line by line. LF ends a line. Empty lines and lines that begin with `#` are
 -- skipped, and counted.
-use Rattle.std.specs.Prelude.{ℕ, ◌+◌, ◌≡◌, ◌==◌, nat_lt, if◌then◌else◌, Bool, true, List, [], ◌∷◌, ◌++◌, length, option_map, option_and_then, option_to_list, ok_or, Option, Some, None, Result, Ok, Err}
-use Rattle.std.specs.List.{slice_split, list_all}
+use Rattle.std.specs.Prelude.{ℕ, ◌+◌, ◌≡◌, ◌==◌, if◌then◌else◌, Bool, true, List, [], ◌∷◌, ◌++◌, length, option_map, option_and_then, option_to_list, ok_or, Option, Some, None, Result, Ok, Err}
+use Rattle.std.specs.List.{slice_split}
 use Rattle.cip_tables.specs.declared.profile.OutputPoint.{OutputPoint}
 use Rattle.cip_tables.specs.declared.profile.InputPoint.{InputPoint}
 use Rattle.cip_tables.specs.declared.profile.Profile.{Profile}

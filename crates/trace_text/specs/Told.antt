@@ -1,6 +1,6 @@
 -- How the outcome of an event is printed: a line for what became of it, and a line each for the frames, the
 -- datagrams and the notices of its answer, in this order. A line begins with the event's number, and LF ends it.
-use Rattle.std.specs.Prelude.{ℕ, ◌+◌, ◌≢◌, List, [], ◌∷◌, ◌++◌, codes, decimal, flat_map, Ok, Err}
+use Rattle.std.specs.Prelude.{ℕ, ◌+◌, List, [], ◌∷◌, ◌++◌, codes, decimal, flat_map, Ok, Err}
 use Rattle.cip_types.specs.declared.names.Triad.{Triad}
 use Rattle.cip_tables.specs.declared.event.Answer.{Answer}
 use Rattle.cip_tables.specs.declared.event.Frame.{Frame}
@@ -96,7 +96,3 @@ outcome_text number (Err fault) = fault_line number fault
 abbrev pub outcomes_text : ℕ → List Outcome → List ℕ
 outcomes_text number [] = []
 outcomes_text number (outcome ∷ outcomes) = outcome_text number outcome ++ outcomes_text (number + 1) outcomes
-
--- the outcome is not that memory was refused
-abbrev pub FoundMemory : Outcome → Type 0
-FoundMemory outcome = outcome ≢ Err OutOfMemory

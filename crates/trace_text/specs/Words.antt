@@ -1,7 +1,7 @@
 -- The words of a trace: how numbers, addresses and bytes are written and read.
 -- Numbers are decimal, an address is four numbers below 256 with dots between them (RFC 1123, 2.1), bytes
 -- are hexadecimal digits, two a byte.
-use Rattle.std.specs.Prelude.{ℕ, ◌^◌, ◌==◌, ◌&&◌, nat_lt, if◌then◌else◌, Bool, true, false, List, [], ◌∷◌, ◌++◌, length, codes, decimal, flat_map, bytes_eq, option_map, option_and_then, Option, Some, None, Result, Ok, Err}
+use Rattle.std.specs.Prelude.{ℕ, ◌^◌, ◌==◌, ◌&&◌, nat_lt, if◌then◌else◌, Bool, true, false, List, [], ◌∷◌, ◌++◌, length, codes, flat_map, bytes_eq, option_map, option_and_then, Option, Some, None}
 use Rattle.std.specs.Int.{w32, to_be_bytes, from_be_bytes}
 use Rattle.std.specs.Str.{all_ascii_digits}
 use Rattle.std.specs.Str.Parse.{digits_value}

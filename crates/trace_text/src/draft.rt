@@ -229,11 +229,7 @@ fn with_item<T: Drop>(items: Items<T>, item: T) -> Result<Items<T>, OutOfMemory>
 }
 
 /// What is recorded of an outcome, with one part more.
-fn recorded_with(
-    alloc: Global,
-    recorded: Option<Outcome>,
-    part: Part,
-) -> Result<Outcome, LineFault>
+fn recorded_with(alloc: Global, recorded: Option<Outcome>, part: Part) -> Result<Outcome, LineFault>
     ensures { Finds (recorded_with recorded part) result }
 {
     match recorded {

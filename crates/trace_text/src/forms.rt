@@ -1,8 +1,6 @@
 //! What a line of a trace tells.
 
-use cip_tables::{
-    Event, Frame, InputPoint, Notice, OutputPoint, Sending, StepFault, Verdict,
-};
+use cip_tables::{Event, Frame, InputPoint, Notice, OutputPoint, Sending, StepFault, Verdict};
 use cip_types::{Identity, Node};
 
 /// What the first line of a profile tells.

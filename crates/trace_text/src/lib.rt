@@ -11,6 +11,8 @@ mod profile_lines;
 mod told;
 mod trace;
 mod words;
+mod written;
 
-pub use told::all_lines;
+pub use told::{push_outcome, write_outcome};
 pub use trace::{Trace, TraceFault, read_trace};
+pub use written::write_trace;

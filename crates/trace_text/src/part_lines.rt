@@ -6,9 +6,7 @@ ghost use Rattle.trace_text.specs.Forms.{triad_reader, last_triad_reader, opened
 
 use crate::forms::Part;
 use crate::words::{LineFault, Words};
-use cip_tables::{
-    Delivery, Frame, Notice, Recipient, Sending, StepFault, Verdict,
-};
+use cip_tables::{Delivery, Frame, Notice, Recipient, Sending, StepFault, Verdict};
 use cip_types::Triad;
 use std::alloc::Global;
 
@@ -103,11 +101,7 @@ fn read_frame_out(alloc: Global, words: &mut Words<'_>) -> Result<Frame, LineFau
     read_bytes_to(alloc, words, Recipient::Stream(stream))
 }
 
-fn read_bytes_to(
-    alloc: Global,
-    words: &mut Words<'_>,
-    to: Recipient,
-) -> Result<Frame, LineFault>
+fn read_bytes_to(alloc: Global, words: &mut Words<'_>, to: Recipient) -> Result<Frame, LineFault>
     ensures { Takes (bytes_to to (unread_words words.old)) result (unread_words words.new) }
 {
     let bytes = words.bytes(alloc)?;

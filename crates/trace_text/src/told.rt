@@ -1,61 +1,63 @@
-//! Outcomes as they are printed.
+//! Outcomes as they are written.
 
-ghost use Rattle.std.specs.Prelude.{◌≡◌, IfOk, OnOk, All, string_bytes, flat_map, codes, ◌++◌};
+ghost use Rattle.std.specs.Prelude.{◌≡◌, ◌++◌, OnOk, IfOk, string_bytes, flat_map, codes};
 ghost use Rattle.trace_text.specs.Words.{node_word, nodes_word, bytes_word, id_word};
-ghost use Rattle.trace_text.specs.Told.{fault_word, delivery_word, verdict_words, triad_words, recipient_words, frame_line, sending_line, notice_words, notice_line, answer_text, fault_line, outcome_text, outcomes_text, FoundMemory};
+ghost use Rattle.trace_text.specs.Told.{fault_word, delivery_word, verdict_words, triad_words, recipient_words, frame_line, sending_line, notice_words, notice_line, answer_text, fault_line, outcome_text};
 
 use cip_tables::{
     Answer, Delivery, Frame, Notice, Outcome, Recipient, Sending, StepFault, Verdict,
 };
 use cip_types::{ConnId, Node, OutOfMemory, Triad};
-use std::alloc::{AllocError, Global};
+use std::alloc::Global;
 use std::net::Ipv4Addr;
-
-/// The lines that tell the outcomes of events, in order and numbered from 1.
-///
-/// Want of memory, also where it is one of the outcomes, is the only fault.
-pub fn all_lines(alloc: Global, outcomes: &[Outcome]) -> Result<String, OutOfMemory>
-    ensures told { IfOk result (λ lines. string_bytes lines ≡ outcomes_text 1 outcomes.now) }
-    ensures memory { OnOk result (All FoundMemory outcomes.now) }
-{
-    let mut lines = String::new(alloc);
-    for (index, outcome) in outcomes.iter().enumerate() {
-        let told = outcome_lines(alloc, index as u64 + 1, outcome)?;
-        lines.push_str(told.as_str())?;
-    }
-    Ok(lines)
-}
 
 /// The lines that tell the outcome of event number `number`: what became of it, and then the frames, the
 /// datagrams and the notices of its answer, each in order; or the fault.
-///
-/// Want of memory, also where it is the outcome, is the only fault.
-fn outcome_lines(alloc: Global, number: u64, outcome: &Outcome) -> Result<String, OutOfMemory>
-    ensures told { IfOk result (λ lines. string_bytes lines ≡ outcome_text number outcome.now) }
-    ensures memory { OnOk result (FoundMemory outcome.now) }
+pub fn write_outcome(alloc: Global, number: u64, outcome: &Outcome) -> Result<String, OutOfMemory>
+    ensures { IfOk result (λ text. string_bytes text ≡ outcome_text number outcome.now) }
+{
+    let mut text = String::new(alloc);
+    push_outcome(alloc, &mut text, number, outcome)?;
+    Ok(text)
+}
+
+/// Appends the same lines. Where memory is refused, a part of them may stand there.
+pub fn push_outcome(
+    alloc: Global,
+    out: &mut String,
+    number: u64,
+    outcome: &Outcome,
+) -> Result<(), OutOfMemory>
+    ensures { OnOk result (string_bytes out.new ≡ string_bytes out.old ++ outcome_text number outcome.now) }
 {
     match outcome {
-        Ok(answer) => Ok(answer_lines(alloc, number, answer)?),
-        Err(StepFault::OutOfMemory) => Err(OutOfMemory),
-        Err(fault) => Ok(fault_line(alloc, number, *fault)?),
+        Ok(answer) => push_answer(alloc, out, number, answer),
+        Err(fault) => push_fault(out, number, *fault),
     }
 }
 
-fn fault_line(alloc: Global, number: u64, fault: StepFault) -> Result<String, AllocError>
-    ensures { IfOk result (λ line. string_bytes line ≡ fault_line number fault) }
+fn push_fault(out: &mut String, number: u64, fault: StepFault) -> Result<(), OutOfMemory>
+    ensures { OnOk result (string_bytes out.new ≡ string_bytes out.old ++ fault_line number fault) }
 {
     let name = fault_name(fault);
-    format!(in alloc; "{number} fault {name}\n")
+    write!(out, "{number} fault {name}\n")?;
+    Ok(())
 }
 
-fn answer_lines(alloc: Global, number: u64, answer: &Answer) -> Result<String, AllocError>
-    ensures { IfOk result (λ lines. string_bytes lines ≡ answer_text number answer.now) }
+fn push_answer(
+    alloc: Global,
+    out: &mut String,
+    number: u64,
+    answer: &Answer,
+) -> Result<(), OutOfMemory>
+    ensures { OnOk result (string_bytes out.new ≡ string_bytes out.old ++ answer_text number answer.now) }
 {
-    let verdict = verdict_told(alloc, &answer.verdict)?;
-    let frames = frame_lines(alloc, number, answer.frames.as_slice())?;
-    let datagrams = sending_lines(alloc, number, answer.datagrams.as_slice())?;
-    let notices = notice_lines(alloc, number, answer.notices.as_slice())?;
-    format!(in alloc; "{number} {verdict}\n{frames}{datagrams}{notices}")
+    write!(out, "{number} ")?;
+    push_verdict(alloc, out, &answer.verdict)?;
+    out.push_str("\n")?;
+    push_frames(alloc, out, number, answer.frames.as_slice())?;
+    push_sendings(alloc, out, number, answer.datagrams.as_slice())?;
+    push_notices(alloc, out, number, answer.notices.as_slice())
 }
 
 /// The name of a fault, as its case is spelled.
@@ -73,19 +75,29 @@ fn fault_name(fault: StepFault) -> &'static str
     }
 }
 
-/// The words for what became of an event.
-fn verdict_told(alloc: Global, verdict: &Verdict) -> Result<String, AllocError>
-    ensures { IfOk result (λ words. string_bytes words ≡ verdict_words verdict.now) }
+fn push_verdict(alloc: Global, out: &mut String, verdict: &Verdict) -> Result<(), OutOfMemory>
+    ensures { OnOk result (string_bytes out.new ≡ string_bytes out.old ++ verdict_words verdict.now) }
 {
     match verdict {
-        Verdict::Done => String::from_str(alloc, "done"),
-        Verdict::BadFrame => String::from_str(alloc, "bad-frame"),
-        Verdict::Value(bytes) => {
-            let bytes = bytes_told(alloc, bytes.as_slice())?;
-            format!(in alloc; "value {bytes}")
-        }
-        Verdict::Delivered(delivery) => String::from_str(alloc, delivery_name(*delivery)),
+        Verdict::Done => push_text(out, "done"),
+        Verdict::BadFrame => push_text(out, "bad-frame"),
+        Verdict::Value(bytes) => push_value(alloc, out, bytes.as_slice()),
+        Verdict::Delivered(delivery) => push_text(out, delivery_name(*delivery)),
     }
+}
+
+pub fn push_text(out: &mut String, text: &str) -> Result<(), OutOfMemory>
+    ensures { OnOk result (string_bytes out.new ≡ string_bytes out.old ++ text.now) }
+{
+    out.push_str(text)?;
+    Ok(())
+}
+
+fn push_value(alloc: Global, out: &mut String, bytes: &[u8]) -> Result<(), OutOfMemory>
+    ensures { OnOk result (string_bytes out.new ≡ string_bytes out.old ++ (codes "value " ++ bytes_word bytes.now)) }
+{
+    out.push_str("value ")?;
+    push_bytes(alloc, out, bytes)
 }
 
 /// The word for what became of a datagram.
@@ -104,160 +116,183 @@ fn delivery_name(delivery: Delivery) -> &'static str
     }
 }
 
-fn frame_lines(alloc: Global, number: u64, frames: &[Frame]) -> Result<String, AllocError>
-    ensures { IfOk result (λ lines. string_bytes lines ≡ flat_map (frame_line number) frames.now) }
+fn push_frames(
+    alloc: Global,
+    out: &mut String,
+    number: u64,
+    frames: &[Frame],
+) -> Result<(), OutOfMemory>
+    ensures { OnOk result (string_bytes out.new ≡ string_bytes out.old ++ flat_map (frame_line number) frames.now) }
 {
-    let mut lines = String::new(alloc);
     for frame in frames {
-        let line = frame_told(alloc, number, frame)?;
-        lines.push_str(line.as_str())?;
+        push_frame(alloc, out, number, frame)?;
     }
-    Ok(lines)
+    Ok(())
 }
 
-fn sending_lines(alloc: Global, number: u64, sendings: &[Sending]) -> Result<String, AllocError>
-    ensures { IfOk result (λ lines. string_bytes lines ≡ flat_map (sending_line number) sendings.now) }
+fn push_sendings(
+    alloc: Global,
+    out: &mut String,
+    number: u64,
+    sendings: &[Sending],
+) -> Result<(), OutOfMemory>
+    ensures { OnOk result (string_bytes out.new ≡ string_bytes out.old ++ flat_map (sending_line number) sendings.now) }
 {
-    let mut lines = String::new(alloc);
     for sending in sendings {
-        let line = sending_told(alloc, number, sending)?;
-        lines.push_str(line.as_str())?;
+        push_sending(alloc, out, number, sending)?;
     }
-    Ok(lines)
+    Ok(())
 }
 
-fn notice_lines(alloc: Global, number: u64, notices: &[Notice]) -> Result<String, AllocError>
-    ensures { IfOk result (λ lines. string_bytes lines ≡ flat_map (notice_line number) notices.now) }
+fn push_notices(
+    alloc: Global,
+    out: &mut String,
+    number: u64,
+    notices: &[Notice],
+) -> Result<(), OutOfMemory>
+    ensures { OnOk result (string_bytes out.new ≡ string_bytes out.old ++ flat_map (notice_line number) notices.now) }
 {
-    let mut lines = String::new(alloc);
     for notice in notices {
-        let line = notice_told(alloc, number, notice)?;
-        lines.push_str(line.as_str())?;
+        push_notice(alloc, out, number, *notice)?;
     }
-    Ok(lines)
+    Ok(())
 }
 
-fn frame_told(alloc: Global, number: u64, frame: &Frame) -> Result<String, AllocError>
-    ensures { IfOk result (λ line. string_bytes line ≡ frame_line number frame.now) }
+fn push_frame(
+    alloc: Global,
+    out: &mut String,
+    number: u64,
+    frame: &Frame,
+) -> Result<(), OutOfMemory>
+    ensures { OnOk result (string_bytes out.new ≡ string_bytes out.old ++ frame_line number frame.now) }
 {
-    let recipient = recipient_told(alloc, frame.to)?;
-    let bytes = bytes_told(alloc, frame.bytes.as_slice())?;
-    format!(in alloc; "{number} {recipient} {bytes}\n")
+    write!(out, "{number} ")?;
+    push_recipient(out, frame.to)?;
+    push_last_bytes(alloc, out, frame.bytes.as_slice())
 }
 
-fn recipient_told(alloc: Global, recipient: Recipient) -> Result<String, AllocError>
-    ensures { IfOk result (λ words. string_bytes words ≡ recipient_words recipient) }
+fn push_recipient(out: &mut String, recipient: Recipient) -> Result<(), OutOfMemory>
+    ensures { OnOk result (string_bytes out.new ≡ string_bytes out.old ++ recipient_words recipient) }
 {
     match recipient {
-        Recipient::Stream(stream) => format!(in alloc; "frame {stream}"),
+        Recipient::Stream(stream) => Ok(write!(out, "frame {stream}")?),
         Recipient::Peer(node) => {
-            let node = node_told(alloc, node)?;
-            format!(in alloc; "reply {node}")
+            out.push_str("reply ")?;
+            push_node(out, node)
         }
     }
 }
 
-fn sending_told(alloc: Global, number: u64, sending: &Sending) -> Result<String, AllocError>
-    ensures { IfOk result (λ line. string_bytes line ≡ sending_line number sending.now) }
+fn push_sending(
+    alloc: Global,
+    out: &mut String,
+    number: u64,
+    sending: &Sending,
+) -> Result<(), OutOfMemory>
+    ensures { OnOk result (string_bytes out.new ≡ string_bytes out.old ++ sending_line number sending.now) }
 {
-    let address = node_told(alloc, sending.address)?;
-    let nodes = nodes_told(alloc, sending.nodes.as_slice())?;
-    let bytes = bytes_told(alloc, sending.bytes.as_slice())?;
-    format!(in alloc; "{number} send {address} {nodes} {bytes}\n")
+    write!(out, "{number} send ")?;
+    push_node(out, sending.address)?;
+    out.push_str(" ")?;
+    push_nodes(out, sending.nodes.as_slice())?;
+    push_last_bytes(alloc, out, sending.bytes.as_slice())?;
+    Ok(())
 }
 
-fn notice_told(alloc: Global, number: u64, notice: &Notice) -> Result<String, AllocError>
-    ensures { IfOk result (λ line. string_bytes line ≡ notice_line number notice.now) }
+fn push_notice(
+    alloc: Global,
+    out: &mut String,
+    number: u64,
+    notice: Notice,
+) -> Result<(), OutOfMemory>
+    ensures { OnOk result (string_bytes out.new ≡ string_bytes out.old ++ notice_line number notice) }
 {
-    let words = notice_words_told(alloc, *notice)?;
-    format!(in alloc; "{number} note {words}\n")
+    write!(out, "{number} note ")?;
+    push_notice_words(alloc, out, notice)?;
+    push_text(out, "\n")
 }
 
-fn notice_words_told(alloc: Global, notice: Notice) -> Result<String, AllocError>
-    ensures { IfOk result (λ words. string_bytes words ≡ notice_words notice) }
+fn push_notice_words(alloc: Global, out: &mut String, notice: Notice) -> Result<(), OutOfMemory>
+    ensures { OnOk result (string_bytes out.new ≡ string_bytes out.old ++ notice_words notice) }
 {
     match notice {
-        Notice::Opened(triad, id) => {
-            let triad = triad_told(alloc, triad)?;
-            let id = id_told(alloc, id)?;
-            format!(in alloc; "opened {triad} {id}")
-        }
-        Notice::Closed(triad) => {
-            let triad = triad_told(alloc, triad)?;
-            format!(in alloc; "closed {triad}")
-        }
-        Notice::Expired(triad) => {
-            let triad = triad_told(alloc, triad)?;
-            format!(in alloc; "expired {triad}")
-        }
-        Notice::Dropped(triad) => {
-            let triad = triad_told(alloc, triad)?;
-            format!(in alloc; "dropped {triad}")
-        }
-        Notice::Replaced(triad) => {
-            let triad = triad_told(alloc, triad)?;
-            format!(in alloc; "replaced {triad}")
-        }
-        Notice::StreamClosed(stream) => format!(in alloc; "stream-closed {stream}"),
+        Notice::Opened(triad, id) => push_opened(alloc, out, triad, id),
+        Notice::Closed(triad) => push_triad(out, "closed ", triad),
+        Notice::Expired(triad) => push_triad(out, "expired ", triad),
+        Notice::Dropped(triad) => push_triad(out, "dropped ", triad),
+        Notice::Replaced(triad) => push_triad(out, "replaced ", triad),
+        Notice::StreamClosed(stream) => Ok(write!(out, "stream-closed {stream}")?),
     }
 }
 
-fn triad_told(alloc: Global, triad: Triad) -> Result<String, AllocError>
-    ensures { IfOk result (λ words. string_bytes words ≡ triad_words triad) }
+fn push_opened(alloc: Global, out: &mut String, triad: Triad, id: ConnId) -> Result<(), OutOfMemory>
+    ensures { OnOk result (string_bytes out.new ≡ string_bytes out.old ++ notice_words (Notice.Opened triad id)) }
+{
+    push_triad(out, "opened ", triad)?;
+    out.push_str(" ")?;
+    let id = hex::encode(alloc, id.0.to_be_bytes().as_slice())?;
+    push_text(out, id.as_str())
+}
+
+fn push_triad(out: &mut String, front: &str, triad: Triad) -> Result<(), OutOfMemory>
+    ensures { OnOk result (string_bytes out.new ≡ string_bytes out.old ++ (front.now ++ triad_words triad)) }
 {
     let Triad {
         serial,
         vendor,
         originator,
     } = triad;
-    format!(in alloc; "{serial} {vendor} {originator}")
-}
-
-fn id_told(alloc: Global, id: ConnId) -> Result<String, AllocError>
-    ensures { IfOk result (λ word. string_bytes word ≡ id_word id) }
-{
-    hex::encode(alloc, id.0.to_be_bytes().as_slice())
+    write!(out, "{front}{serial} {vendor} {originator}")?;
+    Ok(())
 }
 
 /// Bytes as lower-case hexadecimal digits; `-` for no bytes.
-fn bytes_told(alloc: Global, bytes: &[u8]) -> Result<String, AllocError>
-    ensures { IfOk result (λ word. string_bytes word ≡ bytes_word bytes.now) }
+fn push_bytes(alloc: Global, out: &mut String, bytes: &[u8]) -> Result<(), OutOfMemory>
+    ensures { OnOk result (string_bytes out.new ≡ string_bytes out.old ++ bytes_word bytes.now) }
 {
     if bytes.is_empty() {
-        return String::from_str(alloc, "-");
+        return push_text(out, "-");
     }
-    hex::encode(alloc, bytes)
+    let digits = hex::encode(alloc, bytes)?;
+    push_text(out, digits.as_str())
+}
+
+/// A space, bytes, and the end of the line.
+pub fn push_last_bytes(alloc: Global, out: &mut String, bytes: &[u8]) -> Result<(), OutOfMemory>
+    ensures { OnOk result (string_bytes out.new ≡ string_bytes out.old ++ (codes " " ++ (bytes_word bytes.now ++ codes "\n"))) }
+{
+    out.push_str(" ")?;
+    push_bytes(alloc, out, bytes)?;
+    push_text(out, "\n")
 }
 
 /// Addresses parted by commas; `-` for none.
-fn nodes_told(alloc: Global, nodes: &[Node]) -> Result<String, AllocError>
-    ensures { IfOk result (λ word. string_bytes word ≡ nodes_word nodes.now) }
+fn push_nodes(out: &mut String, nodes: &[Node]) -> Result<(), OutOfMemory>
+    ensures { OnOk result (string_bytes out.new ≡ string_bytes out.old ++ nodes_word nodes.now) }
 {
     let [first, others @ ..] = nodes else {
-        return String::from_str(alloc, "-");
+        return push_text(out, "-");
     };
-    let first = node_told(alloc, *first)?;
-    let others = others_told(alloc, others)?;
-    format!(in alloc; "{first}{others}")
+    push_node(out, *first)?;
+    push_others(out, others)
 }
 
-fn others_told(alloc: Global, nodes: &[Node]) -> Result<String, AllocError>
-    ensures { IfOk result (λ word. string_bytes word ≡ flat_map (λ other. codes "," ++ node_word other) nodes.now) }
+fn push_others(out: &mut String, nodes: &[Node]) -> Result<(), OutOfMemory>
+    ensures { OnOk result (string_bytes out.new ≡ string_bytes out.old ++ flat_map (λ other. codes "," ++ node_word other) nodes.now) }
 {
-    let mut word = String::new(alloc);
     for node in nodes {
-        let node = node_told(alloc, *node)?;
-        word.push_str(",")?;
-        word.push_str(node.as_str())?;
+        out.push_str(",")?;
+        push_node(out, *node)?;
     }
-    Ok(word)
+    Ok(())
 }
 
 /// An address as four numbers parted by dots.
 #[tactic(auto, unfolding(std::specs::Net::Addr::IsIpv4OfBits))]
-fn node_told(alloc: Global, node: Node) -> Result<String, AllocError>
-    ensures { IfOk result (λ word. string_bytes word ≡ node_word node) }
+pub fn push_node(out: &mut String, node: Node) -> Result<(), OutOfMemory>
+    ensures { OnOk result (string_bytes out.new ≡ string_bytes out.old ++ node_word node) }
 {
     let address = Ipv4Addr::from_bits(node.0);
-    format!(in alloc; "{address}")
+    write!(out, "{address}")?;
+    Ok(())
 }

@@ -132,10 +132,7 @@ fn told(draft: Draft, number: u64) -> Result<Trace, TraceFault>
 }
 
 /// A trace, where its profile is a good one.
-fn judged(
-    profile: Profile,
-    events: Items<(Event, Option<Outcome>)>,
-) -> Result<Trace, TraceFault>
+fn judged(profile: Profile, events: Items<(Event, Option<Outcome>)>) -> Result<Trace, TraceFault>
     ensures { result ≡ judged (record { config = Config.Adapter profile; events = events }) (profile_fault profile) }
 {
     match profile.check() {

@@ -1,4 +1,4 @@
-use Rattle.std.proofs.Common.{rules, ◌≡◌, ◌∷◌, sym, None, arith}
+use Rattle.std.proofs.Common.{rules, ◌≡◌, ◌∷◌, sym, arith}
 use Rattle.trace_text.specs.Reading.{parts_of}
 use Rattle.trace_text.proofs.TextLines.{good_line, bad_line}
 use Rattle.trace_text.proofs.trace.read_trace.Goals as goal

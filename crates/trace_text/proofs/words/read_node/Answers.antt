@@ -1,4 +1,3 @@
-use Rattle.std.proofs.Common.{rules}
 use Rattle.std.specs.Net.Addr.{ipv4_bits}
 use Rattle.trace_text.proofs.NodeWords.{node_found, node_refused}
 use Rattle.trace_text.proofs.words.read_node.Goals as goal

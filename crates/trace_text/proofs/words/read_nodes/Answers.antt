@@ -1,6 +1,5 @@
-use Rattle.std.proofs.Common.{rules, ◌≡◌, ◌∙◌, ◌∷◌, ◌++◌, [], None, Some, ap, sym, arith, eqb, refl}
-use Rattle.std.specs.List.{slice_split}
-use Rattle.trace_text.specs.Words.{all_nodes, nodes_of, is_dash}
+use Rattle.std.proofs.Common.{rules, ◌∙◌, [], Some, ap, sym, arith}
+use Rattle.trace_text.specs.Words.{all_nodes}
 use Rattle.trace_text.proofs.LineWords.{first_part, only_part}
 use Rattle.trace_text.proofs.NodeWords.{behind, none_yet, node_more, no_node, last_node, undashed}
 use Rattle.trace_text.proofs.words.read_nodes.Goals as goal
