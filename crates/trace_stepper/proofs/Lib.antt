@@ -1,0 +1,2 @@
+mod OutcomesEqual
+mod Steps
