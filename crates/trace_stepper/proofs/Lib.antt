@@ -1,2 +1,3 @@
 mod OutcomesEqual
+mod Plays
 mod Steps

@@ -24,3 +24,14 @@ AgreeBefore entries outcomes count = (place : ℕ) → place < count → AgreeAt
 abbrev pub IsCompared : List Entry → List Outcome → Result Unit Differs → Type 0
 IsCompared entries outcomes (Ok done) = AgreeBefore entries outcomes (length entries)
 IsCompared entries outcomes (Err differs) = (place : ℕ) × (differs.0 ≡ place + 1) × AgreeBefore entries outcomes place × ¬ (AgreeAt entries outcomes place)
+
+-- Of the first events: all that is recorded was given, or the event of this number is the first where it was not.
+abbrev pub IsJudged : List Entry → List Outcome → ℕ → Option ℕ → Type 0
+IsJudged entries outcomes count None = AgreeBefore entries outcomes count
+IsJudged entries outcomes count (Some number) = (place : ℕ) × (number ≡ place + 1) × AgreeBefore entries outcomes place × ¬ (AgreeAt entries outcomes place)
+
+-- How a judgement goes on with the outcome at this place: the first difference stays.
+abbrev pub JudgesOn : List Entry → ℕ → Outcome → Option ℕ → Option ℕ → Type 0
+JudgesOn entries place outcome (Some number) judged = judged ≡ Some number
+JudgesOn entries place outcome None None = AgreesWith (recorded_at entries place) (Some outcome)
+JudgesOn entries place outcome None (Some number) = (number ≡ place + 1) × ¬ (AgreesWith (recorded_at entries place) (Some outcome))

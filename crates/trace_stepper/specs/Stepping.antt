@@ -1,5 +1,5 @@
 -- What a stepper does: a device takes the events of a trace, one after the other.
-use Rattle.std.specs.Prelude.{ℕ, ◌≡◌, ◌≢◌, List, [], ◌∷◌, map, drop, Option, Some, None, Result, Ok, Err}
+use Rattle.std.specs.Prelude.{◌≡◌, ◌≢◌, List, [], ◌∷◌, map, Option, Some, None, Result, Ok, Err}
 use Rattle.cip_tables.specs.declared.event.Event.{Event}
 use Rattle.cip_tables.specs.declared.profile.ProfileFault.{ProfileFault}
 use Rattle.cip_tables.specs.declared.table.DeviceTable.{DeviceTable}
@@ -9,6 +9,8 @@ use Rattle.trace_text.specs.declared.trace.Trace.{Trace}
 use Rattle.trace_text.specs.Reading.{Entry}
 use Rattle.trace_stepper.specs.declared.stepper.StepperFault.{StepperFault}
 use Rattle.trace_stepper.specs.declared.stepper.StepperFault.TheVariants as fault
+use Rattle.trace_stepper.specs.declared.player.PlayFault.{PlayFault}
+use Rattle.trace_stepper.specs.declared.player.PlayFault.TheVariants as play
 
 -- the events of entries
 abbrev pub events_of : List Entry → List Event
@@ -30,3 +32,7 @@ MovesOn old left (Err fault.Profile) new rest = ⊥
 abbrev pub IsRefused : Option ProfileFault → StepperFault → Type 0
 IsRefused wrong fault.Profile = wrong ≢ None
 IsRefused wrong fault.OutOfMemory = wrong ≡ None
+
+abbrev pub play_fault_of : StepperFault → PlayFault
+play_fault_of fault.Profile = play.Profile
+play_fault_of fault.OutOfMemory = play.OutOfMemory

@@ -2,7 +2,9 @@
 #![tactic(auto)]
 
 mod compared;
+mod player;
 mod stepper;
 
 pub use compared::{Differs, agrees, compare};
+pub use player::{PlayFault, play};
 pub use stepper::{Report, Stepper, StepperFault, replay};
