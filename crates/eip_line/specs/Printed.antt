@@ -48,6 +48,13 @@ IsStepped input old new (Err program.Read) = new ≡ old
 IsStepped input old new (Err program.OutOfMemory) = (new ≡ old) ⊎ PrintsFirst input old new
 IsStepped input old new (Err program.Write) = Unit {0}
 
+-- what ends the reading of the text
+abbrev pub IsTextFault : ProgramFault → Type 0
+IsTextFault program.TooLong = Unit {0}
+IsTextFault program.Read = Unit {0}
+IsTextFault program.OutOfMemory = Unit {0}
+IsTextFault fault = ⊥
+
 -- the trace was read, or it was refused
 abbrev pub IsTraceRead : Option (List ℕ) → Result Trace ProgramFault → Type 0
 IsTraceRead input (Ok trace) = Reads input trace

@@ -1,8 +1,8 @@
 //! The program, over any streams.
 
-ghost use Rattle.std.specs.Prelude.{◌≡◌, ◌<◌, ◌≤◌, ◌⊎◌, [], length, IfOk, IfErr, OnOk, IfSome};
+ghost use Rattle.std.specs.Prelude.{◌≡◌, ◌<◌, ◌≤◌, ◌⊎◌, ◌≢◌, [], length, IfOk, IfErr, OnOk, IfSome};
 ghost use Rattle.std.specs.Io.KnownBytes.{Appends};
-ghost use Rattle.eip_line.specs.Printed.{longest_trace, PrintsRun, IsStepped, IsFinished, IsTraceRead};
+ghost use Rattle.eip_line.specs.Printed.{longest_trace, PrintsRun, IsStepped, IsFinished, IsTraceRead, IsTextFault};
 
 use crate::commands::{Misuse, Task, read_task};
 use plain_engine::PlainAdapter;
@@ -108,8 +108,7 @@ fn step<I: Read, O: Write>(
     let trace = trace_of(alloc, reader)?;
     match play::<PlainAdapter, O>(alloc, &trace, out) {
         Ok(differs) => finish(alloc, out, differs),
-        Err(PlayFault::Write) => Err(ProgramFault::Write),
-        Err(_) => stopped(out),
+        Err(fault) => stop(out, fault),
     }
 }
 
@@ -133,6 +132,18 @@ fn finish<O: Write>(
     }
     flush(out)?;
     Ok(false)
+}
+
+/// What is written where the trace was not played to its end: no more than stands there.
+fn stop<O: Write>(out: &mut O, fault: PlayFault) -> Result<bool, ProgramFault>
+    ensures kept { result ≡ Err ProgramFault.OutOfMemory → (fault ≢ PlayFault.Write) × Appends (O.contents out.old) (O.contents out.new) [] }
+    ensures fault { (result ≡ Err ProgramFault.OutOfMemory) ⊎ (result ≡ Err ProgramFault.Write) }
+{
+    match fault {
+        PlayFault::Write => Err(ProgramFault::Write),
+        PlayFault::Profile => stopped(out),
+        PlayFault::OutOfMemory => stopped(out),
+    }
 }
 
 /// What is written where memory was refused: no more than stands there.
@@ -159,7 +170,10 @@ fn flush<O: Write>(out: &mut O) -> Result<(), ProgramFault>
 fn trace_of<I: Read>(alloc: Global, reader: &mut I) -> Result<Trace, ProgramFault>
     ensures { IsTraceRead (I.remaining reader.old) result }
 {
-    let text = read_text(alloc, reader)?;
+    let text = match read_text(alloc, reader) {
+        Ok(text) => text,
+        Err(fault) => return Err(fault),
+    };
     Ok(read_trace(alloc, text.as_slice())?)
 }
 
@@ -167,6 +181,7 @@ fn trace_of<I: Read>(alloc: Global, reader: &mut I) -> Result<Trace, ProgramFaul
 fn read_text<I: Read>(alloc: Global, reader: &mut I) -> Result<Vec<u8>, ProgramFault>
     ensures all { IfOk result (λ text. IfSome (I.remaining reader.old) (λ input. (text.items ≡ input) × (length input ≤ longest_trace))) }
     ensures long { result ≡ Err ProgramFault.TooLong → IfSome (I.remaining reader.old) (λ input. longest_trace < length input) }
+    ensures fault { IfErr result IsTextFault }
 {
     let mut text = Vec::new(alloc);
     let limit = LONGEST_TRACE as u64 + 1;
