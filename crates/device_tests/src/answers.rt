@@ -3,7 +3,6 @@
 use crate::fixtures::{CYCLIC, GATHERER, GROUP, PEER, are_bytes, are_told, profile, triad};
 use cip_encap::{MessageHeader, MessageView};
 use cip_fwdopen::Opened;
-use cip_netparams::ConnectionType;
 use cip_tables::{
     Answer, EncapStatus, Notice, Profile, Recipient, Reply, Row, State, Stream, Verdict,
 };
@@ -47,8 +46,8 @@ const SERVICES: [u8; 50] = [
 
 fn has_an_address(profile: &Profile) -> bool {
     profile.inputs.as_slice().len() <= 8
-        && address_of(profile, PEER, ConnectionType::Multicast, 100) == GROUP
-        && address_of(profile, PEER, ConnectionType::PointToPoint, 100) == PEER
+        && address_of(profile, PEER, true, 100) == GROUP
+        && address_of(profile, PEER, false, 100) == PEER
 }
 
 #[test]
