@@ -28,4 +28,5 @@ pub mod ExpiryLemmas
 pub mod ScratchSteps
 pub mod EqLemmas
 pub mod NewestSteps
+mod NewestSamples
 pub mod CounterSteps
