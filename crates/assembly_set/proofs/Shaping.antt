@@ -5,7 +5,6 @@ use Rattle.std.specs.Option.{option_map, ok_or}
 use Rattle.cip_types.proofs.Places.{written_back}
 use Rattle.adapter_table.specs.Profiles.{profile_fault}
 use Rattle.assembly_set.specs.declared.fault.PointFault.{PointFault}
-use Rattle.std.proofs.lemmas.Grind.{common_steps}
 use Rattle.adapter_table.specs.declared.profile.Profile.{Profile}
 use Rattle.adapter_table.specs.declared.profile.InputPoint.{InputPoint}
 use Rattle.adapter_table.specs.declared.profile.OutputPoint.{OutputPoint}

@@ -1,5 +1,5 @@
 -- Changes of each element of a list in place, one after another, and the first place that passes a test.
-use Rattle.std.proofs.Common.{◌≡◌, ◌<◌, ◌≤◌, ℕ, ◌+◌, Bool, false, cond, not, List, [], ◌∷◌, ◌++◌, length, map, take, drop, get_or, set, Option, Some, None, nat_lt, unwrap_or, find, slice_get, suc, drop-cons, refl, sym, ◌∙◌, ap, arith}
+use Rattle.std.proofs.Common.{◌≡◌, ◌<◌, ◌≤◌, ℕ, ◌+◌, Bool, false, cond, not, List, [], ◌∷◌, ◌++◌, length, map, take, drop, get_or, set, Some, None, nat_lt, unwrap_or, find, slice_get, suc, drop-cons, refl, sym, ◌∙◌, ap, arith}
 use Rattle.std.specs.List.{position_or_len, position, remove}
 use Rattle.std.proofs.lemmas.Grind.{common_steps}
 use Rattle.std.proofs.lemmas.Bool.Decides.{nat_tests}
