@@ -9,8 +9,8 @@ use cip_tables::{
 use cip_types::{ConnId, OutOfMemory};
 use device_answers::{
     Echo, FrameReply, FrameView, Route, add_stream, address_of, copied_streams, drop_stream,
-    ended_answer, find_stream, frame_answer, has_session, is_protocol, is_taken, register_stream,
-    opened_address, opened_reply, opening_notices, plain_answer, read_frame, reply_answer,
+    ended_answer, find_stream, frame_answer, has_session, is_protocol, is_taken, opened_address,
+    opened_reply, opening_notices, plain_answer, read_frame, register_stream, reply_answer,
     session_of, unserved_answer, write_frame_reply,
 };
 use std::alloc::Global;

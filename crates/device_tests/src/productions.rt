@@ -7,7 +7,7 @@ use assembly_set::AssemblySet;
 use cip_tables::{Production, Row, Sending, State};
 use cip_types::{Ms, Node, OutOfMemory};
 use connection_rows::{
-    copied, produced_rows, produces_at_once, changed_rows, sent_on_change, sent_when_due,
+    changed_rows, copied, produced_rows, produces_at_once, sent_on_change, sent_when_due,
     write_and_change_rows, written_rows,
 };
 use std::alloc::Global;
