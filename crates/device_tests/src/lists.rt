@@ -70,6 +70,7 @@ fn a_full_table_lets_the_first_timed_out_one_go(rt: HostRuntime) -> Result<(), F
 fn row(serial: u16) -> Row {
     Row {
         triad: triad(serial),
+        opening: u32::from(serial) + 60,
         ..OWNER
     }
 }

@@ -98,11 +98,7 @@ fn failed<E: Write>(err: &mut E, fault: ProgramFault) -> u8
 
 /// Steps an adapter by the trace that the reader holds, and prints the outcomes as they come. False where one
 /// is not as recorded.
-fn step<I: Read, O: Write>(
-    alloc: Global,
-    reader: &mut I,
-    out: &mut O,
-) -> Result<bool, ProgramFault>
+fn step<I: Read, O: Write>(alloc: Global, reader: &mut I, out: &mut O) -> Result<bool, ProgramFault>
     ensures { IsStepped (I.remaining reader.old) (O.contents out.old) (O.contents out.new) result }
 {
     let trace = trace_of(alloc, reader)?;
