@@ -1,8 +1,7 @@
 -- Outcomes that pass the derived test for equal values are equal, and equal ones pass it.
-use Rattle.std.proofs.Common.{◌≡◌, List, rules}
+use Rattle.std.proofs.Common.{◌≡◌, rules}
 use Rattle.std.specs.Bool.{Decides}
-use Rattle.std.specs.Result.{result_eq}
-use Rattle.std.specs.Cmp.Lexicographic.{pointwise, pointwise_decides}
+use Rattle.std.specs.Cmp.Lexicographic.{pointwise_decides}
 use Rattle.std.proofs.lemmas.Bool.Decides.{Decides-eqb, Decides-and, Decides-like}
 use Rattle.cip_types.specs.declared.names.Triad.{Triad}
 use Rattle.cip_types.specs.declared.names.Node.{Node}
