@@ -2,9 +2,7 @@
 //! is pinned by samples of the definitions.
 
 use crate::fixtures::{OWNER, lost, points, triad};
-use adapter_table::{
-    MOST_ROWS, drives, has_triad, is_established, is_supported, is_timed_out,
-};
+use adapter_table::{MOST_ROWS, drives, has_triad, is_established, is_supported, is_timed_out};
 use app_rules::{Listed, View, admit, drawn_ids};
 use assembly_set::AssemblySet;
 use cip_fwdopen::OpenRequest;
