@@ -1,0 +1,57 @@
+-- Whether the reply to a Forward_Open opens the connection that waits for it, and what names the connection
+-- then (Volume 1, chapter 3, Forward_Open service, successful and unsuccessful response).
+use Rattle.std.specs.Prelude.{◌==◌, ◌&&◌, not, Bool, true, if◌then◌else◌, List, [], ◌∷◌, Option, Some, None, Result, Ok, Err}
+use Rattle.cip_types.specs.declared.names.ConnId.{ConnId}
+use Rattle.cip_types.specs.declared.names.Mismatch.{Mismatch}
+use Rattle.cip_types.specs.declared.names.Mismatch.TheVariants as mismatch
+use Rattle.cip_types.specs.declared.names.Triad.{Triad}
+use Rattle.cip_netparams.specs.Rate.{is_interval}
+use Rattle.cip_fwdopen.specs.declared.reply.Opened as made
+use Rattle.cip_fwdopen.specs.declared.reply.OpenAnswer.{OpenAnswer}
+use Rattle.cip_fwdopen.specs.declared.reply.OpenAnswer.TheVariants.{Opened, Refused}
+use Rattle.conn_state.specs.declared.names.Link.{Link}
+use Rattle.conn_state.specs.declared.names.Wanted.{Wanted}
+
+-- the same serial number, vendor and originator
+abbrev pub same_triad : Triad → Triad → Bool
+same_triad a b = a.serial == b.serial && (a.vendor == b.vendor && a.originator == b.originator)
+
+-- the id is the one that was asked for, where one was
+abbrev pub is_wanted_id : Option ConnId → ConnId → Bool
+is_wanted_id None id = true
+is_wanted_id (Some asked) id = asked.0 == id.0
+
+-- both actual packet intervals are ones that an originator may ask for
+abbrev pub has_intervals : made.Opened → Bool
+has_intervals opened = is_interval opened.o_t_api && is_interval opened.t_o_api
+
+-- a test of a success: whether it fails, and what is then amiss
+abbrev pub AnswerTest : Type 0
+AnswerTest = Bool × Mismatch
+
+-- what a success must be: of the connection that waits, with an id that may be used, and with packet intervals
+abbrev pub answer_tests : Wanted → made.Opened → Bool → List AnswerTest
+answer_tests wanted opened id_free =
+    (not (same_triad opened.triad wanted.triad), mismatch.Triad)
+    ∷ (not (is_wanted_id wanted.t_o_id opened.t_o_id && id_free), mismatch.Id)
+    ∷ (not (has_intervals opened), mismatch.Api)
+    ∷ []
+
+-- what is amiss by the first test that fails
+abbrev pub first_mismatch : List AnswerTest → Option Mismatch
+first_mismatch [] = None
+first_mismatch (test ∷ rest) = if test.0 then Some test.1 else first_mismatch rest
+
+-- the triad of what was asked for, and the ids of the reply
+abbrev pub link_of : Wanted → made.Opened → Link
+link_of wanted opened = record { triad = wanted.triad; o_t_id = opened.o_t_id; t_o_id = opened.t_o_id }
+
+-- a success opens the connection where nothing is amiss; else what was asked for comes back
+abbrev pub linked : Wanted → made.Opened → Option Mismatch → Result Link (Wanted × Mismatch)
+linked wanted opened None = Ok (link_of wanted opened)
+linked wanted opened (Some why) = Err (wanted, why)
+
+-- what an answer makes of the opening that waits for it
+abbrev pub accepted : Wanted → OpenAnswer → Bool → Result Link (Wanted × Mismatch)
+accepted wanted (Refused refused) id_free = Err (wanted, mismatch.Refused refused.fault)
+accepted wanted (Opened opened) id_free = linked wanted opened (first_mismatch (answer_tests wanted opened id_free))
