@@ -9,7 +9,7 @@ use Rattle.cip_datagram.specs.Reading.{datagram_reading}
 use Rattle.cip_events.specs.declared.event.Delivery.{Delivery}
 use Rattle.cip_events.specs.declared.event.Delivery.TheVariants.{Applied, Idle, Heartbeat, Duplicate, Old, UnknownId, WrongSize, Malformed}
 use Rattle.cip_events.specs.declared.event.Event.{Event}
-use Rattle.cip_events.specs.declared.event.Event.TheVariants.{Request, StreamOpened, Frame, StreamCut, Datagram, Write, Read, Tick}
+use Rattle.cip_events.specs.declared.event.Event.TheVariants.{Request, StreamOpened, Frame, StreamCut, Datagram, Write, Read, Tick, Mode, Start, Stop}
 use Rattle.cip_events.specs.declared.event.StepFault.{StepFault}
 use Rattle.adapter_table.specs.declared.profile.InputPoint.{InputPoint}
 use Rattle.adapter_table.specs.declared.profile.OutputPoint.{OutputPoint}
@@ -146,6 +146,9 @@ adapter_leaves t (Datagram peer bytes) next is whole =
 adapter_leaves t (Write point bytes) next is whole = leaves_write t point bytes next (write_is t point bytes next is) whole.shaped
 adapter_leaves t (Read point) next is whole = leaves_read t point (bytes_at t.values point) next is
 adapter_leaves t (Tick ms) next is whole = leaves_tick t ms next (tick_is t ms next is) whole
+adapter_leaves t (Mode run) next is whole = absurd cc
+adapter_leaves t (Start slot) next is whole = absurd cc
+adapter_leaves t (Stop slot) next is whole = absurd cc
 
 untouched : (point : ℕ) (t : AdapterTable) → lost point t t ≡ None
 untouched point t = rw (same_owner point t.rows t.rows refl) refl
@@ -160,3 +163,6 @@ fault_touches_none point t (Datagram peer bytes) fault is = absurd cc
 fault_touches_none point t (Write other bytes) fault is = untouched point t
 fault_touches_none point t (Read other) fault is = untouched point t
 fault_touches_none point t (Tick ms) fault is = untouched point t
+fault_touches_none point t (Mode run) fault is = untouched point t
+fault_touches_none point t (Start slot) fault is = untouched point t
+fault_touches_none point t (Stop slot) fault is = untouched point t

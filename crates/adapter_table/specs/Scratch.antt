@@ -10,7 +10,7 @@ use Rattle.cip_datagram.specs.Reading.{datagram_reading}
 use Rattle.cip_events.specs.declared.event.Delivery.{Delivery}
 use Rattle.cip_events.specs.declared.event.Delivery.TheVariants.{Applied, Idle, Heartbeat, Duplicate, Old, UnknownId, WrongSize, Malformed}
 use Rattle.cip_events.specs.declared.event.Event.{Event}
-use Rattle.cip_events.specs.declared.event.Event.TheVariants.{Request, StreamOpened, Frame, StreamCut, Datagram, Write, Read, Tick}
+use Rattle.cip_events.specs.declared.event.Event.TheVariants.{Request, StreamOpened, Frame, StreamCut, Datagram, Write, Read, Tick, Mode, Start, Stop}
 use Rattle.adapter_table.specs.declared.profile.Action.{Action}
 use Rattle.adapter_table.specs.declared.profile.Action.TheVariants.{Hold, Zero}
 use Rattle.adapter_table.specs.declared.profile.OutputPoint.{OutputPoint}
@@ -75,6 +75,9 @@ fed point t (Datagram peer bytes) = read_fed point t peer (datagram_reading byte
 fed point t (Write other bytes) = None
 fed point t (Read other) = None
 fed point t (Tick ms) = None
+fed point t (Mode run) = None
+fed point t (Start slot) = None
+fed point t (Stop slot) = None
 
 -- ---- the loss of the owner
 
