@@ -1,0 +1,2 @@
+mod SmallScanner
+mod OpeningSamples
