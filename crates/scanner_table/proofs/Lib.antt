@@ -1,2 +1,5 @@
 mod SmallScanner
 mod OpeningSamples
+mod ReplySamples
+mod DataSamples
+mod CheckSamples
