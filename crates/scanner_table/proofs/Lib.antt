@@ -3,3 +3,6 @@ mod OpeningSamples
 mod ReplySamples
 mod DataSamples
 mod CheckSamples
+mod WholeLemmas
+mod WholeSteps
+mod WholeTicks

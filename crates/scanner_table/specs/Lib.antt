@@ -12,3 +12,4 @@ pub mod Productions
 pub mod Ticks
 pub mod Points
 pub mod Step
+pub mod Whole

@@ -3,11 +3,13 @@
 #![tactic(auto)]
 
 mod copy;
+mod laws;
 mod profile;
 mod profile_check;
 mod slot;
 mod table;
 
+pub use laws::{fresh_tables_are_whole, steps_keep_tables_whole};
 pub use profile::{ScannerProfile, SlotConfig};
 pub use slot::{Closing, Connection, Opening, Slot, SlotState};
 pub use table::{ScannerTable, Stage, TargetStream};
