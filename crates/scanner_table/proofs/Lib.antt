@@ -1,3 +1,4 @@
+mod IdsLemmas
 mod SmallScanner
 mod OpeningSamples
 mod ReplySamples

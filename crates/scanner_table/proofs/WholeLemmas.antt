@@ -15,7 +15,7 @@ use Rattle.scanner_table.specs.declared.table.TargetStream.{TargetStream}
 use Rattle.scanner_table.specs.Slots.{Place, places_from, places, with_slot}
 use Rattle.scanner_table.specs.Sessions.{is_stream, is_to, staged_stream}
 use Rattle.scanner_table.specs.Effects.{Effect, on_each, nothing}
-use Rattle.scanner_table.specs.Whole.{FitsState, FitsSlot, SlotsFit, StreamsDiffer, IsWhole}
+use Rattle.scanner_table.specs.Whole.{FitsState, FitsSlot, SlotsFit, IdsDiffer, StreamsDiffer, IsWhole}
 
 -- ---- later tables
 
@@ -106,6 +106,33 @@ all_stand configs = λ k config is. let same : k ≡ 0 + k = omega arith in subs
 pub each_at : (t : ScannerTable) → IsWhole t → Each (IsAt t) (places t)
 each_at t whole = places_at t 0 t.profile.slots t.slots (all_stand t.profile.slots) whole.slots
 
+-- the place is one of the table's now
+abbrev pub IsNow : ScannerTable → Place → Type 0
+IsNow t place = slice_get t.slots place.number ≡ Some place.slot
+
+abbrev SlotStands : List Slot → ℕ → List Slot → Type 0
+SlotStands all number slots = (k : ℕ) (slot : Slot) → slice_get slots k ≡ Some slot → slice_get all (number + k) ≡ Some slot
+
+head_now : (all : List Slot) (number : ℕ) (slot : Slot) (slots : List Slot) → SlotStands all number (slot ∷ slots) → slice_get all number ≡ Some slot
+head_now all number slot slots stands = let same : number + 0 ≡ number = omega arith in subst (λ (n : ℕ). slice_get all n ≡ Some slot) same (stands 0 slot refl)
+
+tail_now : (all : List Slot) (number : ℕ) (slot : Slot) (slots : List Slot) → SlotStands all number (slot ∷ slots) → SlotStands all (suc number) slots
+tail_now all number slot slots stands = λ k other is.
+    let same : number + suc k ≡ suc number + k = omega arith in
+    subst (λ (n : ℕ). slice_get all n ≡ Some other) same (stands (suc k) other is)
+
+places_now : (t : ScannerTable) (number : ℕ) (configs : List SlotConfig) (slots : List Slot) → SlotStands t.slots number slots → Each (IsNow t) (places_from number configs slots)
+places_now t number [] slots stands = tt
+places_now t number (config ∷ configs) [] stands = tt
+places_now t number (config ∷ configs) (slot ∷ slots) stands =
+    (head_now t.slots number slot slots stands, places_now t (suc number) configs slots (tail_now t.slots number slot slots stands))
+
+all_now : (slots : List Slot) → SlotStands slots 0 slots
+all_now slots = λ k slot is. let same : k ≡ 0 + k = omega arith in subst (λ (n : ℕ). slice_get slots n ≡ Some slot) same is
+
+pub each_now : (t : ScannerTable) → Each (IsNow t) (places t)
+each_now t = places_now t 0 t.profile.slots t.slots (all_now t.slots)
+
 -- ---- another slot
 
 set_fits : (r c k : ℕ) (configs : List SlotConfig) (slots : List Slot) (slot : Slot) → SlotsFit r c configs slots → ((config : SlotConfig) → slice_get configs k ≡ Some config → FitsSlot r c config slot) → SlotsFit r c configs (slice_set slots k slot)
@@ -118,8 +145,9 @@ set_fits r c (suc k) (config ∷ configs) (first ∷ slots) slot fit new = (fit.
 some_is : (a b : SlotConfig) → Some a ≡ Some b → a ≡ b
 some_is a b is = cc
 
-pub whole_with : (t : ScannerTable) (place : Place) (slot : Slot) → IsWhole t → slice_get t.profile.slots place.number ≡ Some place.config → FitsSlot t.next_request t.clock.0 place.config slot → IsWhole (with_slot t place.number slot)
-whole_with t place slot whole at fits = record {
+pub whole_with : (t : ScannerTable) (place : Place) (slot : Slot) → IsWhole t → slice_get t.profile.slots place.number ≡ Some place.config → FitsSlot t.next_request t.clock.0 place.config slot → IdsDiffer (places_from 0 t.profile.slots (slice_set t.slots place.number slot)) → IsWhole (with_slot t place.number slot)
+whole_with t place slot whole at fits differ = record {
+  ids_differ = differ;
   faultless = whole.faultless;
   slots = set_fits t.next_request t.clock.0 place.number t.profile.slots t.slots slot whole.slots
       (λ config is. subst (λ (c : SlotConfig). FitsSlot t.next_request t.clock.0 c slot) (some_is place.config config (sym at ∙ is)) fits);

@@ -1,5 +1,5 @@
 -- Each effect of an event keeps a scanner's table whole, and so does each step.
-use Rattle.std.proofs.Common.{◌≡◌, ◌≤◌, ◌<◌, ℕ, ◌+◌, ◌^◌, Bool, true, false, not, cond, ◌||◌, ◌==◌, nat_le, List, [], ◌∷◌, length, filter, find, slice_get, Option, Some, None, Result, Ok, Err, IfOk, IsTrue, refl, subst, arith}
+use Rattle.std.proofs.Common.{◌∙◌, ◌&&◌, replicate, sym, ◌≡◌, ◌≤◌, ◌<◌, ℕ, ◌+◌, ◌^◌, Bool, true, false, not, cond, ◌||◌, ◌==◌, nat_le, List, [], ◌∷◌, length, filter, find, slice_get, slice_set, Option, Some, None, Result, Ok, Err, IfOk, IsTrue, refl, subst, arith}
 use Rattle.std.specs.List.{list_any}
 use Rattle.std.proofs.lemmas.Bool.{and_parts, or_parts}
 use Rattle.std.proofs.lemmas.Bool.Decides.{nat_tests}
@@ -25,7 +25,7 @@ use Rattle.cip_fwdopen.specs.declared.reply.Opened as made
 use Rattle.cip_fwdopen.specs.declared.reply.OpenAnswer.{OpenAnswer}
 use Rattle.cip_fwdopen.specs.declared.reply.OpenAnswer.TheVariants as answer
 use Rattle.cip_productions.specs.Acceptance.{is_news, is_repeated}
-use Rattle.conn_state.specs.Answers.{answer_tests, first_mismatch, has_intervals}
+use Rattle.conn_state.specs.Answers.{is_wanted_id, answer_tests, first_mismatch, has_intervals}
 use Rattle.scanner_table.specs.declared.profile.SlotConfig.{SlotConfig}
 use Rattle.scanner_table.specs.declared.slot.Connection.{Connection}
 use Rattle.scanner_table.specs.declared.slot.Opening as opening
@@ -36,25 +36,31 @@ use Rattle.scanner_table.specs.declared.table.ScannerTable.{ScannerTable}
 use Rattle.scanner_table.specs.declared.table.Stage.{Stage}
 use Rattle.scanner_table.specs.declared.table.Stage.TheVariants.{Waiting, Up, Unused}
 use Rattle.scanner_table.specs.declared.table.TargetStream.{TargetStream}
-use Rattle.scanner_table.specs.Slots.{Place, places, place_at, is_numbered, is_with}
+use Rattle.scanner_table.specs.Slots.{places_from, Place, places, place_at, is_numbered, is_with}
 use Rattle.scanner_table.specs.Sessions.{Session, session_with, is_stream, is_other_stream, is_to, is_taken, with_stream, without_stream, with_stage}
 use Rattle.scanner_table.specs.Asking.{is_large}
 use Rattle.scanner_table.specs.Effects.{Next, changed, counted, done}
 use Rattle.scanner_table.specs.Opening.{has_request, has_id, can_open, drawn, opening_slot, resigned, exhausted, open_asked, opened_within, opened, is_ready_place, ready_places, ready_opened, target_opened}
-use Rattle.scanner_table.specs.Replies.{open_told, is_id_free, new_connection, established_slot, failed_slot, refused, judged_success, answered}
+use Rattle.scanner_table.specs.Replies.{uses_id, open_told, is_id_free, new_connection, established_slot, failed_slot, refused, judged_success, answered}
 use Rattle.scanner_table.specs.Closing.{idle_slot, given_up_state, given_up, target_lost, closing_slot, close_asked, resigned_place, closed_within, stopped, stopped_at}
 use Rattle.scanner_table.specs.Encapsulation.{registering_on, ignored, stream_opened, cut_of, stream_cut, is_registered, session_begun, session_failed, registered, is_awaiting, replied, replied_to, told, frame_answer, frame_of, frame}
 use Rattle.scanner_table.specs.Datagrams.{delivered, is_for, accepted_connection, fed_table, accepted, sized, state_received, received_at, received_as, received}
 use Rattle.scanner_table.specs.Points.{stop_of, stop}
-use Rattle.scanner_table.specs.Whole.{FitsState, FitsSlot, IsWhole}
-use Rattle.scanner_table.proofs.WholeLemmas.{slots_later, IsAt, Each, each_filter, each_found, each_at, whole_with, Keeps, keeps_nothing, KeepsAt, keeps_each, Any, each_any, each_passes, few_with, differ_with, few_left, differ_left, differ_staged}
+use Rattle.scanner_table.specs.Whole.{IdsDiffer, FitsState, FitsSlot, IsWhole}
+use Rattle.scanner_table.proofs.IdsLemmas.{Weaker, idle_weaker, opening_weaker, closing_weaker, linked_weaker, all_set, differ_weaker, differ_established}
+use Rattle.scanner_table.proofs.WholeLemmas.{IsNow, each_now, slots_later, IsAt, Each, each_filter, each_found, each_at, whole_with, Keeps, keeps_nothing, KeepsAt, keeps_each, Any, each_any, each_passes, few_with, differ_with, few_left, differ_left, differ_staged}
 
 -- ---- one slot is changed
 
+-- no ids clash where the slot has no more than the one before it
+differ_set : (t : ScannerTable) (place : Place) (slot : Slot) → IsWhole t → ((old : SlotState) → Weaker old slot.state) → IdsDiffer (places_from 0 t.profile.slots (slice_set t.slots place.number slot))
+differ_set t place slot whole weaker =
+    differ_weaker 0 t.profile.slots t.slots (slice_set t.slots place.number slot) (all_set place.number t.slots slot (λ old is. weaker old.state)) whole.ids_differ
+
 -- another slot in a place, and nothing else
-pub keeps_changed : (t : ScannerTable) (place : Place) (slot : Slot) (told : List Notice) → IsWhole t → IsAt t place → FitsSlot t.next_request t.clock.0 place.config slot → Keeps t (changed t place slot told)
-keeps_changed t place slot told whole at fits = record {
-  whole = whole_with t place slot whole at.config fits;
+pub keeps_changed : (t : ScannerTable) (place : Place) (slot : Slot) (told : List Notice) → IsWhole t → IsAt t place → FitsSlot t.next_request t.clock.0 place.config slot → ((old : SlotState) → Weaker old slot.state) → Keeps t (changed t place slot told)
+keeps_changed t place slot told whole at fits weaker = record {
+  whole = whole_with t place slot whole at.config fits (differ_set t place slot whole weaker);
   later = record { profile = refl; clock = refl; requests = omega arith };
 }
 
@@ -67,16 +73,16 @@ idle_fits t place slot at output image state = record {
 }
 
 keeps_resigned : (told : List Notice) (t : ScannerTable) (place : Place) → IsWhole t → IsAt t place → Keeps t (changed t place (resigned place.slot) told)
-keeps_resigned told t place whole at = keeps_changed t place (resigned place.slot) told whole at (idle_fits t place (resigned place.slot) at refl refl refl)
+keeps_resigned told t place whole at = keeps_changed t place (resigned place.slot) told whole at (idle_fits t place (resigned place.slot) at refl refl refl) idle_weaker
 
 keeps_failed : (told : List Notice) (t : ScannerTable) (place : Place) → IsWhole t → IsAt t place → Keeps t (changed t place (failed_slot t Idle place.slot) told)
-keeps_failed told t place whole at = keeps_changed t place (failed_slot t Idle place.slot) told whole at (idle_fits t place (failed_slot t Idle place.slot) at refl refl refl)
+keeps_failed told t place whole at = keeps_changed t place (failed_slot t Idle place.slot) told whole at (idle_fits t place (failed_slot t Idle place.slot) at refl refl refl) idle_weaker
 
 keeps_refused : (why : Reason) (t : ScannerTable) (place : Place) → IsWhole t → IsAt t place → Keeps t (refused t place why)
 keeps_refused why t place whole at = keeps_failed (notice.Refused place.number why ∷ []) t place whole at
 
 keeps_idle : (t : ScannerTable) (place : Place) → IsWhole t → IsAt t place → Keeps t (changed t place (idle_slot place.slot) [])
-keeps_idle t place whole at = keeps_changed t place (idle_slot place.slot) [] whole at (idle_fits t place (idle_slot place.slot) at refl refl refl)
+keeps_idle t place whole at = keeps_changed t place (idle_slot place.slot) [] whole at (idle_fits t place (idle_slot place.slot) at refl refl refl) idle_weaker
 
 -- ---- requests
 
@@ -85,6 +91,7 @@ request_left t left = grind (arith, nat_tests, left)
 
 whole_counted : (t : ScannerTable) → has_request t ≡ true → IsWhole t → IsWhole (counted t)
 whole_counted t left whole = record {
+  ids_differ = whole.ids_differ;
   faultless = whole.faultless;
   slots = slots_later t.next_request (t.next_request + 1) t.clock.0 t.clock.0 t.profile.slots t.slots (omega arith) (omega arith) whole.slots;
   clock = whole.clock;
@@ -108,6 +115,7 @@ whole_drawn : (t : ScannerTable) (config : SlotConfig) → has_id t config ≡ t
 whole_drawn t config left whole =
     let serial = serial_step (t.next_serial == 65535) t.next_serial refl whole.serial_begins whole.serial_ends in
     record {
+      ids_differ = whole.ids_differ;
       faultless = whole.faultless;
       slots = whole.slots;
       clock = whole.clock;
@@ -119,9 +127,9 @@ whole_drawn t config left whole =
       streams_differ = whole.streams_differ;
     }
 
-keeps_asked : (t : ScannerTable) (place : Place) (slot : Slot) (told : List Notice) → has_request t ≡ true → IsWhole t → slice_get t.profile.slots place.number ≡ Some place.config → FitsSlot (t.next_request + 1) t.clock.0 place.config slot → Keeps t (changed (counted t) place slot told)
-keeps_asked t place slot told left whole at fits = record {
-  whole = whole_with (counted t) place slot (whole_counted t left whole) at fits;
+keeps_asked : (t : ScannerTable) (place : Place) (slot : Slot) (told : List Notice) → has_request t ≡ true → IsWhole t → slice_get t.profile.slots place.number ≡ Some place.config → FitsSlot (t.next_request + 1) t.clock.0 place.config slot → ((old : SlotState) → Weaker old slot.state) → Keeps t (changed (counted t) place slot told)
+keeps_asked t place slot told left whole at fits weaker = record {
+  whole = whole_with (counted t) place slot (whole_counted t left whole) at fits (differ_set t place slot whole weaker);
   later = record { profile = refl; clock = refl; requests = omega arith };
 }
 
@@ -133,7 +141,7 @@ opening_fits t place at wanted = record { output = at.fits.output; image = at.fi
 keeps_open_asked : (t : ScannerTable) (place : Place) (session : Session) → can_open t place.config ≡ true → IsWhole t → IsAt t place → place.slot.wanted ≡ true → Keeps t (open_asked t place session)
 keeps_open_asked t place session can whole at wanted =
     let left = and_parts (has_request t) (has_id t place.config) can in
-    let asked = keeps_asked (drawn t place.config) place (opening_slot t place) [] left.0 (whole_drawn t place.config left.1 whole) at.config (opening_fits t place at wanted) in
+    let asked = keeps_asked (drawn t place.config) place (opening_slot t place) [] left.0 (whole_drawn t place.config left.1 whole) at.config (opening_fits t place at wanted) (λ old. opening_weaker old _) in
     record { whole = asked.whole; later = record { profile = refl; clock = refl; requests = asked.later.requests } }
 
 can_step : (b : Bool) (t : ScannerTable) (place : Place) (session : Session) → can_open t place.config ≡ b → IsWhole t → IsAt t place → place.slot.wanted ≡ true → Keeps t (cond b (open_asked t place session) (exhausted t place))
@@ -189,10 +197,31 @@ established_fits t place o success at fits intervals =
       state = (fits.0, record { opening = fits.1; o_t_api = interval_fits success.o_t_api both.0; t_o_api = interval_fits success.t_o_api both.1; due = omega arith });
     }
 
+is_clear : (a x y c : Bool) → cond a (Some mismatch.Triad) (cond (not (x && y)) (Some mismatch.Id) (cond (not c) (Some mismatch.Api) None)) ≡ None → y ≡ true
+is_clear true x y c none = absurd cc
+is_clear false false y c none = absurd cc
+is_clear false true true c none = refl
+is_clear false true false c none = absurd cc
+
+not_any : (b : Bool) → not b ≡ true → b ≡ false
+not_any true is = absurd cc
+not_any false is = refl
+
+established_differ : (t : ScannerTable) (place : Place) (o : opening.Opening) (success : made.Opened) → IsAt t place → is_id_free t place success.t_o_id ≡ true → IsWhole t → IdsDiffer (places_from 0 t.profile.slots (slice_set t.slots place.number (established_slot place (new_connection t place o success))))
+established_differ t place o success at clear whole =
+    let free : list_any (uses_id place.number place.config.target success.t_o_id) (places t) ≡ false = not_any _ clear in
+    let same : place.number ≡ 0 + place.number = omega arith in
+    let numbered : list_any (uses_id (0 + place.number) place.config.target success.t_o_id) (places t) ≡ false = subst (λ (n : ℕ). list_any (uses_id n place.config.target success.t_o_id) (places t) ≡ false) same free in
+    differ_established 0 place.number place.config place.slot (new_connection t place o success) (replicate place.config.in_len 0) t.profile.slots t.slots at.config numbered whole.ids_differ
+
 keeps_success : (t : ScannerTable) (place : Place) (o : opening.Opening) (success : made.Opened) (why : Option Mismatch) → first_mismatch (answer_tests o.wanted success (is_id_free t place success.t_o_id)) ≡ why → IsWhole t → IsAt t place → (place.slot.wanted ≡ true) × (o.request < t.next_request) → Keeps t (judged_success t place o success why)
 keeps_success t place o success (Some why) is whole at fits = keeps_refused (reason.Mismatch why) t place whole at
-keeps_success t place o success None is whole at fits =
-    keeps_changed t place (established_slot place (new_connection t place o success)) [] whole at (established_fits t place o success at fits (has_both _ _ (has_intervals success) is))
+keeps_success t place o success None is whole at fits = record {
+  whole = whole_with t place (established_slot place (new_connection t place o success)) whole at.config
+      (established_fits t place o success at fits (has_both _ _ (has_intervals success) is))
+      (established_differ t place o success at (is_clear _ (is_wanted_id o.wanted.t_o_id success.t_o_id) (is_id_free t place success.t_o_id) _ is) whole);
+  later = record { profile = refl; clock = refl; requests = omega arith };
+}
 
 keeps_answered : (t : ScannerTable) (place : Place) (o : opening.Opening) (said : Result OpenAnswer Reason) → IsWhole t → IsAt t place → (place.slot.wanted ≡ true) × (o.request < t.next_request) → Keeps t (answered t place o said)
 unfolding answered
@@ -223,7 +252,7 @@ closing_fits t place c at = record { output = at.fits.output; image = at.fits.im
 
 close_step : (b : Bool) (t : ScannerTable) (place : Place) (c : Connection) (session : Session) → has_request t ≡ b → IsWhole t → IsAt t place → Keeps t (cond b (close_asked t place c session) (exhausted t place))
 close_step true t place c session left whole at =
-    let asked = keeps_asked t place (closing_slot t c place.slot) [] left whole at.config (closing_fits t place c at) in
+    let asked = keeps_asked t place (closing_slot t c place.slot) [] left whole at.config (closing_fits t place c at) (λ old. closing_weaker old _) in
     record { whole = asked.whole; later = asked.later }
 close_step false t place c session left whole at = keeps_resigned (notice.NoIds place.number ∷ []) t place whole at
 
@@ -265,6 +294,7 @@ whole_streamed t number target free whole =
     let alone = or_parts (list_any (is_to target) t.streams) (nat_le 16 (length t.streams)) none.1 in
     let new : TargetStream = record { number = number; peer = target; stage = Waiting } in
     record {
+      ids_differ = whole.ids_differ;
       faultless = whole.faultless;
       slots = whole.slots;
       clock = whole.clock;
@@ -286,6 +316,7 @@ streamed_whole t number target whole = taken_step (is_taken t.streams number tar
 
 whole_without : (t : ScannerTable) (number : ℕ) → IsWhole t → IsWhole (without_stream t number)
 whole_without t number whole = record {
+  ids_differ = whole.ids_differ;
   faultless = whole.faultless;
   slots = whole.slots;
   clock = whole.clock;
@@ -307,6 +338,7 @@ cut_whole t number whole = cut_whole_of t (find (is_stream number) t.streams) wh
 
 whole_staged : (t : ScannerTable) (number : ℕ) (stage : Stage) → IsWhole t → IsWhole (with_stage t number stage)
 whole_staged t number stage whole = record {
+  ids_differ = whole.ids_differ;
   faultless = whole.faultless;
   slots = whole.slots;
   clock = whole.clock;
@@ -361,36 +393,52 @@ frame_whole t number bytes whole = frame_of_whole t bytes (find (is_stream numbe
 
 -- ---- datagrams
 
-fed_fits : (t : ScannerTable) (place : Place) (d : DatagramFields) (c : Connection) (bytes : List ℕ) → IsAt t place → FitsState t.next_request t.clock.0 place.slot.wanted (Established c) → length bytes ≡ place.config.in_len → IsWhole t → IsWhole (fed_table t place d c bytes)
-fed_fits t place d c bytes at fits long whole =
+-- the place's slot stands in the table now, in this state
+pub record IsSame (t : ScannerTable) (place : Place) (state : SlotState) : Type 0 where
+  pub now : slice_get t.slots place.number ≡ Some place.slot
+  pub stands : place.slot.state ≡ state
+
+same_slot : (a b : Slot) → Some a ≡ Some b → a ≡ b
+same_slot a b is = cc
+
+pub differ_same : (t : ScannerTable) (place : Place) (slot : Slot) (state : SlotState) → IsSame t place state → Weaker state slot.state → IsWhole t → IdsDiffer (places_from 0 t.profile.slots (slice_set t.slots place.number slot))
+differ_same t place slot state same weaker whole =
+    let stands : (old : Slot) → slice_get t.slots place.number ≡ Some old → Weaker old.state slot.state = λ old is.
+    let one : place.slot ≡ old = same_slot place.slot old (sym same.now ∙ is) in
+    subst (λ (x : Slot). Weaker x.state slot.state) one (subst (λ (x : SlotState). Weaker x slot.state) (sym same.stands) weaker) in
+    differ_weaker 0 t.profile.slots t.slots (slice_set t.slots place.number slot) (all_set place.number t.slots slot stands) whole.ids_differ
+
+fed_fits : (t : ScannerTable) (place : Place) (d : DatagramFields) (c : Connection) (bytes : List ℕ) → IsAt t place → FitsState t.next_request t.clock.0 place.slot.wanted (Established c) → length bytes ≡ place.config.in_len → IsSame t place (Established c) → IsWhole t → IsWhole (fed_table t place d c bytes)
+fed_fits t place d c bytes at fits long now whole =
     whole_with t place (record place.slot { state = Established (accepted_connection t.clock place.config.mult d c); image = bytes }) whole at.config
     (record { output = at.fits.output; image = long; state = (fits.0, record { opening = fits.1.opening; o_t_api = fits.1.o_t_api; t_o_api = fits.1.t_o_api; due = fits.1.due }) })
+    (differ_same t place (record place.slot { state = Established (accepted_connection t.clock place.config.mult d c); image = bytes }) (Established c) now (linked_weaker c (accepted_connection t.clock place.config.mult d c) refl) whole)
 
-accepted_step : (b : Bool) (t : ScannerTable) (place : Place) (d : DatagramFields) (c : Connection) → IsAt t place → FitsState t.next_request t.clock.0 place.slot.wanted (Established c) → length d.payload ≡ place.config.in_len → IsWhole t → IsWhole (cond b (delivered Duplicate (fed_table t place d c place.slot.image)) (delivered Applied (fed_table t place d c d.payload))).1
-accepted_step true t place d c at fits long whole = fed_fits t place d c place.slot.image at fits at.fits.image whole
-accepted_step false t place d c at fits long whole = fed_fits t place d c d.payload at fits long whole
+accepted_step : (b : Bool) (t : ScannerTable) (place : Place) (d : DatagramFields) (c : Connection) → IsAt t place → FitsState t.next_request t.clock.0 place.slot.wanted (Established c) → length d.payload ≡ place.config.in_len → IsSame t place (Established c) → IsWhole t → IsWhole (cond b (delivered Duplicate (fed_table t place d c place.slot.image)) (delivered Applied (fed_table t place d c d.payload))).1
+accepted_step true t place d c at fits long now whole = fed_fits t place d c place.slot.image at fits at.fits.image now whole
+accepted_step false t place d c at fits long now whole = fed_fits t place d c d.payload at fits long now whole
 
-news_step : (b : Bool) (t : ScannerTable) (place : Place) (d : DatagramFields) (c : Connection) → IsAt t place → FitsState t.next_request t.clock.0 place.slot.wanted (Established c) → length d.payload ≡ place.config.in_len → IsWhole t → IsWhole (cond b (accepted t place d c) (delivered Old t)).1
-news_step true t place d c at fits long whole = accepted_step (is_repeated c.last d.count) t place d c at fits long whole
-news_step false t place d c at fits long whole = whole
+news_step : (b : Bool) (t : ScannerTable) (place : Place) (d : DatagramFields) (c : Connection) → IsAt t place → FitsState t.next_request t.clock.0 place.slot.wanted (Established c) → length d.payload ≡ place.config.in_len → IsSame t place (Established c) → IsWhole t → IsWhole (cond b (accepted t place d c) (delivered Old t)).1
+news_step true t place d c at fits long now whole = accepted_step (is_repeated c.last d.count) t place d c at fits long now whole
+news_step false t place d c at fits long now whole = whole
 
 long_is : (a b : ℕ) → (a == b) ≡ true → a ≡ b
 long_is a b is = grind (arith, nat_tests)
 
-sized_step : (b : Bool) (t : ScannerTable) (place : Place) (d : DatagramFields) (c : Connection) → (length d.payload == place.config.in_len) ≡ b → IsAt t place → FitsState t.next_request t.clock.0 place.slot.wanted (Established c) → IsWhole t → IsWhole (cond b (sized t place d c) (delivered WrongSize t)).1
-sized_step true t place d c is at fits whole = news_step (is_news c.last d.sequence) t place d c at fits (long_is (length d.payload) place.config.in_len is) whole
-sized_step false t place d c is at fits whole = whole
+sized_step : (b : Bool) (t : ScannerTable) (place : Place) (d : DatagramFields) (c : Connection) → (length d.payload == place.config.in_len) ≡ b → IsAt t place → FitsState t.next_request t.clock.0 place.slot.wanted (Established c) → IsSame t place (Established c) → IsWhole t → IsWhole (cond b (sized t place d c) (delivered WrongSize t)).1
+sized_step true t place d c is at fits now whole = news_step (is_news c.last d.sequence) t place d c at fits (long_is (length d.payload) place.config.in_len is) now whole
+sized_step false t place d c is at fits now whole = whole
 
-state_received_whole : (t : ScannerTable) (place : Place) (d : DatagramFields) (state : SlotState) → place.slot.state ≡ state → IsAt t place → IsWhole t → IsWhole (state_received t place d state).1
-state_received_whole t place d Idle is at whole = whole
-state_received_whole t place d (Opening o) is at whole = whole
-state_received_whole t place d (Established c) is at whole = sized_step (length d.payload == place.config.in_len) t place d c refl at (state_fits t place (Established c) is at) whole
-state_received_whole t place d (TimedOut link) is at whole = whole
-state_received_whole t place d (Closing c) is at whole = whole
+state_received_whole : (t : ScannerTable) (place : Place) (d : DatagramFields) (state : SlotState) → place.slot.state ≡ state → IsAt t place → slice_get t.slots place.number ≡ Some place.slot → IsWhole t → IsWhole (state_received t place d state).1
+state_received_whole t place d Idle is at now whole = whole
+state_received_whole t place d (Opening o) is at now whole = whole
+state_received_whole t place d (Established c) is at now whole = sized_step (length d.payload == place.config.in_len) t place d c refl at (state_fits t place (Established c) is at) (record { now = now; stands = is }) whole
+state_received_whole t place d (TimedOut link) is at now whole = whole
+state_received_whole t place d (Closing c) is at now whole = whole
 
 received_at_whole : (t : ScannerTable) (d : DatagramFields) (p : Place → Bool) (found : Option Place) → find p (places t) ≡ found → IsWhole t → IsWhole (received_at t d found).1
 received_at_whole t d p None is whole = whole
-received_at_whole t d p (Some place) is whole = state_received_whole t place d place.slot.state refl (each_found (IsAt t) p (places t) place is (each_at t whole)) whole
+received_at_whole t d p (Some place) is whole = state_received_whole t place d place.slot.state refl (each_found (IsAt t) p (places t) place is (each_at t whole)) (each_found (IsNow t) p (places t) place is (each_now t)) whole
 
 received_as_whole : (t : ScannerTable) (peer : Node) (reading : Result DatagramFields DatagramFault) → IsWhole t → IsWhole (received_as t peer reading).1
 received_as_whole t peer (Err why) whole = whole

@@ -1,5 +1,6 @@
 -- Ticks and what the application does keep a scanner's table whole, and so does each step.
-use Rattle.std.proofs.Common.{◌≡◌, ◌≤◌, ℕ, suc, ◌+◌, ◌^◌, Bool, true, false, cond, ◌==◌, nat_le, nat_lt, List, [], ◌∷◌, length, map, filter, Option, Some, None, Ok, Err, refl, arith}
+use Rattle.std.proofs.Common.{subst, sym, ◌&&◌, slice_set, ◌≡◌, ◌≤◌, ℕ, suc, ◌+◌, ◌^◌, Bool, true, false, cond, ◌==◌, nat_le, nat_lt, List, [], ◌∷◌, length, map, filter, Option, Some, None, Ok, Err, refl, arith}
+use Rattle.std.specs.List.{list_any}
 use Rattle.std.proofs.lemmas.Bool.Decides.{nat_tests}
 use Rattle.std.proofs.lemmas.List.{length-replicate}
 use Rattle.cip_types.specs.declared.names.Ms.{Ms}
@@ -25,13 +26,14 @@ use Rattle.scanner_table.specs.Effects.{Effect, and_then, done}
 use Rattle.scanner_table.specs.Opening.{ready_opened}
 use Rattle.scanner_table.specs.Replies.{failed_slot}
 use Rattle.scanner_table.specs.Closing.{given_up}
-use Rattle.scanner_table.specs.Productions.{written_state, state_is_due, produced_state, due_slot, produced_table}
+use Rattle.scanner_table.specs.Productions.{written_connection, produced_connection, written_state, state_is_due, produced_state, due_slot, produced_table}
 use Rattle.scanner_table.specs.Ticks.{by_deadline, has_expired, expired_places, expired_state, expired, all_expired, is_overdue, all_given_up, clocked_table, elapsed, ticked, tick}
 use Rattle.scanner_table.specs.Points.{output_slot, written_place, write_length, write_at, write, read_at, read, same_mode, moded_slot, moded_table, mode, wanted_slot, started, start_state, start_at, start}
 use Rattle.scanner_table.specs.Step.{scanner_step, fresh_slot, scanner_table}
-use Rattle.scanner_table.specs.Whole.{FitsState, FitsSlot, SlotsFit, IsWhole}
-use Rattle.scanner_table.proofs.WholeLemmas.{slots_later, later_later, IsAt, Each, each_filter, each_found, each_at, whole_with, Keeps, keeps_nothing, keeps_each, Any, each_any}
-use Rattle.scanner_table.proofs.WholeSteps.{keeps_changed, keeps_opened, keeps_ready, keeps_given, LeavesWhole, state_fits, stop_whole, streamed_whole, cut_whole, frame_whole, received_whole}
+use Rattle.scanner_table.specs.Whole.{clashes, IdsDiffer, FitsState, FitsSlot, SlotsFit, IsWhole}
+use Rattle.scanner_table.proofs.IdsLemmas.{Weaker, idle_weaker, timed_out_weaker, same_weaker, linked_weaker, AllWeaker, all_set, all_map, differ_weaker}
+use Rattle.scanner_table.proofs.WholeLemmas.{IsNow, each_now, slots_later, later_later, IsAt, Each, each_filter, each_found, each_at, whole_with, Keeps, keeps_nothing, keeps_each, Any, each_any}
+use Rattle.scanner_table.proofs.WholeSteps.{differ_same, keeps_changed, keeps_opened, keeps_ready, keeps_given, LeavesWhole, state_fits, stop_whole, streamed_whole, cut_whole, frame_whole, received_whole}
 
 -- ---- expiries and answers that do not come
 
@@ -54,7 +56,7 @@ expired_fits t place c is at = record { output = at.fits.output; image = at.fits
 keeps_expired_state : (t : ScannerTable) (place : Place) (state : SlotState) → place.slot.state ≡ state → IsWhole t → IsAt t place → Keeps t (expired_state t place state)
 keeps_expired_state t place Idle is whole at = keeps_nothing t whole
 keeps_expired_state t place (Opening o) is whole at = keeps_nothing t whole
-keeps_expired_state t place (Established c) is whole at = keeps_changed t place (failed_slot t (TimedOut c.link) place.slot) [] whole at (expired_fits t place c is at)
+keeps_expired_state t place (Established c) is whole at = keeps_changed t place (failed_slot t (TimedOut c.link) place.slot) [] whole at (expired_fits t place c is at) (λ old. timed_out_weaker old c.link)
 keeps_expired_state t place (TimedOut link) is whole at = keeps_nothing t whole
 keeps_expired_state t place (Closing c) is whole at = keeps_nothing t whole
 
@@ -117,8 +119,9 @@ slots_produced r clock (config ∷ configs) [] fit = absurd fit
 slots_produced r clock (config ∷ configs) (slot ∷ slots) fit = (due_step (state_is_due clock slot.state) r clock config slot refl fit.0, slots_produced r clock configs slots fit.1)
 
 -- the slots are others, and each fits its place
-whole_slots : (t : ScannerTable) (slots : List Slot) → IsWhole t → SlotsFit t.next_request t.clock.0 t.profile.slots slots → IsWhole (record t { slots = slots })
-whole_slots t slots whole fit = record {
+whole_slots : (t : ScannerTable) (slots : List Slot) → IsWhole t → SlotsFit t.next_request t.clock.0 t.profile.slots slots → AllWeaker t.slots slots → IsWhole (record t { slots = slots })
+whole_slots t slots whole fit weaker = record {
+  ids_differ = differ_weaker 0 t.profile.slots t.slots slots weaker whole.ids_differ;
   faultless = whole.faultless;
   slots = fit;
   clock = whole.clock;
@@ -130,14 +133,29 @@ whole_slots t slots whole fit = record {
   streams_differ = whole.streams_differ;
 }
 
+produced_weaker : (clock : Ms) (state : SlotState) → Weaker state (produced_state clock state)
+produced_weaker clock Idle = same_weaker Idle
+produced_weaker clock (Opening o) = same_weaker (Opening o)
+produced_weaker clock (Established c) = linked_weaker c (produced_connection clock c) refl
+produced_weaker clock (TimedOut link) = same_weaker (TimedOut link)
+produced_weaker clock (Closing c) = same_weaker (Closing c)
+
+due_weaker_by : (b : Bool) (clock : Ms) (slot : Slot) → Weaker slot.state (cond b (record slot { state = produced_state clock slot.state }) slot).state
+due_weaker_by true clock slot = produced_weaker clock slot.state
+due_weaker_by false clock slot = same_weaker slot.state
+
+due_weaker : (clock : Ms) (slot : Slot) → Weaker slot.state (due_slot clock slot).state
+due_weaker clock slot = due_weaker_by (state_is_due clock slot.state) clock slot
+
 produced_whole : (t : ScannerTable) → IsWhole t → IsWhole (produced_table t)
 unfolding produced_table
-produced_whole t whole = whole_slots t (map (due_slot t.clock) t.slots) whole (slots_produced t.next_request t.clock t.profile.slots t.slots whole.slots)
+produced_whole t whole = whole_slots t (map (due_slot t.clock) t.slots) whole (slots_produced t.next_request t.clock t.profile.slots t.slots whole.slots) (all_map (due_slot t.clock) (due_weaker t.clock) t.slots)
 
 -- ---- a tick
 
 clocked_whole : (t : ScannerTable) (ms : ℕ) → t.clock.0 + ms ≤ 2 ^ 48 → IsWhole t → IsWhole (clocked_table t ms)
 clocked_whole t ms in_time whole = record {
+  ids_differ = whole.ids_differ;
   faultless = whole.faultless;
   slots = slots_later t.next_request t.next_request t.clock.0 (t.clock.0 + ms) t.profile.slots t.slots (omega arith) (omega arith) whole.slots;
   clock = in_time;
@@ -175,19 +193,27 @@ written_fits r k wanted (Closing c) fits = fits
 long_is : (a b : ℕ) → (a == b) ≡ true → a ≡ b
 long_is a b is = grind (arith, nat_tests)
 
-length_step : (b : Bool) (t : ScannerTable) (place : Place) (bytes : List ℕ) → (length bytes == place.config.out_len) ≡ b → IsWhole t → IsAt t place → LeavesWhole (cond b (Ok (written_place t place bytes)) (Err fault.WrongLength))
-length_step true t place bytes is whole at =
+written_weaker : (state : SlotState) → Weaker state (written_state state)
+written_weaker Idle = same_weaker Idle
+written_weaker (Opening o) = same_weaker (Opening o)
+written_weaker (Established c) = linked_weaker c (written_connection c) refl
+written_weaker (TimedOut link) = same_weaker (TimedOut link)
+written_weaker (Closing c) = same_weaker (Closing c)
+
+length_step : (b : Bool) (t : ScannerTable) (place : Place) (bytes : List ℕ) → (length bytes == place.config.out_len) ≡ b → IsWhole t → IsAt t place → IsNow t place → LeavesWhole (cond b (Ok (written_place t place bytes)) (Err fault.WrongLength))
+length_step true t place bytes is whole at now =
     whole_with t place (output_slot bytes place.slot) whole at.config
     (record { output = long_is (length bytes) place.config.out_len is; image = at.fits.image; state = written_fits t.next_request t.clock.0 place.slot.wanted place.slot.state at.fits.state })
-length_step false t place bytes is whole at = tt
+    (differ_same t place (output_slot bytes place.slot) place.slot.state (record { now = now; stands = refl }) (written_weaker place.slot.state) whole)
+length_step false t place bytes is whole at now = tt
 
-owner_step : (b : Bool) (t : ScannerTable) (place : Place) (bytes : List ℕ) → IsWhole t → IsAt t place → LeavesWhole (cond b (write_length t place bytes) (Err fault.NotAllowedNow))
-owner_step true t place bytes whole at = length_step (length bytes == place.config.out_len) t place bytes refl whole at
-owner_step false t place bytes whole at = tt
+owner_step : (b : Bool) (t : ScannerTable) (place : Place) (bytes : List ℕ) → IsWhole t → IsAt t place → IsNow t place → LeavesWhole (cond b (write_length t place bytes) (Err fault.NotAllowedNow))
+owner_step true t place bytes whole at now = length_step (length bytes == place.config.out_len) t place bytes refl whole at now
+owner_step false t place bytes whole at now = tt
 
 write_at_whole : (t : ScannerTable) (number : ℕ) (bytes : List ℕ) (found : Option Place) → place_at t number ≡ found → IsWhole t → LeavesWhole (write_at t bytes found)
 write_at_whole t number bytes None is whole = tt
-write_at_whole t number bytes (Some place) is whole = owner_step (is_owner place.config.kind) t place bytes whole (each_found (IsAt t) (is_numbered number) (places t) place is (each_at t whole))
+write_at_whole t number bytes (Some place) is whole = owner_step (is_owner place.config.kind) t place bytes whole (each_found (IsAt t) (is_numbered number) (places t) place is (each_at t whole)) (each_found (IsNow t) (is_numbered number) (places t) place is (each_now t))
 
 write_whole : (t : ScannerTable) (number : ℕ) (bytes : List ℕ) → IsWhole t → LeavesWhole (write t number bytes)
 unfolding write
@@ -211,8 +237,19 @@ slots_moded r k number [] (slot ∷ slots) fit = absurd fit
 slots_moded r k number (config ∷ configs) [] fit = absurd fit
 slots_moded r k number (config ∷ configs) (slot ∷ slots) fit = (moded_step (is_owner config.kind) r k config slot fit.0, slots_moded r k (suc number) configs slots fit.1)
 
+moded_weaker : (b : Bool) (slot : Slot) → Weaker slot.state (cond b (record slot { state = written_state slot.state }) slot).state
+moded_weaker true slot = written_weaker slot.state
+moded_weaker false slot = same_weaker slot.state
+
+all_moded : (r k number : ℕ) (configs : List SlotConfig) (slots : List Slot) → SlotsFit r k configs slots → AllWeaker slots (map moded_slot (places_from number configs slots))
+all_moded r k number [] [] fit = tt
+all_moded r k number [] (slot ∷ slots) fit = absurd fit
+all_moded r k number (config ∷ configs) [] fit = absurd fit
+all_moded r k number (config ∷ configs) (slot ∷ slots) fit = (moded_weaker (is_owner config.kind) slot, all_moded r k (suc number) configs slots fit.1)
+
 moded_whole : (t : ScannerTable) (run : Bool) → IsWhole t → IsWhole (moded_table t run)
 moded_whole t run whole = record {
+  ids_differ = differ_weaker 0 t.profile.slots t.slots (map moded_slot (places t)) (all_moded t.next_request t.clock.0 0 t.profile.slots t.slots whole.slots) whole.ids_differ;
   faultless = whole.faultless;
   slots = slots_moded t.next_request t.clock.0 0 t.profile.slots t.slots whole.slots;
   clock = whole.clock;
@@ -237,11 +274,16 @@ mode_whole t run whole = mode_step (same_mode run t.run) t run whole
 wanted_fits : (t : ScannerTable) (place : Place) → place.slot.state ≡ Idle → IsAt t place → FitsSlot t.next_request t.clock.0 place.config (wanted_slot t place.slot)
 wanted_fits t place is at = record { output = at.fits.output; image = at.fits.image; state = rw is tt }
 
+started_differ : (t : ScannerTable) (place : Place) → place.slot.state ≡ Idle → IsWhole t → IdsDiffer (places_from 0 t.profile.slots (slice_set t.slots place.number (wanted_slot t place.slot)))
+started_differ t place is whole =
+    differ_weaker 0 t.profile.slots t.slots (slice_set t.slots place.number (wanted_slot t place.slot))
+    (all_set place.number t.slots (wanted_slot t place.slot) (λ old stands. subst (Weaker old.state) (sym is) (idle_weaker old.state))) whole.ids_differ
+
 started_whole : (t : ScannerTable) (place : Place) → place.slot.state ≡ Idle → IsWhole t → IsAt t place → IsWhole (started t place (wanted_slot t place.slot)).table
 started_whole t place is whole at =
     let fits = wanted_fits t place is at in
     let slot = wanted_slot t place.slot in
-    (keeps_opened (with_slot t place.number slot) (record place { slot = slot }) (whole_with t place slot whole at.config fits) (record { config = at.config; fits = fits }) refl).whole
+    (keeps_opened (with_slot t place.number slot) (record place { slot = slot }) (whole_with t place slot whole at.config fits (started_differ t place is whole)) (record { config = at.config; fits = fits }) refl).whole
 
 start_step : (b : Bool) (t : ScannerTable) (place : Place) → place.slot.state ≡ Idle → IsWhole t → IsAt t place → LeavesWhole (cond b (Err fault.NotAllowedNow) (Ok (done (started t place (wanted_slot t place.slot)))))
 start_step true t place is whole at = tt
@@ -281,8 +323,21 @@ fresh_fit : (configs : List SlotConfig) → SlotsFit 1 0 configs (map fresh_slot
 fresh_fit [] = tt
 fresh_fit (config ∷ configs) = (record { output = length-replicate config.out_len 0; image = length-replicate config.in_len 0; state = tt }, fresh_fit configs)
 
+and_none : (b : Bool) → (b && false) ≡ false
+and_none true = refl
+and_none false = refl
+
+none_fresh : (n m : ℕ) (config : SlotConfig) (configs : List SlotConfig) → list_any (clashes (record { number = n; config = config; slot = fresh_slot config })) (places_from m configs (map fresh_slot configs)) ≡ false
+none_fresh n m config [] = refl
+none_fresh n m config (c ∷ configs) = rw (and_none (c.target.0 == config.target.0)) (none_fresh n (suc m) config configs)
+
+fresh_differ : (n : ℕ) (configs : List SlotConfig) → IdsDiffer (places_from n configs (map fresh_slot configs))
+fresh_differ n [] = tt
+fresh_differ n (config ∷ configs) = (none_fresh n (suc n) config configs, fresh_differ (suc n) configs)
+
 pub fresh_whole : (profile : ScannerProfile) → profile_fault profile ≡ None → IsWhole (scanner_table profile)
 fresh_whole profile faultless = record {
+  ids_differ = fresh_differ 0 profile.slots;
   faultless = faultless;
   slots = fresh_fit profile.slots;
   clock = omega arith;

@@ -1,6 +1,6 @@
 -- What every table of a scanner keeps that was made from a faultless profile, whatever happens to it: slots
 -- with their bytes, requests that were numbered, and numbers that have not passed their limits.
-use Rattle.std.specs.Prelude.{◌≡◌, ℕ, ◌+◌, ◌<◌, ◌≤◌, ◌^◌, Bool, true, false, List, [], ◌∷◌, length, None}
+use Rattle.std.specs.Prelude.{◌≡◌, ℕ, ◌&&◌, ◌+◌, ◌<◌, ◌≤◌, ◌^◌, Bool, true, false, List, [], ◌∷◌, length, None}
 use Rattle.std.specs.List.{list_any}
 use Rattle.scanner_table.specs.declared.profile.SlotConfig.{SlotConfig}
 use Rattle.scanner_table.specs.declared.slot.Connection.{Connection}
@@ -10,6 +10,8 @@ use Rattle.scanner_table.specs.declared.slot.SlotState.TheVariants.{Idle, Openin
 use Rattle.scanner_table.specs.declared.table.ScannerTable.{ScannerTable}
 use Rattle.scanner_table.specs.declared.table.TargetStream.{TargetStream}
 use Rattle.scanner_table.specs.Profiles.{profile_fault}
+use Rattle.scanner_table.specs.Slots.{Place, places, is_with}
+use Rattle.scanner_table.specs.Replies.{state_consumes}
 use Rattle.scanner_table.specs.Sessions.{is_stream, is_to}
 
 -- SLOTS
@@ -44,6 +46,25 @@ SlotsFit next_request clock [] (slot ∷ slots) = ⊥
 SlotsFit next_request clock (config ∷ configs) [] = ⊥
 SlotsFit next_request clock (config ∷ configs) (slot ∷ slots) = FitsSlot next_request clock config slot × SlotsFit next_request clock configs slots
 
+-- CONNECTION IDS
+
+-- the first is established with the id that the second is established with
+abbrev pub states_clash : SlotState → SlotState → Bool
+states_clash Idle other = false
+states_clash (Opening o) other = false
+states_clash (Established c) other = state_consumes c.link.t_o_id other
+states_clash (TimedOut link) other = false
+states_clash (Closing c) other = false
+
+-- two slots are established with one target, and have one T->O id
+abbrev pub clashes : Place → Place → Bool
+clashes place other = is_with place.config.target other && states_clash place.slot.state other.slot.state
+
+-- no two slots are
+abbrev pub IdsDiffer : List Place → Type 0
+IdsDiffer [] = Unit {0}
+IdsDiffer (place ∷ rest) = (list_any (clashes place) rest ≡ false) × IdsDiffer rest
+
 -- STREAMS
 
 -- no two streams have one number, or one target
@@ -56,6 +77,7 @@ StreamsDiffer (stream ∷ streams) = (list_any (is_stream stream.number) streams
 pub record IsWhole (t : ScannerTable) : Type 0 where
   pub faultless : profile_fault t.profile ≡ None
   pub slots : SlotsFit t.next_request t.clock.0 t.profile.slots t.slots
+  pub ids_differ : IdsDiffer (places t)
   pub clock : t.clock.0 ≤ 2 ^ 48
   pub ids : t.next_id ≤ 16777216
   pub serial_begins : 1 ≤ t.next_serial
