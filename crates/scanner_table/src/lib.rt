@@ -13,3 +13,6 @@ pub use laws::{fresh_tables_are_whole, steps_keep_tables_whole};
 pub use profile::{ScannerProfile, SlotConfig};
 pub use slot::{Closing, Connection, Opening, Slot, SlotState};
 pub use table::{ScannerTable, Stage, TargetStream};
+
+#[cfg(test)]
+mod tests;
