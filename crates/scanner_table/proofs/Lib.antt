@@ -1,3 +1,4 @@
+mod EqLemmas
 mod IdsLemmas
 mod SmallScanner
 mod OpeningSamples

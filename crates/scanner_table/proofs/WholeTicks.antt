@@ -348,3 +348,17 @@ fresh_whole profile faultless = record {
   few_streams = omega arith;
   streams_differ = tt;
 }
+
+pub whole_later : (t : ScannerTable) (counter : ℕ) → counter ≤ 16777216 → IsWhole t → IsWhole (record t { next_id = counter })
+whole_later t counter last whole = record {
+  ids_differ = whole.ids_differ;
+  faultless = whole.faultless;
+  slots = whole.slots;
+  clock = whole.clock;
+  ids = last;
+  serial_begins = whole.serial_begins;
+  serial_ends = whole.serial_ends;
+  requests = whole.requests;
+  few_streams = whole.few_streams;
+  streams_differ = whole.streams_differ;
+}

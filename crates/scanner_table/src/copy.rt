@@ -1,8 +1,10 @@
-//! Copies of profiles.
+//! Copies of profiles, and tables with a later counter.
 
-ghost use Rattle.std.specs.Prelude.{◌≡◌, IfOk};
+ghost use Rattle.std.specs.Prelude.{◌≡◌, ◌≤◌, ◌↔◌, IfOk, IsTrue};
+ghost use Rattle.scanner_table.specs.Whole.{IsWhole};
 
 use crate::profile::{ScannerProfile, SlotConfig};
+use crate::table::ScannerTable;
 use cip_types::{Items, OutOfMemory};
 use std::alloc::Global;
 
@@ -58,5 +60,30 @@ impl ScannerProfile {
             retry: self.retry,
             slots,
         })
+    }
+}
+
+impl ScannerTable {
+    /// Whether two tables are equal. Takes no memory.
+    pub fn same(&self, other: &ScannerTable) -> bool
+        ensures { IsTrue result ↔ (self.now ≡ other.now) }
+    {
+        self == other
+    }
+
+    /// The table with a later counter for the next connection id. Takes no memory.
+    ///
+    /// The counter is no less than the present one, and at most 16,777,216, where no id is left.
+    pub fn with_next_id(self, counter: u32) -> ScannerTable
+        requires whole { IsWhole self }
+        requires later { self.next_id ≤ counter }
+        requires last { counter ≤ 16777216 }
+        ensures value { result ≡ record self { next_id = counter } }
+        ensures whole { IsWhole result }
+    {
+        ScannerTable {
+            next_id: counter,
+            ..self
+        }
     }
 }
