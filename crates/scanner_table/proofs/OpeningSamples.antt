@@ -1,5 +1,5 @@
 -- How a scanner's connections are asked for, told from the events at a small one.
-use Rattle.std.proofs.Common.{◌≡◌, ℕ, true, List, [], ◌∷◌, Some, Ok, refl, lit<}
+use Rattle.std.proofs.Common.{◌≡◌, ℕ, true, List, [], ◌∷◌, Some, Ok, refl, lit<, replicate}
 use Rattle.cip_netparams.specs.declared.Trigger.TheVariants.{ChangeOfState}
 use Rattle.cip_events.specs.declared.event.Event.{Event}
 use Rattle.cip_events.specs.declared.event.Event.TheVariants.{Request, StreamOpened, Frame, StreamCut, Tick, Start, Stop}
@@ -18,6 +18,7 @@ use Rattle.cip_fwdopen.specs.Close as closes
 use Rattle.cip_fwdopen.specs.Reply as replies
 use Rattle.cip_datagram.specs.Reading as datagrams
 use Rattle.scanner_table.specs.declared.table.ScannerTable.{ScannerTable}
+use Rattle.scanner_table.specs.declared.table.Stage.TheVariants.{Waiting}
 use Rattle.scanner_table.specs.Opening.{opened, ready_opened, target_opened}
 use Rattle.scanner_table.specs.Replies.{open_told, answered}
 use Rattle.scanner_table.specs.Closing.{target_lost}
@@ -72,6 +73,20 @@ streams : told (scanner_table (profile (owner ∷ []))) streams_events
     ∷ []
 unfolding messages.message_reading packets.packet_reading packets.behind_socket packets.are_sockets replies.open_reply_reading replies.unread_reading opens.open_text closes.close_text datagrams.datagram_reading opened ready_opened target_opened open_told answered target_lost stream_opened stream_cut frame received produced_table all_expired all_given_up tick write read mode start stop
 streams = refl
+
+-- as many streams as these to another target are open
+abbrev crowded : ℕ → ScannerTable
+crowded n = record (scanner_table (profile (owner ∷ []))) { streams = replicate n (record { number = 9; peer = other_target; stage = Waiting }) }
+
+-- the sixteenth stream opens
+sixteenth : told (crowded 15) (StreamOpened 0 target ∷ []) ≡ Ok (record (plain_answer Done) { frames = record { to = recipient.Stream 0; bytes = registration } ∷ [] }) ∷ []
+unfolding messages.message_reading packets.packet_reading packets.behind_socket packets.are_sockets replies.open_reply_reading replies.unread_reading opens.open_text closes.close_text datagrams.datagram_reading opened ready_opened target_opened open_told answered target_lost stream_opened stream_cut frame received produced_table all_expired all_given_up tick write read mode start stop
+sixteenth = refl
+
+-- and no further one
+seventeenth : told (crowded 16) (StreamOpened 0 target ∷ []) ≡ not_now ∷ []
+unfolding messages.message_reading packets.packet_reading packets.behind_socket packets.are_sockets replies.open_reply_reading replies.unread_reading opens.open_text closes.close_text datagrams.datagram_reading opened ready_opened target_opened open_told answered target_lost stream_opened stream_cut frame received produced_table all_expired all_given_up tick write read mode start stop
+seventeenth = refl
 
 -- a registration that is refused
 abbrev no_session : List ℕ

@@ -88,9 +88,10 @@ elapsed t = and_then (and_then (all_expired t) all_given_up) ready_opened
 abbrev pub ticked : Effect → Next
 ticked effect = (sent_answer effect (due_sendings effect.table), produced_table effect.table)
 
--- some milliseconds pass
+-- the clock does not pass its end
+abbrev pub clocked : ScannerTable → ℕ → Result Next StepFault
+clocked t ms = if nat_lt clock_end (t.clock.0 + ms) then Err fault.ClockEnd else Ok (ticked (elapsed (clocked_table t ms)))
+
+-- some milliseconds pass, and not too many
 unfoldable pub tick : ScannerTable → ℕ → Result Next StepFault
-tick t ms =
-    if nat_lt longest_tick ms then Err fault.TickTooLong
-    else (if nat_lt clock_end (t.clock.0 + ms) then Err fault.ClockEnd
-    else Ok (ticked (elapsed (clocked_table t ms))))
+tick t ms = if nat_lt longest_tick ms then Err fault.TickTooLong else clocked t ms
