@@ -1,5 +1,6 @@
 mod EqLemmas
 mod IdsLemmas
+mod RequestLemmas
 mod SmallScanner
 mod OpeningSamples
 mod ReplySamples

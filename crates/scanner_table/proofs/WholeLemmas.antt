@@ -15,7 +15,7 @@ use Rattle.scanner_table.specs.declared.table.TargetStream.{TargetStream}
 use Rattle.scanner_table.specs.Slots.{Place, places_from, places, with_slot}
 use Rattle.scanner_table.specs.Sessions.{is_stream, is_to, staged_stream}
 use Rattle.scanner_table.specs.Effects.{Effect, on_each, nothing}
-use Rattle.scanner_table.specs.Whole.{FitsState, FitsSlot, SlotsFit, IdsDiffer, StreamsDiffer, IsWhole}
+use Rattle.scanner_table.specs.Whole.{FitsState, FitsSlot, SlotsFit, IdsDiffer, RequestsDiffer, StreamsDiffer, IsWhole}
 
 -- ---- later tables
 
@@ -145,9 +145,10 @@ set_fits r c (suc k) (config ∷ configs) (first ∷ slots) slot fit new = (fit.
 some_is : (a b : SlotConfig) → Some a ≡ Some b → a ≡ b
 some_is a b is = cc
 
-pub whole_with : (t : ScannerTable) (place : Place) (slot : Slot) → IsWhole t → slice_get t.profile.slots place.number ≡ Some place.config → FitsSlot t.next_request t.clock.0 place.config slot → IdsDiffer (places_from 0 t.profile.slots (slice_set t.slots place.number slot)) → IsWhole (with_slot t place.number slot)
-whole_with t place slot whole at fits differ = record {
+pub whole_with : (t : ScannerTable) (place : Place) (slot : Slot) → IsWhole t → slice_get t.profile.slots place.number ≡ Some place.config → FitsSlot t.next_request t.clock.0 place.config slot → IdsDiffer (places_from 0 t.profile.slots (slice_set t.slots place.number slot)) → RequestsDiffer (slice_set t.slots place.number slot) → IsWhole (with_slot t place.number slot)
+whole_with t place slot whole at fits differ apart = record {
   ids_differ = differ;
+  requests_differ = apart;
   faultless = whole.faultless;
   slots = set_fits t.next_request t.clock.0 place.number t.profile.slots t.slots slot whole.slots
       (λ config is. subst (λ (c : SlotConfig). FitsSlot t.next_request t.clock.0 c slot) (some_is place.config config (sym at ∙ is)) fits);

@@ -46,8 +46,9 @@ use Rattle.scanner_table.specs.Closing.{idle_slot, given_up_state, given_up, tar
 use Rattle.scanner_table.specs.Encapsulation.{registering_on, ignored, stream_opened, cut_of, stream_cut, is_registered, session_begun, session_failed, registered, is_awaiting, replied, replied_to, told, frame_answer, frame_of, frame}
 use Rattle.scanner_table.specs.Datagrams.{delivered, is_for, accepted_connection, fed_table, accepted, sized, state_received, received_at, received_as, received}
 use Rattle.scanner_table.specs.Points.{stop_of, stop}
-use Rattle.scanner_table.specs.Whole.{IdsDiffer, FitsState, FitsSlot, IsWhole}
+use Rattle.scanner_table.specs.Whole.{RequestsDiffer, IdsDiffer, FitsState, FitsSlot, IsWhole}
 use Rattle.scanner_table.proofs.IdsLemmas.{Weaker, idle_weaker, opening_weaker, closing_weaker, linked_weaker, all_set, differ_weaker, differ_established}
+use Rattle.scanner_table.proofs.RequestLemmas.{Quieter, WaitsFor, idle_quieter, established_quieter, set_quieter, differ_quieter, differ_numbered}
 use Rattle.scanner_table.proofs.WholeLemmas.{IsNow, each_now, slots_later, IsAt, Each, each_filter, each_found, each_at, whole_with, Keeps, keeps_nothing, KeepsAt, keeps_each, Any, each_any, each_passes, few_with, differ_with, few_left, differ_left, differ_staged}
 
 -- ---- one slot is changed
@@ -57,10 +58,15 @@ differ_set : (t : ScannerTable) (place : Place) (slot : Slot) → IsWhole t → 
 differ_set t place slot whole weaker =
     differ_weaker 0 t.profile.slots t.slots (slice_set t.slots place.number slot) (all_set place.number t.slots slot (λ old is. weaker old.state)) whole.ids_differ
 
+-- no requests are shared where the slot waits for nothing, or for what the one before it waits for
+quiet_set : (t : ScannerTable) (place : Place) (slot : Slot) → IsWhole t → ((old : SlotState) → Quieter old slot.state) → RequestsDiffer (slice_set t.slots place.number slot)
+quiet_set t place slot whole quieter =
+    differ_quieter t.slots (slice_set t.slots place.number slot) (set_quieter place.number t.slots slot (λ old is. quieter old.state)) whole.requests_differ
+
 -- another slot in a place, and nothing else
-pub keeps_changed : (t : ScannerTable) (place : Place) (slot : Slot) (told : List Notice) → IsWhole t → IsAt t place → FitsSlot t.next_request t.clock.0 place.config slot → ((old : SlotState) → Weaker old slot.state) → Keeps t (changed t place slot told)
-keeps_changed t place slot told whole at fits weaker = record {
-  whole = whole_with t place slot whole at.config fits (differ_set t place slot whole weaker);
+pub keeps_changed : (t : ScannerTable) (place : Place) (slot : Slot) (told : List Notice) → IsWhole t → IsAt t place → FitsSlot t.next_request t.clock.0 place.config slot → ((old : SlotState) → Weaker old slot.state) → ((old : SlotState) → Quieter old slot.state) → Keeps t (changed t place slot told)
+keeps_changed t place slot told whole at fits weaker quieter = record {
+  whole = whole_with t place slot whole at.config fits (differ_set t place slot whole weaker) (quiet_set t place slot whole quieter);
   later = record { profile = refl; clock = refl; requests = omega arith };
 }
 
@@ -73,16 +79,16 @@ idle_fits t place slot at output image state = record {
 }
 
 keeps_resigned : (told : List Notice) (t : ScannerTable) (place : Place) → IsWhole t → IsAt t place → Keeps t (changed t place (resigned place.slot) told)
-keeps_resigned told t place whole at = keeps_changed t place (resigned place.slot) told whole at (idle_fits t place (resigned place.slot) at refl refl refl) idle_weaker
+keeps_resigned told t place whole at = keeps_changed t place (resigned place.slot) told whole at (idle_fits t place (resigned place.slot) at refl refl refl) idle_weaker idle_quieter
 
 keeps_failed : (told : List Notice) (t : ScannerTable) (place : Place) → IsWhole t → IsAt t place → Keeps t (changed t place (failed_slot t Idle place.slot) told)
-keeps_failed told t place whole at = keeps_changed t place (failed_slot t Idle place.slot) told whole at (idle_fits t place (failed_slot t Idle place.slot) at refl refl refl) idle_weaker
+keeps_failed told t place whole at = keeps_changed t place (failed_slot t Idle place.slot) told whole at (idle_fits t place (failed_slot t Idle place.slot) at refl refl refl) idle_weaker idle_quieter
 
 keeps_refused : (why : Reason) (t : ScannerTable) (place : Place) → IsWhole t → IsAt t place → Keeps t (refused t place why)
 keeps_refused why t place whole at = keeps_failed (notice.Refused place.number why ∷ []) t place whole at
 
 keeps_idle : (t : ScannerTable) (place : Place) → IsWhole t → IsAt t place → Keeps t (changed t place (idle_slot place.slot) [])
-keeps_idle t place whole at = keeps_changed t place (idle_slot place.slot) [] whole at (idle_fits t place (idle_slot place.slot) at refl refl refl) idle_weaker
+keeps_idle t place whole at = keeps_changed t place (idle_slot place.slot) [] whole at (idle_fits t place (idle_slot place.slot) at refl refl refl) idle_weaker idle_quieter
 
 -- ---- requests
 
@@ -92,6 +98,7 @@ request_left t left = grind (arith, nat_tests, left)
 whole_counted : (t : ScannerTable) → has_request t ≡ true → IsWhole t → IsWhole (counted t)
 whole_counted t left whole = record {
   ids_differ = whole.ids_differ;
+  requests_differ = whole.requests_differ;
   faultless = whole.faultless;
   slots = slots_later t.next_request (t.next_request + 1) t.clock.0 t.clock.0 t.profile.slots t.slots (omega arith) (omega arith) whole.slots;
   clock = whole.clock;
@@ -116,6 +123,7 @@ whole_drawn t config left whole =
     let serial = serial_step (t.next_serial == 65535) t.next_serial refl whole.serial_begins whole.serial_ends in
     record {
       ids_differ = whole.ids_differ;
+      requests_differ = whole.requests_differ;
       faultless = whole.faultless;
       slots = whole.slots;
       clock = whole.clock;
@@ -127,9 +135,10 @@ whole_drawn t config left whole =
       streams_differ = whole.streams_differ;
     }
 
-keeps_asked : (t : ScannerTable) (place : Place) (slot : Slot) (told : List Notice) → has_request t ≡ true → IsWhole t → slice_get t.profile.slots place.number ≡ Some place.config → FitsSlot (t.next_request + 1) t.clock.0 place.config slot → ((old : SlotState) → Weaker old slot.state) → Keeps t (changed (counted t) place slot told)
-keeps_asked t place slot told left whole at fits weaker = record {
-  whole = whole_with (counted t) place slot (whole_counted t left whole) at fits (differ_set t place slot whole weaker);
+keeps_asked : (t : ScannerTable) (place : Place) (slot : Slot) (told : List Notice) → has_request t ≡ true → IsWhole t → slice_get t.profile.slots place.number ≡ Some place.config → FitsSlot (t.next_request + 1) t.clock.0 place.config slot → ((old : SlotState) → Weaker old slot.state) → WaitsFor t.next_request slot.state → Keeps t (changed (counted t) place slot told)
+keeps_asked t place slot told left whole at fits weaker waits = record {
+  whole = whole_with (counted t) place slot (whole_counted t left whole) at fits (differ_set t place slot whole weaker)
+      (differ_numbered t.next_request t.clock.0 place.number t.profile.slots t.slots slot waits whole.slots whole.requests_differ);
   later = record { profile = refl; clock = refl; requests = omega arith };
 }
 
@@ -141,7 +150,7 @@ opening_fits t place at wanted = record { output = at.fits.output; image = at.fi
 keeps_open_asked : (t : ScannerTable) (place : Place) (session : Session) → can_open t place.config ≡ true → IsWhole t → IsAt t place → place.slot.wanted ≡ true → Keeps t (open_asked t place session)
 keeps_open_asked t place session can whole at wanted =
     let left = and_parts (has_request t) (has_id t place.config) can in
-    let asked = keeps_asked (drawn t place.config) place (opening_slot t place) [] left.0 (whole_drawn t place.config left.1 whole) at.config (opening_fits t place at wanted) (λ old. opening_weaker old _) in
+    let asked = keeps_asked (drawn t place.config) place (opening_slot t place) [] left.0 (whole_drawn t place.config left.1 whole) at.config (opening_fits t place at wanted) (λ old. opening_weaker old _) refl in
     record { whole = asked.whole; later = record { profile = refl; clock = refl; requests = asked.later.requests } }
 
 can_step : (b : Bool) (t : ScannerTable) (place : Place) (session : Session) → can_open t place.config ≡ b → IsWhole t → IsAt t place → place.slot.wanted ≡ true → Keeps t (cond b (open_asked t place session) (exhausted t place))
@@ -219,7 +228,8 @@ keeps_success t place o success (Some why) is whole at fits = keeps_refused (rea
 keeps_success t place o success None is whole at fits = record {
   whole = whole_with t place (established_slot place (new_connection t place o success)) whole at.config
       (established_fits t place o success at fits (has_both _ _ (has_intervals success) is))
-      (established_differ t place o success at (is_clear _ (is_wanted_id o.wanted.t_o_id success.t_o_id) (is_id_free t place success.t_o_id) _ is) whole);
+      (established_differ t place o success at (is_clear _ (is_wanted_id o.wanted.t_o_id success.t_o_id) (is_id_free t place success.t_o_id) _ is) whole)
+      (quiet_set t place (established_slot place (new_connection t place o success)) whole (λ old. established_quieter old (new_connection t place o success)));
   later = record { profile = refl; clock = refl; requests = omega arith };
 }
 
@@ -252,7 +262,7 @@ closing_fits t place c at = record { output = at.fits.output; image = at.fits.im
 
 close_step : (b : Bool) (t : ScannerTable) (place : Place) (c : Connection) (session : Session) → has_request t ≡ b → IsWhole t → IsAt t place → Keeps t (cond b (close_asked t place c session) (exhausted t place))
 close_step true t place c session left whole at =
-    let asked = keeps_asked t place (closing_slot t c place.slot) [] left whole at.config (closing_fits t place c at) (λ old. closing_weaker old _) in
+    let asked = keeps_asked t place (closing_slot t c place.slot) [] left whole at.config (closing_fits t place c at) (λ old. closing_weaker old _) refl in
     record { whole = asked.whole; later = asked.later }
 close_step false t place c session left whole at = keeps_resigned (notice.NoIds place.number ∷ []) t place whole at
 
@@ -295,6 +305,7 @@ whole_streamed t number target free whole =
     let new : TargetStream = record { number = number; peer = target; stage = Waiting } in
     record {
       ids_differ = whole.ids_differ;
+      requests_differ = whole.requests_differ;
       faultless = whole.faultless;
       slots = whole.slots;
       clock = whole.clock;
@@ -317,6 +328,7 @@ streamed_whole t number target whole = taken_step (is_taken t.streams number tar
 whole_without : (t : ScannerTable) (number : ℕ) → IsWhole t → IsWhole (without_stream t number)
 whole_without t number whole = record {
   ids_differ = whole.ids_differ;
+  requests_differ = whole.requests_differ;
   faultless = whole.faultless;
   slots = whole.slots;
   clock = whole.clock;
@@ -339,6 +351,7 @@ cut_whole t number whole = cut_whole_of t (find (is_stream number) t.streams) wh
 whole_staged : (t : ScannerTable) (number : ℕ) (stage : Stage) → IsWhole t → IsWhole (with_stage t number stage)
 whole_staged t number stage whole = record {
   ids_differ = whole.ids_differ;
+  requests_differ = whole.requests_differ;
   faultless = whole.faultless;
   slots = whole.slots;
   clock = whole.clock;
@@ -408,11 +421,19 @@ differ_same t place slot state same weaker whole =
     subst (λ (x : Slot). Weaker x.state slot.state) one (subst (λ (x : SlotState). Weaker x slot.state) (sym same.stands) weaker) in
     differ_weaker 0 t.profile.slots t.slots (slice_set t.slots place.number slot) (all_set place.number t.slots slot stands) whole.ids_differ
 
+pub quiet_same : (t : ScannerTable) (place : Place) (slot : Slot) (state : SlotState) → IsSame t place state → Quieter state slot.state → IsWhole t → RequestsDiffer (slice_set t.slots place.number slot)
+quiet_same t place slot state same quieter whole =
+    let stands : (old : Slot) → slice_get t.slots place.number ≡ Some old → Quieter old.state slot.state = λ old is.
+    let one : place.slot ≡ old = same_slot place.slot old (sym same.now ∙ is) in
+    subst (λ (x : Slot). Quieter x.state slot.state) one (subst (λ (x : SlotState). Quieter x slot.state) (sym same.stands) quieter) in
+    differ_quieter t.slots (slice_set t.slots place.number slot) (set_quieter place.number t.slots slot stands) whole.requests_differ
+
 fed_fits : (t : ScannerTable) (place : Place) (d : DatagramFields) (c : Connection) (bytes : List ℕ) → IsAt t place → FitsState t.next_request t.clock.0 place.slot.wanted (Established c) → length bytes ≡ place.config.in_len → IsSame t place (Established c) → IsWhole t → IsWhole (fed_table t place d c bytes)
 fed_fits t place d c bytes at fits long now whole =
     whole_with t place (record place.slot { state = Established (accepted_connection t.clock place.config.mult d c); image = bytes }) whole at.config
     (record { output = at.fits.output; image = long; state = (fits.0, record { opening = fits.1.opening; o_t_api = fits.1.o_t_api; t_o_api = fits.1.t_o_api; due = fits.1.due }) })
     (differ_same t place (record place.slot { state = Established (accepted_connection t.clock place.config.mult d c); image = bytes }) (Established c) now (linked_weaker c (accepted_connection t.clock place.config.mult d c) refl) whole)
+    (quiet_set t place (record place.slot { state = Established (accepted_connection t.clock place.config.mult d c); image = bytes }) whole (λ old. established_quieter old (accepted_connection t.clock place.config.mult d c)))
 
 accepted_step : (b : Bool) (t : ScannerTable) (place : Place) (d : DatagramFields) (c : Connection) → IsAt t place → FitsState t.next_request t.clock.0 place.slot.wanted (Established c) → length d.payload ≡ place.config.in_len → IsSame t place (Established c) → IsWhole t → IsWhole (cond b (delivered Duplicate (fed_table t place d c place.slot.image)) (delivered Applied (fed_table t place d c d.payload))).1
 accepted_step true t place d c at fits long now whole = fed_fits t place d c place.slot.image at fits at.fits.image now whole

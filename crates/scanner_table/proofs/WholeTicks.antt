@@ -30,10 +30,11 @@ use Rattle.scanner_table.specs.Productions.{written_connection, produced_connect
 use Rattle.scanner_table.specs.Ticks.{by_deadline, has_expired, expired_places, expired_state, expired, all_expired, is_overdue, all_given_up, clocked_table, elapsed, ticked, tick}
 use Rattle.scanner_table.specs.Points.{output_slot, written_place, write_length, write_at, write, read_at, read, same_mode, moded_slot, moded_table, mode, wanted_slot, started, start_state, start_at, start}
 use Rattle.scanner_table.specs.Step.{scanner_step, fresh_slot, scanner_table}
-use Rattle.scanner_table.specs.Whole.{clashes, IdsDiffer, FitsState, FitsSlot, SlotsFit, IsWhole}
+use Rattle.scanner_table.specs.Whole.{RequestsDiffer, shares_request, clashes, IdsDiffer, FitsState, FitsSlot, SlotsFit, IsWhole}
 use Rattle.scanner_table.proofs.IdsLemmas.{Weaker, idle_weaker, timed_out_weaker, same_weaker, linked_weaker, AllWeaker, all_set, all_map, differ_weaker}
+use Rattle.scanner_table.proofs.RequestLemmas.{Quieter, AllQuieter, idle_quieter, established_quieter, timed_out_quieter, same_quieter, set_quieter, map_quieter, differ_quieter}
 use Rattle.scanner_table.proofs.WholeLemmas.{IsNow, each_now, slots_later, later_later, IsAt, Each, each_filter, each_found, each_at, whole_with, Keeps, keeps_nothing, keeps_each, Any, each_any}
-use Rattle.scanner_table.proofs.WholeSteps.{differ_same, keeps_changed, keeps_opened, keeps_ready, keeps_given, LeavesWhole, state_fits, stop_whole, streamed_whole, cut_whole, frame_whole, received_whole}
+use Rattle.scanner_table.proofs.WholeSteps.{quiet_same, differ_same, keeps_changed, keeps_opened, keeps_ready, keeps_given, LeavesWhole, state_fits, stop_whole, streamed_whole, cut_whole, frame_whole, received_whole}
 
 -- ---- expiries and answers that do not come
 
@@ -56,7 +57,7 @@ expired_fits t place c is at = record { output = at.fits.output; image = at.fits
 keeps_expired_state : (t : ScannerTable) (place : Place) (state : SlotState) → place.slot.state ≡ state → IsWhole t → IsAt t place → Keeps t (expired_state t place state)
 keeps_expired_state t place Idle is whole at = keeps_nothing t whole
 keeps_expired_state t place (Opening o) is whole at = keeps_nothing t whole
-keeps_expired_state t place (Established c) is whole at = keeps_changed t place (failed_slot t (TimedOut c.link) place.slot) [] whole at (expired_fits t place c is at) (λ old. timed_out_weaker old c.link)
+keeps_expired_state t place (Established c) is whole at = keeps_changed t place (failed_slot t (TimedOut c.link) place.slot) [] whole at (expired_fits t place c is at) (λ old. timed_out_weaker old c.link) (λ old. timed_out_quieter old c.link)
 keeps_expired_state t place (TimedOut link) is whole at = keeps_nothing t whole
 keeps_expired_state t place (Closing c) is whole at = keeps_nothing t whole
 
@@ -119,8 +120,9 @@ slots_produced r clock (config ∷ configs) [] fit = absurd fit
 slots_produced r clock (config ∷ configs) (slot ∷ slots) fit = (due_step (state_is_due clock slot.state) r clock config slot refl fit.0, slots_produced r clock configs slots fit.1)
 
 -- the slots are others, and each fits its place
-whole_slots : (t : ScannerTable) (slots : List Slot) → IsWhole t → SlotsFit t.next_request t.clock.0 t.profile.slots slots → AllWeaker t.slots slots → IsWhole (record t { slots = slots })
-whole_slots t slots whole fit weaker = record {
+whole_slots : (t : ScannerTable) (slots : List Slot) → IsWhole t → SlotsFit t.next_request t.clock.0 t.profile.slots slots → AllWeaker t.slots slots → AllQuieter t.slots slots → IsWhole (record t { slots = slots })
+whole_slots t slots whole fit weaker quieter = record {
+  requests_differ = differ_quieter t.slots slots quieter whole.requests_differ;
   ids_differ = differ_weaker 0 t.profile.slots t.slots slots weaker whole.ids_differ;
   faultless = whole.faultless;
   slots = fit;
@@ -147,15 +149,30 @@ due_weaker_by false clock slot = same_weaker slot.state
 due_weaker : (clock : Ms) (slot : Slot) → Weaker slot.state (due_slot clock slot).state
 due_weaker clock slot = due_weaker_by (state_is_due clock slot.state) clock slot
 
+produced_quieter : (clock : Ms) (state : SlotState) → Quieter state (produced_state clock state)
+produced_quieter clock Idle = same_quieter Idle
+produced_quieter clock (Opening o) = same_quieter (Opening o)
+produced_quieter clock (Established c) = established_quieter (Established c) (produced_connection clock c)
+produced_quieter clock (TimedOut link) = same_quieter (TimedOut link)
+produced_quieter clock (Closing c) = same_quieter (Closing c)
+
+due_quieter_by : (b : Bool) (clock : Ms) (slot : Slot) → Quieter slot.state (cond b (record slot { state = produced_state clock slot.state }) slot).state
+due_quieter_by true clock slot = produced_quieter clock slot.state
+due_quieter_by false clock slot = same_quieter slot.state
+
+due_quieter : (clock : Ms) (slot : Slot) → Quieter slot.state (due_slot clock slot).state
+due_quieter clock slot = due_quieter_by (state_is_due clock slot.state) clock slot
+
 produced_whole : (t : ScannerTable) → IsWhole t → IsWhole (produced_table t)
 unfolding produced_table
-produced_whole t whole = whole_slots t (map (due_slot t.clock) t.slots) whole (slots_produced t.next_request t.clock t.profile.slots t.slots whole.slots) (all_map (due_slot t.clock) (due_weaker t.clock) t.slots)
+produced_whole t whole = whole_slots t (map (due_slot t.clock) t.slots) whole (slots_produced t.next_request t.clock t.profile.slots t.slots whole.slots) (all_map (due_slot t.clock) (due_weaker t.clock) t.slots) (map_quieter (due_slot t.clock) (due_quieter t.clock) t.slots)
 
 -- ---- a tick
 
 clocked_whole : (t : ScannerTable) (ms : ℕ) → t.clock.0 + ms ≤ 2 ^ 48 → IsWhole t → IsWhole (clocked_table t ms)
 clocked_whole t ms in_time whole = record {
   ids_differ = whole.ids_differ;
+  requests_differ = whole.requests_differ;
   faultless = whole.faultless;
   slots = slots_later t.next_request t.next_request t.clock.0 (t.clock.0 + ms) t.profile.slots t.slots (omega arith) (omega arith) whole.slots;
   clock = in_time;
@@ -200,11 +217,19 @@ written_weaker (Established c) = linked_weaker c (written_connection c) refl
 written_weaker (TimedOut link) = same_weaker (TimedOut link)
 written_weaker (Closing c) = same_weaker (Closing c)
 
+written_quieter : (state : SlotState) → Quieter state (written_state state)
+written_quieter Idle = same_quieter Idle
+written_quieter (Opening o) = same_quieter (Opening o)
+written_quieter (Established c) = established_quieter (Established c) (written_connection c)
+written_quieter (TimedOut link) = same_quieter (TimedOut link)
+written_quieter (Closing c) = same_quieter (Closing c)
+
 length_step : (b : Bool) (t : ScannerTable) (place : Place) (bytes : List ℕ) → (length bytes == place.config.out_len) ≡ b → IsWhole t → IsAt t place → IsNow t place → LeavesWhole (cond b (Ok (written_place t place bytes)) (Err fault.WrongLength))
 length_step true t place bytes is whole at now =
     whole_with t place (output_slot bytes place.slot) whole at.config
     (record { output = long_is (length bytes) place.config.out_len is; image = at.fits.image; state = written_fits t.next_request t.clock.0 place.slot.wanted place.slot.state at.fits.state })
     (differ_same t place (output_slot bytes place.slot) place.slot.state (record { now = now; stands = refl }) (written_weaker place.slot.state) whole)
+    (quiet_same t place (output_slot bytes place.slot) place.slot.state (record { now = now; stands = refl }) (written_quieter place.slot.state) whole)
 length_step false t place bytes is whole at now = tt
 
 owner_step : (b : Bool) (t : ScannerTable) (place : Place) (bytes : List ℕ) → IsWhole t → IsAt t place → IsNow t place → LeavesWhole (cond b (write_length t place bytes) (Err fault.NotAllowedNow))
@@ -247,9 +272,20 @@ all_moded r k number [] (slot ∷ slots) fit = absurd fit
 all_moded r k number (config ∷ configs) [] fit = absurd fit
 all_moded r k number (config ∷ configs) (slot ∷ slots) fit = (moded_weaker (is_owner config.kind) slot, all_moded r k (suc number) configs slots fit.1)
 
+moded_quieter : (b : Bool) (slot : Slot) → Quieter slot.state (cond b (record slot { state = written_state slot.state }) slot).state
+moded_quieter true slot = written_quieter slot.state
+moded_quieter false slot = same_quieter slot.state
+
+quiet_moded : (r k number : ℕ) (configs : List SlotConfig) (slots : List Slot) → SlotsFit r k configs slots → AllQuieter slots (map moded_slot (places_from number configs slots))
+quiet_moded r k number [] [] fit = tt
+quiet_moded r k number [] (slot ∷ slots) fit = absurd fit
+quiet_moded r k number (config ∷ configs) [] fit = absurd fit
+quiet_moded r k number (config ∷ configs) (slot ∷ slots) fit = (moded_quieter (is_owner config.kind) slot, quiet_moded r k (suc number) configs slots fit.1)
+
 moded_whole : (t : ScannerTable) (run : Bool) → IsWhole t → IsWhole (moded_table t run)
 moded_whole t run whole = record {
   ids_differ = differ_weaker 0 t.profile.slots t.slots (map moded_slot (places t)) (all_moded t.next_request t.clock.0 0 t.profile.slots t.slots whole.slots) whole.ids_differ;
+  requests_differ = differ_quieter t.slots (map moded_slot (places t)) (quiet_moded t.next_request t.clock.0 0 t.profile.slots t.slots whole.slots) whole.requests_differ;
   faultless = whole.faultless;
   slots = slots_moded t.next_request t.clock.0 0 t.profile.slots t.slots whole.slots;
   clock = whole.clock;
@@ -279,11 +315,16 @@ started_differ t place is whole =
     differ_weaker 0 t.profile.slots t.slots (slice_set t.slots place.number (wanted_slot t place.slot))
     (all_set place.number t.slots (wanted_slot t place.slot) (λ old stands. subst (Weaker old.state) (sym is) (idle_weaker old.state))) whole.ids_differ
 
+started_quiet : (t : ScannerTable) (place : Place) → place.slot.state ≡ Idle → IsWhole t → RequestsDiffer (slice_set t.slots place.number (wanted_slot t place.slot))
+started_quiet t place is whole =
+    differ_quieter t.slots (slice_set t.slots place.number (wanted_slot t place.slot))
+    (set_quieter place.number t.slots (wanted_slot t place.slot) (λ old stands. subst (Quieter old.state) (sym is) (idle_quieter old.state))) whole.requests_differ
+
 started_whole : (t : ScannerTable) (place : Place) → place.slot.state ≡ Idle → IsWhole t → IsAt t place → IsWhole (started t place (wanted_slot t place.slot)).table
 started_whole t place is whole at =
     let fits = wanted_fits t place is at in
     let slot = wanted_slot t place.slot in
-    (keeps_opened (with_slot t place.number slot) (record place { slot = slot }) (whole_with t place slot whole at.config fits (started_differ t place is whole)) (record { config = at.config; fits = fits }) refl).whole
+    (keeps_opened (with_slot t place.number slot) (record place { slot = slot }) (whole_with t place slot whole at.config fits (started_differ t place is whole) (started_quiet t place is whole)) (record { config = at.config; fits = fits }) refl).whole
 
 start_step : (b : Bool) (t : ScannerTable) (place : Place) → place.slot.state ≡ Idle → IsWhole t → IsAt t place → LeavesWhole (cond b (Err fault.NotAllowedNow) (Ok (done (started t place (wanted_slot t place.slot)))))
 start_step true t place is whole at = tt
@@ -335,9 +376,18 @@ fresh_differ : (n : ℕ) (configs : List SlotConfig) → IdsDiffer (places_from 
 fresh_differ n [] = tt
 fresh_differ n (config ∷ configs) = (none_fresh n (suc n) config configs, fresh_differ (suc n) configs)
 
+none_waits : (config : SlotConfig) (configs : List SlotConfig) → list_any (shares_request (fresh_slot config)) (map fresh_slot configs) ≡ false
+none_waits config [] = refl
+none_waits config (c ∷ configs) = none_waits config configs
+
+fresh_quiet : (configs : List SlotConfig) → RequestsDiffer (map fresh_slot configs)
+fresh_quiet [] = tt
+fresh_quiet (config ∷ configs) = (none_waits config configs, fresh_quiet configs)
+
 pub fresh_whole : (profile : ScannerProfile) → profile_fault profile ≡ None → IsWhole (scanner_table profile)
 fresh_whole profile faultless = record {
   ids_differ = fresh_differ 0 profile.slots;
+  requests_differ = fresh_quiet profile.slots;
   faultless = faultless;
   slots = fresh_fit profile.slots;
   clock = omega arith;
@@ -352,6 +402,7 @@ fresh_whole profile faultless = record {
 pub whole_later : (t : ScannerTable) (counter : ℕ) → counter ≤ 16777216 → IsWhole t → IsWhole (record t { next_id = counter })
 whole_later t counter last whole = record {
   ids_differ = whole.ids_differ;
+  requests_differ = whole.requests_differ;
   faultless = whole.faultless;
   slots = whole.slots;
   clock = whole.clock;

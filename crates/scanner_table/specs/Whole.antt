@@ -12,6 +12,7 @@ use Rattle.scanner_table.specs.declared.table.TargetStream.{TargetStream}
 use Rattle.scanner_table.specs.Profiles.{profile_fault}
 use Rattle.scanner_table.specs.Slots.{Place, places, is_with}
 use Rattle.scanner_table.specs.Replies.{state_consumes}
+use Rattle.scanner_table.specs.Encapsulation.{waits_for}
 use Rattle.scanner_table.specs.Sessions.{is_stream, is_to}
 
 -- SLOTS
@@ -65,6 +66,24 @@ abbrev pub IdsDiffer : List Place → Type 0
 IdsDiffer [] = Unit {0}
 IdsDiffer (place ∷ rest) = (list_any (clashes place) rest ≡ false) × IdsDiffer rest
 
+-- REQUESTS
+
+-- the second waits for the reply to the request that the first waits for
+abbrev pub states_share : SlotState → SlotState → Bool
+states_share Idle other = false
+states_share (Opening o) other = waits_for o.request other
+states_share (Established c) other = false
+states_share (TimedOut link) other = false
+states_share (Closing c) other = waits_for c.request other
+
+abbrev pub shares_request : Slot → Slot → Bool
+shares_request slot other = states_share slot.state other.state
+
+-- no two slots wait for the reply to one request
+abbrev pub RequestsDiffer : List Slot → Type 0
+RequestsDiffer [] = Unit {0}
+RequestsDiffer (slot ∷ slots) = (list_any (shares_request slot) slots ≡ false) × RequestsDiffer slots
+
 -- STREAMS
 
 -- no two streams have one number, or one target
@@ -78,6 +97,7 @@ pub record IsWhole (t : ScannerTable) : Type 0 where
   pub faultless : profile_fault t.profile ≡ None
   pub slots : SlotsFit t.next_request t.clock.0 t.profile.slots t.slots
   pub ids_differ : IdsDiffer (places t)
+  pub requests_differ : RequestsDiffer t.slots
   pub clock : t.clock.0 ≤ 2 ^ 48
   pub ids : t.next_id ≤ 16777216
   pub serial_begins : 1 ≤ t.next_serial
