@@ -1,5 +1,6 @@
 -- Each exclusive owner consumes an output of the profile: one that is opened, and each that is changed.
 use Rattle.std.proofs.Common.{◌≡◌, ℕ, ◌==◌, Bool, true, false, cond, List, map, find, Option, Some, None, is_some, refl, sym, ◌∙◌, ap}
+use Rattle.std.specs.Option.{option_map}
 use Rattle.cip_types.specs.declared.names.Ms.{Ms}
 use Rattle.cip_fwdopen.specs.Open.{OpenFields}
 use Rattle.adapter_table.specs.declared.profile.OutputPoint.{OutputPoint}
@@ -11,7 +12,8 @@ use Rattle.adapter_table.specs.declared.row.State.TheVariants.{TimedOut}
 use Rattle.adapter_table.specs.declared.admission.Consumer.{Consumer}
 use Rattle.adapter_table.specs.Profiles.{is_output_at}
 use Rattle.cip_productions.specs.Kinds.{is_owner}
-use Rattle.adapter_table.specs.Checks.{consumer_at, Standing, Admitted}
+use Rattle.adapter_table.specs.declared.table.AdapterTable.{AdapterTable}
+use Rattle.adapter_table.specs.Checks.{heartbeat_kind, heartbeat_consumer, consumer_at, Admitted}
 use Rattle.adapter_table.specs.Ticks.{has_expired, expired_row, expired_rows}
 use Rattle.adapter_table.specs.Whole.{ConsumesOutput, OwnersConsume}
 use Rattle.adapter_table.proofs.CheckLemmas.{IsAdmitted}
@@ -38,7 +40,7 @@ consume_expired clock profile rows all = each_map (ConsumesOutput profile) (expi
 -- ---- what is admitted
 
 -- a heartbeat's connection is no owner
-no_owner : (b c : Bool) (consumer : Consumer) → cond b (Some (record { kind = InputOnly; len = 0 })) (cond c (Some (record { kind = ListenOnly; len = 0 })) None) ≡ Some consumer → is_owner consumer.kind ≡ false
+no_owner : (b c : Bool) (consumer : Consumer) → option_map heartbeat_consumer (heartbeat_kind b c) ≡ Some consumer → is_owner consumer.kind ≡ false
 no_owner true c consumer is = ap (λ (k : Kind). is_owner k) (let same : consumer.kind ≡ InputOnly = cc in same)
 no_owner false true consumer is = ap (λ (k : Kind). is_owner k) (let same : consumer.kind ≡ ListenOnly = cc in same)
 no_owner false false consumer is = absurd cc
@@ -48,6 +50,6 @@ owner_by profile point None consumer is owns = let none = no_owner (profile.inpu
 owner_by profile point (Some output) consumer is owns = refl
 
 -- an admitted owner consumes an output
-pub admitted_consumes : (at : Standing) (request : OpenFields) (admitted : Admitted) → IsAdmitted at request admitted → is_owner admitted.consumer.kind ≡ true → is_some (find (is_output_at admitted.path.consumed) at.profile.outputs) ≡ true
-admitted_consumes at request admitted is owns =
-    owner_by at.profile admitted.path.consumed (find (is_output_at admitted.path.consumed) at.profile.outputs) admitted.consumer is.consumer_is owns
+pub admitted_consumes : (t : AdapterTable) (request : OpenFields) (admitted : Admitted) → IsAdmitted t request admitted → is_owner admitted.kind ≡ true → is_some (find (is_output_at admitted.consumed) t.profile.outputs) ≡ true
+admitted_consumes t request admitted is owns =
+    owner_by t.profile admitted.consumed (find (is_output_at admitted.consumed) t.profile.outputs) is.consumer is.consumer_is (ap is_owner (sym is.kind_is) ∙ owns)

@@ -1,7 +1,7 @@
 -- Which changes of the connections take its owner from an output.
 use Rattle.std.proofs.Common.{◌≡◌, ◌≤◌, ℕ, ◌+◌, ◌==◌, nat_lt, Bool, true, false, cond, not, ◌||◌, ◌&&◌, List, [], ◌∷◌, ◌++◌, length, filter, find, Option, Some, refl, sym, ◌∙◌, ap, subst, arith}
 use Rattle.std.specs.List.{list_any}
-use Rattle.std.proofs.lemmas.Bool.{eqb-true, and_parts, or_left, or_right}
+use Rattle.std.proofs.lemmas.Bool.{eqb-true, and_parts, or_parts, or_left, or_right}
 use Rattle.std.proofs.lemmas.Bool.Decides.{nat_tests}
 use Rattle.std.proofs.lemmas.List.Folds.{list_any-append}
 use Rattle.std.proofs.lemmas.Map.Views.{any-filter_same}
@@ -10,10 +10,13 @@ use Rattle.adapter_table.specs.declared.row.Row.{Row}
 use Rattle.cip_productions.specs.declared.kind.Kind.{Kind}
 use Rattle.cip_productions.specs.declared.kind.Kind.TheVariants.{ExclusiveOwner, InputOnly, ListenOnly}
 use Rattle.cip_productions.specs.Kinds.{is_owner, is_listener}
-use Rattle.adapter_table.specs.Rows.{is_established, is_supported, same_triad, has_triad, holds_triad, drives, drivers, without_first}
+use Rattle.adapter_table.specs.Rows.{is_established, is_timed_out, is_supported, same_triad, has_triad, holds_triad, drives, drivers, others, Each, EachTwo}
 use Rattle.adapter_table.specs.Closing.{without_triad, stays, staying}
 use Rattle.adapter_table.specs.Scratch.{is_lost}
-use Rattle.adapter_table.proofs.SoundLemmas.{room_by}
+use Rattle.adapter_table.specs.Opening.{makes_room_by}
+use Rattle.adapter_table.specs.Sound.{TriadsDiffer, OpeningsRise}
+use Rattle.adapter_table.proofs.SoundLemmas.{count_filter}
+use Rattle.adapter_table.proofs.EachLemmas.{each_weak, two_found}
 use Rattle.adapter_table.proofs.SupportLemmas.{gone_room, any_kept}
 
 -- ---- an owner that stays
@@ -37,10 +40,10 @@ driver_lives : (point : ℕ) (row : Row) → drives point row ≡ true → is_es
 driver_lives point row is = (and_parts (is_established row) _ is).0
 
 -- an opening takes no owner from an output
-pub owner_opened : (b c : Bool) (triad : Triad) (rows : List Row) (new : Row) (point : ℕ) → list_any (holds_triad triad) rows ≡ false → is_lost point rows (without_first (room_by b c triad) rows ++ new ∷ []) ≡ false
-owner_opened b c triad rows new point free =
-    let kept = any_kept (room_by b c triad) (drives point) rows (driver_lives point) (gone_room b c triad rows free) in
-    kept_owner point rows (without_first (room_by b c triad) rows ++ new ∷ []) (λ is. list_any-append (drives point) (without_first (room_by b c triad) rows) (new ∷ []) ∙ or_left _ _ (kept ∙ is))
+pub owner_opened : (b c : Bool) (triad : Triad) (rows : List Row) (new : Row) (point : ℕ) → list_any (holds_triad triad) rows ≡ false → OpeningsRise rows → is_lost point rows (others (makes_room_by b c (find is_timed_out rows) triad) rows ++ new ∷ []) ≡ false
+owner_opened b c triad rows new point free rise =
+    let kept = any_kept (makes_room_by b c (find is_timed_out rows) triad) (drives point) rows (driver_lives point) (gone_room b c triad rows free rise) in
+    kept_owner point rows (others (makes_room_by b c (find is_timed_out rows) triad) rows ++ new ∷ []) (λ is. list_any-append (drives point) (others (makes_room_by b c (find is_timed_out rows) triad) rows) (new ∷ []) ∙ or_left _ _ (kept ∙ is))
 
 -- ---- what is closed is found by its triad
 
@@ -66,15 +69,26 @@ found_again triad rows row is = subst (λ (other : Triad). find (has_triad other
 
 -- ---- one that is found is taken out
 
-taken_step : (b c : Bool) (p q : Row → Bool) (first row : Row) (rows : List Row) → q first ≡ c → cond b (Some first) (find p rows) ≡ Some row → q row ≡ true → (find p rows ≡ Some row → length (filter q (without_first p rows)) + 1 ≤ length (filter q rows)) → length (filter q (cond b rows (first ∷ without_first p rows))) + 1 ≤ length (cond c (first ∷ filter q rows) (filter q rows))
-taken_step true true p q first row rows here is passes more = omega arith
-taken_step true false p q first row rows here is passes more = absurd cc
-taken_step false true p q first row rows here is passes more = let rest = more is in rw here (omega arith)
-taken_step false false p q first row rows here is passes more = rw here (more is)
+taken_step : (b c : Bool) (q : Row → Bool) (first : Row) (left rows : List Row) → q first ≡ c → length (filter q left) ≤ length (filter q rows) → (b ≡ true → c ≡ true) → (b ≡ false → length (filter q left) + 1 ≤ length (filter q rows)) → length (filter q (cond (not b) (first ∷ left) left)) + 1 ≤ length (cond c (first ∷ filter q rows) (filter q rows))
+taken_step true true q first left rows here fewer passes more = omega arith
+taken_step true false q first left rows here fewer passes more = let is = passes refl in absurd cc
+taken_step false true q first left rows here fewer passes more = let rest = more refl in rw here (omega arith)
+taken_step false false q first left rows here fewer passes more = rw here (more refl)
 
-count_taken : (p q : Row → Bool) (rows : List Row) (row : Row) → find p rows ≡ Some row → q row ≡ true → length (filter q (without_first p rows)) + 1 ≤ length (filter q rows)
+first_is : (b : Bool) (q : Row → Bool) (first row : Row) (rest : Option Row) → b ≡ true → cond b (Some first) rest ≡ Some row → q row ≡ true → q first ≡ true
+first_is true q first row rest is found passes = let same : first ≡ row = cc in rw same passes
+first_is false q first row rest is found passes = absurd cc
+
+later_is : (b : Bool) (first row : Row) (rest : Option Row) → b ≡ false → cond b (Some first) rest ≡ Some row → rest ≡ Some row
+later_is true first row rest is found = absurd cc
+later_is false first row rest is found = found
+
+count_taken : (p q : Row → Bool) (rows : List Row) (row : Row) → find p rows ≡ Some row → q row ≡ true → length (filter q (others p rows)) + 1 ≤ length (filter q rows)
 count_taken p q [] row is passes = absurd cc
-count_taken p q (first ∷ rows) row is passes = taken_step (p first) (q first) p q first row rows refl is passes (λ later. count_taken p q rows row later passes)
+count_taken p q (first ∷ rows) row is passes =
+    taken_step (p first) (q first) q first (others p rows) rows refl (count_filter (λ r. not (p r)) q rows)
+    (λ here. first_is (p first) q first row (find p rows) here is passes)
+    (λ other. count_taken p q rows row (later_is (p first) first row (find p rows) other is) passes)
 
 any_step : (b any : Bool) (first : Row) (kept : List Row) → any ≡ nat_lt 0 (length kept) → (b || any) ≡ nat_lt 0 (length (cond b (first ∷ kept) kept))
 any_step true any first kept rest = grind (arith, nat_tests)
@@ -88,14 +102,33 @@ any_counted q (row ∷ rows) = any_step (q row) (list_any q rows) row (filter q 
 pub none_counted : (q : Row → Bool) (rows : List Row) → length (filter q rows) ≤ 0 → list_any q rows ≡ false
 none_counted q rows few = any_counted q rows ∙ grind (arith, nat_tests)
 
-other_step : (b : Bool) (p q : Row → Bool) (first row : Row) (rows : List Row) → cond b (Some first) (find p rows) ≡ Some row → q row ≡ false → (find p rows ≡ Some row → list_any q (without_first p rows) ≡ list_any q rows) → list_any q (cond b rows (first ∷ without_first p rows)) ≡ (q first || list_any q rows)
-other_step true p q first row rows is fails more = let same : first ≡ row = cc in rw (same, fails) refl
-other_step false p q first row rows is fails more = ap (λ (b : Bool). q first || b) (more is)
+-- where those that are taken out fail another test, as many pass that as before
+other_step : (b : Bool) (q : Row → Bool) (first : Row) (left rows : List Row) → (b ≡ true → q first ≡ false) → list_any q left ≡ list_any q rows → list_any q (cond (not b) (first ∷ left) left) ≡ (q first || list_any q rows)
+other_step true q first left rows fails rest = rw (fails refl) rest
+other_step false q first left rows fails rest = ap (λ (b : Bool). q first || b) rest
 
--- where it fails another test, as many pass that as before
-any_taken : (p q : Row → Bool) (rows : List Row) (row : Row) → find p rows ≡ Some row → q row ≡ false → list_any q (without_first p rows) ≡ list_any q rows
-any_taken p q [] row is fails = refl
-any_taken p q (first ∷ rows) row is fails = other_step (p first) p q first row rows is fails (λ later. any_taken p q rows row later fails)
+any_taken : (p q : Row → Bool) (rows : List Row) → Each (λ row. p row ≡ true → q row ≡ false) rows → list_any q (others p rows) ≡ list_any q rows
+any_taken p q [] fails = refl
+any_taken p q (first ∷ rows) fails = other_step (p first) q first (others p rows) rows fails.0 (any_taken p q rows fails.1)
+
+-- the connections of one triad are one
+abbrev SameTriad : Row → Row → Type 0
+SameTriad a b = same_triad b.triad a.triad ≡ true → a ≡ b
+
+triad_back : (a b : Row) → SameTriad a b → SameTriad b a
+triad_back a b is = λ same. sym (is (rw (triad_is a.triad b.triad same) (same_itself b.triad))) where
+  same_itself : (triad : Triad) → same_triad triad triad ≡ true
+  same_itself triad = grind (arith, nat_tests)
+
+each_apart : (row : Row) (rows : List Row) → list_any (has_triad row.triad) rows ≡ false → Each (SameTriad row) rows
+each_apart row [] none = tt
+each_apart row (other ∷ rows) none =
+    let parts = or_parts (has_triad row.triad other) (list_any (has_triad row.triad) rows) none in
+    ((λ same. absurd (let differs = parts.0 in cc)), each_apart row rows parts.1)
+
+all_apart : (rows : List Row) → TriadsDiffer rows → EachTwo SameTriad rows
+all_apart [] differ = tt
+all_apart (row ∷ rows) differ = (each_apart row rows differ.0, all_apart rows differ.1)
 
 there_step : (b : Bool) (p q : Row → Bool) (first row : Row) (rows : List Row) → cond b (Some first) (find p rows) ≡ Some row → q row ≡ true → (find p rows ≡ Some row → list_any q rows ≡ true) → (q first || list_any q rows) ≡ true
 there_step true p q first row rows is passes more = let same : first ≡ row = cc in rw (same, passes) refl
@@ -126,10 +159,15 @@ pub any_staying : (rows : List Row) (point : ℕ) → list_any (drives point) (s
 any_staying rows point = any-filter_same (drives point) (stays rows) true (driver_stays rows point) rows
 
 -- a close of what does not drive the output takes no owner from it
-pub owner_stays : (triad : Triad) (rows : List Row) (row : Row) (point : ℕ) → find (has_triad triad) rows ≡ Some row → drives point row ≡ false → is_lost point rows (staying (without_triad row.triad rows)) ≡ false
-owner_stays triad rows row point is other =
+pub owner_stays : (triad : Triad) (rows : List Row) (row : Row) (point : ℕ) → TriadsDiffer rows → find (has_triad triad) rows ≡ Some row → drives point row ≡ false → is_lost point rows (staying (without_triad row.triad rows)) ≡ false
+owner_stays triad rows row point differ is other =
+    let found = found_again triad rows row is in
+    let alone = two_found SameTriad triad_back (has_triad row.triad) rows row found (λ _. refl) (all_apart rows differ) in
+    let fails = each_weak (λ r. SameTriad r row) (λ r. has_triad row.triad r ≡ true → drives point r ≡ false) (λ r only same. rw (only (triad_turned r.triad row.triad same)) other) rows alone in
     same_owner point rows (staying (without_triad row.triad rows))
-    (any_staying (without_triad row.triad rows) point ∙ any_taken (has_triad row.triad) (drives point) rows row (found_again triad rows row is) other)
+    (any_staying (without_triad row.triad rows) point ∙ any_taken (has_triad row.triad) (drives point) rows fails) where
+      triad_turned : (a b : Triad) → same_triad a b ≡ true → same_triad b a ≡ true
+      triad_turned a b same = grind (arith, nat_tests)
 
 both : (a b : Bool) → a ≡ true → b ≡ false → (a && not b) ≡ true
 both true true there gone = absurd cc
@@ -141,7 +179,7 @@ pub owner_closed : (triad : Triad) (rows : List Row) (row : Row) (point : ℕ) �
 owner_closed triad rows row point is drives_it one =
     let found = found_again triad rows row is in
     let fewer = count_taken (has_triad row.triad) (drives point) rows row found drives_it in
-    let few : length (filter (drives point) (without_first (has_triad row.triad) rows)) ≤ 0 = omega arith in
+    let few : length (filter (drives point) (without_triad row.triad rows)) ≤ 0 = omega arith in
     both (list_any (drives point) rows) (list_any (drives point) (staying (without_triad row.triad rows)))
     (any_there (has_triad row.triad) (drives point) rows row found drives_it)
-    (any_staying (without_triad row.triad rows) point ∙ none_counted (drives point) (without_first (has_triad row.triad) rows) few)
+    (any_staying (without_triad row.triad rows) point ∙ none_counted (drives point) (without_triad row.triad rows) few)

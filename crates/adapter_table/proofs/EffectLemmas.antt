@@ -17,17 +17,17 @@ use Rattle.adapter_table.specs.declared.row.Row.{Row}
 use Rattle.adapter_table.specs.declared.table.AdapterTable.{AdapterTable}
 use Rattle.adapter_table.specs.Profiles.{is_at}
 use Rattle.adapter_table.specs.Points.{bytes_at}
-use Rattle.adapter_table.specs.Checks.{Admitted, standing, verdict}
+use Rattle.adapter_table.specs.Checks.{Admitted, admission}
 use Rattle.adapter_table.specs.Opening.{opened_row, opened_table}
 use Rattle.adapter_table.specs.Closing.{closed_table}
 use Rattle.cip_router.specs.Asking.{asked_reading}
 use Rattle.adapter_table.specs.Requests.{Next, requested}
 use Rattle.adapter_table.specs.Streams.{is_taken, with_stream, without_stream, registered_table}
-use Rattle.adapter_table.specs.Datagrams.{delivered, found_datagram, datagram_of, received, row_delivery, fed_table, is_for}
+use Rattle.adapter_table.specs.Datagrams.{delivered, found_datagram, datagram_of, received, row_delivery, accepted_table, is_for}
 use Rattle.cip_events.specs.Answers.{is_accepted}
 use Rattle.cip_events.specs.Clock.{longest_tick, clock_end}
 use Rattle.adapter_table.specs.Ticks.{clocked_table, expired_table, produced_table, elapsed, tick}
-use Rattle.adapter_table.specs.Step.{adapter_step, read, read_of, write, write_of, written_table, prompt_table, written}
+use Rattle.adapter_table.specs.Step.{adapter_step, read, read_of, write, write_of, written_table, changed_table, written}
 use Rattle.adapter_table.proofs.RequestLemmas.{RequestsDo, answered_does, frame_does, next_is, IsStreamed, streamed_is, cut_does}
 
 -- ---- a step that gives an answer
@@ -70,10 +70,10 @@ tick_is t ms next is = tick_step (nat_lt longest_tick ms) (nat_lt clock_end (t.c
 -- ---- what each effect keeps
 
 pub record EffectsKeep (P : AdapterTable → Type 0) : Type 0 where
-  pub opened : (t : AdapterTable) (peer : Node) (request : OpenFields) (admitted : Admitted) → verdict (standing t) request ≡ Ok admitted → P t → P (opened_table t request (opened_row t peer request admitted) admitted)
+  pub opened : (t : AdapterTable) (peer : Node) (request : OpenFields) (admitted : Admitted) → admission t request ≡ Ok admitted → P t → P (opened_table t (opened_row t peer request admitted) admitted)
   pub closed : (t : AdapterTable) (row : Row) → P t → P (closed_table t row)
-  pub written : (t : AdapterTable) (point : ℕ) (bytes : List ℕ) (input : InputPoint) → find (is_at point) t.profile.inputs ≡ Some input → length bytes ≡ input.len → P t → P (prompt_table (written_table t point bytes) point)
-  pub fed : (t : AdapterTable) (peer : Node) (d : DatagramFields) (row : Row) (delivery : Delivery) → row_delivery t.profile row d ≡ delivery → find (is_for peer d.connection) t.rows ≡ Some row → P t → P (fed_table t peer d row delivery)
+  pub written : (t : AdapterTable) (point : ℕ) (bytes : List ℕ) (input : InputPoint) → find (is_at point) t.profile.inputs ≡ Some input → length bytes ≡ input.len → P t → P (changed_table (written_table t point bytes) point)
+  pub fed : (t : AdapterTable) (peer : Node) (d : DatagramFields) (row : Row) (delivery : Delivery) → row_delivery t.profile row d ≡ delivery → find (is_for peer d.connection) t.rows ≡ Some row → P t → P (accepted_table t peer d row delivery)
   pub elapsed : (t : AdapterTable) (ms : ℕ) → t.clock.0 + ms ≤ 2 ^ 48 → P t → P (produced_table (expired_table (clocked_table t ms)))
   pub streamed : (t : AdapterTable) (number : ℕ) (peer : Node) → is_taken t.streams number ≡ false → P t → P (with_stream t number peer)
   pub unstreamed : (t : AdapterTable) (number : ℕ) → P t → P (without_stream t number)
@@ -96,7 +96,7 @@ keeps_found : (P : AdapterTable → Type 0) → EffectsKeep P → (t : AdapterTa
 keeps_found P keep t peer d None is holds = holds
 keeps_found P keep t peer d (Some row) is holds =
     let delivery = row_delivery t.profile row d in
-    keeps_judged P (is_accepted delivery) t (fed_table t peer d row delivery) delivery holds (keep.fed t peer d row delivery refl is holds)
+    keeps_judged P (is_accepted delivery) t (accepted_table t peer d row delivery) delivery holds (keep.fed t peer d row delivery refl is holds)
 
 keeps_datagram : (P : AdapterTable → Type 0) → EffectsKeep P → (t : AdapterTable) (peer : Node) (reading : Result DatagramFields DatagramFault) → P t → P (datagram_of t peer reading).1
 keeps_datagram P keep t peer (Err fault) holds = holds

@@ -12,7 +12,7 @@ use Rattle.adapter_table.specs.Profiles.{is_output_at}
 use Rattle.adapter_table.specs.Points.{bytes_at}
 use Rattle.adapter_table.specs.Rows.{drives, drivers}
 use Rattle.adapter_table.specs.Closing.{staying, closed_values}
-use Rattle.adapter_table.specs.Productions.{due_row}
+use Rattle.adapter_table.specs.Productions.{produced_row}
 use Rattle.adapter_table.specs.Ticks.{has_expired, by_deadline, expired, expired_rows, expired_values}
 use Rattle.adapter_table.specs.Shapes.{IsShaped}
 use Rattle.adapter_table.specs.Scratch.{left_lost, is_lost}
@@ -29,10 +29,10 @@ lost_by : (before after gone : ℕ) → after + gone ≡ before → before ≤ 1
 lost_by before after gone all one = grind (arith, nat_tests)
 
 -- an output loses its owner where one of those that time out drives it
-pub owner_expired : (clock : Ms) (rows : List Row) (point : ℕ) → length (drivers point rows) ≤ 1 → is_lost point rows (map (due_row clock) (staying (expired_rows clock rows))) ≡ list_any (drives point) (expired clock rows)
+pub owner_expired : (clock : Ms) (rows : List Row) (point : ℕ) → length (drivers point rows) ≤ 1 → is_lost point rows (map (produced_row clock) (staying (expired_rows clock rows))) ≡ list_any (drives point) (expired clock rows)
 owner_expired clock rows point one =
     let left = expired_rows clock rows in
-    let after = any_driver_kept (due_row clock) (due_keeps clock) point (staying left) ∙ any_staying left point ∙ any_counted (drives point) left in
+    let after = any_driver_kept (produced_row clock) (due_keeps clock) point (staying left) ∙ any_staying left point ∙ any_counted (drives point) left in
     let gone = any_counted (drives point) (expired clock rows) ∙ ap (nat_lt 0) (count_in_order by_deadline (drives point) (filter (has_expired clock) rows)) in
     rw (after, gone, any_counted (drives point) rows) (lost_by _ _ _ (count_expired clock point rows) one)
 

@@ -16,11 +16,11 @@ use Rattle.adapter_table.specs.declared.table.PointValue.{PointValue}
 use Rattle.adapter_table.specs.Profiles.{is_output_at}
 use Rattle.adapter_table.specs.Points.{bytes_at}
 use Rattle.cip_productions.specs.Kinds.{is_owner}
-use Rattle.adapter_table.specs.Datagrams.{output_len, expected_len, moded, row_delivery, run_data, fed_values}
+use Rattle.adapter_table.specs.Datagrams.{output_len, expected_len, moded, row_delivery, run_data, accepted_values}
 use Rattle.cip_productions.specs.Acceptance.{is_news, is_repeated}
 use Rattle.adapter_table.specs.Shapes.{IsShaped, len_of}
 use Rattle.adapter_table.specs.Whole.{ConsumesOutput}
-use Rattle.adapter_table.specs.Scratch.{left_fed}
+use Rattle.adapter_table.specs.Scratch.{left_accepted}
 use Rattle.adapter_table.proofs.Fitting.{output_fits, output_length, shaped_put, shaped_idle}
 use Rattle.adapter_table.proofs.ValueLemmas.{put_at, put_beside, idle_at, idle_beside}
 
@@ -74,7 +74,7 @@ applied_output profile row d consumes is =
     consumes by.owns
 
 -- what a datagram does keeps the lengths
-pub shaped_fed : (profile : Profile) (row : Row) (d : DatagramFields) (delivery : Delivery) (values : List PointValue) → row_delivery profile row d ≡ delivery → ConsumesOutput profile row → IsShaped profile values → IsShaped profile (fed_values profile row.consumed d delivery values)
+pub shaped_fed : (profile : Profile) (row : Row) (d : DatagramFields) (delivery : Delivery) (values : List PointValue) → row_delivery profile row d ≡ delivery → ConsumesOutput profile row → IsShaped profile values → IsShaped profile (accepted_values profile row.consumed d delivery values)
 shaped_fed profile row d Applied values is consumes shaped = shaped_put profile values row.consumed (run_data (header_at d.payload)) shaped (applied_fits profile row d consumes is)
 shaped_fed profile row d Idle values is consumes shaped = shaped_idle profile values row.consumed shaped
 shaped_fed profile row d Heartbeat values is consumes shaped = shaped
@@ -86,7 +86,7 @@ shaped_fed profile row d Malformed values is consumes shaped = shaped
 
 -- ---- what it leaves
 
-fed_here : (profile : Profile) (point : ℕ) (output : OutputPoint) (d : DatagramFields) (delivery : Delivery) (values : List PointValue) (held : List ℕ) → IsShaped profile values → find (is_output_at point) profile.outputs ≡ Some output → bytes_at values point ≡ Some held → bytes_at (fed_values profile point d delivery values) point ≡ Some (unwrap_or (left_fed (find (is_output_at point) profile.outputs) d delivery) held)
+fed_here : (profile : Profile) (point : ℕ) (output : OutputPoint) (d : DatagramFields) (delivery : Delivery) (values : List PointValue) (held : List ℕ) → IsShaped profile values → find (is_output_at point) profile.outputs ≡ Some output → bytes_at values point ≡ Some held → bytes_at (accepted_values profile point d delivery values) point ≡ Some (unwrap_or (left_accepted (find (is_output_at point) profile.outputs) d delivery) held)
 fed_here profile point output d Applied values held shaped is holds = put_at point (run_data (header_at d.payload)) values held holds
 fed_here profile point output d Idle values held shaped is holds = idle_at profile point output values held is holds (output_length profile values point output held shaped is holds)
 fed_here profile point output d Heartbeat values held shaped is holds = holds
@@ -96,7 +96,7 @@ fed_here profile point output d UnknownId values held shaped is holds = holds
 fed_here profile point output d WrongSize values held shaped is holds = holds
 fed_here profile point output d Malformed values held shaped is holds = holds
 
-fed_beside : (profile : Profile) (point other : ℕ) (d : DatagramFields) (delivery : Delivery) (values : List PointValue) (held : List ℕ) → (other == point) ≡ false → bytes_at values point ≡ Some held → bytes_at (fed_values profile other d delivery values) point ≡ Some held
+fed_beside : (profile : Profile) (point other : ℕ) (d : DatagramFields) (delivery : Delivery) (values : List PointValue) (held : List ℕ) → (other == point) ≡ false → bytes_at values point ≡ Some held → bytes_at (accepted_values profile other d delivery values) point ≡ Some held
 fed_beside profile point other d Applied values held differ holds = put_beside point other (run_data (header_at d.payload)) values held differ holds
 fed_beside profile point other d Idle values held differ holds = idle_beside profile point other values held differ holds
 fed_beside profile point other d Heartbeat values held differ holds = holds
@@ -107,8 +107,8 @@ fed_beside profile point other d WrongSize values held differ holds = holds
 fed_beside profile point other d Malformed values held differ holds = holds
 
 -- what an output holds after a datagram for a connection that consumes this point
-pub fed_value : (profile : Profile) (point consumed : ℕ) (output : OutputPoint) (d : DatagramFields) (delivery : Delivery) (values : List PointValue) (held : List ℕ) → IsShaped profile values → find (is_output_at point) profile.outputs ≡ Some output → bytes_at values point ≡ Some held → bytes_at (fed_values profile consumed d delivery values) point ≡ Some (unwrap_or (cond (consumed == point) (left_fed (find (is_output_at point) profile.outputs) d delivery) None) held)
+pub fed_value : (profile : Profile) (point consumed : ℕ) (output : OutputPoint) (d : DatagramFields) (delivery : Delivery) (values : List PointValue) (held : List ℕ) → IsShaped profile values → find (is_output_at point) profile.outputs ≡ Some output → bytes_at values point ≡ Some held → bytes_at (accepted_values profile consumed d delivery values) point ≡ Some (unwrap_or (cond (consumed == point) (left_accepted (find (is_output_at point) profile.outputs) d delivery) None) held)
 fed_value profile point consumed output d delivery values held shaped is holds = value_by (consumed == point) refl where
-  value_by : (b : Bool) → (consumed == point) ≡ b → bytes_at (fed_values profile consumed d delivery values) point ≡ Some (unwrap_or (cond b (left_fed (find (is_output_at point) profile.outputs) d delivery) None) held)
-  value_by true here = subst (λ (n : ℕ). bytes_at (fed_values profile n d delivery values) point ≡ Some (unwrap_or (left_fed (find (is_output_at point) profile.outputs) d delivery) held)) (sym (eqb-true consumed point here)) (fed_here profile point output d delivery values held shaped is holds)
+  value_by : (b : Bool) → (consumed == point) ≡ b → bytes_at (accepted_values profile consumed d delivery values) point ≡ Some (unwrap_or (cond b (left_accepted (find (is_output_at point) profile.outputs) d delivery) None) held)
+  value_by true here = subst (λ (n : ℕ). bytes_at (accepted_values profile n d delivery values) point ≡ Some (unwrap_or (left_accepted (find (is_output_at point) profile.outputs) d delivery) held)) (sym (eqb-true consumed point here)) (fed_here profile point output d delivery values held shaped is holds)
   value_by false here = fed_beside profile point consumed d delivery values held here holds

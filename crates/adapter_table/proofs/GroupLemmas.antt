@@ -1,25 +1,9 @@
--- The connections of one multicast producer share it, whatever is taken out, filtered out or appended.
+-- The connections of one multicast producer share it, whatever is taken out or appended.
 use Rattle.std.proofs.Common.{◌≡◌, ℕ, ◌==◌, Bool, true, false, cond, ◌&&◌, List, [], ◌∷◌, ◌++◌, filter, find, Option, Some, None, refl, sym, ◌∙◌, subst, arith}
 use Rattle.std.proofs.lemmas.Bool.Decides.{nat_tests}
 use Rattle.adapter_table.specs.declared.row.Row.{Row}
-use Rattle.adapter_table.specs.Rows.{is_established, is_member, without_first}
+use Rattle.adapter_table.specs.Rows.{is_established, is_member}
 use Rattle.adapter_table.specs.Sound.{SharesProducer, Agree, AllAgree, GroupsAgree}
-
-agree_without : (p : Row → Bool) (row : Row) (rows : List Row) → AllAgree row rows → AllAgree row (without_first p rows)
-agree_without p row [] agree = tt
-agree_without p row (other ∷ rows) agree =
-    elim (p other) as (λ b. AllAgree row (cond b rows (other ∷ without_first p rows))) [
-      | true ↦ agree.1
-      | false ↦ (agree.0, agree_without p row rows agree.1)
-    ]
-
-pub groups_without : (p : Row → Bool) (rows : List Row) → GroupsAgree rows → GroupsAgree (without_first p rows)
-groups_without p [] agree = tt
-groups_without p (row ∷ rows) agree =
-    elim (p row) as (λ b. GroupsAgree (cond b rows (row ∷ without_first p rows))) [
-      | true ↦ agree.1
-      | false ↦ (agree_without p row rows agree.0, groups_without p rows agree.1)
-    ]
 
 agree_filter : (p : Row → Bool) (row : Row) (rows : List Row) → AllAgree row rows → AllAgree row (filter p rows)
 agree_filter p row [] agree = tt
@@ -53,13 +37,13 @@ unfolding AllFit
 groups_append [] new agree fits = (tt, tt)
 groups_append (row ∷ rows) new agree fits = (agree_append row rows new agree.0 fits.0, groups_append rows new agree.1 fits.1)
 
-fit_without : (p : Row → Bool) (rows : List Row) (new : Row) → AllFit rows new → AllFit (without_first p rows) new
+fit_filter : (p : Row → Bool) (rows : List Row) (new : Row) → AllFit rows new → AllFit (filter p rows) new
 unfolding AllFit
-fit_without p [] new fits = tt
-fit_without p (row ∷ rows) new fits =
-    elim (p row) as (λ b. AllFit (cond b rows (row ∷ without_first p rows)) new) [
-      | true ↦ fits.1
-      | false ↦ (fits.0, fit_without p rows new fits.1)
+fit_filter p [] new fits = tt
+fit_filter p (row ∷ rows) new fits =
+    elim (p row) as (λ b. AllFit (cond b (row ∷ filter p rows) (filter p rows)) new) [
+      | true ↦ (fits.0, fit_filter p rows new fits.1)
+      | false ↦ fit_filter p rows new fits.1
     ]
 
 same_number : (a b : ℕ) → (a == b) ≡ true → a ≡ b
@@ -82,6 +66,12 @@ produced_is point row is =
     let a = and_parts (is_established row) (row.multicast && row.produced == point) is in
     let b = and_parts row.multicast (row.produced == point) a.1 in
     same_number _ _ b.1
+
+-- a member lives, and is multicast
+pub member_parts : (point : ℕ) (row : Row) → is_member point row ≡ true → (is_established row ≡ true) × (row.multicast ≡ true)
+member_parts point row is =
+    let a = and_parts (is_established row) (row.multicast && row.produced == point) is in
+    (a.0, (and_parts row.multicast (row.produced == point) a.1).0)
 
 -- the others agree with a member
 later_share : (point : ℕ) (m : Row) (rows : List Row) → is_member point m ≡ true → AllAgree m rows → MembersShare point m rows
@@ -155,5 +145,5 @@ all_fit rows new (is_single single) agree = single_fits rows new single
 all_fit rows new (is_first none) agree = first_fits rows new none
 all_fit rows new (is_joiner m found shares) agree = joiner_fits rows new m shares (found_share new.produced m rows found agree)
 
-pub groups_opened : (p : Row → Bool) (rows : List Row) (new : Row) → Joins rows new → GroupsAgree rows → GroupsAgree (without_first p rows ++ new ∷ [])
-groups_opened p rows new joins agree = groups_append (without_first p rows) new (groups_without p rows agree) (fit_without p rows new (all_fit rows new joins agree))
+pub groups_opened : (p : Row → Bool) (rows : List Row) (new : Row) → Joins rows new → GroupsAgree rows → GroupsAgree (filter p rows ++ new ∷ [])
+groups_opened p rows new joins agree = groups_append (filter p rows) new (groups_filter p rows agree) (fit_filter p rows new (all_fit rows new joins agree))

@@ -5,6 +5,7 @@ pub mod GroupLemmas
 pub mod SupportLemmas
 pub mod LikeLemmas
 pub mod FadeLemmas
+pub mod ProducerLemmas
 pub mod StreamLemmas
 pub mod FrameSamples
 pub mod OrderLemmas
@@ -26,3 +27,6 @@ pub mod ServedLemmas
 pub mod ExpiryLemmas
 pub mod ScratchSteps
 pub mod EqLemmas
+pub mod NewestSteps
+mod NewestSamples
+pub mod CounterSteps

@@ -11,19 +11,20 @@ use Rattle.adapter_table.specs.declared.row.Row.{Row}
 use Rattle.cip_productions.specs.declared.kind.Kind.{Kind}
 use Rattle.adapter_table.specs.declared.row.State.{State}
 use Rattle.adapter_table.specs.declared.row.State.TheVariants.{Established, TimedOut}
-use Rattle.adapter_table.specs.Rows.{lives, has_triad, drives, drivers, is_member, supports, is_supported, is_forsaken, written_state, written_row}
+use Rattle.adapter_table.specs.Rows.{lives, has_triad, drives, drivers, is_member, supports, is_supported, is_unsupported, written_state, written_row}
 use Rattle.cip_netparams.specs.declared.Trigger.{Trigger}
 use Rattle.cip_netparams.specs.declared.Trigger.TheVariants.{Cyclic, ChangeOfState}
 use Rattle.cip_productions.specs.declared.production.Production.{Production}
-use Rattle.cip_productions.specs.Productions.{produced}
-use Rattle.adapter_table.specs.Productions.{due_state, due_row, prompt_by, prompt_state, prompt_row}
-use Rattle.adapter_table.specs.Datagrams.{is_for, accepted_row, fed_row}
+use Rattle.cip_productions.specs.Productions.{produced, changed, changed_by, held, is_free}
+use Rattle.adapter_table.specs.Productions.{producer_of, produced_state, produced_row, changed_state, changed_row}
+use Rattle.adapter_table.specs.Datagrams.{is_for, accepted_row, accepted_if_for}
 use Rattle.adapter_table.specs.Sound.{TriadsDiffer, has_o_t_id, IdsDiffer, IdsAreDrawn, ListenersAreSupported, Agree, AllAgree, GroupsAgree}
 use Rattle.adapter_table.proofs.GroupLemmas.{produced_is}
 
 -- a connection in the place of another
 pub record IsLike (row row' : Row) : Type 0 where
   pub lives : lives row'.state ≡ lives row.state
+  pub producer : producer_of row'.state ≡ producer_of row.state
   pub kind : row'.kind ≡ row.kind
   pub multicast : row'.multicast ≡ row.multicast
   pub produced : row'.produced ≡ row.produced
@@ -40,7 +41,7 @@ pub record Keeps (f : Row → Row) : Type 0 where
   pub same : (a b : Row) → a.produced ≡ b.produced → a.t_o_api ≡ b.t_o_api → a.state ≡ b.state → (f a).state ≡ (f b).state
 
 like_itself : (row : Row) → IsLike row row
-like_itself row = record { lives = refl; kind = refl; multicast = refl; produced = refl; consumed = refl; triad = refl; o_t_id = refl; opening = refl; t_o_id = refl; t_o_api = refl }
+like_itself row = record { lives = refl; producer = refl; kind = refl; multicast = refl; produced = refl; consumed = refl; triad = refl; o_t_id = refl; opening = refl; t_o_id = refl; t_o_api = refl }
 
 -- ---- drivers, triads, ids
 
@@ -92,16 +93,16 @@ supported_kept : (f : Row → Row) → Keeps f → (rows : List Row) (kind : Kin
 supported_kept f keeps [] kind point = refl
 supported_kept f keeps (row ∷ rows) kind point = rw (supports_like kind point row (f row) (keeps.like row), supported_kept f keeps rows kind point) refl
 
-forsaken_like : (f : Row → Row) → Keeps f → (all : List Row) (row : Row) → is_forsaken (map f all) (f row) ≡ is_forsaken all row
-forsaken_like f keeps all row =
+unsupported_like : (f : Row → Row) → Keeps f → (all : List Row) (row : Row) → is_unsupported (map f all) (f row) ≡ is_unsupported all row
+unsupported_like f keeps all row =
     let like = keeps.like row in
     like_step (f row) row like.lives like.kind like.produced (supported_kept f keeps all row.kind row.produced) where
-      like_step : (r' r : Row) → lives r'.state ≡ lives r.state → r'.kind ≡ r.kind → r'.produced ≡ r.produced → is_supported (map f all) r.kind r.produced ≡ is_supported all r.kind r.produced → is_forsaken (map f all) r' ≡ is_forsaken all r
+      like_step : (r' r : Row) → lives r'.state ≡ lives r.state → r'.kind ≡ r.kind → r'.produced ≡ r.produced → is_supported (map f all) r.kind r.produced ≡ is_supported all r.kind r.produced → is_unsupported (map f all) r' ≡ is_unsupported all r
       like_step r' r a b c d = rw (a, b, c, d) refl
 
-all_supported : (f : Row → Row) → Keeps f → (all rows : List Row) → list_any (is_forsaken (map f all)) (map f rows) ≡ list_any (is_forsaken all) rows
+all_supported : (f : Row → Row) → Keeps f → (all rows : List Row) → list_any (is_unsupported (map f all)) (map f rows) ≡ list_any (is_unsupported all) rows
 all_supported f keeps all [] = refl
-all_supported f keeps all (row ∷ rows) = rw (forsaken_like f keeps all row, all_supported f keeps all rows) refl
+all_supported f keeps all (row ∷ rows) = rw (unsupported_like f keeps all row, all_supported f keeps all rows) refl
 
 pub listeners_kept : (f : Row → Row) → Keeps f → (rows : List Row) → ListenersAreSupported rows → ListenersAreSupported (map f rows)
 listeners_kept f keeps rows supported = all_supported f keeps rows rows ∙ supported
@@ -132,13 +133,13 @@ groups_kept f keeps (row ∷ rows) agree = (all_agree f keeps row rows agree.0, 
 
 -- ---- the state alone is changed
 
-like_stated : (row : Row) (state : State) → lives state ≡ lives row.state → IsLike row (record row { state = state })
-like_stated row state live = record { lives = live; kind = refl; multicast = refl; produced = refl; consumed = refl; triad = refl; o_t_id = refl; opening = refl; t_o_id = refl; t_o_api = refl }
+like_stated : (row : Row) (state : State) → lives state ≡ lives row.state → producer_of state ≡ producer_of row.state → IsLike row (record row { state = state })
+like_stated row state live same = record { lives = live; producer = same; kind = refl; multicast = refl; produced = refl; consumed = refl; triad = refl; o_t_id = refl; opening = refl; t_o_id = refl; t_o_api = refl }
 
 -- a connection in another state where a test says so
-stated_like : (b : Bool) (row : Row) (state : State) → lives state ≡ lives row.state → IsLike row (cond b (record row { state = state }) row)
-stated_like true row state live = like_stated row state live
-stated_like false row state live = like_itself row
+stated_like : (b : Bool) (row : Row) (state : State) → lives state ≡ lives row.state → producer_of state ≡ producer_of row.state → IsLike row (cond b (record row { state = state }) row)
+stated_like true row state live same = like_stated row state live same
+stated_like false row state live same = like_itself row
 
 stated_same : (x y : Bool) (a b : Row) (s t : State) → x ≡ y → s ≡ t → a.state ≡ b.state → (cond x (record a { state = s }) a).state ≡ (cond y (record b { state = t }) b).state
 stated_same true true a b s t e changed state = changed
@@ -152,9 +153,13 @@ lives_written : (state : State) → lives (written_state state) ≡ lives state
 lives_written (Established production) = refl
 lives_written TimedOut = refl
 
+producer_written : (state : State) → producer_of (written_state state) ≡ producer_of state
+producer_written (Established production) = refl
+producer_written TimedOut = refl
+
 pub written_keeps : (point : ℕ) → Keeps (written_row point)
 written_keeps point = record {
-  like = λ row. stated_like (row.produced == point) row (written_state row.state) (lives_written row.state);
+  like = λ row. stated_like (row.produced == point) row (written_state row.state) (lives_written row.state) (producer_written row.state);
   same = λ a b produced api state.
       stated_same (a.produced == point) (b.produced == point) a b (written_state a.state) (written_state b.state)
       (ap (λ (n : ℕ). n == point) produced) (ap written_state state) state;
@@ -167,10 +172,10 @@ fed_state true clock d row = refl
 fed_state false clock d row = refl
 
 fed_like : (b : Bool) (clock : Ms) (d : DatagramFields) (row : Row) → IsLike row (cond b (accepted_row clock d row) row)
-fed_like true clock d row = record { lives = refl; kind = refl; multicast = refl; produced = refl; consumed = refl; triad = refl; o_t_id = refl; opening = refl; t_o_id = refl; t_o_api = refl }
+fed_like true clock d row = record { lives = refl; producer = refl; kind = refl; multicast = refl; produced = refl; consumed = refl; triad = refl; o_t_id = refl; opening = refl; t_o_id = refl; t_o_api = refl }
 fed_like false clock d row = like_itself row
 
-pub fed_keeps : (clock : Ms) (peer : Node) (d : DatagramFields) → Keeps (fed_row clock peer d)
+pub fed_keeps : (clock : Ms) (peer : Node) (d : DatagramFields) → Keeps (accepted_if_for clock peer d)
 fed_keeps clock peer d = record {
   like = λ row. fed_like (is_for peer d.connection row) clock d row;
   same = λ a b produced api state. fed_state (is_for peer d.connection a) clock d a ∙ state ∙ sym (fed_state (is_for peer d.connection b) clock d b);
@@ -182,29 +187,45 @@ lives_established : (b : Bool) (x y : Production) → lives (cond b (Established
 lives_established true x y = refl
 lives_established false x y = refl
 
-lives_due : (clock : Ms) (api : ℕ) (state : State) → lives (due_state clock api state) ≡ lives state
+lives_due : (clock : Ms) (api : ℕ) (state : State) → lives (produced_state clock api state) ≡ lives state
 lives_due clock api (Established production) = lives_established (nat_le production.due.0 clock.0) (produced clock api production) production
 lives_due clock api TimedOut = refl
 
-pub due_keeps : (clock : Ms) → Keeps (due_row clock)
+producer_either : (b : Bool) (x y : Production) → x.producer ≡ y.producer → producer_of (cond b (Established x) (Established y)) ≡ y.producer
+producer_either true x y same = same
+producer_either false x y same = refl
+
+producer_due : (clock : Ms) (api : ℕ) (state : State) → producer_of (produced_state clock api state) ≡ producer_of state
+producer_due clock api (Established production) = producer_either (nat_le production.due.0 clock.0) (produced clock api production) production refl
+producer_due clock api TimedOut = refl
+
+pub due_keeps : (clock : Ms) → Keeps (produced_row clock)
 due_keeps clock = record {
-  like = λ row. like_stated row (due_state clock row.t_o_api row.state) (lives_due clock row.t_o_api row.state);
-  same = λ a b produced api state. ap (λ (n : ℕ). due_state clock n a.state) api ∙ ap (due_state clock b.t_o_api) state;
+  like = λ row. like_stated row (produced_state clock row.t_o_api row.state) (lives_due clock row.t_o_api row.state) (producer_due clock row.t_o_api row.state);
+  same = λ a b produced api state. ap (λ (n : ℕ). produced_state clock n a.state) api ∙ ap (produced_state clock b.t_o_api) state;
 }
 
-lives_prompt : (trigger : Trigger) (clock : Ms) (api : ℕ) (production : Production) → lives (prompt_by trigger clock api production) ≡ true
-lives_prompt Cyclic clock api production = refl
-lives_prompt ChangeOfState clock api production = refl
+lives_changed : (clock : Ms) (api : ℕ) (state : State) → lives (changed_state clock api state) ≡ lives state
+lives_changed clock api (Established production) = refl
+lives_changed clock api TimedOut = refl
 
-lives_prompted : (clock : Ms) (api : ℕ) (state : State) → lives (prompt_state clock api state) ≡ lives state
-lives_prompted clock api (Established production) = lives_prompt production.trigger clock api production
-lives_prompted clock api TimedOut = refl
+changed_producer : (b : Bool) (x y : Production) (n : ℕ) → x.producer ≡ n → y.producer ≡ n → (cond b x y).producer ≡ n
+changed_producer true x y n first second = first
+changed_producer false x y n first second = second
 
-pub prompt_keeps : (clock : Ms) (point : ℕ) → Keeps (prompt_row clock point)
-prompt_keeps clock point = record {
-  like = λ row. stated_like (row.produced == point) row (prompt_state clock row.t_o_api row.state) (lives_prompted clock row.t_o_api row.state);
+producer_changed : (trigger : Trigger) (clock : Ms) (api : ℕ) (production : Production) → (changed_by trigger clock api production).producer ≡ production.producer
+producer_changed Cyclic clock api production = refl
+producer_changed ChangeOfState clock api production = changed_producer (is_free clock production) (produced clock api production) (held production) production.producer refl refl
+
+producer_after_change : (clock : Ms) (api : ℕ) (state : State) → producer_of (changed_state clock api state) ≡ producer_of state
+producer_after_change clock api (Established production) = producer_changed production.trigger clock api production
+producer_after_change clock api TimedOut = refl
+
+pub changed_keeps : (clock : Ms) (point : ℕ) → Keeps (changed_row clock point)
+changed_keeps clock point = record {
+  like = λ row. stated_like (row.produced == point) row (changed_state clock row.t_o_api row.state) (lives_changed clock row.t_o_api row.state) (producer_after_change clock row.t_o_api row.state);
   same = λ a b produced api state.
-      stated_same (a.produced == point) (b.produced == point) a b (prompt_state clock a.t_o_api a.state) (prompt_state clock b.t_o_api b.state)
+      stated_same (a.produced == point) (b.produced == point) a b (changed_state clock a.t_o_api a.state) (changed_state clock b.t_o_api b.state)
       (ap (λ (n : ℕ). n == point) produced)
-      (ap (λ (n : ℕ). prompt_state clock n a.state) api ∙ ap (prompt_state clock b.t_o_api) state) state;
+      (ap (λ (n : ℕ). changed_state clock n a.state) api ∙ ap (changed_state clock b.t_o_api) state) state;
 }

@@ -26,7 +26,7 @@ use Rattle.adapter_table.specs.declared.table.AdapterTable.{AdapterTable}
 use Rattle.adapter_table.specs.Points.{bytes_at}
 use Rattle.adapter_table.specs.Rows.{has_triad}
 use Rattle.adapter_table.specs.Shapes.{IsShaped}
-use Rattle.adapter_table.specs.Checks.{Admitted, standing, verdict}
+use Rattle.adapter_table.specs.Checks.{Admitted, admission}
 use Rattle.cip_router.specs.Asking.{AskedFields, nothing, refused, closing, assembly, opening, asked_reading}
 use Rattle.cip_router.specs.Replies.{ReplyFields, opened, closed, got, reply_text, GetsFew}
 use Rattle.cip_router.specs.Replies as replies
@@ -150,7 +150,7 @@ served_few t peer nothing shaped = tt
 served_few t peer (refused service why) shaped = tt
 served_few t peer (closing request) shaped = few_close t request (find (has_triad request.triad) t.rows)
 served_few t peer (assembly service instance attribute body) shaped = few_assembly t service instance attribute body (bytes_at t.values instance) refl shaped
-served_few t peer (opening large request) shaped = few_judged t peer large request (verdict (standing t) request)
+served_few t peer (opening large request) shaped = few_judged t peer large request (admission t request)
 
 -- the reply of what is served
 pub served_gets_few : (t : AdapterTable) (peer : Node) (asked : AskedFields) (s : Served) → served t peer asked ≡ Some s → IsShaped t.profile t.values → GetsFew s.reply

@@ -21,7 +21,7 @@ use Rattle.adapter_table.specs.declared.table.Stream.{Stream}
 use Rattle.adapter_table.specs.declared.table.AdapterTable.{AdapterTable}
 use Rattle.adapter_table.specs.Points.{bytes_at}
 use Rattle.adapter_table.specs.Rows.{has_triad}
-use Rattle.adapter_table.specs.Checks.{Admitted, standing, verdict}
+use Rattle.adapter_table.specs.Checks.{Admitted, admission}
 use Rattle.adapter_table.specs.Opening.{opened_row, opened_table}
 use Rattle.adapter_table.specs.Closing.{closed_table}
 use Rattle.cip_router.specs.Replies.{got}
@@ -37,14 +37,14 @@ use Rattle.adapter_table.specs.Encapsulation.{Handled, refusal, session_begun, r
 -- session on one
 pub record RequestsDo (R : AdapterTable → AdapterTable → Type 0) : Type 0 where
   pub stays : (t : AdapterTable) → R t t
-  pub opened : (t : AdapterTable) (peer : Node) (request : OpenFields) (admitted : Admitted) → verdict (standing t) request ≡ Ok admitted → R t (opened_table t request (opened_row t peer request admitted) admitted)
+  pub opened : (t : AdapterTable) (peer : Node) (request : OpenFields) (admitted : Admitted) → admission t request ≡ Ok admitted → R t (opened_table t (opened_row t peer request admitted) admitted)
   pub closed : (t : AdapterTable) (triad : Triad) (row : Row) → find (has_triad triad) t.rows ≡ Some row → R t (closed_table t row)
   pub unstreamed : (t : AdapterTable) (number : ℕ) → R t (without_stream t number)
   pub registered : (t : AdapterTable) (number : ℕ) → R t (registered_table t number)
 
 -- ---- requests
 
-does_judged : (R : AdapterTable → AdapterTable → Type 0) → RequestsDo R → (t : AdapterTable) (peer : Node) (large : Bool) (request : OpenFields) (judged : Result Admitted Refusal) → verdict (standing t) request ≡ judged → R t (judged_open t peer large request judged).table
+does_judged : (R : AdapterTable → AdapterTable → Type 0) → RequestsDo R → (t : AdapterTable) (peer : Node) (large : Bool) (request : OpenFields) (judged : Result Admitted Refusal) → admission t request ≡ judged → R t (judged_open t peer large request judged).table
 unfolding admitted_open
 does_judged R does t peer large request (Err why) is = does.stays t
 does_judged R does t peer large request (Ok admitted) is = does.opened t peer request admitted is
@@ -76,7 +76,7 @@ served_does R does t peer nothing = does.stays t
 served_does R does t peer (refused service why) = does.stays t
 served_does R does t peer (closing request) = does_close R does t request (find (has_triad request.triad) t.rows) refl
 served_does R does t peer (assembly service instance attribute body) = does_assembly R does t service attribute body (bytes_at t.values instance)
-served_does R does t peer (opening large request) = does_judged R does t peer large request (verdict (standing t) request) refl
+served_does R does t peer (opening large request) = does_judged R does t peer large request (admission t request) refl
 
 answered_by : (P : AdapterTable → Type 0) (t : AdapterTable) (peer : Node) (s : Option Served) → P (served_table t s) → P (answered t peer s).1
 answered_by P t peer None does = does

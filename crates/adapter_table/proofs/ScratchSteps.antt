@@ -1,6 +1,6 @@
 -- What an event at an adapter leaves at each output.
-use Rattle.std.proofs.Common.{◌≡◌, ℕ, ◌+◌, ◌==◌, Bool, true, false, cond, List, map, find, Option, Some, None, Result, Ok, Err, refl, ◌∙◌, subst}
-use Rattle.std.specs.Option.{unwrap_or}
+use Rattle.std.proofs.Common.{◌≡◌, ℕ, ◌+◌, ◌==◌, Bool, true, false, cond, List, map, find, Option, Some, None, Result, Ok, Err, length, refl, sym, ◌∙◌, ap, subst}
+use Rattle.std.specs.Option.{option_map, unwrap_or}
 use Rattle.cip_types.specs.declared.names.Ms.{Ms}
 use Rattle.cip_types.specs.declared.names.Node.{Node}
 use Rattle.cip_datagram.specs.declared.datagram.DatagramFault.{DatagramFault}
@@ -10,63 +10,64 @@ use Rattle.cip_events.specs.declared.event.Delivery.{Delivery}
 use Rattle.cip_events.specs.declared.event.Delivery.TheVariants.{Applied, Idle, Heartbeat, Duplicate, Old, UnknownId, WrongSize, Malformed}
 use Rattle.cip_events.specs.declared.event.Event.{Event}
 use Rattle.cip_events.specs.declared.event.Event.TheVariants.{Request, StreamOpened, Frame, StreamCut, Datagram, Write, Read, Tick, Mode, Start, Stop}
-use Rattle.cip_events.specs.declared.event.StepFault.{StepFault}
 use Rattle.adapter_table.specs.declared.profile.InputPoint.{InputPoint}
 use Rattle.adapter_table.specs.declared.profile.OutputPoint.{OutputPoint}
 use Rattle.adapter_table.specs.declared.row.Row.{Row}
 use Rattle.adapter_table.specs.declared.table.AdapterTable.{AdapterTable}
-use Rattle.adapter_table.specs.Profiles.{is_at, is_output_at}
-use Rattle.adapter_table.specs.Points.{put_value, bytes_at}
+use Rattle.adapter_table.specs.Profiles.{as_point, is_at, is_output_at}
+use Rattle.adapter_table.specs.Points.{data_points, put_value, bytes_at}
 use Rattle.adapter_table.specs.Rows.{written_row}
 use Rattle.cip_router.specs.Asking.{asked_reading}
 use Rattle.adapter_table.specs.Requests.{Next, requested}
-use Rattle.adapter_table.specs.Datagrams.{is_for, row_delivery, fed_row, fed_table, judged_datagram, found_datagram, datagram_of, received}
-use Rattle.adapter_table.specs.Productions.{prompt_row}
+use Rattle.adapter_table.specs.Datagrams.{is_for, row_delivery, accepted_if_for, accepted_table, judged_datagram, found_datagram, datagram_of, received}
+use Rattle.adapter_table.specs.Productions.{changed_row}
 use Rattle.adapter_table.specs.Ticks.{clocked_table, expired, expired_table, produced_table}
-use Rattle.adapter_table.specs.Step.{adapter_step, read, read_of, written_table, prompt_table}
+use Rattle.adapter_table.specs.Step.{adapter_step, read, read_of, written_table, changed_table}
 use Rattle.adapter_table.specs.Shapes.{IsShaped}
 use Rattle.adapter_table.specs.Whole.{IsWhole}
-use Rattle.adapter_table.specs.Scratch.{or_else, left_lost, left_fed, fed_by, read_fed, is_lost, lost, left_at}
-use Rattle.adapter_table.proofs.Shaping.{input_no_output}
-use Rattle.adapter_table.proofs.ValueLemmas.{put_beside}
+use Rattle.adapter_table.specs.Scratch.{or_else, left_lost, left_accepted, accepted_by, read_accepted, is_lost, lost, left_at}
+use Rattle.adapter_table.specs.Laws.{StepsLeave, RefusalsTouchNothing, FreshOutputsAreZeros}
+use Rattle.adapter_table.proofs.Shaping.{input_no_output, output_found}
+use Rattle.adapter_table.proofs.Fitting.{output_fits, length_is}
+use Rattle.adapter_table.proofs.ValueLemmas.{put_beside, zeros_at}
 use Rattle.adapter_table.proofs.DriverLemmas.{same_owner}
-use Rattle.adapter_table.proofs.LikeLemmas.{any_driver_kept, written_keeps, prompt_keeps, fed_keeps}
+use Rattle.adapter_table.proofs.LikeLemmas.{any_driver_kept, written_keeps, changed_keeps, fed_keeps}
 use Rattle.adapter_table.proofs.FedLemmas.{fed_value}
 use Rattle.adapter_table.proofs.RequestLemmas.{answered_does, frame_does, next_is, IsStreamed, streamed_is, cut_does}
 use Rattle.adapter_table.proofs.EffectLemmas.{IsWrite, write_is, IsTick, tick_is}
 use Rattle.adapter_table.proofs.ServedLemmas.{LosesOnly, unlost, loses_nothing, loses_with, requests_lose}
 use Rattle.adapter_table.proofs.ExpiryLemmas.{one_expired, owner_expired, expired_value}
 
--- what an event leaves at each output
-abbrev pub Leaves : AdapterTable → Event → AdapterTable → Type 0
-Leaves t event next = (point : ℕ) (output : OutputPoint) (held : List ℕ) → find (is_output_at point) t.profile.outputs ≡ Some output → bytes_at t.values point ≡ Some held → bytes_at next.values point ≡ Some (unwrap_or (left_at point t event next) held)
+-- what an event leaves at each output, told of the bytes that it held
+abbrev LeavesHeld : AdapterTable → Event → AdapterTable → Type 0
+LeavesHeld t event next = (point : ℕ) (output : OutputPoint) (held : List ℕ) → find (is_output_at point) t.profile.outputs ≡ Some output → bytes_at t.values point ≡ Some held → bytes_at next.values point ≡ Some (unwrap_or (left_at point t event next) held)
 
 -- ---- a write
 
 -- an input is no output
-leaves_written : (t : AdapterTable) (other : ℕ) (bytes : List ℕ) (input : InputPoint) → find (is_at other) t.profile.inputs ≡ Some input → IsShaped t.profile t.values → Leaves t (Write other bytes) (prompt_table (written_table t other bytes) other)
-unfolding written_table prompt_table
+leaves_written : (t : AdapterTable) (other : ℕ) (bytes : List ℕ) (input : InputPoint) → find (is_at other) t.profile.inputs ≡ Some input → IsShaped t.profile t.values → LeavesHeld t (Write other bytes) (changed_table (written_table t other bytes) other)
+unfolding written_table changed_table
 leaves_written t other bytes input there shaped = λ point output held is holds.
     let rows = map (written_row other) t.rows in
-    let same = any_driver_kept (prompt_row t.clock other) (prompt_keeps t.clock other) point rows ∙ any_driver_kept (written_row other) (written_keeps other) point t.rows in
-    unlost (is_lost point t.rows (map (prompt_row t.clock other) rows)) (left_lost (find (is_output_at point) t.profile.outputs)) held (bytes_at (put_value other bytes t.values) point)
-    (same_owner point t.rows (map (prompt_row t.clock other) rows) same)
+    let same = any_driver_kept (changed_row t.clock other) (changed_keeps t.clock other) point rows ∙ any_driver_kept (written_row other) (written_keeps other) point t.rows in
+    unlost (is_lost point t.rows (map (changed_row t.clock other) rows)) (left_lost (find (is_output_at point) t.profile.outputs)) held (bytes_at (put_value other bytes t.values) point)
+    (same_owner point t.rows (map (changed_row t.clock other) rows) same)
     (put_beside point other bytes t.values held (input_no_output t.profile point other output input shaped.faultless is there) holds)
 
-leaves_write : (t : AdapterTable) (point : ℕ) (bytes : List ℕ) (next : Next) → IsWrite t point bytes next → IsShaped t.profile t.values → Leaves t (Write point bytes) next.1
-leaves_write t point bytes next is shaped = subst (λ (n : Next). Leaves t (Write point bytes) n.1) is.said (leaves_written t point bytes is.input is.found shaped)
+leaves_write : (t : AdapterTable) (point : ℕ) (bytes : List ℕ) (next : Next) → IsWrite t point bytes next → IsShaped t.profile t.values → LeavesHeld t (Write point bytes) next.1
+leaves_write t point bytes next is shaped = subst (λ (n : Next). LeavesHeld t (Write point bytes) n.1) is.said (leaves_written t point bytes is.input is.found shaped)
 
 -- ---- a tick
 
-leaves_elapsed : (t : AdapterTable) (ms : ℕ) → IsWhole t → Leaves t (Tick ms) (produced_table (expired_table (clocked_table t ms)))
+leaves_elapsed : (t : AdapterTable) (ms : ℕ) → IsWhole t → LeavesHeld t (Tick ms) (produced_table (expired_table (clocked_table t ms)))
 unfolding clocked_table expired_table produced_table
 leaves_elapsed t ms whole = λ point output held is holds.
     let clock : Ms = record { 0 = t.clock.0 + ms } in
     let one = whole.sound.one_owner point in
     rw (owner_expired clock t.rows point one) (expired_value t.profile (expired clock t.rows) t.values point output held (one_expired clock t.rows point one) whole.shaped is holds)
 
-leaves_tick : (t : AdapterTable) (ms : ℕ) (next : Next) → IsTick t ms next → IsWhole t → Leaves t (Tick ms) next.1
-leaves_tick t ms next is whole = subst (λ (n : Next). Leaves t (Tick ms) n.1) is.said (leaves_elapsed t ms whole)
+leaves_tick : (t : AdapterTable) (ms : ℕ) (next : Next) → IsTick t ms next → IsWhole t → LeavesHeld t (Tick ms) next.1
+leaves_tick t ms next is whole = subst (λ (n : Next). LeavesHeld t (Tick ms) n.1) is.said (leaves_elapsed t ms whole)
 
 -- ---- a datagram
 
@@ -84,10 +85,10 @@ record Feeds (t next : AdapterTable) (left : ℕ → Option (List ℕ)) : Type 0
 feeds_nothing : (t : AdapterTable) → Feeds t t (λ _. None)
 feeds_nothing t = record { owners = λ point. same_owner point t.rows t.rows refl; leaves = λ point output held is holds. holds }
 
-feeds_by : (t : AdapterTable) (peer : Node) (d : DatagramFields) (row : Row) (delivery : Delivery) → IsShaped t.profile t.values → Feeds t (fed_table t peer d row delivery) (λ point. cond (row.consumed == point) (left_fed (find (is_output_at point) t.profile.outputs) d delivery) None)
-unfolding fed_table
+feeds_by : (t : AdapterTable) (peer : Node) (d : DatagramFields) (row : Row) (delivery : Delivery) → IsShaped t.profile t.values → Feeds t (accepted_table t peer d row delivery) (λ point. cond (row.consumed == point) (left_accepted (find (is_output_at point) t.profile.outputs) d delivery) None)
+unfolding accepted_table
 feeds_by t peer d row delivery shaped = record {
-  owners = λ point. same_owner point t.rows (map (fed_row t.clock peer d) t.rows) (any_driver_kept (fed_row t.clock peer d) (fed_keeps t.clock peer d) point t.rows);
+  owners = λ point. same_owner point t.rows (map (accepted_if_for t.clock peer d) t.rows) (any_driver_kept (accepted_if_for t.clock peer d) (fed_keeps t.clock peer d) point t.rows);
   leaves = λ point output held there holds. fed_value t.profile point row.consumed output d delivery t.values held shaped there holds;
 }
 
@@ -102,7 +103,7 @@ feeds_none t row = record {
   leaves = λ point output held is holds. no_left (row.consumed == point) held (bytes_at t.values point) holds;
 }
 
-feeds_judged : (t : AdapterTable) (peer : Node) (d : DatagramFields) (row : Row) (delivery : Delivery) → IsShaped t.profile t.values → Feeds t (judged_datagram t peer d row delivery).1 (λ point. cond (row.consumed == point) (left_fed (find (is_output_at point) t.profile.outputs) d delivery) None)
+feeds_judged : (t : AdapterTable) (peer : Node) (d : DatagramFields) (row : Row) (delivery : Delivery) → IsShaped t.profile t.values → Feeds t (judged_datagram t peer d row delivery).1 (λ point. cond (row.consumed == point) (left_accepted (find (is_output_at point) t.profile.outputs) d delivery) None)
 feeds_judged t peer d row Applied shaped = feeds_by t peer d row Applied shaped
 feeds_judged t peer d row Idle shaped = feeds_by t peer d row Idle shaped
 feeds_judged t peer d row Heartbeat shaped = feeds_by t peer d row Heartbeat shaped
@@ -112,49 +113,73 @@ feeds_judged t peer d row UnknownId shaped = feeds_none t row
 feeds_judged t peer d row WrongSize shaped = feeds_none t row
 feeds_judged t peer d row Malformed shaped = feeds_none t row
 
-feeds_found : (t : AdapterTable) (peer : Node) (d : DatagramFields) (found : Option Row) → IsShaped t.profile t.values → Feeds t (found_datagram t peer d found).1 (λ point. fed_by point t.profile d found)
+feeds_found : (t : AdapterTable) (peer : Node) (d : DatagramFields) (found : Option Row) → IsShaped t.profile t.values → Feeds t (found_datagram t peer d found).1 (λ point. accepted_by point t.profile d found)
 feeds_found t peer d None shaped = feeds_nothing t
 feeds_found t peer d (Some row) shaped = feeds_judged t peer d row (row_delivery t.profile row d) shaped
 
-feeds_read : (t : AdapterTable) (peer : Node) (reading : Result DatagramFields DatagramFault) → IsShaped t.profile t.values → Feeds t (datagram_of t peer reading).1 (λ point. read_fed point t peer reading)
+feeds_read : (t : AdapterTable) (peer : Node) (reading : Result DatagramFields DatagramFault) → IsShaped t.profile t.values → Feeds t (datagram_of t peer reading).1 (λ point. read_accepted point t peer reading)
 feeds_read t peer (Err fault) shaped = feeds_nothing t
 feeds_read t peer (Ok d) shaped = feeds_found t peer d (find (is_for peer d.connection) t.rows) shaped
 
-leaves_datagram : (t next : AdapterTable) (peer : Node) (bytes : List ℕ) → Feeds t next (λ point. read_fed point t peer (datagram_reading bytes)) → Leaves t (Datagram peer bytes) next
+leaves_datagram : (t next : AdapterTable) (peer : Node) (bytes : List ℕ) → Feeds t next (λ point. read_accepted point t peer (datagram_reading bytes)) → LeavesHeld t (Datagram peer bytes) next
 leaves_datagram t next peer bytes feeds = λ point output held is holds.
-    or_unlost (read_fed point t peer (datagram_reading bytes)) (is_lost point t.rows next.rows) (left_lost (find (is_output_at point) t.profile.outputs)) held (bytes_at next.values point) (feeds.owners point) (feeds.leaves point output held is holds)
+    or_unlost (read_accepted point t peer (datagram_reading bytes)) (is_lost point t.rows next.rows) (left_lost (find (is_output_at point) t.profile.outputs)) held (bytes_at next.values point) (feeds.owners point) (feeds.leaves point output held is holds)
 
 -- ---- an event
 
-leaves_read : (t : AdapterTable) (point : ℕ) (found : Option (List ℕ)) (next : Next) → read_of t found ≡ Ok next → Leaves t (Read point) next.1
+leaves_read : (t : AdapterTable) (point : ℕ) (found : Option (List ℕ)) (next : Next) → read_of t found ≡ Ok next → LeavesHeld t (Read point) next.1
 leaves_read t point None next is = absurd cc
-leaves_read t point (Some bytes) next is = subst (λ (n : Next). Leaves t (Read point) n.1) (next_is _ _ is) (loses_nothing t)
+leaves_read t point (Some bytes) next is = subst (λ (n : Next). LeavesHeld t (Read point) n.1) (next_is _ _ is) (loses_nothing t)
 
-leaves_streamed : (t : AdapterTable) (number : ℕ) (peer : Node) (next : Next) → IsStreamed t number peer next → Leaves t (StreamOpened number peer) next.1
-leaves_streamed t number peer next is = subst (λ (n : Next). Leaves t (StreamOpened number peer) n.1) is.said (loses_with t number peer)
+leaves_streamed : (t : AdapterTable) (number : ℕ) (peer : Node) (next : Next) → IsStreamed t number peer next → LeavesHeld t (StreamOpened number peer) next.1
+leaves_streamed t number peer next is = subst (λ (n : Next). LeavesHeld t (StreamOpened number peer) n.1) is.said (loses_with t number peer)
 
 -- each event that has a step
-pub adapter_leaves : (t : AdapterTable) (event : Event) (next : Next) → adapter_step t event ≡ Ok next → IsWhole t → Leaves t event next.1
+leaves_held : (t : AdapterTable) (event : Event) (next : Next) → adapter_step t event ≡ Ok next → IsWhole t → LeavesHeld t event next.1
 unfolding requested received read
-adapter_leaves t (Request peer bytes) next is whole = subst (λ (n : Next). Leaves t (Request peer bytes) n.1) (next_is _ _ is) (answered_does (λ t next. IsWhole t → LosesOnly t next) requests_lose t peer (asked_reading bytes) whole)
-adapter_leaves t (StreamOpened number peer) next is whole = leaves_streamed t number peer next (streamed_is t number peer next is)
-adapter_leaves t (Frame number bytes) next is whole = frame_does (λ t next. IsWhole t → LosesOnly t next) requests_lose t number bytes next is whole
-adapter_leaves t (StreamCut number) next is whole = cut_does (λ t next. IsWhole t → LosesOnly t next) requests_lose t number next is whole
-adapter_leaves t (Datagram peer bytes) next is whole =
-    subst (λ (n : Next). Leaves t (Datagram peer bytes) n.1) (next_is _ _ is)
+leaves_held t (Request peer bytes) next is whole = subst (λ (n : Next). LeavesHeld t (Request peer bytes) n.1) (next_is _ _ is) (answered_does (λ t next. IsWhole t → LosesOnly t next) requests_lose t peer (asked_reading bytes) whole)
+leaves_held t (StreamOpened number peer) next is whole = leaves_streamed t number peer next (streamed_is t number peer next is)
+leaves_held t (Frame number bytes) next is whole = frame_does (λ t next. IsWhole t → LosesOnly t next) requests_lose t number bytes next is whole
+leaves_held t (StreamCut number) next is whole = cut_does (λ t next. IsWhole t → LosesOnly t next) requests_lose t number next is whole
+leaves_held t (Datagram peer bytes) next is whole =
+    subst (λ (n : Next). LeavesHeld t (Datagram peer bytes) n.1) (next_is _ _ is)
     (leaves_datagram t (datagram_of t peer (datagram_reading bytes)).1 peer bytes (feeds_read t peer (datagram_reading bytes) whole.shaped))
-adapter_leaves t (Write point bytes) next is whole = leaves_write t point bytes next (write_is t point bytes next is) whole.shaped
-adapter_leaves t (Read point) next is whole = leaves_read t point (bytes_at t.values point) next is
-adapter_leaves t (Tick ms) next is whole = leaves_tick t ms next (tick_is t ms next is) whole
-adapter_leaves t (Mode run) next is whole = absurd cc
-adapter_leaves t (Start slot) next is whole = absurd cc
-adapter_leaves t (Stop slot) next is whole = absurd cc
+leaves_held t (Write point bytes) next is whole = leaves_write t point bytes next (write_is t point bytes next is) whole.shaped
+leaves_held t (Read point) next is whole = leaves_read t point (bytes_at t.values point) next is
+leaves_held t (Tick ms) next is whole = leaves_tick t ms next (tick_is t ms next is) whole
+leaves_held t (Mode run) next is whole = absurd cc
+leaves_held t (Start slot) next is whole = absurd cc
+leaves_held t (Stop slot) next is whole = absurd cc
+
+-- ---- told of what each output held, which it does
+
+some_bytes : (found : Option (List ℕ)) (len : ℕ) → option_map (λ (bytes : List ℕ). length bytes) found ≡ Some len → (held : List ℕ) × (found ≡ Some held)
+some_bytes None len is = absurd cc
+some_bytes (Some held) len is = (held, refl)
+
+-- each output of a whole table holds some bytes
+output_holds : (t : AdapterTable) (point : ℕ) (output : OutputPoint) → IsShaped t.profile t.values → find (is_output_at point) t.profile.outputs ≡ Some output → (held : List ℕ) × (bytes_at t.values point ≡ Some held)
+output_holds t point output shaped is = some_bytes (bytes_at t.values point) output.len (length_is t.profile t.values point shaped ∙ output_fits t.profile point output output.len is refl)
+
+or_held : (left : Option (List ℕ)) (held : List ℕ) → Some (unwrap_or left held) ≡ or_else left (Some held)
+or_held None held = refl
+or_held (Some first) held = refl
+
+pub adapter_leaves : StepsLeave
+adapter_leaves t event next is whole = λ point output there.
+    let held = output_holds t point output whole.shaped there in
+    leaves_held t event next is whole point output held.0 there held.1
+    ∙ or_held (left_at point t event next.1) held.0
+    ∙ ap (or_else (left_at point t event next.1)) (sym held.1)
+
+pub fresh_zeros : FreshOutputsAreZeros
+fresh_zeros profile point output is = zeros_at point (data_points profile) (as_point output) (output_found profile point output is)
 
 untouched : (point : ℕ) (t : AdapterTable) → lost point t t ≡ None
 untouched point t = rw (same_owner point t.rows t.rows refl) refl
 
 -- and one that has none touches nothing
-pub fault_touches_none : (point : ℕ) (t : AdapterTable) (event : Event) (fault : StepFault) → adapter_step t event ≡ Err fault → left_at point t event t ≡ None
+pub fault_touches_none : RefusalsTouchNothing
 fault_touches_none point t (Request peer bytes) fault is = untouched point t
 fault_touches_none point t (StreamOpened number peer) fault is = untouched point t
 fault_touches_none point t (Frame number bytes) fault is = untouched point t

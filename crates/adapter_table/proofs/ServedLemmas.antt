@@ -14,9 +14,9 @@ use Rattle.adapter_table.specs.declared.table.PointValue.{PointValue}
 use Rattle.adapter_table.specs.declared.table.AdapterTable.{AdapterTable}
 use Rattle.adapter_table.specs.Profiles.{is_output_at}
 use Rattle.adapter_table.specs.Points.{bytes_at, lost_values}
-use Rattle.adapter_table.specs.Rows.{is_established, has_triad, drives, drivers, without_first}
+use Rattle.adapter_table.specs.Rows.{is_established, has_triad, drives, drivers, others}
 use Rattle.cip_productions.specs.Kinds.{is_owner}
-use Rattle.adapter_table.specs.Checks.{Admitted, standing, verdict, stored}
+use Rattle.adapter_table.specs.Checks.{Admitted, admission}
 use Rattle.adapter_table.specs.Opening.{makes_room, opened_row, configured, opened_table}
 use Rattle.adapter_table.specs.Closing.{without_triad, staying, closed_values, closed_table}
 use Rattle.adapter_table.specs.Streams.{with_stream, without_stream, registered_table}
@@ -52,14 +52,14 @@ configured_beside profile (Some config) None values point output held known shap
 configured_beside profile (Some config) (Some bytes) values point output held known shaped is holds =
     put_beside point config.instance bytes values held (configuration_no_output profile point output config shaped.faultless is known) holds
 
-loses_opened : (t : AdapterTable) (peer : Node) (request : OpenFields) (admitted : Admitted) → verdict (standing t) request ≡ Ok admitted → IsShaped t.profile t.values → LosesOnly t (opened_table t request (opened_row t peer request admitted) admitted)
+loses_opened : (t : AdapterTable) (peer : Node) (request : OpenFields) (admitted : Admitted) → admission t request ≡ Ok admitted → IsWhole t → LosesOnly t (opened_table t (opened_row t peer request admitted) admitted)
 unfolding opened_table opened_row
-loses_opened t peer request admitted e shaped = λ point output held is holds.
+loses_opened t peer request admitted e whole = λ point output held is holds.
     let row = opened_row t peer request admitted in
-    let free = (admitted_is (standing t) request admitted e).triad_is_free in
-    unlost (is_lost point t.rows (without_first (makes_room t.rows request.triad) t.rows ++ row ∷ [])) (left_lost (find (is_output_at point) t.profile.outputs)) held (bytes_at (configured t.profile.config (stored admitted.path.config admitted.path.segment) t.values) point)
-    (owner_opened (list_any (has_triad request.triad) t.rows) (nat_le 64 (length t.rows)) request.triad t.rows row point free)
-    (configured_beside t.profile t.profile.config (stored admitted.path.config admitted.path.segment) t.values point output held refl shaped is holds)
+    let free = (admitted_is t request admitted e).triad_is_free in
+    unlost (is_lost point t.rows (others (makes_room t.rows request.triad) t.rows ++ row ∷ [])) (left_lost (find (is_output_at point) t.profile.outputs)) held (bytes_at (configured t.profile.config admitted.segment t.values) point)
+    (owner_opened (list_any (has_triad request.triad) t.rows) (nat_le 64 (length t.rows)) request.triad t.rows row point free whole.sound.producers.openings_rise)
+    (configured_beside t.profile t.profile.config admitted.segment t.values point output held refl whole.shaped is holds)
 
 -- ---- a close
 
@@ -94,15 +94,15 @@ closed_beside profile row values point held other holds = beside_step (drives ro
   beside_step true own = lost_beside profile point row.consumed values held (drives_no_other point row own other) holds
   beside_step false own = holds
 
-loses_by : (b : Bool) (t : AdapterTable) (triad : Triad) (row : Row) (point : ℕ) (output : OutputPoint) (held : List ℕ) → drives point row ≡ b → length (drivers point t.rows) ≤ 1 → IsShaped t.profile t.values → find (has_triad triad) t.rows ≡ Some row → find (is_output_at point) t.profile.outputs ≡ Some output → bytes_at t.values point ≡ Some held → bytes_at (closed_values t.profile row t.values) point ≡ Some (unwrap_or (cond (is_lost point t.rows (staying (without_triad row.triad t.rows))) (left_lost (find (is_output_at point) t.profile.outputs)) None) held)
-loses_by true t triad row point output held drives_it one shaped found is holds =
-    rw (owner_closed triad t.rows row point found drives_it one) (closed_here t.profile row t.values point output held shaped drives_it is holds)
-loses_by false t triad row point output held other one shaped found is holds =
-    rw (owner_stays triad t.rows row point found other) (closed_beside t.profile row t.values point held other holds)
+loses_by : (b : Bool) (t : AdapterTable) (triad : Triad) (row : Row) (point : ℕ) (output : OutputPoint) (held : List ℕ) → drives point row ≡ b → length (drivers point t.rows) ≤ 1 → IsWhole t → find (has_triad triad) t.rows ≡ Some row → find (is_output_at point) t.profile.outputs ≡ Some output → bytes_at t.values point ≡ Some held → bytes_at (closed_values t.profile row t.values) point ≡ Some (unwrap_or (cond (is_lost point t.rows (staying (without_triad row.triad t.rows))) (left_lost (find (is_output_at point) t.profile.outputs)) None) held)
+loses_by true t triad row point output held drives_it one whole found is holds =
+    rw (owner_closed triad t.rows row point found drives_it one) (closed_here t.profile row t.values point output held whole.shaped drives_it is holds)
+loses_by false t triad row point output held other one whole found is holds =
+    rw (owner_stays triad t.rows row point whole.sound.triads_differ found other) (closed_beside t.profile row t.values point held other holds)
 
 loses_closed : (t : AdapterTable) (triad : Triad) (row : Row) → find (has_triad triad) t.rows ≡ Some row → IsWhole t → LosesOnly t (closed_table t row)
 unfolding closed_table
-loses_closed t triad row found whole = λ point output held is holds. loses_by (drives point row) t triad row point output held refl (whole.sound.one_owner point) whole.shaped found is holds
+loses_closed t triad row found whole = λ point output held is holds. loses_by (drives point row) t triad row point output held refl (whole.sound.one_owner point) whole found is holds
 
 -- ---- streams
 
@@ -125,7 +125,7 @@ loses_registered t number = loses_nothing t
 pub requests_lose : RequestsDo (λ t next. IsWhole t → LosesOnly t next)
 requests_lose = record {
   stays = λ t whole. loses_nothing t;
-  opened = λ t peer request admitted e whole. loses_opened t peer request admitted e whole.shaped;
+  opened = λ t peer request admitted e whole. loses_opened t peer request admitted e whole;
   closed = λ t triad row found whole. loses_closed t triad row found whole;
   unstreamed = λ t number whole. loses_without t number;
   registered = λ t number whole. loses_registered t number;

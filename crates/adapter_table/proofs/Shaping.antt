@@ -7,14 +7,15 @@ use Rattle.std.proofs.lemmas.Grind.{common_steps}
 use Rattle.adapter_table.specs.declared.profile.Profile.{Profile}
 use Rattle.adapter_table.specs.declared.profile.InputPoint.{InputPoint}
 use Rattle.adapter_table.specs.declared.profile.OutputPoint.{OutputPoint}
+use Rattle.cip_types.specs.Cases.{Case, first_case}
 use Rattle.cip_events.specs.declared.profile_fault.ProfileFault.{ProfileFault}
-use Rattle.adapter_table.specs.Profiles.{is_at, is_output_at, heartbeat, as_point, all_points, are_distinct, profile_fault, profile_tests, first_fault, ProfileTest}
+use Rattle.adapter_table.specs.Profiles.{is_at, is_output_at, heartbeat, as_point, all_points, are_distinct, profile_fault, profile_tests}
 use Rattle.adapter_table.specs.Points.{data_points}
 
 -- ---- the points of a faultless profile differ
 
 -- each test passes
-abbrev pub AllPass : List ProfileTest → Type 0
+abbrev pub AllPass : List (Case ProfileFault) → Type 0
 AllPass [] = Unit {0}
 AllPass (test ∷ rest) = (test.0 ≡ false) × AllPass rest
 
@@ -22,9 +23,9 @@ test_passes : (b : Bool) (fault : ProfileFault) (rest : Option ProfileFault) →
 test_passes true fault rest none = cc
 test_passes false fault rest none = (refl, none)
 
-pub all_pass : (tests : List ProfileTest) → first_fault tests ≡ None → AllPass tests
+pub all_pass : (tests : List (Case ProfileFault)) → first_case tests ≡ None → AllPass tests
 all_pass [] none = tt
-all_pass (test ∷ rest) none = let first = test_passes test.0 test.1 (first_fault rest) none in (first.0, all_pass rest first.1)
+all_pass (test ∷ rest) none = let first = test_passes test.0 test.1 (first_case rest) none in (first.0, all_pass rest first.1)
 
 all_differ : (profile : Profile) → profile_fault profile ≡ None → are_distinct (all_points profile) ≡ true
 unfolding profile_fault

@@ -1,5 +1,5 @@
--- What keeps the rows sound: one is taken out, some are filtered out, one is appended.
-use Rattle.std.proofs.Common.{◌≡◌, ◌≤◌, ◌<◌, ℕ, ◌+◌, ◌*◌, ◌^◌, Bool, true, false, cond, not, ◌||◌, ◌&&◌, nat_le, ◌==◌, List, [], ◌∷◌, ◌++◌, length, filter, refl, sym, ◌∙◌, ap, arith, length-append}
+-- What keeps the rows sound: some are taken out, one is appended.
+use Rattle.std.proofs.Common.{◌≡◌, ◌≤◌, ◌<◌, ℕ, ◌+◌, ◌*◌, ◌^◌, Bool, true, false, cond, not, ◌||◌, ◌&&◌, nat_le, ◌==◌, List, [], ◌∷◌, ◌++◌, length, filter, find, Option, Some, refl, sym, ◌∙◌, ap, arith, length-append}
 use Rattle.std.specs.List.{list_any}
 use Rattle.std.proofs.lemmas.Bool.Decides.{nat_tests}
 use Rattle.std.proofs.lemmas.Grind.{common_steps}
@@ -9,60 +9,15 @@ use Rattle.cip_types.specs.declared.names.Triad.{Triad}
 use Rattle.cip_types.specs.declared.names.ConnId.{ConnId}
 use Rattle.adapter_table.specs.declared.profile.Profile.{Profile}
 use Rattle.adapter_table.specs.declared.row.Row.{Row}
-use Rattle.adapter_table.specs.Rows.{same_triad, has_triad, drives, drivers, without_first, is_timed_out}
-use Rattle.adapter_table.specs.Opening.{connection_id}
+use Rattle.adapter_table.specs.Rows.{same_triad, has_triad, drives, drivers, others, is_timed_out}
+use Rattle.adapter_table.specs.Opening.{connection_id, is_opened_as, makes_room_by}
 use Rattle.adapter_table.specs.Sound.{TriadsDiffer, has_o_t_id, IdsDiffer, IdsAreDrawn}
 
 pub or_false : (a b : Bool) → (a || b) ≡ false → (a ≡ false) × (b ≡ false)
 or_false true b h = cc
 or_false false b h = (refl, h)
 
--- ---- one row is taken out
-
--- taking a row out leaves no more that pass a test
-pub count_without : (p q : Row → Bool) (rows : List Row) → length (filter q (without_first p rows)) ≤ length (filter q rows)
-count_without p q [] = omega arith
-count_without p q (row ∷ rows) = grind (arith, common_steps, count_without p q rows)
-
-pub any_without : (p q : Row → Bool) (rows : List Row) → list_any q rows ≡ false → list_any q (without_first p rows) ≡ false
-any_without p q [] none = refl
-any_without p q (row ∷ rows) none =
-    let parts = or_false (q row) (list_any q rows) none in
-    grind (arith, common_steps, parts, any_without p q rows parts.1)
-
-pub length_without : (p : Row → Bool) (rows : List Row) → list_any p rows ≡ true → length (without_first p rows) + 1 ≡ length rows
-length_without p [] found = cc
-length_without p (row ∷ rows) found = grind (arith, common_steps, length_without p rows)
-
-pub length_without_le : (p : Row → Bool) (rows : List Row) → length (without_first p rows) ≤ length rows
-length_without_le p [] = omega arith
-length_without_le p (row ∷ rows) = grind (arith, common_steps, length_without_le p rows)
-
-pub triads_without : (p : Row → Bool) (rows : List Row) → TriadsDiffer rows → TriadsDiffer (without_first p rows)
-triads_without p [] differ = tt
-triads_without p (row ∷ rows) differ =
-    elim (p row) as (λ b. TriadsDiffer (cond b rows (row ∷ without_first p rows))) [
-      | true ↦ differ.1
-      | false ↦ (any_without p (has_triad row.triad) rows differ.0, triads_without p rows differ.1)
-    ]
-
-pub ids_without : (p : Row → Bool) (rows : List Row) → IdsDiffer rows → IdsDiffer (without_first p rows)
-ids_without p [] differ = tt
-ids_without p (row ∷ rows) differ =
-    elim (p row) as (λ b. IdsDiffer (cond b rows (row ∷ without_first p rows))) [
-      | true ↦ differ.1
-      | false ↦ (any_without p (has_o_t_id row.o_t_id) rows differ.0, ids_without p rows differ.1)
-    ]
-
-pub drawn_without : (p : Row → Bool) (profile : Profile) (next_id : ℕ) (rows : List Row) → IdsAreDrawn profile next_id rows → IdsAreDrawn profile next_id (without_first p rows)
-drawn_without p profile next_id [] drawn = tt
-drawn_without p profile next_id (row ∷ rows) drawn =
-    elim (p row) as (λ b. IdsAreDrawn profile next_id (cond b rows (row ∷ without_first p rows))) [
-      | true ↦ drawn.2
-      | false ↦ (drawn.0, drawn.1, drawn_without p profile next_id rows drawn.2)
-    ]
-
--- ---- some are filtered out
+-- ---- some are taken out
 
 pub count_filter : (p q : Row → Bool) (rows : List Row) → length (filter q (filter p rows)) ≤ length (filter q rows)
 count_filter p q [] = omega arith
@@ -114,24 +69,14 @@ filter_none q (row ∷ rows) none =
 same_sym : (a b : Triad) → same_triad a b ≡ false → same_triad b a ≡ false
 same_sym a b h = grind (arith, nat_tests)
 
-differs_too : (a b c : Triad) → same_triad a b ≡ true → same_triad c a ≡ false → same_triad c b ≡ false
-differs_too a b c same differ = grind (arith, nat_tests)
+left_step : (b : Bool) (p : Row → Bool) (row : Row) (left : List Row) → p row ≡ b → list_any p left ≡ false → list_any p (cond (not b) (row ∷ left) left) ≡ false
+left_step true p row left is none = none
+left_step false p row left is none = rw is none
 
-any_same : (a b : Triad) (rows : List Row) → same_triad a b ≡ true → list_any (has_triad a) rows ≡ false → list_any (has_triad b) rows ≡ false
-any_same a b [] same none = refl
-any_same a b (row ∷ rows) same none =
-    let parts = or_false (has_triad a row) (list_any (has_triad a) rows) none in
-    let rest = any_same a b rows same parts.1 in
-    rw (differs_too a b row.triad same parts.0) rest
-
-left_step : (b : Bool) (row : Row) (triad : Triad) (rows : List Row) → has_triad triad row ≡ b → list_any (has_triad row.triad) rows ≡ false → list_any (has_triad triad) (without_first (has_triad triad) rows) ≡ false → list_any (has_triad triad) (cond b rows (row ∷ without_first (has_triad triad) rows)) ≡ false
-left_step true row triad rows has none rest = any_same row.triad triad rows has none
-left_step false row triad rows has none rest = rw has rest
-
--- once a row of the triad is taken out, none is left
-none_left : (triad : Triad) (rows : List Row) → TriadsDiffer rows → list_any (has_triad triad) (without_first (has_triad triad) rows) ≡ false
-none_left triad [] differ = refl
-none_left triad (row ∷ rows) differ = left_step (has_triad triad row) row triad rows refl differ.0 (none_left triad rows differ.1)
+-- once those that pass a test are taken out, none is left
+pub none_left : (p : Row → Bool) (rows : List Row) → list_any p (others p rows) ≡ false
+none_left p [] = refl
+none_left p (row ∷ rows) = left_step (p row) p row (others p rows) refl (none_left p rows)
 
 pub triads_append : (rows : List Row) (new : Row) → TriadsDiffer rows → list_any (has_triad new.triad) rows ≡ false → TriadsDiffer (rows ++ new ∷ [])
 triads_append [] new differ none = (refl, tt)
@@ -178,22 +123,44 @@ drawn_append profile next_id next (row ∷ rows) new more is drawn =
 
 -- ---- room
 
--- which row makes room, by the two tests that choose
-abbrev pub room_by : Bool → Bool → Triad → Row → Bool
-room_by b c triad = cond b (has_triad triad) (cond c is_timed_out (λ _. false))
-
 not_false : (b : Bool) → not b ≡ false → b ≡ true
 not_false true h = refl
 not_false false h = cc
 
-pub length_opened : (b c : Bool) (triad : Triad) (rows : List Row) → list_any (has_triad triad) rows ≡ b → nat_le 64 (length rows) ≡ c → length rows ≤ 64 → (c && not (list_any is_timed_out rows)) ≡ false → length (without_first (room_by b c triad) rows) + 1 ≤ 64
-length_opened true c triad rows known full few free = omega (arith, length_without (has_triad triad) rows known)
-length_opened false true triad rows known full few free = omega (arith, length_without is_timed_out rows (not_false _ free))
-length_opened false false triad rows known full few free = grind (arith, nat_tests, length_without_le (λ _. false) rows)
+fewer_step : (b : Bool) (row : Row) (left rows : List Row) → length left ≤ length rows → (b ≡ false → length left + 1 ≤ length rows) → length (cond (not b) (row ∷ left) left) + 1 ≤ length (row ∷ rows)
+fewer_step true row left rows le more = omega arith
+fewer_step false row left rows le more = let fewer = more refl in omega arith
 
-pub any_opened : (b c : Bool) (triad : Triad) (rows : List Row) → list_any (has_triad triad) rows ≡ b → TriadsDiffer rows → list_any (has_triad triad) (without_first (room_by b c triad) rows) ≡ false
-any_opened true c triad rows known differ = none_left triad rows differ
-any_opened false c triad rows known differ = any_without (room_by false c triad) (has_triad triad) rows known
+any_later : (b any : Bool) → (b || any) ≡ true → b ≡ false → any ≡ true
+any_later true any is none = absurd cc
+any_later false any is none = is
+
+-- where one passes, fewer are left
+pub length_others : (p : Row → Bool) (rows : List Row) → list_any p rows ≡ true → length (others p rows) + 1 ≤ length rows
+length_others p [] found = absurd cc
+length_others p (row ∷ rows) found =
+    fewer_step (p row) row (others p rows) rows (length_filter_le (λ r. not (p r)) rows) (λ none. length_others p rows (any_later (p row) (list_any p rows) found none))
+
+opened_step : (b : Bool) (row : Row) (found : Option Row) (rows : List Row) → (b ≡ false → list_any (is_opened_as found) rows ≡ true) → list_any (is_opened_as (cond b (Some row) found)) (row ∷ rows) ≡ true
+opened_step true row found rows more = grind (arith, nat_tests)
+opened_step false row found rows more = or_right (is_opened_as found row) _ (more refl) where
+  or_right : (a b : Bool) → b ≡ true → (a || b) ≡ true
+  or_right true b h = refl
+  or_right false b h = h
+
+-- the first that passes is among them
+any_first : (p : Row → Bool) (rows : List Row) → list_any p rows ≡ true → list_any (is_opened_as (find p rows)) rows ≡ true
+any_first p [] found = absurd cc
+any_first p (row ∷ rows) found = opened_step (p row) row (find p rows) rows (λ none. any_first p rows (any_later (p row) (list_any p rows) found none))
+
+pub length_opened : (b c : Bool) (triad : Triad) (rows : List Row) → list_any (has_triad triad) rows ≡ b → nat_le 64 (length rows) ≡ c → length rows ≤ 64 → (c && not (list_any is_timed_out rows)) ≡ false → length (others (makes_room_by b c (find is_timed_out rows) triad) rows) + 1 ≤ 64
+length_opened true c triad rows known full few free = omega (arith, length_others (has_triad triad) rows known)
+length_opened false true triad rows known full few free = omega (arith, length_others (is_opened_as (find is_timed_out rows)) rows (any_first is_timed_out rows (not_false _ free)))
+length_opened false false triad rows known full few free = grind (arith, nat_tests, length_filter_le (λ _. true) rows)
+
+pub any_opened : (b c : Bool) (triad : Triad) (rows : List Row) → list_any (has_triad triad) rows ≡ b → list_any (has_triad triad) (others (makes_room_by b c (find is_timed_out rows) triad) rows) ≡ false
+any_opened true c triad rows known = none_left (has_triad triad) rows
+any_opened false c triad rows known = any_filter (λ row. not (makes_room_by false c (find is_timed_out rows) triad row)) (has_triad triad) rows known
 
 -- the output of the new row has no other driver
 pub drivers_opened : (b : Bool) (rows without : List Row) (new : Row) (point : ℕ) → drives point new ≡ b → length (drivers point without) ≤ length (drivers point rows) → (b ≡ true → drivers point rows ≡ []) → length (drivers point rows) ≤ 1 → length (drivers point (without ++ new ∷ [])) ≤ 1

@@ -1,46 +1,45 @@
 -- Each effect keeps the table sound, and so do each step and each run.
-use Rattle.std.proofs.Common.{◌≡◌, ◌≤◌, ℕ, ◌+◌, Bool, true, false, not, find, filter, ◌&&◌, nat_lt, nat_le, ◌==◌, List, [], ◌∷◌, ◌++◌, length, map, Option, Some, None, Ok, refl, sym, ◌∙◌, ap, subst, arith, length-append}
+use Rattle.std.proofs.Common.{◌≡◌, ◌≤◌, ℕ, ◌+◌, Bool, true, false, not, find, filter, ◌&&◌, nat_le, ◌==◌, List, [], ◌∷◌, ◌++◌, length, map, Option, Some, None, Ok, refl, sym, ◌∙◌, ap, subst, arith, length-append}
 use Rattle.std.specs.List.{list_any}
 use Rattle.std.proofs.lemmas.Bool.{and_parts}
 use Rattle.std.proofs.lemmas.Bool.Decides.{nat_tests}
 use Rattle.std.proofs.lemmas.List.{length-map}
 use Rattle.cip_types.specs.declared.names.Node.{Node}
 use Rattle.cip_types.specs.declared.names.Triad.{Triad}
-use Rattle.cip_netparams.specs.Rate.{interval_ms}
-use Rattle.cip_epath.specs.Path.{PathFields}
 use Rattle.cip_fwdopen.specs.Open.{OpenFields}
 use Rattle.cip_datagram.specs.Datagram.{DatagramFields}
 use Rattle.cip_events.specs.declared.event.Delivery.{Delivery}
 use Rattle.adapter_table.specs.declared.profile.Profile.{Profile}
 use Rattle.adapter_table.specs.declared.row.Row.{Row}
-use Rattle.adapter_table.specs.declared.admission.Consumer.{Consumer}
 use Rattle.adapter_table.specs.declared.table.AdapterTable.{AdapterTable}
 use Rattle.adapter_table.specs.declared.table.PointValue.{PointValue}
 use Rattle.adapter_table.specs.declared.table.Stream.{Stream}
-use Rattle.adapter_table.specs.Rows.{without_first, drives, drivers, written_row, is_established, has_triad, holds_triad, is_member, is_supported}
+use Rattle.adapter_table.specs.Rows.{others, drives, drivers, written_row, is_established, is_timed_out, has_triad, holds_triad, is_member, is_supported}
+use Rattle.cip_productions.specs.declared.kind.Kind.{Kind}
 use Rattle.cip_productions.specs.Kinds.{is_owner, is_listener}
-use Rattle.adapter_table.specs.Checks.{Admitted, standing, verdict, is_owned, is_multicast, group_of, joined, drawn_ids}
-use Rattle.adapter_table.specs.Opening.{opened_row, opened_table, opened_state, opened_t_o_id}
-use Rattle.adapter_table.specs.Closing.{closed_table, stays}
+use Rattle.adapter_table.specs.Checks.{Admitted, admission, group_of, joined, drawn_ids}
+use Rattle.adapter_table.specs.Opening.{makes_room_by, opened_row, opened_table, opened_state, opened_t_o_id}
+use Rattle.adapter_table.specs.Closing.{closed_table, stays, without_triad}
 use Rattle.adapter_table.specs.Points.{put_value}
 use Rattle.adapter_table.specs.Streams.{is_other_stream, is_taken, new_stream, with_stream, without_stream, registered_stream, registered_table}
-use Rattle.adapter_table.specs.Datagrams.{fed_row, fed_values, fed_table}
-use Rattle.adapter_table.specs.Productions.{due_row, prompt_row}
+use Rattle.adapter_table.specs.Datagrams.{accepted_if_for, accepted_values, accepted_table}
+use Rattle.adapter_table.specs.Productions.{producer_of, produced_row, changed_row}
 use Rattle.adapter_table.specs.Ticks.{clocked_table, expired_row, expired_rows, expired_table, produced_table}
-use Rattle.adapter_table.specs.Step.{adapter_table, written_table, prompt_table}
+use Rattle.adapter_table.specs.Step.{adapter_table, written_table, changed_table}
 use Rattle.adapter_table.specs.Sound.{IsSound, StreamsDiffer}
-use Rattle.adapter_table.proofs.CheckLemmas.{HasSameApi, IsAdmitted, admitted_is, draws_some, ids_left}
+use Rattle.adapter_table.proofs.CheckLemmas.{HasSameApi, IsAdmitted, admitted_is, draws_some}
 use Rattle.adapter_table.proofs.EffectLemmas.{EffectsKeep}
-use Rattle.adapter_table.proofs.GroupLemmas.{Joins, is_single, is_first, is_joiner, groups_opened, groups_without, groups_filter}
+use Rattle.adapter_table.proofs.GroupLemmas.{Joins, is_single, is_first, is_joiner, groups_opened, groups_filter}
 use Rattle.adapter_table.proofs.SupportLemmas.{listeners_opened, listeners_staying}
-use Rattle.adapter_table.proofs.LikeLemmas.{Keeps, count_kept, triads_kept, ids_kept, drawn_kept, listeners_kept, groups_kept, written_keeps, fed_keeps, due_keeps, prompt_keeps}
+use Rattle.adapter_table.proofs.LikeLemmas.{Keeps, count_kept, triads_kept, ids_kept, drawn_kept, listeners_kept, groups_kept, written_keeps, fed_keeps, due_keeps, changed_keeps}
 use Rattle.adapter_table.proofs.FadeLemmas.{count_expired, triads_expired, ids_expired, drawn_expired, groups_expired}
+use Rattle.adapter_table.proofs.ProducerLemmas.{Produces, is_single as is_alone, is_first as is_leader, is_joiner as is_follower, producers_opened, producers_filter, producers_kept, producers_expired}
 use Rattle.adapter_table.proofs.StreamLemmas.{has_room, few_with, few_left, differ_with, differ_left, differ_registered}
-use Rattle.adapter_table.proofs.SoundLemmas.{or_false, room_by, length_opened, any_opened, drivers_opened, count_without, filter_none, triads_append, triads_without, ids_append, ids_without, IsDrawn, drawn_new, drawn_append, drawn_without, length_without_le, length_filter_le, count_filter, triads_filter, ids_filter, drawn_filter}
+use Rattle.adapter_table.proofs.SoundLemmas.{length_opened, any_opened, drivers_opened, filter_none, triads_append, ids_append, IsDrawn, drawn_new, drawn_append, length_filter_le, count_filter, triads_filter, ids_filter, drawn_filter}
 
-free_output : (rows : List Row) (consumer : Consumer) (consumed point : ℕ) → is_owned rows consumer consumed ≡ false → (is_owner consumer.kind && consumed == point) ≡ true → drivers point rows ≡ []
-free_output rows consumer consumed point free drives_it =
-    let parts = and_parts (is_owner consumer.kind) (consumed == point) drives_it in
+free_output : (rows : List Row) (kind : Kind) (consumed point : ℕ) → (is_owner kind && list_any (drives consumed) rows) ≡ false → (is_owner kind && consumed == point) ≡ true → drivers point rows ≡ []
+free_output rows kind consumed point free drives_it =
+    let parts = and_parts (is_owner kind) (consumed == point) drives_it in
     let same : consumed ≡ point = grind (arith, nat_tests, parts.1) in
     let none : list_any (drives consumed) rows ≡ false = rw parts.0 at free in
     subst (λ (p : ℕ). drivers p rows ≡ []) same (filter_none (drives consumed) rows none)
@@ -49,17 +48,22 @@ free_output rows consumer consumed point free drives_it =
 record IsOpened (t : AdapterTable) (request : OpenFields) (admitted : Admitted) (row : Row) : Type 0 where
   triad : row.triad ≡ request.triad
   drawn : IsDrawn t.profile t.next_id row
-  kind : row.kind ≡ admitted.consumer.kind
-  consumed : row.consumed ≡ admitted.path.consumed
-  produced : row.produced ≡ admitted.path.produced
-  multicast : row.multicast ≡ is_multicast request.t_o_params.kind
-  t_o_api : row.t_o_api ≡ interval_ms request.t_o_rpi
-  t_o_id : row.t_o_id ≡ opened_t_o_id t request admitted.group
+  kind : row.kind ≡ admitted.kind
+  consumed : row.consumed ≡ admitted.consumed
+  produced : row.produced ≡ admitted.produced
+  multicast : row.multicast ≡ admitted.multicast
+  t_o_api : row.t_o_api ≡ admitted.t_o_api
+  t_o_id : row.t_o_id ≡ opened_t_o_id t request admitted.multicast admitted.group
   state : (member : Row) → admitted.group ≡ Some member → row.state ≡ member.state
+  own : admitted.group ≡ None → producer_of row.state ≡ t.next_id
 
-state_of : (t : AdapterTable) (peer : Node) (request : OpenFields) (path : PathFields) (group : Option Row) (member : Row) → group ≡ Some member → opened_state t peer request path group ≡ member.state
-state_of t peer request path None member is = absurd cc
-state_of t peer request path (Some other) member is = let same : other ≡ member = cc in ap (λ (r : Row). r.state) same
+state_of : (t : AdapterTable) (peer : Node) (admitted : Admitted) (group : Option Row) (member : Row) → group ≡ Some member → opened_state t peer admitted group ≡ member.state
+state_of t peer admitted None member is = absurd cc
+state_of t peer admitted (Some other) member is = let same : other ≡ member = cc in ap (λ (r : Row). r.state) same
+
+own_of : (t : AdapterTable) (peer : Node) (admitted : Admitted) (group : Option Row) → group ≡ None → producer_of (opened_state t peer admitted group) ≡ t.next_id
+own_of t peer admitted None is = refl
+own_of t peer admitted (Some other) is = absurd cc
 
 row_is_opened : (t : AdapterTable) (peer : Node) (request : OpenFields) (admitted : Admitted) → IsOpened t request admitted (opened_row t peer request admitted)
 unfolding opened_row
@@ -72,71 +76,88 @@ row_is_opened t peer request admitted = record {
   multicast = refl;
   t_o_api = refl;
   t_o_id = refl;
-  state = state_of t peer request admitted.path admitted.group;
+  state = state_of t peer admitted admitted.group;
+  own = own_of t peer admitted admitted.group;
 }
 
 -- it drives at most the output that the request names
-drives_no_other : (point : ℕ) (row : Row) (consumer : Consumer) (consumed : ℕ) → row.kind ≡ consumer.kind → row.consumed ≡ consumed → drives point row ≡ true → (is_owner consumer.kind && consumed == point) ≡ true
-drives_no_other point row consumer consumed kind place is = rw (← kind, ← place) (and_parts (is_established row) _ is).1
+drives_no_other : (point : ℕ) (row : Row) (kind : Kind) (consumed : ℕ) → row.kind ≡ kind → row.consumed ≡ consumed → drives point row ≡ true → (is_owner kind && consumed == point) ≡ true
+drives_no_other point row kind consumed same place is = rw (← same, ← place) (and_parts (is_established row) _ is).1
 
 -- what it has in common with the producer that it joins
-joins_of : (t : AdapterTable) (request : OpenFields) (admitted : Admitted) (row : Row) → IsOpened t request admitted row → IsAdmitted (standing t) request admitted → Joins t.rows row
-joins_of t request admitted row is ok = joins_by (is_multicast request.t_o_params.kind) admitted.group refl refl is.multicast ok.group_is ok.same_api is.t_o_id where
-  joins_by : (m : Bool) (group : Option Row) → is_multicast request.t_o_params.kind ≡ m → admitted.group ≡ group → row.multicast ≡ is_multicast request.t_o_params.kind → admitted.group ≡ joined t.rows request admitted.path.produced → HasSameApi request admitted.group → row.t_o_id ≡ opened_t_o_id t request admitted.group → Joins t.rows row
+joins_of : (t : AdapterTable) (request : OpenFields) (admitted : Admitted) (row : Row) → IsOpened t request admitted row → IsAdmitted t request admitted → Joins t.rows row
+joins_of t request admitted row is ok = joins_by admitted.multicast admitted.group refl refl is.multicast ok.group_is ok.same_api is.t_o_id where
+  joins_by : (m : Bool) (group : Option Row) → admitted.multicast ≡ m → admitted.group ≡ group → row.multicast ≡ admitted.multicast → admitted.group ≡ joined admitted.multicast (group_of t.rows admitted.produced) → HasSameApi admitted.t_o_api admitted.group → row.t_o_id ≡ opened_t_o_id t request admitted.multicast admitted.group → Joins t.rows row
   joins_by false group single known multicast found api id = is_single (multicast ∙ single)
   joins_by true None many known multicast found api id =
-      let none : group_of t.rows admitted.path.produced ≡ None = sym (rw many at found) ∙ known in
+      let none : group_of t.rows admitted.produced ≡ None = sym (rw many at found) ∙ known in
       is_first (ap (λ (n : ℕ). find (is_member n) t.rows) is.produced ∙ none)
   joins_by true (Some member) many known multicast found api id =
-      let some : group_of t.rows admitted.path.produced ≡ Some member = sym (rw many at found) ∙ known in
-      let same_id : row.t_o_id ≡ member.t_o_id = id ∙ ap (opened_t_o_id t request) known in
-      let same_api : interval_ms request.t_o_rpi ≡ member.t_o_api = subst (HasSameApi request) known api in
+      let some : group_of t.rows admitted.produced ≡ Some member = sym (rw many at found) ∙ known in
+      let same_id : row.t_o_id ≡ member.t_o_id = id ∙ ap (opened_t_o_id t request admitted.multicast) known in
+      let same_api : admitted.t_o_api ≡ member.t_o_api = subst (HasSameApi admitted.t_o_api) known api in
       is_joiner member (ap (λ (n : ℕ). find (is_member n) t.rows) is.produced ∙ some)
       (record { id = same_id; api = is.t_o_api ∙ same_api; state = is.state member known })
 
-opened_sound : (t : AdapterTable) (request : OpenFields) (admitted : Admitted) (row : Row) → IsOpened t request admitted row → IsAdmitted (standing t) request admitted → IsSound t → IsSound (opened_table t request row admitted)
+-- what its producer is
+produces_of : (t : AdapterTable) (request : OpenFields) (admitted : Admitted) (row : Row) → IsOpened t request admitted row → IsAdmitted t request admitted → Produces t.profile t.next_id (t.next_id + drawn_ids admitted.multicast admitted.group) t.rows row
+produces_of t request admitted row is ok = produces_by admitted.multicast admitted.group refl refl ok.group_is ok.same_api is.t_o_id is.own where
+  produces_by : (m : Bool) (group : Option Row) → admitted.multicast ≡ m → admitted.group ≡ group → group ≡ joined admitted.multicast (group_of t.rows admitted.produced) → HasSameApi admitted.t_o_api group → row.t_o_id ≡ opened_t_o_id t request admitted.multicast group → (group ≡ None → producer_of row.state ≡ t.next_id) → Produces t.profile t.next_id (t.next_id + drawn_ids admitted.multicast group) t.rows row
+  produces_by false None single known found api id own = is_alone (is.multicast ∙ single) (own refl)
+  produces_by false (Some member) single known found api id own = let none : Some member ≡ None = rw single at found in absurd cc
+  produces_by true None many known found api id own = is_leader (own refl) (rw many at id) (rw many (omega arith)) (is.multicast ∙ many)
+  produces_by true (Some member) many known found api id own =
+      let some : group_of t.rows admitted.produced ≡ Some member = sym (rw many at found) in
+      is_follower member (is.multicast ∙ many) (ap (λ (n : ℕ). find (is_member n) t.rows) is.produced ∙ some)
+      (record { id = id; api = is.t_o_api ∙ api; state = is.state member known })
+
+opened_sound : (t : AdapterTable) (request : OpenFields) (admitted : Admitted) (row : Row) → IsOpened t request admitted row → IsAdmitted t request admitted → IsSound t → IsSound (opened_table t row admitted)
 unfolding opened_table
 opened_sound t request admitted row is ok sound =
     let b = list_any (has_triad row.triad) t.rows in
     let c = nat_le 64 (length t.rows) in
-    let draws = draws_some request admitted.group in
-    let free = or_false (nat_lt 16777216 (t.next_id + drawn_ids request admitted.group)) _ ok.not_used_up in
-    let without = without_first (room_by b c row.triad) t.rows in
-    let drawn = drawn_without (room_by b c row.triad) t.profile t.next_id t.rows sound.ids_are_drawn in
+    let draws = draws_some admitted.multicast admitted.group in
+    let left = others (makes_room_by b c (find is_timed_out t.rows) row.triad) t.rows in
+    let stays_there : Row → Bool = λ r. not (makes_room_by b c (find is_timed_out t.rows) row.triad r) in
+    let drawn = drawn_filter stays_there t.profile t.next_id t.rows sound.ids_are_drawn in
     let held : list_any (holds_triad row.triad) t.rows ≡ false = ap (λ (triad : Triad). list_any (holds_triad triad) t.rows) is.triad ∙ ok.triad_is_free in
     let alone : (is_listener row.kind && not (is_supported t.rows row.kind row.produced)) ≡ false = rw (is.kind, is.produced) ok.is_supported in
     record {
-      few = simp length-append (length_opened b c row.triad t.rows refl refl sound.few free.1);
+      few = simp length-append (length_opened b c row.triad t.rows refl refl sound.few ok.room_is_left);
       one_owner = λ point.
-          drivers_opened (drives point row) t.rows without row point refl
-          (count_without (room_by b c row.triad) (drives point) t.rows)
-          (λ drives_it. free_output t.rows admitted.consumer admitted.path.consumed point ok.output_is_free (drives_no_other point row admitted.consumer admitted.path.consumed is.kind is.consumed drives_it)) (sound.one_owner point);
-      triads_differ = triads_append without row (triads_without (room_by b c row.triad) t.rows sound.triads_differ) (any_opened b c row.triad t.rows refl sound.triads_differ);
-      ids_differ = ids_append without row (ids_without (room_by b c row.triad) t.rows sound.ids_differ) (drawn_new t.profile t.next_id without row is.drawn drawn);
-      ids_are_drawn = drawn_append t.profile t.next_id (t.next_id + drawn_ids request admitted.group) without row (omega arith) is.drawn drawn;
-      listeners_are_supported = listeners_opened b c row.triad t.rows row held alone sound.listeners_are_supported;
-      groups_agree = groups_opened (room_by b c row.triad) t.rows row (joins_of t request admitted row is ok) sound.groups_agree;
-      ids_are_left = ids_left t.rows t.next_id (drawn_ids request admitted.group) ok.not_used_up;
+          drivers_opened (drives point row) t.rows left row point refl
+          (count_filter stays_there (drives point) t.rows)
+          (λ drives_it. free_output t.rows admitted.kind admitted.consumed point ok.output_is_free (drives_no_other point row admitted.kind admitted.consumed is.kind is.consumed drives_it)) (sound.one_owner point);
+      triads_differ = triads_append left row (triads_filter stays_there t.rows sound.triads_differ) (any_opened b c row.triad t.rows refl);
+      ids_differ = ids_append left row (ids_filter stays_there t.rows sound.ids_differ) (drawn_new t.profile t.next_id left row is.drawn drawn);
+      ids_are_drawn = drawn_append t.profile t.next_id (t.next_id + drawn_ids admitted.multicast admitted.group) left row (omega arith) is.drawn drawn;
+      listeners_are_supported = listeners_opened b c row.triad t.rows row held sound.producers.openings_rise alone sound.listeners_are_supported;
+      groups_agree = groups_opened stays_there t.rows row (joins_of t request admitted row is ok) sound.groups_agree;
+      producers =
+          producers_opened stays_there t.profile t.next_id (t.next_id + drawn_ids admitted.multicast admitted.group) t.rows row
+          (record { opening = is.drawn.opening; more = omega arith }) (produces_of t request admitted row is ok) sound.ids_are_drawn sound.producers;
+      ids_are_left = ok.ids_are_left;
       few_streams = sound.few_streams;
       streams_differ = sound.streams_differ;
     }
 
-pub sound_opened : (t : AdapterTable) (peer : Node) (request : OpenFields) (admitted : Admitted) → verdict (standing t) request ≡ Ok admitted → IsSound t → IsSound (opened_table t request (opened_row t peer request admitted) admitted)
-sound_opened t peer request admitted is sound = opened_sound t request admitted (opened_row t peer request admitted) (row_is_opened t peer request admitted) (admitted_is (standing t) request admitted is) sound
+pub sound_opened : (t : AdapterTable) (peer : Node) (request : OpenFields) (admitted : Admitted) → admission t request ≡ Ok admitted → IsSound t → IsSound (opened_table t (opened_row t peer request admitted) admitted)
+sound_opened t peer request admitted is sound = opened_sound t request admitted (opened_row t peer request admitted) (row_is_opened t peer request admitted) (admitted_is t request admitted is) sound
 
 pub sound_closed : (t : AdapterTable) (row : Row) → IsSound t → IsSound (closed_table t row)
 unfolding closed_table
 sound_closed t row sound =
-    let p = has_triad row.triad in
-    let left = without_first (has_triad row.triad) t.rows in
+    let left = without_triad row.triad t.rows in
+    let stays_there : Row → Bool = λ r. not (has_triad row.triad r) in
     record {
-      few = omega (arith, length_filter_le (stays left) left, length_without_le (has_triad row.triad) t.rows, sound.few);
-      one_owner = λ point. omega (arith, count_filter (stays left) (drives point) left, count_without (has_triad row.triad) (drives point) t.rows, sound.one_owner point);
-      triads_differ = triads_filter (stays left) left (triads_without (has_triad row.triad) t.rows sound.triads_differ);
-      ids_differ = ids_filter (stays left) left (ids_without (has_triad row.triad) t.rows sound.ids_differ);
-      ids_are_drawn = drawn_filter (stays left) t.profile t.next_id left (drawn_without (has_triad row.triad) t.profile t.next_id t.rows sound.ids_are_drawn);
+      few = omega (arith, length_filter_le (stays left) left, length_filter_le stays_there t.rows, sound.few);
+      one_owner = λ point. omega (arith, count_filter (stays left) (drives point) left, count_filter stays_there (drives point) t.rows, sound.one_owner point);
+      triads_differ = triads_filter (stays left) left (triads_filter stays_there t.rows sound.triads_differ);
+      ids_differ = ids_filter (stays left) left (ids_filter stays_there t.rows sound.ids_differ);
+      ids_are_drawn = drawn_filter (stays left) t.profile t.next_id left (drawn_filter stays_there t.profile t.next_id t.rows sound.ids_are_drawn);
       listeners_are_supported = listeners_staying left;
-      groups_agree = groups_filter (stays left) left (groups_without (has_triad row.triad) t.rows sound.groups_agree);
+      groups_agree = groups_filter (stays left) left (groups_filter stays_there t.rows sound.groups_agree);
+      producers = producers_filter (stays left) t.profile t.next_id left (producers_filter stays_there t.profile t.next_id t.rows sound.producers);
       ids_are_left = sound.ids_are_left;
       few_streams = sound.few_streams;
       streams_differ = sound.streams_differ;
@@ -152,6 +173,7 @@ sound_kept f keeps t values sound = record {
   ids_are_drawn = drawn_kept f keeps t.profile t.next_id t.rows sound.ids_are_drawn;
   listeners_are_supported = listeners_kept f keeps t.rows sound.listeners_are_supported;
   groups_agree = groups_kept f keeps t.rows sound.groups_agree;
+  producers = producers_kept f keeps t.profile t.next_id t.rows sound.producers;
   ids_are_left = sound.ids_are_left;
   few_streams = sound.few_streams;
   streams_differ = sound.streams_differ;
@@ -161,19 +183,19 @@ sound_put : (t : AdapterTable) (point : ℕ) (bytes : List ℕ) → IsSound t �
 unfolding written_table
 sound_put t point bytes sound = sound_kept (written_row point) (written_keeps point) t (put_value point bytes t.values) sound
 
-pub sound_written : (t : AdapterTable) (point : ℕ) (bytes : List ℕ) → IsSound t → IsSound (prompt_table (written_table t point bytes) point)
-unfolding prompt_table
+pub sound_written : (t : AdapterTable) (point : ℕ) (bytes : List ℕ) → IsSound t → IsSound (changed_table (written_table t point bytes) point)
+unfolding changed_table
 sound_written t point bytes sound =
     let at = written_table t point bytes in
-    sound_kept (prompt_row at.clock point) (prompt_keeps at.clock point) at at.values (sound_put t point bytes sound)
+    sound_kept (changed_row at.clock point) (changed_keeps at.clock point) at at.values (sound_put t point bytes sound)
 
-pub sound_fed : (t : AdapterTable) (peer : Node) (d : DatagramFields) (row : Row) (delivery : Delivery) → IsSound t → IsSound (fed_table t peer d row delivery)
-unfolding fed_table
-sound_fed t peer d row delivery sound = sound_kept (fed_row t.clock peer d) (fed_keeps t.clock peer d) t (fed_values t.profile row.consumed d delivery t.values) sound
+pub sound_fed : (t : AdapterTable) (peer : Node) (d : DatagramFields) (row : Row) (delivery : Delivery) → IsSound t → IsSound (accepted_table t peer d row delivery)
+unfolding accepted_table
+sound_fed t peer d row delivery sound = sound_kept (accepted_if_for t.clock peer d) (fed_keeps t.clock peer d) t (accepted_values t.profile row.consumed d delivery t.values) sound
 
 sound_clocked : (t : AdapterTable) (ms : ℕ) → IsSound t → IsSound (clocked_table t ms)
 unfolding clocked_table
-sound_clocked t ms sound = record { few = sound.few; one_owner = sound.one_owner; triads_differ = sound.triads_differ; ids_differ = sound.ids_differ; ids_are_drawn = sound.ids_are_drawn; listeners_are_supported = sound.listeners_are_supported; groups_agree = sound.groups_agree; ids_are_left = sound.ids_are_left; few_streams = sound.few_streams; streams_differ = sound.streams_differ }
+sound_clocked t ms sound = record { few = sound.few; one_owner = sound.one_owner; triads_differ = sound.triads_differ; ids_differ = sound.ids_differ; ids_are_drawn = sound.ids_are_drawn; listeners_are_supported = sound.listeners_are_supported; groups_agree = sound.groups_agree; producers = sound.producers; ids_are_left = sound.ids_are_left; few_streams = sound.few_streams; streams_differ = sound.streams_differ }
 
 sound_expired : (t : AdapterTable) → IsSound t → IsSound (expired_table t)
 unfolding expired_table
@@ -188,6 +210,7 @@ sound_expired t sound =
       ids_are_drawn = drawn_filter (stays left) t.profile t.next_id left (drawn_expired t.clock t.profile t.next_id t.rows sound.ids_are_drawn);
       listeners_are_supported = listeners_staying left;
       groups_agree = groups_filter (stays left) left (groups_expired t.clock t.rows sound.groups_agree);
+      producers = producers_filter (stays left) t.profile t.next_id left (producers_expired t.clock t.profile t.next_id t.rows sound.producers);
       ids_are_left = sound.ids_are_left;
       few_streams = sound.few_streams;
       streams_differ = sound.streams_differ;
@@ -195,7 +218,7 @@ sound_expired t sound =
 
 sound_produced : (t : AdapterTable) → IsSound t → IsSound (produced_table t)
 unfolding produced_table
-sound_produced t sound = sound_kept (due_row t.clock) (due_keeps t.clock) t t.values sound
+sound_produced t sound = sound_kept (produced_row t.clock) (due_keeps t.clock) t t.values sound
 
 pub sound_elapsed : (t : AdapterTable) (ms : ℕ) → IsSound t → IsSound (produced_table (expired_table (clocked_table t ms)))
 sound_elapsed t ms sound = sound_produced (expired_table (clocked_table t ms)) (sound_expired (clocked_table t ms) (sound_clocked t ms sound))
@@ -211,6 +234,7 @@ sound_streams t streams few differ sound = record {
   ids_are_drawn = sound.ids_are_drawn;
   listeners_are_supported = sound.listeners_are_supported;
   groups_agree = sound.groups_agree;
+  producers = sound.producers;
   ids_are_left = sound.ids_are_left;
   few_streams = few;
   streams_differ = differ;
@@ -247,4 +271,4 @@ sound_effects = record {
 }
 
 pub sound_fresh : (profile : Profile) → IsSound (adapter_table profile)
-sound_fresh profile = record { few = omega arith; one_owner = λ point. omega arith; triads_differ = tt; ids_differ = tt; ids_are_drawn = tt; listeners_are_supported = refl; groups_agree = tt; ids_are_left = omega arith; few_streams = omega arith; streams_differ = tt }
+sound_fresh profile = record { few = omega arith; one_owner = λ point. omega arith; triads_differ = tt; ids_differ = tt; ids_are_drawn = tt; listeners_are_supported = refl; groups_agree = tt; producers = record { openings_rise = tt; are_drawn = tt; single = tt; multicast = tt; shared = tt }; ids_are_left = omega arith; few_streams = omega arith; streams_differ = tt }

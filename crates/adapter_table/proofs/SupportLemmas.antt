@@ -1,17 +1,20 @@
 -- No listener is left without support, whatever makes room, is appended or closed.
-use Rattle.std.proofs.Common.{◌≡◌, ℕ, Bool, true, false, cond, not, ◌||◌, ◌&&◌, List, [], ◌∷◌, ◌++◌, filter, refl, ◌∙◌, ap, inl, inr}
+use Rattle.std.proofs.Common.{◌≡◌, ◌<◌, ◌==◌, ℕ, Bool, true, false, cond, not, ◌||◌, ◌&&◌, List, [], ◌∷◌, ◌++◌, filter, find, Option, Some, None, arith, refl, ◌∙◌, ap, inl, inr}
 use Rattle.std.specs.List.{list_any}
 use Rattle.std.proofs.lemmas.Bool.{cases_Bool}
+use Rattle.std.proofs.lemmas.Bool.Decides.{nat_tests}
 use Rattle.std.proofs.lemmas.List.Folds.{list_any-append}
 use Rattle.cip_types.specs.declared.names.Triad.{Triad}
 use Rattle.adapter_table.specs.declared.row.Row.{Row}
 use Rattle.cip_productions.specs.declared.kind.Kind.{Kind}
 use Rattle.cip_productions.specs.declared.kind.Kind.TheVariants.{ExclusiveOwner, InputOnly, ListenOnly}
 use Rattle.cip_productions.specs.Kinds.{is_listener, same_kind}
-use Rattle.adapter_table.specs.Rows.{is_established, is_timed_out, has_triad, holds_triad, is_member, supports, is_supported, is_forsaken, without_first}
+use Rattle.adapter_table.specs.Rows.{is_established, is_timed_out, has_triad, holds_triad, is_member, supports, is_supported, is_unsupported, others, Each}
 use Rattle.adapter_table.specs.Closing.{stays, staying}
-use Rattle.adapter_table.specs.Sound.{ListenersAreSupported}
-use Rattle.adapter_table.proofs.SoundLemmas.{or_false, room_by}
+use Rattle.adapter_table.specs.Sound.{ListenersAreSupported, OpensBefore, OpeningsRise}
+use Rattle.adapter_table.specs.Opening.{is_opened_as, makes_room_by}
+use Rattle.adapter_table.proofs.SoundLemmas.{or_false, any_filter}
+use Rattle.adapter_table.proofs.EachLemmas.{each_found}
 
 and_parts : (a b : Bool) → (a && b) ≡ true → (a ≡ true) × (b ≡ true)
 and_parts true b h = (refl, h)
@@ -32,12 +35,10 @@ not_false false h = absurd cc
 -- ---- one that does not live makes room
 
 -- what passes the test does not live
-pub Gone : (Row → Bool) → List Row → Type 0
-Gone p [] = Unit {0}
-Gone p (row ∷ rows) = (p row ≡ true → is_established row ≡ false) × Gone p rows
+abbrev pub Gone : (Row → Bool) → List Row → Type 0
+Gone p rows = Each (λ row. p row ≡ true → is_established row ≡ false) rows
 
 gone_triad : (triad : Triad) (rows : List Row) → list_any (holds_triad triad) rows ≡ false → Gone (has_triad triad) rows
-unfolding Gone
 gone_triad triad [] none = tt
 gone_triad triad (row ∷ rows) none =
     let parts = or_false (holds_triad triad row) (list_any (holds_triad triad) rows) none in
@@ -46,35 +47,52 @@ gone_triad triad (row ∷ rows) none =
       held_not true b h has = absurd cc
       held_not false b h has = refl
 
-gone_timed_out : (rows : List Row) → Gone is_timed_out rows
-unfolding Gone
-gone_timed_out [] = tt
-gone_timed_out (row ∷ rows) = (λ out. not_true (is_established row) out, gone_timed_out rows)
+-- none of an opening number that is earlier than all
+gone_later : (found row : Row) (rows : List Row) → found ≡ row → Each (OpensBefore row) rows → Gone (is_opened_as (Some found)) rows
+gone_later found row [] is later = tt
+gone_later found row (other ∷ rows) is later =
+    let before : row.opening < other.opening = later.0 in
+    ((λ same. absurd (earlier row.opening other.opening found.opening before (ap (λ (r : Row). r.opening) is) same)), gone_later found row rows is later.1) where
+      earlier : (a b c : ℕ) → a < b → c ≡ a → (b == c) ≡ true → ⊥
+      earlier a b c less same is = grind (arith, nat_tests)
+
+gone_step : (b : Bool) (row : Row) (found : Option Row) (rows : List Row) → is_timed_out row ≡ b → Each (OpensBefore row) rows → ((other : Row) → found ≡ Some other → row.opening < other.opening) → Gone (is_opened_as found) rows → Gone (is_opened_as (cond b (Some row) found)) (row ∷ rows)
+gone_step true row found rows out later after rest = ((λ _. not_true (is_established row) out), gone_later row row rows refl later)
+gone_step false row None rows out later after rest = ((λ same. absurd cc), rest)
+gone_step false row (Some other) rows out later after rest =
+    let before = after other refl in
+    ((λ same. absurd (earlier row.opening other.opening before same)), rest) where
+      earlier : (a b : ℕ) → a < b → (a == b) ≡ true → ⊥
+      earlier a b less same = grind (arith, nat_tests)
+
+-- of the first timed-out one's opening number there is no other
+gone_timed_out : (rows : List Row) → OpeningsRise rows → Gone (is_opened_as (find is_timed_out rows)) rows
+gone_timed_out [] rise = tt
+gone_timed_out (row ∷ rows) rise =
+    gone_step (is_timed_out row) row (find is_timed_out rows) rows refl rise.0 (λ other is. each_found (OpensBefore row) is_timed_out rows other is rise.0) (gone_timed_out rows rise.1)
 
 gone_none : (rows : List Row) → Gone (λ _. false) rows
-unfolding Gone
 gone_none [] = tt
 gone_none (row ∷ rows) = (λ out. absurd cc, gone_none rows)
 
-pub gone_room : (b c : Bool) (triad : Triad) (rows : List Row) → list_any (holds_triad triad) rows ≡ false → Gone (room_by b c triad) rows
-gone_room true c triad rows none = gone_triad triad rows none
-gone_room false true triad rows none = gone_timed_out rows
-gone_room false false triad rows none = gone_none rows
+pub gone_room : (b c : Bool) (triad : Triad) (rows : List Row) → list_any (holds_triad triad) rows ≡ false → OpeningsRise rows → Gone (makes_room_by b c (find is_timed_out rows) triad) rows
+gone_room true c triad rows none rise = gone_triad triad rows none
+gone_room false true triad rows none rise = gone_timed_out rows rise
+gone_room false false triad rows none rise = gone_none rows
 
 -- what lives is still there
-kept_step : (b : Bool) (q : Row → Bool) (row : Row) (rows without : List Row) → ((r : Row) → q r ≡ true → is_established r ≡ true) → (b ≡ true → is_established row ≡ false) → list_any q without ≡ list_any q rows → list_any q (cond b rows (row ∷ without)) ≡ list_any q (row ∷ rows)
-kept_step true q row rows without lives gone rest =
+kept_step : (b : Bool) (q : Row → Bool) (row : Row) (rows left : List Row) → ((r : Row) → q r ≡ true → is_established r ≡ true) → (b ≡ true → is_established row ≡ false) → list_any q left ≡ list_any q rows → list_any q (cond (not b) (row ∷ left) left) ≡ list_any q (row ∷ rows)
+kept_step true q row rows left lives gone rest =
     let dead = gone refl in
     elim (cases_Bool (q row)) [
       | inl t ↦ absurd (let e = lives row t in cc)
-      | inr f ↦ rw f refl
+      | inr f ↦ rw f rest
     ]
-kept_step false q row rows without lives gone rest = ap (λ (x : Bool). q row || x) rest
+kept_step false q row rows left lives gone rest = ap (λ (x : Bool). q row || x) rest
 
-pub any_kept : (p q : Row → Bool) (rows : List Row) → ((r : Row) → q r ≡ true → is_established r ≡ true) → Gone p rows → list_any q (without_first p rows) ≡ list_any q rows
-unfolding Gone
+pub any_kept : (p q : Row → Bool) (rows : List Row) → ((r : Row) → q r ≡ true → is_established r ≡ true) → Gone p rows → list_any q (others p rows) ≡ list_any q rows
 any_kept p q [] lives gone = refl
-any_kept p q (row ∷ rows) lives gone = kept_step (p row) q row rows (without_first p rows) lives gone.0 (any_kept p q rows lives gone.1)
+any_kept p q (row ∷ rows) lives gone = kept_step (p row) q row rows (others p rows) lives gone.0 (any_kept p q rows lives gone.1)
 
 supporter_lives : (kind : Kind) (point : ℕ) (row : Row) → supports kind point row ≡ true → is_established row ≡ true
 supporter_lives kind point row is = (and_parts (is_established row) _ (and_parts (is_member point row) _ is).0).0
@@ -88,18 +106,9 @@ any_less p q (row ∷ rows) less none =
     let parts = or_false (p row) (list_any p rows) none in
     rw (less row parts.0) (any_less p q rows less parts.1)
 
-any_less_without : (p q t : Row → Bool) (rows : List Row) → ((r : Row) → p r ≡ false → q r ≡ false) → list_any p rows ≡ false → list_any q (without_first t rows) ≡ false
-any_less_without p q t [] less none = refl
-any_less_without p q t (row ∷ rows) less none =
-    let parts = or_false (p row) (list_any p rows) none in
-    elim (t row) as (λ b. list_any q (cond b rows (row ∷ without_first t rows)) ≡ false) [
-      | true ↦ any_less p q rows less parts.1
-      | false ↦ rw (less row parts.0) (any_less_without p q t rows less parts.1)
-    ]
-
 -- more rows to support leave no more without support
-less_forsaken : (rows more : List Row) → ((kind : Kind) (point : ℕ) → is_supported rows kind point ≡ true → is_supported more kind point ≡ true) → (row : Row) → is_forsaken rows row ≡ false → is_forsaken more row ≡ false
-less_forsaken rows more all row none = less_step (is_established row) (is_listener row.kind) (is_supported rows row.kind row.produced) (is_supported more row.kind row.produced) (all row.kind row.produced) none where
+less_unsupported : (rows more : List Row) → ((kind : Kind) (point : ℕ) → is_supported rows kind point ≡ true → is_supported more kind point ≡ true) → (row : Row) → is_unsupported rows row ≡ false → is_unsupported more row ≡ false
+less_unsupported rows more all row none = less_step (is_established row) (is_listener row.kind) (is_supported rows row.kind row.produced) (is_supported more row.kind row.produced) (all row.kind row.produced) none where
   less_step : (a b c d : Bool) → (c ≡ true → d ≡ true) → (a && (b && not c)) ≡ false → (a && (b && not d)) ≡ false
   less_step true true true d more none = rw (more refl) refl
   less_step true true false d more none = absurd cc
@@ -114,25 +123,25 @@ or_left : (a b : Bool) → a ≡ true → (a || b) ≡ true
 or_left true b h = refl
 or_left false b h = absurd cc
 
-supported_opened : (b c : Bool) (triad : Triad) (rows : List Row) (new : Row) → list_any (holds_triad triad) rows ≡ false → (kind : Kind) (point : ℕ) → is_supported rows kind point ≡ true → is_supported (without_first (room_by b c triad) rows ++ new ∷ []) kind point ≡ true
-supported_opened b c triad rows new free kind point is =
-    let kept = any_kept (room_by b c triad) (supports kind point) rows (supporter_lives kind point) (gone_room b c triad rows free) in
-    list_any-append (supports kind point) (without_first (room_by b c triad) rows) (new ∷ []) ∙ or_left _ _ (kept ∙ is)
+supported_opened : (b c : Bool) (triad : Triad) (rows : List Row) (new : Row) → list_any (holds_triad triad) rows ≡ false → OpeningsRise rows → (kind : Kind) (point : ℕ) → is_supported rows kind point ≡ true → is_supported (others (makes_room_by b c (find is_timed_out rows) triad) rows ++ new ∷ []) kind point ≡ true
+supported_opened b c triad rows new free rise kind point is =
+    let kept = any_kept (makes_room_by b c (find is_timed_out rows) triad) (supports kind point) rows (supporter_lives kind point) (gone_room b c triad rows free rise) in
+    list_any-append (supports kind point) (others (makes_room_by b c (find is_timed_out rows) triad) rows) (new ∷ []) ∙ or_left _ _ (kept ∙ is)
 
 -- a listener that is opened is supported
-new_supported : (rows more : List Row) (new : Row) → (is_listener new.kind && not (is_supported rows new.kind new.produced)) ≡ false → ((kind : Kind) (point : ℕ) → is_supported rows kind point ≡ true → is_supported more kind point ≡ true) → is_forsaken more new ≡ false
-new_supported rows more new alone all = less_forsaken rows more all new (and_less (is_established new) _ alone) where
+new_supported : (rows more : List Row) (new : Row) → (is_listener new.kind && not (is_supported rows new.kind new.produced)) ≡ false → ((kind : Kind) (point : ℕ) → is_supported rows kind point ≡ true → is_supported more kind point ≡ true) → is_unsupported more new ≡ false
+new_supported rows more new alone all = less_unsupported rows more all new (and_less (is_established new) _ alone) where
   and_less : (a b : Bool) → b ≡ false → (a && b) ≡ false
   and_less true b h = h
   and_less false b h = refl
 
-pub listeners_opened : (b c : Bool) (triad : Triad) (rows : List Row) (new : Row) → list_any (holds_triad triad) rows ≡ false → (is_listener new.kind && not (is_supported rows new.kind new.produced)) ≡ false → ListenersAreSupported rows → ListenersAreSupported (without_first (room_by b c triad) rows ++ new ∷ [])
-listeners_opened b c triad rows new free alone supported =
-    let all = without_first (room_by b c triad) rows ++ new ∷ [] in
-    let more = supported_opened b c triad rows new free in
-    let old = any_less_without (is_forsaken rows) (is_forsaken (without_first (room_by b c triad) rows ++ new ∷ [])) (room_by b c triad) rows (less_forsaken rows (without_first (room_by b c triad) rows ++ new ∷ []) more) supported in
-    let fresh = new_supported rows (without_first (room_by b c triad) rows ++ new ∷ []) new alone more in
-    rw (list_any-append (is_forsaken (without_first (room_by b c triad) rows ++ new ∷ [])) (without_first (room_by b c triad) rows) (new ∷ []), old, fresh) refl
+pub listeners_opened : (b c : Bool) (triad : Triad) (rows : List Row) (new : Row) → list_any (holds_triad triad) rows ≡ false → OpeningsRise rows → (is_listener new.kind && not (is_supported rows new.kind new.produced)) ≡ false → ListenersAreSupported rows → ListenersAreSupported (others (makes_room_by b c (find is_timed_out rows) triad) rows ++ new ∷ [])
+listeners_opened b c triad rows new free rise alone supported =
+    let all = others (makes_room_by b c (find is_timed_out rows) triad) rows ++ new ∷ [] in
+    let more = supported_opened b c triad rows new free rise in
+    let old = any_filter (λ row. not (makes_room_by b c (find is_timed_out rows) triad row)) (is_unsupported all) rows (any_less (is_unsupported rows) (is_unsupported all) rows (less_unsupported rows all more) supported) in
+    let fresh = new_supported rows (others (makes_room_by b c (find is_timed_out rows) triad) rows ++ new ∷ []) new alone more in
+    rw (list_any-append (is_unsupported (others (makes_room_by b c (find is_timed_out rows) triad) rows ++ new ∷ [])) (others (makes_room_by b c (find is_timed_out rows) triad) rows) (new ∷ []), old, fresh) refl
 
 -- ---- the listeners that are left alone go
 
@@ -171,22 +180,22 @@ supported_left all [] kind point listens is = absurd cc
 supported_left all (row ∷ rows) kind point listens is =
     filtered_step (stays all row) (supports kind point) row rows (filter (stays all) rows) (stays_there all kind point row listens) (supported_left all rows kind point listens) is
 
-left_not_forsaken : (rows : List Row) (row : Row) → is_forsaken rows row ≡ false → is_forsaken (staying rows) row ≡ false
-left_not_forsaken rows row none = left_step (is_established row) (is_listener row.kind) (is_supported rows row.kind row.produced) (is_supported (staying rows) row.kind row.produced) (supported_left rows rows row.kind row.produced) none where
+left_not_unsupported : (rows : List Row) (row : Row) → is_unsupported rows row ≡ false → is_unsupported (staying rows) row ≡ false
+left_not_unsupported rows row none = left_step (is_established row) (is_listener row.kind) (is_supported rows row.kind row.produced) (is_supported (staying rows) row.kind row.produced) (supported_left rows rows row.kind row.produced) none where
   left_step : (a b c d : Bool) → (b ≡ true → c ≡ true → d ≡ true) → (a && (b && not c)) ≡ false → (a && (b && not d)) ≡ false
   left_step true true true d more none = rw (more refl refl) refl
   left_step true true false d more none = absurd cc
   left_step true false c d more none = refl
   left_step false b c d more none = refl
 
-staying_step : (b : Bool) (all : List Row) (row : Row) (kept : List Row) → stays all row ≡ b → list_any (is_forsaken (staying all)) kept ≡ false → list_any (is_forsaken (staying all)) (cond b (row ∷ kept) kept) ≡ false
-staying_step true all row kept is rest = rw (left_not_forsaken all row (not_not (is_forsaken all row) is)) rest where
+staying_step : (b : Bool) (all : List Row) (row : Row) (kept : List Row) → stays all row ≡ b → list_any (is_unsupported (staying all)) kept ≡ false → list_any (is_unsupported (staying all)) (cond b (row ∷ kept) kept) ≡ false
+staying_step true all row kept is rest = rw (left_not_unsupported all row (not_not (is_unsupported all row) is)) rest where
   not_not : (b : Bool) → not b ≡ true → b ≡ false
   not_not true h = absurd cc
   not_not false h = refl
 staying_step false all row kept is rest = rest
 
-staying_supported : (all rows : List Row) → list_any (is_forsaken (staying all)) (filter (stays all) rows) ≡ false
+staying_supported : (all rows : List Row) → list_any (is_unsupported (staying all)) (filter (stays all) rows) ≡ false
 staying_supported all [] = refl
 staying_supported all (row ∷ rows) = staying_step (stays all row) all row (filter (stays all) rows) refl (staying_supported all rows)
 

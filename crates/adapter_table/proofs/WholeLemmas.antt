@@ -1,5 +1,6 @@
 -- Connections stay within the limits of their adapter.
-use Rattle.std.proofs.Common.{◌≡◌, ◌≤◌, ◌<◌, ℕ, ◌+◌, ◌^◌, ◌==◌, nat_lt, nat_le, Bool, true, false, cond, List, [], ◌∷◌, ◌++◌, map, filter, find, Option, Some, None, Ok, refl, sym, arith}
+use Rattle.std.proofs.Common.{◌≡◌, ◌≤◌, ◌<◌, ℕ, ◌+◌, ◌*◌, ◌^◌, ◌==◌, nat_lt, nat_le, Bool, true, false, cond, List, [], ◌∷◌, Option, Some, None, Ok, refl, sym, arith, lit<, le_trans}
+use Rattle.std.proofs.Math.Nat.{pow-le-pow_right, mul-le-mul_left, mul-le-mul_right}
 use Rattle.std.specs.Prelude.{IsTrue}
 use Rattle.std.proofs.lemmas.Bool.{not-false, and_parts, or_parts}
 use Rattle.std.proofs.lemmas.Bool.Decides.{nat_tests}
@@ -7,7 +8,7 @@ use Rattle.cip_types.specs.declared.names.Node.{Node}
 use Rattle.cip_types.specs.declared.names.Ms.{Ms}
 use Rattle.cip_netparams.specs.declared.Trigger.{Trigger}
 use Rattle.cip_netparams.specs.declared.Trigger.TheVariants.{Cyclic, ChangeOfState}
-use Rattle.cip_netparams.specs.Rate.{is_interval, interval_ms}
+use Rattle.cip_netparams.specs.Rate.{is_interval, interval_ms, timeout}
 use Rattle.cip_datagram.specs.Datagram.{DatagramFields}
 use Rattle.cip_fwdopen.specs.Open.{OpenFields}
 use Rattle.adapter_table.specs.declared.profile.Profile.{Profile}
@@ -16,55 +17,38 @@ use Rattle.adapter_table.specs.declared.row.Row.{Row}
 use Rattle.adapter_table.specs.declared.row.State.{State}
 use Rattle.adapter_table.specs.declared.row.State.TheVariants.{Established, TimedOut}
 use Rattle.adapter_table.specs.declared.table.AdapterTable.{AdapterTable}
-use Rattle.adapter_table.specs.Rows.{is_member, without_first, written_state, written_row}
-use Rattle.adapter_table.specs.Checks.{Admitted, standing, verdict, is_multicast, group_of, joined, drawn_ids}
+use Rattle.adapter_table.specs.Rows.{is_member, written_state, written_row}
+use Rattle.adapter_table.specs.Checks.{Admitted, admission, group_of, joined, drawn_ids}
 use Rattle.adapter_table.specs.Opening.{opened_row, opened_state}
-use Rattle.adapter_table.specs.Datagrams.{is_for, accepted_row, fed_row}
-use Rattle.adapter_table.specs.Productions.{due_of, due_state, due_row, prompt_by, prompt_state, prompt_row}
-use Rattle.cip_productions.specs.Productions.{due_again, produced, is_free, sooner_due, held}
+use Rattle.adapter_table.specs.Datagrams.{is_for, accepted_row, accepted_if_for}
+use Rattle.adapter_table.specs.Productions.{due_of, produced_state, produced_row, changed_state, changed_row}
+use Rattle.cip_productions.specs.Productions.{due_again, produced, is_free, sooner_due, held, changed_by}
 use Rattle.adapter_table.specs.Ticks.{has_expired, expired_row}
 use Rattle.adapter_table.specs.Sound.{IdsAreDrawn}
 use Rattle.adapter_table.specs.Whole.{FitsRow, RowsFit, IsWhole}
-use Rattle.adapter_table.proofs.CheckLemmas.{admitted_is, draws_some, ids_left}
-use Rattle.adapter_table.proofs.EachLemmas.{each_without, each_filter, each_append, each_map, each_found}
-
--- ---- lists
-
-pub fits_without : (p : Row → Bool) (profile : Profile) (rows : List Row) → RowsFit profile rows → RowsFit profile (without_first p rows)
-fits_without p profile rows fit = each_without (FitsRow profile) p rows fit
-
-pub fits_filter : (p : Row → Bool) (profile : Profile) (rows : List Row) → RowsFit profile rows → RowsFit profile (filter p rows)
-fits_filter p profile rows fit = each_filter (FitsRow profile) p rows fit
-
-pub fits_append : (profile : Profile) (rows : List Row) (new : Row) → RowsFit profile rows → FitsRow profile new → RowsFit profile (rows ++ new ∷ [])
-fits_append profile rows new fit new_fits = each_append (FitsRow profile) rows new fit new_fits
-
-pub fits_map : (f : Row → Row) (profile : Profile) → ((row : Row) → FitsRow profile row → FitsRow profile (f row)) → (rows : List Row) → RowsFit profile rows → RowsFit profile (map f rows)
-fits_map f profile keeps rows fit = each_map (FitsRow profile) f keeps rows fit
-
--- what is found among them is one of them
-pub fits_found : (p : Row → Bool) (profile : Profile) (rows : List Row) (row : Row) → find p rows ≡ Some row → RowsFit profile rows → FitsRow profile row
-fits_found p profile rows row is fit = each_found (FitsRow profile) p rows row is fit
+use Rattle.adapter_table.proofs.CheckLemmas.{admitted_is, draws_some}
+use Rattle.adapter_table.proofs.ProducerLemmas.{producers_later}
+use Rattle.adapter_table.proofs.EachLemmas.{each_found}
 
 -- ---- the state alone is changed
 
-fits_stated : (profile : Profile) (row : Row) (state : State) → due_of state ≤ 2 ^ 48 + 10000 → FitsRow profile row → FitsRow profile (record row { state = state })
-fits_stated profile row state due fits = record { multiplier = fits.multiplier; o_t_api = fits.o_t_api; t_o_api = fits.t_o_api; due = due }
+fits_stated : (row : Row) (state : State) → due_of state ≤ 2 ^ 48 + 10000 → FitsRow row → FitsRow (record row { state = state })
+fits_stated row state due fits = record { multiplier = fits.multiplier; o_t_api = fits.o_t_api; t_o_api = fits.t_o_api; due = due }
 
-fits_chosen : (b : Bool) (profile : Profile) (row : Row) (state : State) → due_of state ≤ 2 ^ 48 + 10000 → FitsRow profile row → FitsRow profile (cond b (record row { state = state }) row)
-fits_chosen true profile row state due fits = fits_stated profile row state due fits
-fits_chosen false profile row state due fits = fits
+fits_chosen : (b : Bool) (row : Row) (state : State) → due_of state ≤ 2 ^ 48 + 10000 → FitsRow row → FitsRow (cond b (record row { state = state }) row)
+fits_chosen true row state due fits = fits_stated row state due fits
+fits_chosen false row state due fits = fits
 
 due_written : (state : State) → due_of (written_state state) ≡ due_of state
 due_written (Established production) = refl
 due_written TimedOut = refl
 
-pub fits_written : (point : ℕ) (profile : Profile) (row : Row) → FitsRow profile row → FitsRow profile (written_row point row)
-fits_written point profile row fits =
-    fits_chosen (row.produced == point) profile row (written_state row.state) (rw due_written fits.due) fits
+pub fits_written : (point : ℕ) (row : Row) → FitsRow row → FitsRow (written_row point row)
+fits_written point row fits =
+    fits_chosen (row.produced == point) row (written_state row.state) (rw due_written fits.due) fits
 
-pub fits_expired : (clock : Ms) (profile : Profile) (row : Row) → FitsRow profile row → FitsRow profile (expired_row clock row)
-fits_expired clock profile row fits = fits_chosen (has_expired clock row) profile row TimedOut (omega arith) fits
+pub fits_expired : (clock : Ms) (row : Row) → FitsRow row → FitsRow (expired_row clock row)
+fits_expired clock row fits = fits_chosen (has_expired clock row) row TimedOut (omega arith) fits
 
 -- a production is due again within its packet interval
 again_step : (b : Bool) (clock due api : ℕ) → nat_lt clock (due + api) ≡ b → clock ≤ 2 ^ 48 → due ≤ clock → api ≤ 10000 → cond b (due + api) (clock + api) ≤ 2 ^ 48 + 10000
@@ -82,84 +66,99 @@ due_step : (b : Bool) (clock : Ms) (api : ℕ) (production : Production) → nat
 due_step true clock api production is time short due = again_fits production.trigger clock.0 production.due.0 api time (le_of _ _ is) short
 due_step false clock api production is time short due = due
 
-due_fits : (clock : Ms) (api : ℕ) (state : State) → clock.0 ≤ 2 ^ 48 → api ≤ 10000 → due_of state ≤ 2 ^ 48 + 10000 → due_of (due_state clock api state) ≤ 2 ^ 48 + 10000
+due_fits : (clock : Ms) (api : ℕ) (state : State) → clock.0 ≤ 2 ^ 48 → api ≤ 10000 → due_of state ≤ 2 ^ 48 + 10000 → due_of (produced_state clock api state) ≤ 2 ^ 48 + 10000
 due_fits clock api (Established production) time short due = due_step (nat_le production.due.0 clock.0) clock api production refl time short due
 due_fits clock api TimedOut time short due = due
 
-pub fits_due : (clock : Ms) (profile : Profile) → clock.0 ≤ 2 ^ 48 → (row : Row) → FitsRow profile row → FitsRow profile (due_row clock row)
-fits_due clock profile time row fits = fits_stated profile row (due_state clock row.t_o_api row.state) (due_fits clock row.t_o_api row.state time fits.t_o_api fits.due) fits
+pub fits_due : (clock : Ms) → clock.0 ≤ 2 ^ 48 → (row : Row) → FitsRow row → FitsRow (produced_row clock row)
+fits_due clock time row fits = fits_stated row (produced_state clock row.t_o_api row.state) (due_fits clock row.t_o_api row.state time fits.t_o_api fits.due) fits
 
 sooner_fits : (last : Option Ms) (inhibit : ℕ) (due : Ms) → due.0 ≤ 2 ^ 48 + 10000 → (sooner_due last inhibit due).0 ≤ 2 ^ 48 + 10000
 sooner_fits None inhibit due fits = fits
 sooner_fits (Some last) inhibit due fits = omega arith
 
-prompt_step : (b : Bool) (clock : Ms) (api : ℕ) (production : Production) → production.trigger ≡ ChangeOfState → clock.0 ≤ 2 ^ 48 → api ≤ 10000 → production.due.0 ≤ 2 ^ 48 + 10000 → due_of (Established (cond b (produced clock api production) (held production))) ≤ 2 ^ 48 + 10000
-prompt_step true clock api production is time short due = rw is (omega arith)
-prompt_step false clock api production is time short due = sooner_fits production.last production.inhibit production.due due
+changed_step : (b : Bool) (clock : Ms) (api : ℕ) (production : Production) → production.trigger ≡ ChangeOfState → clock.0 ≤ 2 ^ 48 → api ≤ 10000 → production.due.0 ≤ 2 ^ 48 + 10000 → due_of (Established (cond b (produced clock api production) (held production))) ≤ 2 ^ 48 + 10000
+changed_step true clock api production is time short due = rw is (omega arith)
+changed_step false clock api production is time short due = sooner_fits production.last production.inhibit production.due due
 
-prompt_by_fits : (trigger : Trigger) (clock : Ms) (api : ℕ) (production : Production) → production.trigger ≡ trigger → clock.0 ≤ 2 ^ 48 → api ≤ 10000 → production.due.0 ≤ 2 ^ 48 + 10000 → due_of (prompt_by trigger clock api production) ≤ 2 ^ 48 + 10000
-prompt_by_fits Cyclic clock api production is time short due = due
-prompt_by_fits ChangeOfState clock api production is time short due = prompt_step (is_free clock production) clock api production is time short due
+changed_by_fits : (trigger : Trigger) (clock : Ms) (api : ℕ) (production : Production) → production.trigger ≡ trigger → clock.0 ≤ 2 ^ 48 → api ≤ 10000 → production.due.0 ≤ 2 ^ 48 + 10000 → (changed_by trigger clock api production).due.0 ≤ 2 ^ 48 + 10000
+changed_by_fits Cyclic clock api production is time short due = due
+changed_by_fits ChangeOfState clock api production is time short due = changed_step (is_free clock production) clock api production is time short due
 
-prompt_fits : (clock : Ms) (api : ℕ) (state : State) → clock.0 ≤ 2 ^ 48 → api ≤ 10000 → due_of state ≤ 2 ^ 48 + 10000 → due_of (prompt_state clock api state) ≤ 2 ^ 48 + 10000
-prompt_fits clock api (Established production) time short due = prompt_by_fits production.trigger clock api production refl time short due
-prompt_fits clock api TimedOut time short due = due
+changed_fits : (clock : Ms) (api : ℕ) (state : State) → clock.0 ≤ 2 ^ 48 → api ≤ 10000 → due_of state ≤ 2 ^ 48 + 10000 → due_of (changed_state clock api state) ≤ 2 ^ 48 + 10000
+changed_fits clock api (Established production) time short due = changed_by_fits production.trigger clock api production refl time short due
+changed_fits clock api TimedOut time short due = due
 
-pub fits_prompt : (clock : Ms) (point : ℕ) (profile : Profile) → clock.0 ≤ 2 ^ 48 → (row : Row) → FitsRow profile row → FitsRow profile (prompt_row clock point row)
-fits_prompt clock point profile time row fits =
-    fits_chosen (row.produced == point) profile row (prompt_state clock row.t_o_api row.state) (prompt_fits clock row.t_o_api row.state time fits.t_o_api fits.due) fits
+pub fits_changed : (clock : Ms) (point : ℕ) → clock.0 ≤ 2 ^ 48 → (row : Row) → FitsRow row → FitsRow (changed_row clock point row)
+fits_changed clock point time row fits =
+    fits_chosen (row.produced == point) row (changed_state clock row.t_o_api row.state) (changed_fits clock row.t_o_api row.state time fits.t_o_api fits.due) fits
 
 -- ---- a datagram is accepted
 
-fed_step : (b : Bool) (clock : Ms) (d : DatagramFields) (profile : Profile) (row : Row) → FitsRow profile row → FitsRow profile (cond b (accepted_row clock d row) row)
-fed_step true clock d profile row fits = record { multiplier = fits.multiplier; o_t_api = fits.o_t_api; t_o_api = fits.t_o_api; due = fits.due }
-fed_step false clock d profile row fits = fits
+fed_step : (b : Bool) (clock : Ms) (d : DatagramFields) (row : Row) → FitsRow row → FitsRow (cond b (accepted_row clock d row) row)
+fed_step true clock d row fits = record { multiplier = fits.multiplier; o_t_api = fits.o_t_api; t_o_api = fits.t_o_api; due = fits.due }
+fed_step false clock d row fits = fits
 
-pub fits_fed : (clock : Ms) (peer : Node) (d : DatagramFields) (profile : Profile) (row : Row) → FitsRow profile row → FitsRow profile (fed_row clock peer d row)
-fits_fed clock peer d profile row fits = fed_step (is_for peer d.connection row) clock d profile row fits
+pub fits_fed : (clock : Ms) (peer : Node) (d : DatagramFields) (row : Row) → FitsRow row → FitsRow (accepted_if_for clock peer d row)
+fits_fed clock peer d row fits = fed_step (is_for peer d.connection row) clock d row fits
 
 -- ---- a connection is opened
 
 -- what the times and the id of an admitted request are
-pub record IsTimed (t : AdapterTable) (request : OpenFields) (group : Option Row) : Type 0 where
-  pub o_t : IsTrue (is_interval request.o_t_rpi)
-  pub t_o : IsTrue (is_interval request.t_o_rpi)
-  pub waits : request.multiplier ≤ 7
-  pub left : t.next_id + drawn_ids request group ≤ 16777216
-  pub draws : 1 ≤ drawn_ids request group
+pub record IsTimed (t : AdapterTable) (request : OpenFields) (admitted : Admitted) : Type 0 where
+  pub multiplier : request.multiplier ≤ 7
+  pub o_t_api : admitted.o_t_api ≤ 10000
+  pub t_o_api : admitted.t_o_api ≤ 10000
+  pub watchdog : admitted.watchdog.0 ≤ 5120000
+  pub left : t.next_id + drawn_ids admitted.multicast admitted.group ≤ 16777216
+  pub draws : 1 ≤ drawn_ids admitted.multicast admitted.group
 
 multiplier_fits : (m : ℕ) → nat_lt 7 m ≡ false → m ≤ 7
 multiplier_fits m h = grind (arith, nat_tests)
 
-pub is_timed : (t : AdapterTable) (request : OpenFields) (admitted : Admitted) → verdict (standing t) request ≡ Ok admitted → IsTimed t request admitted.group
-is_timed t request admitted e =
-    let is = admitted_is (standing t) request admitted e in
-    let both = and_parts (is_interval request.o_t_rpi) (is_interval request.t_o_rpi) (not-false _ is.are_intervals) in
-    let served = or_parts (nat_lt 7 request.multiplier) _ is.is_served in
-    let left = ids_left t.rows t.next_id (drawn_ids request admitted.group) is.not_used_up in
-    record { o_t = both.0; t_o = both.1; waits = multiplier_fits request.multiplier served.0; left = left; draws = draws_some request admitted.group }
-
 pub interval_fits : (rpi : ℕ) → IsTrue (is_interval rpi) → interval_ms rpi ≤ 10000
 interval_fits rpi is = grind (arith, nat_tests)
 
-group_fits : (b : Bool) (profile : Profile) (rows : List Row) (point : ℕ) (member : Row) → cond b (group_of rows point) None ≡ Some member → RowsFit profile rows → due_of member.state ≤ 2 ^ 48 + 10000
-group_fits true profile rows point member is fit = (fits_found (is_member point) profile rows member is fit).due
-group_fits false profile rows point member is fit = absurd cc
+timeout_fits : (multiplier api : ℕ) → multiplier ≤ 7 → api ≤ 10000 → timeout multiplier api ≤ 5120000
+timeout_fits multiplier api few short =
+    let power : 2 ^ multiplier ≤ 2 ^ 7 = pow-le-pow_right (lit< tt) few in
+    le_trans (mul-le-mul_right api (mul-le-mul_left 4 power)) (mul-le-mul_left (4 * 2 ^ 7) short)
 
-due_opened : (t : AdapterTable) (peer : Node) (request : OpenFields) (admitted : Admitted) (group : Option Row) → (admitted.group ≡ group) → group ≡ joined t.rows request admitted.path.produced → RowsFit t.profile t.rows → t.clock.0 ≤ 2 ^ 48 → due_of (opened_state t peer request admitted.path group) ≤ 2 ^ 48 + 10000
-due_opened t peer request admitted None known is fit time = omega arith
-due_opened t peer request admitted (Some member) known is fit time = group_fits (is_multicast request.t_o_params.kind) t.profile t.rows admitted.path.produced member (sym is) fit
+pub is_timed : (t : AdapterTable) (request : OpenFields) (admitted : Admitted) → admission t request ≡ Ok admitted → IsTimed t request admitted
+is_timed t request admitted e =
+    let is = admitted_is t request admitted e in
+    let both = and_parts (is_interval request.o_t_rpi) (is_interval request.t_o_rpi) (not-false _ is.are_intervals) in
+    let served = or_parts (nat_lt 7 request.multiplier) _ is.is_served in
+    let few = multiplier_fits request.multiplier served.0 in
+    let o_t = interval_fits request.o_t_rpi both.0 in
+    let t_o = interval_fits request.t_o_rpi both.1 in
+    record {
+      multiplier = few;
+      o_t_api = rw is.o_t_api o_t;
+      t_o_api = rw is.t_o_api t_o;
+      watchdog = rw is.watchdog (timeout_fits request.multiplier (interval_ms request.o_t_rpi) few o_t);
+      left = is.ids_are_left;
+      draws = draws_some admitted.multicast admitted.group;
+    }
 
-pub fits_opened : (t : AdapterTable) (peer : Node) (request : OpenFields) (admitted : Admitted) → verdict (standing t) request ≡ Ok admitted → RowsFit t.profile t.rows → t.clock.0 ≤ 2 ^ 48 → FitsRow t.profile (opened_row t peer request admitted)
+group_fits : (b : Bool) (rows : List Row) (point : ℕ) (member : Row) → cond b (group_of rows point) None ≡ Some member → RowsFit rows → due_of member.state ≤ 2 ^ 48 + 10000
+group_fits true rows point member is fit = (each_found FitsRow (is_member point) rows member is fit).due
+group_fits false rows point member is fit = absurd cc
+
+due_opened : (t : AdapterTable) (peer : Node) (admitted : Admitted) (group : Option Row) → group ≡ joined admitted.multicast (group_of t.rows admitted.produced) → RowsFit t.rows → t.clock.0 ≤ 2 ^ 48 → due_of (opened_state t peer admitted group) ≤ 2 ^ 48 + 10000
+due_opened t peer admitted None is fit time = omega arith
+due_opened t peer admitted (Some member) is fit time = group_fits admitted.multicast t.rows admitted.produced member (sym is) fit
+
+pub fits_opened : (t : AdapterTable) (peer : Node) (request : OpenFields) (admitted : Admitted) → admission t request ≡ Ok admitted → RowsFit t.rows → t.clock.0 ≤ 2 ^ 48 → FitsRow (opened_row t peer request admitted)
 unfolding opened_row
 fits_opened t peer request admitted e fit time =
-    let is = admitted_is (standing t) request admitted e in
+    let is = admitted_is t request admitted e in
     let timed = is_timed t request admitted e in
     record {
-      multiplier = timed.waits;
-      o_t_api = interval_fits request.o_t_rpi timed.o_t;
-      t_o_api = interval_fits request.t_o_rpi timed.t_o;
-      due = due_opened t peer request admitted admitted.group refl is.group_is fit time;
+      multiplier = timed.multiplier;
+      o_t_api = timed.o_t_api;
+      t_o_api = timed.t_o_api;
+      due = due_opened t peer admitted admitted.group is.group_is fit time;
     }
 
 -- ---- ids are passed over
@@ -182,6 +181,7 @@ whole_later t counter later last whole =
         ids_are_drawn = drawn_later t.profile t.next_id counter t.rows later sound.ids_are_drawn;
         listeners_are_supported = sound.listeners_are_supported;
         groups_agree = sound.groups_agree;
+        producers = producers_later t.profile t.next_id counter t.rows later sound.producers;
         ids_are_left = last;
         few_streams = sound.few_streams;
         streams_differ = sound.streams_differ;

@@ -1,5 +1,5 @@
 -- Each effect keeps a table whole, and so do each step and each run.
-use Rattle.std.proofs.Common.{◌≡◌, ◌≤◌, ℕ, ◌+◌, ◌^◌, false, List, length, map, find, Some, None, Ok, refl, arith}
+use Rattle.std.proofs.Common.{Bool, not, ◌≡◌, ◌≤◌, ℕ, ◌+◌, ◌^◌, false, List, length, map, find, Some, None, Ok, refl, sym, ◌∙◌, arith}
 use Rattle.cip_types.specs.declared.names.Ms.{Ms}
 use Rattle.cip_types.specs.declared.names.Node.{Node}
 use Rattle.cip_fwdopen.specs.Open.{OpenFields}
@@ -11,40 +11,41 @@ use Rattle.adapter_table.specs.declared.profile.Profile.{Profile}
 use Rattle.adapter_table.specs.declared.row.Row.{Row}
 use Rattle.adapter_table.specs.declared.table.AdapterTable.{AdapterTable}
 use Rattle.adapter_table.specs.Profiles.{is_at, profile_fault}
-use Rattle.adapter_table.specs.Rows.{has_triad, without_first, written_row}
-use Rattle.adapter_table.specs.Checks.{Admitted, standing, verdict, stored}
+use Rattle.adapter_table.specs.Rows.{has_triad, others, written_row}
+use Rattle.adapter_table.specs.Checks.{Admitted, admission}
 use Rattle.adapter_table.specs.Opening.{makes_room, opened_row, opened_table}
 use Rattle.adapter_table.specs.Closing.{without_triad, stays, staying, closed_table}
 use Rattle.adapter_table.specs.Streams.{is_taken, with_stream, without_stream, registered_table}
-use Rattle.adapter_table.specs.Datagrams.{is_for, row_delivery, fed_row, fed_table}
-use Rattle.adapter_table.specs.Productions.{due_row, prompt_row}
+use Rattle.adapter_table.specs.Datagrams.{is_for, row_delivery, accepted_if_for, accepted_table}
+use Rattle.adapter_table.specs.Productions.{produced_row, changed_row}
 use Rattle.adapter_table.specs.Ticks.{clocked_table, expired, expired_row, expired_rows, expired_table, produced_table}
 use Rattle.adapter_table.specs.Requests.{Next}
-use Rattle.adapter_table.specs.Step.{adapter_step, adapter_table, written_table, prompt_table}
-use Rattle.adapter_table.specs.Whole.{ConsumesOutput, IsWhole}
+use Rattle.adapter_table.specs.Step.{adapter_step, adapter_table, written_table, changed_table}
+use Rattle.adapter_table.specs.Whole.{ConsumesOutput, FitsRow, IsWhole}
 use Rattle.adapter_table.proofs.CheckLemmas.{admitted_is}
 use Rattle.adapter_table.proofs.Fitting.{input_fits, shaped_opening, shaped_put, shaped_closed, shaped_expired, stored_len, shaped_configured}
-use Rattle.adapter_table.proofs.LikeLemmas.{written_keeps, prompt_keeps, fed_keeps, due_keeps}
-use Rattle.adapter_table.proofs.EachLemmas.{each_without, each_filter, each_append, each_found}
+use Rattle.adapter_table.proofs.LikeLemmas.{written_keeps, changed_keeps, fed_keeps, due_keeps}
+use Rattle.adapter_table.proofs.EachLemmas.{each_filter, each_append, each_map, each_found}
 use Rattle.adapter_table.proofs.ConsumerLemmas.{consume_kept, consume_expired, admitted_consumes}
 use Rattle.adapter_table.proofs.FedLemmas.{shaped_fed}
 use Rattle.adapter_table.proofs.EffectLemmas.{EffectsKeep, adapter_keeps}
 use Rattle.adapter_table.proofs.StepLemmas.{sound_fresh, sound_opened, sound_closed, sound_written, sound_fed, sound_elapsed, sound_with, sound_without, sound_registered}
-use Rattle.adapter_table.proofs.WholeLemmas.{fits_without, fits_filter, fits_append, fits_map, fits_written, fits_expired, fits_due, fits_prompt, fits_fed, fits_opened}
+use Rattle.adapter_table.proofs.WholeLemmas.{fits_written, fits_expired, fits_due, fits_changed, fits_fed, fits_opened}
 
-pub whole_opened : (t : AdapterTable) (peer : Node) (request : OpenFields) (admitted : Admitted) → verdict (standing t) request ≡ Ok admitted → IsWhole t → IsWhole (opened_table t request (opened_row t peer request admitted) admitted)
+pub whole_opened : (t : AdapterTable) (peer : Node) (request : OpenFields) (admitted : Admitted) → admission t request ≡ Ok admitted → IsWhole t → IsWhole (opened_table t (opened_row t peer request admitted) admitted)
 unfolding opened_table opened_row
 whole_opened t peer request admitted e whole =
-    let is = admitted_is (standing t) request admitted e in
+    let is = admitted_is t request admitted e in
     let row = opened_row t peer request admitted in
-    let room = makes_room t.rows request.triad in
+    let stays_there : Row → Bool = λ r. not (makes_room t.rows request.triad r) in
+    let left = others (makes_room t.rows request.triad) t.rows in
     record {
       sound = sound_opened t peer request admitted e whole.sound;
       shaped =
-          shaped_configured t.profile t.profile.config (stored admitted.path.config admitted.path.segment) t.values refl
-          (λ point bytes known stands. stored_len t.profile.config admitted.path.config admitted.path.segment point bytes known stands is.segment_fits) whole.shaped;
-      consume = each_append (ConsumesOutput t.profile) (without_first room t.rows) row (each_without (ConsumesOutput t.profile) room t.rows whole.consume) (admitted_consumes (standing t) request admitted is);
-      fits = fits_append t.profile (without_first room t.rows) row (fits_without room t.profile t.rows whole.fits) (fits_opened t peer request admitted e whole.fits whole.clock);
+          shaped_configured t.profile t.profile.config admitted.segment t.values refl
+          (λ point bytes known stands. stored_len t.profile.config is.config is.segment point bytes known (sym is.segment_is ∙ stands) is.segment_fits) whole.shaped;
+      consume = each_append (ConsumesOutput t.profile) left row (each_filter (ConsumesOutput t.profile) stays_there t.rows whole.consume) (admitted_consumes t request admitted is);
+      fits = each_append FitsRow left row (each_filter FitsRow stays_there t.rows whole.fits) (fits_opened t peer request admitted e whole.fits whole.clock);
       clock = whole.clock;
     }
 
@@ -52,33 +53,34 @@ pub whole_closed : (t : AdapterTable) (row : Row) → IsWhole t → IsWhole (clo
 unfolding closed_table
 whole_closed t row whole =
     let left = without_triad row.triad t.rows in
+    let stays_there : Row → Bool = λ r. not (has_triad row.triad r) in
     record {
       sound = sound_closed t row whole.sound;
       shaped = shaped_closed t.profile row t.values whole.shaped;
-      consume = each_filter (ConsumesOutput t.profile) (stays left) left (each_without (ConsumesOutput t.profile) (has_triad row.triad) t.rows whole.consume);
-      fits = fits_filter (stays left) t.profile left (fits_without (has_triad row.triad) t.profile t.rows whole.fits);
+      consume = each_filter (ConsumesOutput t.profile) (stays left) left (each_filter (ConsumesOutput t.profile) stays_there t.rows whole.consume);
+      fits = each_filter FitsRow (stays left) left (each_filter FitsRow stays_there t.rows whole.fits);
       clock = whole.clock;
     }
 
-pub whole_written : (t : AdapterTable) (point : ℕ) (bytes : List ℕ) (input : InputPoint) → find (is_at point) t.profile.inputs ≡ Some input → length bytes ≡ input.len → IsWhole t → IsWhole (prompt_table (written_table t point bytes) point)
-unfolding written_table prompt_table
+pub whole_written : (t : AdapterTable) (point : ℕ) (bytes : List ℕ) (input : InputPoint) → find (is_at point) t.profile.inputs ≡ Some input → length bytes ≡ input.len → IsWhole t → IsWhole (changed_table (written_table t point bytes) point)
+unfolding written_table changed_table
 whole_written t point bytes input is long whole =
     let rows = map (written_row point) t.rows in
     record {
       sound = sound_written t point bytes whole.sound;
       shaped = shaped_put t.profile t.values point bytes whole.shaped (input_fits t.profile point input (length bytes) whole.shaped.faultless is long);
-      consume = consume_kept (prompt_row t.clock point) (prompt_keeps t.clock point) t.profile rows (consume_kept (written_row point) (written_keeps point) t.profile t.rows whole.consume);
-      fits = fits_map (prompt_row t.clock point) t.profile (fits_prompt t.clock point t.profile whole.clock) rows (fits_map (written_row point) t.profile (fits_written point t.profile) t.rows whole.fits);
+      consume = consume_kept (changed_row t.clock point) (changed_keeps t.clock point) t.profile rows (consume_kept (written_row point) (written_keeps point) t.profile t.rows whole.consume);
+      fits = each_map FitsRow (changed_row t.clock point) (fits_changed t.clock point whole.clock) rows (each_map FitsRow (written_row point) (fits_written point) t.rows whole.fits);
       clock = whole.clock;
     }
 
-pub whole_fed : (t : AdapterTable) (peer : Node) (d : DatagramFields) (row : Row) (delivery : Delivery) → row_delivery t.profile row d ≡ delivery → find (is_for peer d.connection) t.rows ≡ Some row → IsWhole t → IsWhole (fed_table t peer d row delivery)
-unfolding fed_table
+pub whole_fed : (t : AdapterTable) (peer : Node) (d : DatagramFields) (row : Row) (delivery : Delivery) → row_delivery t.profile row d ≡ delivery → find (is_for peer d.connection) t.rows ≡ Some row → IsWhole t → IsWhole (accepted_table t peer d row delivery)
+unfolding accepted_table
 whole_fed t peer d row delivery is found whole = record {
   sound = sound_fed t peer d row delivery whole.sound;
   shaped = shaped_fed t.profile row d delivery t.values is (each_found (ConsumesOutput t.profile) (is_for peer d.connection) t.rows row found whole.consume) whole.shaped;
-  consume = consume_kept (fed_row t.clock peer d) (fed_keeps t.clock peer d) t.profile t.rows whole.consume;
-  fits = fits_map (fed_row t.clock peer d) t.profile (fits_fed t.clock peer d t.profile) t.rows whole.fits;
+  consume = consume_kept (accepted_if_for t.clock peer d) (fed_keeps t.clock peer d) t.profile t.rows whole.consume;
+  fits = each_map FitsRow (accepted_if_for t.clock peer d) (fits_fed t.clock peer d) t.rows whole.fits;
   clock = whole.clock;
 }
 
@@ -90,8 +92,8 @@ whole_elapsed t ms in_time whole =
     record {
       sound = sound_elapsed t ms whole.sound;
       shaped = shaped_expired t.profile (expired clock t.rows) t.values whole.shaped;
-      consume = consume_kept (due_row clock) (due_keeps clock) t.profile (staying left) (each_filter (ConsumesOutput t.profile) (stays left) left (consume_expired clock t.profile t.rows whole.consume));
-      fits = fits_map (due_row clock) t.profile (fits_due clock t.profile in_time) (staying left) (fits_filter (stays left) t.profile left (fits_map (expired_row clock) t.profile (fits_expired clock t.profile) t.rows whole.fits));
+      consume = consume_kept (produced_row clock) (due_keeps clock) t.profile (staying left) (each_filter (ConsumesOutput t.profile) (stays left) left (consume_expired clock t.profile t.rows whole.consume));
+      fits = each_map FitsRow (produced_row clock) (fits_due clock in_time) (staying left) (each_filter FitsRow (stays left) left (each_map FitsRow (expired_row clock) (fits_expired clock) t.rows whole.fits));
       clock = in_time;
     }
 

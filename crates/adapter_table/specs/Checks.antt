@@ -1,40 +1,44 @@
--- The checks of a Forward_Open, in order: the first that fails answers. What a request names is looked
--- up between the checks, and each later check is asked of what was found
--- (Volume 1, chapter 3, Forward_Open and the Connection Manager's extended status codes).
-use Rattle.std.specs.Prelude.{◌≡◌, ℕ, ◌+◌, ◌==◌, ◌&&◌, ◌||◌, not, nat_lt, nat_le, Bool, true, false, if◌then◌else◌, List, [], ◌∷◌, ◌++◌, length, find, Option, Some, None, Result, Ok, Err, is_none, unwrap_or}
+-- The checks of a Forward_Open: one list over what is looked up, read from the top; the first that fails
+-- answers (Volume 1, chapter 3, Forward_Open and the Connection Manager's extended status codes).
+use Rattle.std.specs.Prelude.{ℕ, ◌+◌, ◌==◌, ◌&&◌, ◌||◌, ◌≡◌, not, nat_lt, nat_le, Bool, true, false, if◌then◌else◌, List, [], ◌∷◌, length, find, Option, Some, None, Result, Ok, Err, is_none, unwrap_or}
 use Rattle.std.specs.List.{list_any}
+use Rattle.std.specs.Option.{option_map}
+use Rattle.std.specs.Result.{result_ok}
 use Rattle.std.specs.Str.{bytes_eq}
 use Rattle.cip_types.specs.declared.names.Identity.{Identity}
+use Rattle.cip_types.specs.declared.names.Ms.{Ms}
+use Rattle.cip_types.specs.declared.names.Triad.{Triad}
 use Rattle.cip_epath.specs.declared.fault.PathFault.{PathFault}
 use Rattle.cip_epath.specs.declared.fault.PathFault.TheVariants as path_fault
 use Rattle.cip_epath.specs.declared.key.KeyFault.{KeyFault}
 use Rattle.cip_epath.specs.declared.key.KeyFault.TheVariants.{VendorOrProduct, DeviceType, Revision}
 use Rattle.cip_epath.specs.Key.{KeyFields, key_fault}
-use Rattle.cip_epath.specs.Path.{PathFields, view_path}
+use Rattle.cip_epath.specs.Path.{PathFields}
 use Rattle.cip_epath.specs.Reading.{path_reading}
 use Rattle.cip_netparams.specs.declared.ConnectionType.{ConnectionType}
 use Rattle.cip_netparams.specs.declared.ConnectionType.TheVariants.{Null, Multicast, PointToPoint, Reserved}
 use Rattle.cip_netparams.specs.declared.Trigger.{Trigger}
 use Rattle.cip_netparams.specs.declared.Trigger.TheVariants.{Cyclic, ChangeOfState}
 use Rattle.cip_netparams.specs.Word.{trigger_of}
-use Rattle.cip_netparams.specs.Rate.{is_interval, interval_ms}
+use Rattle.cip_netparams.specs.Rate.{is_interval, interval_ms, timeout}
 use Rattle.cip_fwdopen.specs.Open.{OpenFields}
+use Rattle.cip_router.specs.declared.refusal.Refusal.{Refusal}
+use Rattle.cip_router.specs.declared.refusal.Refusal.TheVariants as refusal
+use Rattle.cip_productions.specs.declared.kind.Kind.{Kind}
+use Rattle.cip_productions.specs.declared.kind.Kind.TheVariants.{ExclusiveOwner, InputOnly, ListenOnly}
+use Rattle.cip_productions.specs.Kinds.{is_owner, is_listener}
 use Rattle.adapter_table.specs.declared.profile.InputPoint.{InputPoint}
 use Rattle.adapter_table.specs.declared.profile.OutputPoint.{OutputPoint}
 use Rattle.adapter_table.specs.declared.profile.Profile.{Profile}
-use Rattle.cip_router.specs.declared.refusal.Refusal.{Refusal}
-use Rattle.cip_router.specs.declared.refusal.Refusal.TheVariants as refusal
 use Rattle.adapter_table.specs.declared.row.Row.{Row}
 use Rattle.adapter_table.specs.declared.row.State.{State}
 use Rattle.adapter_table.specs.declared.row.State.TheVariants.{Established, TimedOut}
-use Rattle.cip_productions.specs.declared.kind.Kind.TheVariants.{ExclusiveOwner, InputOnly, ListenOnly}
-use Rattle.adapter_table.specs.declared.admission.Consumer.{Consumer}
 use Rattle.adapter_table.specs.declared.table.PointValue.{PointValue}
 use Rattle.adapter_table.specs.declared.table.AdapterTable.{AdapterTable}
+use Rattle.adapter_table.specs.declared.admission.Consumer.{Consumer}
 use Rattle.adapter_table.specs.declared.admission.Admission.{Admission}
 use Rattle.adapter_table.specs.Profiles.{is_at, is_output_at}
 use Rattle.adapter_table.specs.Points.{bytes_at}
-use Rattle.cip_productions.specs.Kinds.{is_owner, is_listener}
 use Rattle.adapter_table.specs.Rows.{is_established, is_timed_out, holds_triad, drives, is_member, is_supported}
 
 -- A CHECK
@@ -52,46 +56,71 @@ first_of [] = None
 first_of (None ∷ rest) = first_of rest
 first_of (Some why ∷ rest) = Some why
 
--- what is found where no check fails
-abbrev pub unless : {A : Type 0} → Check → A → Result A Refusal
-unless None found = Ok found
-unless (Some why) found = Err why
+-- WHAT IS LOOKED UP
 
--- then, where something was found
-abbrev pub and_then : {A B : Type 0} → Result A Refusal → (A → Result B Refusal) → Result B Refusal
-and_then (Ok found) next = next found
-and_then (Err why) next = Err why
+-- the connection whose producer a multicast one on the input joins
+abbrev pub group_of : List Row → ℕ → Option Row
+group_of rows point = find (is_member point) rows
 
--- what is found, or the refusal where there is none
-abbrev pub found_or : {A : Type 0} → Option A → Refusal → Result A Refusal
-found_or (Some found) why = Ok found
-found_or None why = Err why
+-- how things stand at an adapter, for a request
+pub record View : Type 0 where
+  pub profile : Profile
+  -- what the configuration holds
+  pub config : Option (List ℕ)
+  -- an established connection has the triad of the request
+  pub in_use : Bool
+  -- some connection is established
+  pub established : Bool
+  -- how many connections there are
+  pub count : ℕ
+  -- some connection has timed out
+  pub timed_out : Bool
+  -- the counter of the next connection id
+  pub next_id : ℕ
+  -- of an output: an established connection owns it
+  pub owned : ℕ → Bool
+  -- of an input: the first connection of its group
+  pub group : ℕ → Option Row
+  -- of an input: a listen-only connection is supported there
+  pub supported : ℕ → Bool
 
--- what a function returned, seen by view, is what is said
-abbrev pub Gives : {X Y : Type 0} → (X → Y) → Result X Refusal → Result Y Refusal → Type 0
-Gives view (Ok found) said = said ≡ Ok (view found)
-Gives view (Err why) said = said ≡ Err why
+-- the same, looked up in the connections
+abbrev pub view_at : Profile → Option (List ℕ) → List Row → ℕ → Triad → View
+view_at profile config rows next_id triad = record {
+  profile = profile;
+  config = config;
+  in_use = list_any (holds_triad triad) rows;
+  established = list_any is_established rows;
+  count = length rows;
+  timed_out = list_any is_timed_out rows;
+  next_id = next_id;
+  owned = λ point. list_any (drives point) rows;
+  group = group_of rows;
+  supported = is_supported rows ListenOnly;
+}
 
--- THE PATH
+-- what the configuration holds
+abbrev pub config_bytes : List PointValue → Option InputPoint → Option (List ℕ)
+config_bytes values None = None
+config_bytes values (Some config) = bytes_at values config.instance
 
--- The path, where its segments read. There is none where they are misarranged, which is a later check's.
-abbrev pub readable_path : Result PathFields PathFault → Result (Option PathFields) Refusal
-readable_path (Ok path) = Ok (Some path)
-readable_path (Err path_fault.Shape) = Ok None
-readable_path (Err path_fault.Truncated) = Err refusal.Segment
-readable_path (Err path_fault.Segment) = Err refusal.Segment
-readable_path (Err path_fault.KeyFormat) = Err refusal.Segment
+-- the same, looked up in a table
+abbrev pub view_of : AdapterTable → Triad → View
+view_of t triad = view_at t.profile (config_bytes t.values t.profile.config) t.rows t.next_id triad
 
--- the production inhibit time that a path asks for, in milliseconds
-abbrev pub inhibit_of : Option PathFields → ℕ
-inhibit_of None = 0
-inhibit_of (Some path) = unwrap_or path.inhibit 0
+-- SEGMENTS AND KEY
+
+-- A segment does not read. Where the segments are misarranged, a later check says so.
+abbrev pub segment_check : Result PathFields PathFault → Check
+segment_check (Ok path) = None
+segment_check (Err path_fault.Shape) = None
+segment_check (Err path_fault.Truncated) = Some refusal.Segment
+segment_check (Err path_fault.Segment) = Some refusal.Segment
+segment_check (Err path_fault.KeyFormat) = Some refusal.Segment
 
 abbrev pub key_of : Option PathFields → Option KeyFields
 key_of None = None
 key_of (Some path) = path.key
-
--- THE CONNECTION
 
 abbrev pub key_refusal : Option KeyFault → Check
 key_refusal None = None
@@ -99,10 +128,12 @@ key_refusal (Some VendorOrProduct) = Some refusal.VendorOrProduct
 key_refusal (Some DeviceType) = Some refusal.DeviceType
 key_refusal (Some Revision) = Some refusal.Revision
 
--- the key of the path wants another device
+-- the key wants another device
 abbrev pub key_check : Identity → Option KeyFields → Check
 key_check identity None = None
 key_check identity (Some key) = key_refusal (key_fault key identity)
+
+-- TYPES, TRIGGER, RATES
 
 abbrev pub is_point_to_point : ConnectionType → Bool
 is_point_to_point PointToPoint = true
@@ -110,23 +141,15 @@ is_point_to_point Null = false
 is_point_to_point Multicast = false
 is_point_to_point Reserved = false
 
--- the T->O types that are served: multicast and point to point
-abbrev pub is_produced_type : ConnectionType → Bool
-is_produced_type Multicast = true
-is_produced_type PointToPoint = true
-is_produced_type Null = false
-is_produced_type Reserved = false
-
 abbrev pub is_multicast : ConnectionType → Bool
 is_multicast Multicast = true
 is_multicast Null = false
 is_multicast PointToPoint = false
 is_multicast Reserved = false
 
-abbrev pub is_change_of_state : Option Trigger → Bool
-is_change_of_state None = false
-is_change_of_state (Some Cyclic) = false
-is_change_of_state (Some ChangeOfState) = true
+-- the T->O types that are served
+abbrev pub is_produced_type : ConnectionType → Bool
+is_produced_type kind = is_multicast kind || is_point_to_point kind
 
 -- the multiplier is none, or an owner asks to be redundant
 abbrev pub is_unserved : OpenFields → Bool
@@ -135,27 +158,21 @@ is_unserved request = nat_lt 7 request.multiplier || (request.o_t_params.redunda
 abbrev pub are_intervals : OpenFields → Bool
 are_intervals request = is_interval request.o_t_rpi && is_interval request.t_o_rpi
 
+abbrev pub is_change_of_state : Option Trigger → Bool
+is_change_of_state None = false
+is_change_of_state (Some Cyclic) = false
+is_change_of_state (Some ChangeOfState) = true
+
+-- the production inhibit time that a path asks for, in milliseconds
+abbrev pub inhibit_of : Option PathFields → ℕ
+inhibit_of None = 0
+inhibit_of (Some path) = unwrap_or path.inhibit 0
+
 -- changes of state are to be held back for longer than the T->O packet interval
 abbrev pub is_held_back : OpenFields → Option PathFields → Bool
 is_held_back request path = is_change_of_state (trigger_of request.trigger) && nat_lt (interval_ms request.t_o_rpi) (inhibit_of path)
 
--- what is asked of a request before its points are looked up
-abbrev pub connection_checks : Profile → List Row → OpenFields → Option PathFields → List Check
-connection_checks profile rows request path =
-    check (list_any (holds_triad request.triad) rows) refusal.InUse
-    ∷ key_check profile.identity (key_of path)
-    ∷ check (not (is_point_to_point request.o_t_params.kind)) refusal.ConsumedType
-    ∷ check (not (is_produced_type request.t_o_params.kind)) refusal.ProducedType
-    ∷ check (is_none (trigger_of request.trigger)) refusal.Trigger
-    ∷ check (is_unserved request) refusal.Parameter
-    ∷ check (not (are_intervals request)) refusal.PacketInterval
-    ∷ check (is_held_back request path) refusal.InhibitTime
-    ∷ []
-
-unfoldable pub connection_check : Profile → List Row → OpenFields → Option PathFields → Check
-connection_check profile rows request path = first_of (connection_checks profile rows request path)
-
--- THE POINTS
+-- POINTS
 
 -- the path names no configuration, or that of the profile
 abbrev pub is_known_config : Option InputPoint → Option ℕ → Bool
@@ -163,49 +180,71 @@ is_known_config config None = true
 is_known_config None (Some named) = false
 is_known_config (Some config) (Some named) = config.instance == named
 
--- what a connection that consumes no output is for; it has no data
-abbrev pub heartbeat_consumer : Profile → ℕ → Option Consumer
-heartbeat_consumer profile point =
-    if profile.input_only == point then Some (record { kind = InputOnly; len = 0 })
-    else (if profile.listen_only == point then Some (record { kind = ListenOnly; len = 0 }) else None)
+-- what a connection is for by the heartbeat that it consumes
+abbrev pub heartbeat_kind : (consumes_input_only consumes_listen_only : Bool) → Option Kind
+heartbeat_kind true listen_only = Some InputOnly
+heartbeat_kind false true = Some ListenOnly
+heartbeat_kind false false = None
+
+-- a consumer of no data
+abbrev pub heartbeat_consumer : Kind → Consumer
+heartbeat_consumer kind = record { kind = kind; len = 0 }
 
 abbrev pub consumer_at : Profile → ℕ → Option OutputPoint → Option Consumer
-consumer_at profile point None = heartbeat_consumer profile point
 consumer_at profile point (Some output) = Some (record { kind = ExclusiveOwner; len = output.len })
-
--- the size of its O->T datagrams: a sequence count, and an owner's data behind a run/idle header
-abbrev pub o_t_size : Consumer → ℕ
-o_t_size consumer = if is_owner consumer.kind then consumer.len + 6 else 2
-
--- the size of T->O datagrams: a sequence count and the input
-abbrev pub t_o_size : InputPoint → ℕ
-t_o_size input = input.len + 2
+consumer_at profile point None = option_map heartbeat_consumer (heartbeat_kind (profile.input_only == point) (profile.listen_only == point))
 
 -- what a connection that consumes the point is for
 abbrev pub consumer_of : Profile → ℕ → Option Consumer
 consumer_of profile point = consumer_at profile point (find (is_output_at point) profile.outputs)
 
--- what is asked of a path before its points are looked up
-abbrev pub path_checks : Profile → PathFields → List Check
-path_checks profile path =
+abbrev pub input_of : Profile → ℕ → Option InputPoint
+input_of profile point = find (is_at point) profile.inputs
+
+-- the group that a connection joins, where it is multicast
+abbrev pub joined : Bool → Option Row → Option Row
+joined multicast group = if multicast then group else None
+
+-- what a path names: what consumes, what is produced, and the connection whose producer is joined
+pub record Points : Type 0 where
+  pub path : PathFields
+  pub consumer : Consumer
+  pub input : InputPoint
+  pub group : Option Row
+
+abbrev pub path_check : Profile → PathFields → Check
+path_check profile path =
+    first_of (
     check (not (path.class == 4)) refusal.Path
     ∷ check (not (is_known_config profile.config path.config)) refusal.ConfigurationPath
     ∷ []
+    )
 
-abbrev pub path_check : Profile → PathFields → Check
-path_check profile path = first_of (path_checks profile path)
+-- the points of a path, or the first of them that there is not
+abbrev pub named_points : PathFields → Option Row → Check → Option Consumer → Option InputPoint → Result Points Refusal
+named_points path group (Some why) consumer input = Err why
+named_points path group None None input = Err refusal.ConsumedPath
+named_points path group None (Some consumer) None = Err refusal.ProducedPath
+named_points path group None (Some consumer) (Some input) = Ok (record { path = path; consumer = consumer; input = input; group = group })
 
--- the points of a connection: what consumes, and what is produced
-abbrev pub Points : Type 0
-Points = Consumer × InputPoint
+-- the points that a request names, where its path is one
+abbrev pub points_of : View → OpenFields → Option PathFields → Result Points Refusal
+points_of view request None = Err refusal.Path
+points_of view request (Some path) =
+    named_points path (joined (is_multicast request.t_o_params.kind) (view.group path.produced)) (path_check view.profile path)
+    (consumer_of view.profile path.consumed) (input_of view.profile path.produced)
 
-abbrev pub points_of : Profile → PathFields → Result Points Refusal
-points_of profile path =
-    and_then (unless (path_check profile path) path) (λ p.
-    and_then (found_or (consumer_of profile p.consumed) refusal.ConsumedPath) (λ consumer.
-    and_then (found_or (find (is_at p.produced) profile.inputs) refusal.ProducedPath) (λ input. Ok (consumer, input))))
+-- where no points are found, that is what fails
+abbrev pub points_check : Result Points Refusal → Check
+points_check (Ok points) = None
+points_check (Err why) = Some why
 
--- THE DATA SEGMENT
+-- a test of points, where they are found
+abbrev pub fails_at : Result Points Refusal → (Points → Bool) → Bool
+fails_at (Ok points) test = test points
+fails_at (Err why) test = false
+
+-- DATA SEGMENT
 
 -- the length of the configuration that the path names, 0 where it names none
 abbrev pub named_len : Option InputPoint → Option ℕ → ℕ
@@ -218,6 +257,9 @@ abbrev pub has_other_length : ℕ → Option (List ℕ) → Bool
 has_other_length len None = false
 has_other_length len (Some segment) = not (length segment == len)
 
+abbrev pub misfits_config : View → Points → Bool
+misfits_config view points = has_other_length (named_len view.profile.config points.path.config) points.path.segment
+
 -- the segment that a success stores: a configuration is named, and a segment is there
 abbrev pub stored : Option ℕ → Option (List ℕ) → Option (List ℕ)
 stored None segment = None
@@ -229,57 +271,48 @@ has_other_bytes None present = false
 has_other_bytes (Some segment) None = false
 has_other_bytes (Some segment) (Some present) = not (bytes_eq segment present)
 
--- what the configuration holds
-abbrev pub config_bytes : List PointValue → Option InputPoint → Option (List ℕ)
-config_bytes values None = None
-config_bytes values (Some config) = bytes_at values config.instance
-
 -- it would change the configuration under an established connection
-abbrev pub changes_config : Profile → List Row → List PointValue → PathFields → Bool
-changes_config profile rows values path = list_any is_established rows && has_other_bytes (stored path.config path.segment) (config_bytes values profile.config)
+abbrev pub changes_config : View → Points → Bool
+changes_config view points = view.established && has_other_bytes (stored points.path.config points.path.segment) view.config
 
--- OWNERS, LISTENERS, ROOM
+-- SIZES
+
+-- the size of O->T datagrams: a sequence count, and an owner's data behind a run/idle header
+abbrev pub o_t_size : Consumer → ℕ
+o_t_size consumer = if is_owner consumer.kind then consumer.len + 6 else 2
+
+-- the size of T->O datagrams: a sequence count and the input
+abbrev pub t_o_size : InputPoint → ℕ
+t_o_size input = input.len + 2
+
+abbrev pub has_other_o_t_size : OpenFields → Points → Bool
+has_other_o_t_size request points = not (request.o_t_params.size == o_t_size points.consumer)
+
+abbrev pub has_other_t_o_size : OpenFields → Points → Bool
+has_other_t_o_size request points = not (request.t_o_params.size == t_o_size points.input)
+
+-- OWNERS AND LISTENERS
 
 -- another connection owns the output
-abbrev pub is_owned : List Row → Consumer → ℕ → Bool
-is_owned rows consumer point = is_owner consumer.kind && list_any (drives point) rows
+abbrev pub is_owned : View → Points → Bool
+is_owned view points = is_owner points.consumer.kind && view.owned points.path.consumed
 
--- the connection whose producer a multicast one on the input joins
-abbrev pub group_of : List Row → ℕ → Option Row
-group_of rows point = find (is_member point) rows
+-- it is to listen to a producer of its own
+abbrev pub listens_alone : OpenFields → Points → Bool
+listens_alone request points = is_listener points.consumer.kind && not (is_multicast request.t_o_params.kind)
 
--- the same where the connection is to be multicast
-abbrev pub joined : List Row → OpenFields → ℕ → Option Row
-joined rows request point = if is_multicast request.t_o_params.kind then group_of rows point else None
+-- it is to listen where no connection of another kind supports it
+abbrev pub is_unsupported : View → Points → Bool
+is_unsupported view points = is_listener points.consumer.kind && not (view.supported points.path.produced)
 
--- how many ids an opening draws: two, where a multicast producer begins
-abbrev pub drawn_ids : OpenFields → Option Row → ℕ
-drawn_ids request None = if is_multicast request.t_o_params.kind then 2 else 1
-drawn_ids request (Some member) = 1
-
--- no id is left, or no connection can make room
-abbrev pub is_used_up : List Row → ℕ → ℕ → Bool
-is_used_up rows next_id drawn = nat_lt 16777216 (next_id + drawn) || (nat_le 64 (length rows) && not (list_any is_timed_out rows))
-
--- a listen-only connection is multicast, and another kind supports it
-abbrev pub is_alone : List Row → Consumer → ℕ → Bool
-is_alone rows consumer point = is_listener consumer.kind && not (is_supported rows consumer.kind point)
-
--- the trigger of the producer that a connection shares
-abbrev pub state_trigger : State → Trigger
-state_trigger (Established production) = production.trigger
-state_trigger TimedOut = Cyclic
-
-abbrev pub state_inhibit : State → ℕ
-state_inhibit (Established production) = production.inhibit
-state_inhibit TimedOut = 0
+-- THE GROUP THAT IS JOINED
 
 abbrev pub same_trigger : Trigger → Trigger → Bool
 same_trigger Cyclic Cyclic = true
 same_trigger ChangeOfState ChangeOfState = true
 same_trigger a b = false
 
--- the trigger of a request that is served
+-- the trigger of a request; one that has none is refused before it matters
 abbrev pub served_trigger : Option Trigger → Trigger
 served_trigger None = Cyclic
 served_trigger (Some trigger) = trigger
@@ -289,80 +322,159 @@ abbrev pub served_inhibit : Trigger → Option ℕ → ℕ
 served_inhibit Cyclic inhibit = 0
 served_inhibit ChangeOfState inhibit = unwrap_or inhibit 0
 
--- what a joiner has in common with the producer: packet interval, trigger, inhibit time
-abbrev pub group_checks : OpenFields → PathFields → Option Row → List Check
-group_checks request path None = []
-group_checks request path (Some member) =
-    check (not (interval_ms request.t_o_rpi == member.t_o_api)) refusal.PacketInterval
-    ∷ check (not (same_trigger (served_trigger (trigger_of request.trigger)) (state_trigger member.state))) refusal.Trigger
-    ∷ check (not (served_inhibit (served_trigger (trigger_of request.trigger)) path.inhibit == state_inhibit member.state)) refusal.PacketInterval
+-- a group's production has another trigger; each member of a group has one
+abbrev pub has_other_trigger : Trigger → State → Bool
+has_other_trigger trigger TimedOut = false
+has_other_trigger trigger (Established production) = not (same_trigger trigger production.trigger)
+
+-- it has another production inhibit time
+abbrev pub has_other_inhibit : ℕ → State → Bool
+has_other_inhibit inhibit TimedOut = false
+has_other_inhibit inhibit (Established production) = not (inhibit == production.inhibit)
+
+-- a test of the group, where one is joined
+abbrev pub joins : Option Row → (Row → Bool) → Bool
+joins None test = false
+joins (Some member) test = test member
+
+abbrev pub joins_other_api : OpenFields → Points → Bool
+joins_other_api request points = joins points.group (λ member. not (interval_ms request.t_o_rpi == member.t_o_api))
+
+abbrev pub joins_other_trigger : OpenFields → Points → Bool
+joins_other_trigger request points = joins points.group (λ member. has_other_trigger (served_trigger (trigger_of request.trigger)) member.state)
+
+abbrev pub joins_other_inhibit : OpenFields → Points → Bool
+joins_other_inhibit request points = joins points.group (λ member. has_other_inhibit (served_inhibit (served_trigger (trigger_of request.trigger)) points.path.inhibit) member.state)
+
+-- IDS AND ROOM
+
+-- how many ids an opening draws: two, where a multicast producer begins
+abbrev pub drawn_ids : Bool → Option Row → ℕ
+drawn_ids multicast None = if multicast then 2 else 1
+drawn_ids multicast (Some member) = 1
+
+-- fewer ids are left than the opening draws
+abbrev pub lacks_ids : View → OpenFields → Points → Bool
+lacks_ids view request points = nat_lt 16777216 (view.next_id + drawn_ids (is_multicast request.t_o_params.kind) points.group)
+
+-- there are 64 connections, and none can make room
+abbrev pub lacks_room : View → Bool
+lacks_room view = nat_le 64 view.count && not view.timed_out
+
+-- THE FIFTEEN CHECKS
+
+abbrev pub checks : View → OpenFields → Result PathFields PathFault → Result Points Refusal → List Check
+checks view request path points =
+    -- 1: the data are shorter (0x13) or longer (0x15) than their fields and path size say: then there is no request (`read_open`)
+    -- 2: a segment of the path does not read (0x0315)
+    segment_check path
+    -- 3: an established connection has the triad (0x0100)
+    ∷ check view.in_use refusal.InUse
+    -- 4: the key is of another vendor or product (0x0114), device type (0x0115), revision (0x0116)
+    ∷ key_check view.profile.identity (key_of (result_ok path))
+    -- 5: the O->T type is not point to point (0x0123), the T->O type neither that nor multicast (0x0124)
+    ∷ check (not (is_point_to_point request.o_t_params.kind)) refusal.ConsumedType
+    ∷ check (not (is_produced_type request.t_o_params.kind)) refusal.ProducedType
+    -- 6: the class is not 1, or the trigger neither cyclic nor change of state (0x0103)
+    ∷ check (is_none (trigger_of request.trigger)) refusal.Trigger
+    -- 7: the multiplier is above 7, or an owner asks to be redundant (0x0108)
+    ∷ check (is_unserved request) refusal.Parameter
+    -- 8: a packet interval is 0 or above 10 seconds (0x0111), changes are held back longer than it (0x011B)
+    ∷ check (not (are_intervals request)) refusal.PacketInterval
+    ∷ check (is_held_back request (result_ok path)) refusal.InhibitTime
+    -- 9: the path is none, or not of the assemblies (0x0117); it names another configuration (0x0129), an
+    --    unknown consumed (0x012A), an unknown produced point (0x012B)
+    ∷ points_check points
+    -- 10: the data segment is of another length (0x0126), of other bytes while a connection lives (0x0106)
+    ∷ check (fails_at points (misfits_config view)) refusal.ConfigurationSize
+    ∷ check (fails_at points (changes_config view)) refusal.Ownership
+    -- 11: the O->T size (0x0127), the T->O size (0x0128) is not that of the point
+    ∷ check (fails_at points (has_other_o_t_size request)) refusal.ConsumedSize
+    ∷ check (fails_at points (has_other_t_o_size request)) refusal.ProducedSize
+    -- 12: the output has an owner (0x0106)
+    ∷ check (fails_at points (is_owned view)) refusal.Ownership
+    -- 13: it is to listen and is not multicast (0x0124), or has no support (0x0119)
+    ∷ check (fails_at points (listens_alone request)) refusal.ProducedType
+    ∷ check (fails_at points (is_unsupported view)) refusal.NoSupport
+    -- 14: the group has another T->O packet interval (0x0111), trigger (0x0103), inhibit time (0x0111)
+    ∷ check (fails_at points (joins_other_api request)) refusal.PacketInterval
+    ∷ check (fails_at points (joins_other_trigger request)) refusal.Trigger
+    ∷ check (fails_at points (joins_other_inhibit request)) refusal.PacketInterval
+    -- 15: the ids are used up, or there are 64 connections and none has timed out (0x0113)
+    ∷ check (fails_at points (lacks_ids view request)) refusal.OutOfConnections
+    ∷ check (lacks_room view) refusal.OutOfConnections
     ∷ []
-
--- what a request is judged by: how things stand at the adapter
-pub record Standing : Type 0 where
-  pub profile : Profile
-  pub rows : List Row
-  pub values : List PointValue
-  pub next_id : ℕ
-
--- what is asked once the points are found
-abbrev pub points_checks : Standing → OpenFields → PathFields → Points → List Check
-points_checks at request path points =
-    check (has_other_length (named_len at.profile.config path.config) path.segment) refusal.ConfigurationSize
-    ∷ check (changes_config at.profile at.rows at.values path) refusal.Ownership
-    ∷ check (not (request.o_t_params.size == o_t_size points.0)) refusal.ConsumedSize
-    ∷ check (not (request.t_o_params.size == t_o_size points.1)) refusal.ProducedSize
-    ∷ check (is_owned at.rows points.0 path.consumed) refusal.Ownership
-    ∷ check (is_listener points.0.kind && not (is_multicast request.t_o_params.kind)) refusal.ProducedType
-    ∷ check (is_alone at.rows points.0 path.produced) refusal.NoSupport
-    ∷ []
-
--- what is asked of the producer that a multicast connection joins, and of the ids and the room that are left
-abbrev pub room_checks : Standing → OpenFields → PathFields → Option Row → List Check
-room_checks at request path group =
-    group_checks request path group ++ check (is_used_up at.rows at.next_id (drawn_ids request group)) refusal.OutOfConnections ∷ []
-
-unfoldable pub room_check : Standing → OpenFields → PathFields → Option Row → Check
-room_check at request path group = first_of (room_checks at request path group)
-
-unfoldable pub points_check : Standing → OpenFields → PathFields → Points → Check
-points_check at request path points = first_of (points_checks at request path points)
 
 -- THE VERDICT
 
--- what a request is admitted as: its path, what its consumed point is, and the connection whose producer it
--- joins
+-- What a request is admitted as: what it is for, its points, how it produces, its actual packet intervals
+-- in milliseconds and how long its consumer waits, the connection whose producer it joins, and the data
+-- segment that is stored.
 pub record Admitted : Type 0 where
-  pub path : PathFields
-  pub consumer : Consumer
+  pub kind : Kind
+  pub consumed : ℕ
+  pub produced : ℕ
+  pub multicast : Bool
+  pub trigger : Trigger
+  pub inhibit : ℕ
+  pub o_t_api : ℕ
+  pub t_o_api : ℕ
+  pub watchdog : Ms
   pub group : Option Row
+  pub segment : Option (List ℕ)
 
 -- the same of an admission of the program
 abbrev pub view_admission : Admission → Admitted
-view_admission a = record { path = view_path a.path; consumer = a.consumer; group = a.group }
+view_admission a = record {
+  kind = a.kind;
+  consumed = a.consumed;
+  produced = a.produced;
+  multicast = a.multicast;
+  trigger = a.trigger;
+  inhibit = a.inhibit;
+  o_t_api = a.o_t_api;
+  t_o_api = a.t_o_api;
+  watchdog = a.watchdog;
+  group = a.group;
+  segment = option_map (λ lent. lent.now) a.segment;
+}
 
--- an admission, once the points are found and nothing is asked of them that fails
-abbrev pub admitted_points : Standing → OpenFields → PathFields → Points → Result Admitted Refusal
-admitted_points at request path points =
-    let group = joined at.rows request path.produced in
-    unless (room_check at request path group) (record { path = path; consumer = points.0; group = group })
+-- what a request of these points is admitted as
+abbrev pub admitted_at : OpenFields → Points → Admitted
+admitted_at request points = record {
+  kind = points.consumer.kind;
+  consumed = points.path.consumed;
+  produced = points.path.produced;
+  multicast = is_multicast request.t_o_params.kind;
+  trigger = served_trigger (trigger_of request.trigger);
+  inhibit = served_inhibit (served_trigger (trigger_of request.trigger)) points.path.inhibit;
+  o_t_api = interval_ms request.o_t_rpi;
+  t_o_api = interval_ms request.t_o_rpi;
+  watchdog = record { 0 = timeout request.multiplier (interval_ms request.o_t_rpi) };
+  group = points.group;
+  segment = stored points.path.config points.path.segment;
+}
 
-unfoldable pub admitted_path : Standing → OpenFields → PathFields → Result Admitted Refusal
-admitted_path at request path =
-    and_then (points_of at.profile path) (λ points.
-    and_then (unless (points_check at request path points) points) (λ found. admitted_points at request path found))
+-- the answer of the check that fails, else what the points are admitted as
+abbrev pub judged : OpenFields → Result Points Refusal → Check → Result Admitted Refusal
+judged request points (Some why) = Err why
+judged request (Err why) None = Err why
+judged request (Ok points) None = Ok (admitted_at request points)
 
--- the path, where its segments are arranged as a path's are
-abbrev pub shaped_path : Option PathFields → Result PathFields Refusal
-shaped_path path = found_or path refusal.Path
-
--- how things stand at a table
-abbrev pub standing : AdapterTable → Standing
-standing t = record { profile = t.profile; rows = t.rows; values = t.values; next_id = t.next_id }
+abbrev pub judged_path : View → OpenFields → Result PathFields PathFault → Result Admitted Refusal
+judged_path view request path =
+    let points = points_of view request (result_ok path) in
+    judged request points (first_of (checks view request path points))
 
 -- what the request is admitted as, or the answer of the first check that it fails
-unfoldable pub verdict : Standing → OpenFields → Result Admitted Refusal
-verdict at request =
-    and_then (readable_path (path_reading request.path)) (λ path.
-    and_then (unless (connection_check at.profile at.rows request path) path) (λ asked.
-    and_then (shaped_path asked) (λ shaped. admitted_path at request shaped)))
+unfoldable pub verdict : View → OpenFields → Result Admitted Refusal
+verdict view request = judged_path view request (path_reading request.path)
+
+-- the same at a table
+abbrev pub admission : AdapterTable → OpenFields → Result Admitted Refusal
+admission t request = verdict (view_of t request.triad) request
+
+-- what a function returned, seen by view, is what is said
+abbrev pub Gives : {X Y : Type 0} → (X → Y) → Result X Refusal → Result Y Refusal → Type 0
+Gives view (Ok found) said = said ≡ Ok (view found)
+Gives view (Err why) said = said ≡ Err why

@@ -9,19 +9,19 @@ use Rattle.adapter_table.specs.declared.row.Row.{Row}
 use Rattle.adapter_table.specs.declared.table.PointValue.{PointValue}
 use Rattle.adapter_table.specs.declared.table.AdapterTable.{AdapterTable}
 use Rattle.adapter_table.specs.Points.{lost_values}
-use Rattle.adapter_table.specs.Rows.{has_triad, drives, is_forsaken, without_first}
+use Rattle.adapter_table.specs.Rows.{has_triad, drives, is_unsupported, others}
 
 -- the connections without that of the triad
 abbrev pub without_triad : Triad → List Row → List Row
-without_triad triad rows = without_first (has_triad triad) rows
+without_triad triad rows = others (has_triad triad) rows
 
 -- the listen-only connections that lose their support, in opening order
-abbrev pub forsaken : List Row → List Row
-forsaken rows = filter (is_forsaken rows) rows
+abbrev pub unsupported : List Row → List Row
+unsupported rows = filter (is_unsupported rows) rows
 
 -- the connections that stay
 abbrev pub stays : List Row → Row → Bool
-stays rows row = not (is_forsaken rows row)
+stays rows row = not (is_unsupported rows row)
 
 abbrev pub staying : List Row → List Row
 staying rows = filter (stays rows) rows
@@ -41,4 +41,4 @@ abbrev pub dropped_notice : Row → Notice
 dropped_notice row = notice.Dropped row.triad
 
 abbrev pub closed_notices : List Row → Row → List Notice
-closed_notices rows row = notice.Closed row.triad ∷ map dropped_notice (forsaken (without_triad row.triad rows))
+closed_notices rows row = notice.Closed row.triad ∷ map dropped_notice (unsupported (without_triad row.triad rows))

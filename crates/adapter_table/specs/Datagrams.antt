@@ -1,7 +1,7 @@
 -- Class 1 datagrams that come to an adapter: which connection they are for, whether they are accepted, and
 -- what they do to its output (Volume 1, chapter 3, class 1 transport, run/idle, connection timeouts;
 -- Volume 2, chapter 2, sequenced address item).
-use Rattle.std.specs.Prelude.{ℕ, ◌+◌, ◌==◌, ◌&&◌, Bool, if◌then◌else◌, List, [], length, map, find, Option, Some, None, Result, Ok, Err}
+use Rattle.std.specs.Prelude.{ℕ, ◌+◌, ◌==◌, ◌&&◌, Bool, false, if◌then◌else◌, List, [], length, map, find, Option, Some, None, Result, Ok, Err}
 use Rattle.cip_types.specs.declared.names.Node.{Node}
 use Rattle.cip_types.specs.declared.names.Ms.{Ms}
 use Rattle.cip_netparams.specs.Rate.{timeout}
@@ -39,10 +39,14 @@ output_len (Some output) = output.len
 abbrev pub expected_len : Profile → Row → ℕ
 expected_len profile row = if is_owner row.kind then output_len (find (is_output_at row.consumed) profile.outputs) + 4 else 0
 
+-- the run bit of a run/idle header, which data of an owner's size have
+abbrev pub run_bit : Option (Bool × List ℕ) → Bool
+run_bit None = false
+run_bit (Some header) = header.0
+
 -- an owner's data by their run/idle header
 abbrev pub moded : Option (Bool × List ℕ) → Delivery
-moded None = WrongSize
-moded (Some x) = if x.0 then Applied else Idle
+moded header = if run_bit header then Applied else Idle
 
 -- what becomes of an owner's accepted datagram
 abbrev pub owned_delivery : Row → DatagramFields → Delivery
@@ -72,8 +76,8 @@ accepted_row clock d row = record row {
 }
 
 -- the same, where the datagram is for the connection
-abbrev pub fed_row : Ms → Node → DatagramFields → Row → Row
-fed_row clock peer d row = if is_for peer d.connection row then accepted_row clock d row else row
+abbrev pub accepted_if_for : Ms → Node → DatagramFields → Row → Row
+accepted_if_for clock peer d row = if is_for peer d.connection row then accepted_row clock d row else row
 
 -- the data behind a run/idle header
 abbrev pub run_data : Option (Bool × List ℕ) → List ℕ
@@ -81,21 +85,21 @@ run_data None = []
 run_data (Some x) = x.1
 
 -- run-mode data stand at the output, idle mode does its idle action
-abbrev pub fed_values : Profile → ℕ → DatagramFields → Delivery → List PointValue → List PointValue
-fed_values profile point d Applied values = put_value point (run_data (header_at d.payload)) values
-fed_values profile point d Idle values = idle_values profile point values
-fed_values profile point d Heartbeat values = values
-fed_values profile point d Duplicate values = values
-fed_values profile point d Old values = values
-fed_values profile point d UnknownId values = values
-fed_values profile point d WrongSize values = values
-fed_values profile point d Malformed values = values
+abbrev pub accepted_values : Profile → ℕ → DatagramFields → Delivery → List PointValue → List PointValue
+accepted_values profile point d Applied values = put_value point (run_data (header_at d.payload)) values
+accepted_values profile point d Idle values = idle_values profile point values
+accepted_values profile point d Heartbeat values = values
+accepted_values profile point d Duplicate values = values
+accepted_values profile point d Old values = values
+accepted_values profile point d UnknownId values = values
+accepted_values profile point d WrongSize values = values
+accepted_values profile point d Malformed values = values
 
 -- the table after an accepted datagram
-unfoldable pub fed_table : AdapterTable → Node → DatagramFields → Row → Delivery → AdapterTable
-fed_table t peer d row delivery = record t {
-  rows = map (fed_row t.clock peer d) t.rows;
-  values = fed_values t.profile row.consumed d delivery t.values;
+unfoldable pub accepted_table : AdapterTable → Node → DatagramFields → Row → Delivery → AdapterTable
+accepted_table t peer d row delivery = record t {
+  rows = map (accepted_if_for t.clock peer d) t.rows;
+  values = accepted_values t.profile row.consumed d delivery t.values;
 }
 
 -- THE ANSWER
@@ -105,7 +109,7 @@ delivered delivery t = (plain_answer (Delivered delivery), t)
 
 abbrev pub judged_datagram : AdapterTable → Node → DatagramFields → Row → Delivery → Next
 judged_datagram t peer d row delivery =
-    if is_accepted delivery then delivered delivery (fed_table t peer d row delivery) else delivered delivery t
+    if is_accepted delivery then delivered delivery (accepted_table t peer d row delivery) else delivered delivery t
 
 abbrev pub found_datagram : AdapterTable → Node → DatagramFields → Option Row → Next
 found_datagram t peer d None = delivered UnknownId t

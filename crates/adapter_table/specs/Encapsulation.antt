@@ -2,6 +2,7 @@
 -- becomes of the table (Volume 2, chapter 2, encapsulation messages, commands and common packet format).
 use Rattle.std.specs.Prelude.{ℕ, ◌==◌, not, if◌then◌else◌, List, [], ◌∷◌, length, Option, Some, None, Result, Ok, Err, find}
 use Rattle.std.specs.Str.{bytes_eq}
+use Rattle.cip_types.specs.Cases.{first_case_or}
 use Rattle.cip_types.specs.declared.names.Node.{Node}
 use Rattle.cip_encap.specs.declared.packet.ItemFault.{ItemFault}
 use Rattle.cip_encap.specs.Message.{message_text}
@@ -53,11 +54,11 @@ session_begun t stream = record { reply = Some (registered (session_of stream));
 
 -- RegisterSession: four bytes of data, of the version that is served, and one session on a stream
 abbrev pub register_session : AdapterTable → Stream → List ℕ → Handled
-register_session t stream body =
-    if not (length body == 4) then refusal t status.InvalidLength
-    else (if not (bytes_eq body protocol_text) then told t other_version
-    else (if stream.registered then refusal t status.InvalidCommand
-    else session_begun t stream))
+register_session t stream body = first_case_or (session_begun t stream) (
+    (not (length body == 4), refusal t status.InvalidLength)
+    ∷ (not (bytes_eq body protocol_text), told t other_version)
+    ∷ (stream.registered, refusal t status.InvalidCommand)
+    ∷ [])
 
 -- the session ends, and with it the stream
 abbrev pub session_ended : AdapterTable → Stream → Handled
@@ -112,8 +113,9 @@ framed number echo done = (
 
 -- a wrong length field goes before everything else; where no reply is due, the frame is a bad one
 abbrev pub misfit_answer : AdapterTable → ℕ → Echo → Next
-misfit_answer t number echo =
-    if is_silent (command_of echo.command) then (plain_answer BadFrame, t) else framed number echo (refusal t status.InvalidLength)
+misfit_answer t number echo = first_case_or (framed number echo (refusal t status.InvalidLength)) (
+    (is_silent (command_of echo.command), (plain_answer BadFrame, t))
+    ∷ [])
 
 -- what becomes of a frame of an open stream
 abbrev pub frame_answer : AdapterTable → Stream → FrameFields → Next

@@ -15,3 +15,5 @@ pub mod Sound
 pub mod Whole
 pub mod Scratch
 pub mod Step
+pub mod Newest
+pub mod Laws

@@ -1,17 +1,13 @@
 -- Opening a connection: which one makes room, what the new one is, and the table after it
 -- (Volume 1, chapter 3, Forward_Open, connection ids and first watchdog; Volume 2, chapter 3, multicast
 -- address allocation).
-use Rattle.std.specs.Prelude.{ℕ, ◌+◌, ◌-◌, ◌%◌, ◌*◌, ◌^◌, nat_le, Bool, true, false, if◌then◌else◌, List, [], ◌∷◌, ◌++◌, length, find, Option, Some, None}
+use Rattle.std.specs.Prelude.{ℕ, ◌+◌, ◌-◌, ◌%◌, ◌*◌, ◌^◌, ◌==◌, nat_le, Bool, true, false, if◌then◌else◌, List, [], ◌∷◌, ◌++◌, length, find, Option, Some, None}
 use Rattle.std.specs.Option.{option_map}
 use Rattle.std.specs.List.{list_any, position_or_len}
 use Rattle.cip_types.specs.declared.names.Triad.{Triad}
 use Rattle.cip_types.specs.declared.names.Node.{Node}
 use Rattle.cip_types.specs.declared.names.ConnId.{ConnId}
-use Rattle.cip_epath.specs.Path.{PathFields}
-use Rattle.cip_netparams.specs.declared.ConnectionType.{ConnectionType}
 use Rattle.cip_netparams.specs.declared.Trigger.{Trigger}
-use Rattle.cip_netparams.specs.Word.{trigger_of}
-use Rattle.cip_netparams.specs.Rate.{interval_ms, timeout}
 use Rattle.cip_fwdopen.specs.Open.{OpenFields}
 use Rattle.cip_fwdopen.specs.declared.reply.Opened.{Opened}
 use Rattle.cip_events.specs.declared.event.Notice.{Notice}
@@ -26,18 +22,28 @@ use Rattle.adapter_table.specs.declared.table.PointValue.{PointValue}
 use Rattle.adapter_table.specs.declared.table.AdapterTable.{AdapterTable}
 use Rattle.adapter_table.specs.Profiles.{host_id, is_at}
 use Rattle.adapter_table.specs.Points.{put_value}
-use Rattle.adapter_table.specs.Rows.{has_triad, is_timed_out, without_first}
-use Rattle.adapter_table.specs.Checks.{Admitted, stored, is_multicast, drawn_ids, served_trigger, served_inhibit}
+use Rattle.adapter_table.specs.Rows.{has_triad, is_timed_out, others}
+use Rattle.adapter_table.specs.Checks.{Admitted, drawn_ids}
 use Rattle.cip_productions.specs.Watchdog.{first_deadline}
 
 -- ROOM
 
--- The connection that makes room for a new one: that of the same triad, which has timed out, and among
--- 64 the timed-out one that was opened first.
+-- the connection has the opening number of the one that is found
+abbrev pub is_opened_as : Option Row → Row → Bool
+is_opened_as None row = false
+is_opened_as (Some found) row = row.opening == found.opening
+
+-- Which connection makes room for one of a triad: the one of this triad, which has timed out, where there is one; among
+-- 64 the first timed-out one; where there is room none.
+abbrev pub makes_room_by : Bool → Bool → Option Row → Triad → Row → Bool
+makes_room_by true full first triad row = has_triad triad row
+makes_room_by false true first triad row = is_opened_as first row
+makes_room_by false false first triad row = false
+
+-- the connection makes room for a new one
 abbrev pub makes_room : List Row → Triad → Row → Bool
-makes_room rows triad =
-    if list_any (has_triad triad) rows then has_triad triad
-    else (if nat_le 64 (length rows) then is_timed_out else (λ _. false))
+makes_room rows triad row =
+    makes_room_by (list_any (has_triad triad) rows) (nat_le 64 (length rows)) (find is_timed_out rows) triad row
 
 abbrev pub triad_of : Row → Triad
 triad_of row = row.triad
@@ -59,8 +65,8 @@ multicast_address profile point = record {
 }
 
 -- where the datagrams of a producer go: to its group, or to the one consumer
-abbrev pub address_of : Profile → Node → ConnectionType → ℕ → Node
-address_of profile peer kind point = if is_multicast kind then multicast_address profile point else peer
+abbrev pub address_of : Profile → Node → Bool → ℕ → Node
+address_of profile peer multicast point = if multicast then multicast_address profile point else peer
 
 -- the producer that a connection begins: its data are new, and due at once
 abbrev pub new_production : AdapterTable → Node → Trigger → ℕ → Production
@@ -76,40 +82,38 @@ new_production t address trigger inhibit = record {
   last = None;
 }
 
-abbrev pub opened_production : AdapterTable → Node → OpenFields → PathFields → Production
-opened_production t peer request path =
-    let trigger = served_trigger (trigger_of request.trigger) in
-    new_production t (address_of t.profile peer request.t_o_params.kind path.produced) trigger (served_inhibit trigger path.inhibit)
+abbrev pub opened_production : AdapterTable → Node → Admitted → Production
+opened_production t peer admitted = new_production t (address_of t.profile peer admitted.multicast admitted.produced) admitted.trigger admitted.inhibit
 
 -- a joiner shares the producer of its group; another connection begins one
-abbrev pub opened_state : AdapterTable → Node → OpenFields → PathFields → Option Row → State
-opened_state t peer request path None = Established (opened_production t peer request path)
-opened_state t peer request path (Some member) = member.state
+abbrev pub opened_state : AdapterTable → Node → Admitted → Option Row → State
+opened_state t peer admitted None = Established (opened_production t peer admitted)
+opened_state t peer admitted (Some member) = member.state
 
 -- A joiner has the id of its group. The producer chooses a multicast id, the second that it draws, and the
 -- consumer that of a point to point connection.
-abbrev pub opened_t_o_id : AdapterTable → OpenFields → Option Row → ConnId
-opened_t_o_id t request None = if is_multicast request.t_o_params.kind then connection_id t.profile (t.next_id + 1) else request.t_o_id
-opened_t_o_id t request (Some member) = member.t_o_id
+abbrev pub opened_t_o_id : AdapterTable → OpenFields → Bool → Option Row → ConnId
+opened_t_o_id t request multicast None = if multicast then connection_id t.profile (t.next_id + 1) else request.t_o_id
+opened_t_o_id t request multicast (Some member) = member.t_o_id
 
 -- the connection that an admitted request opens
 unfoldable pub opened_row : AdapterTable → Node → OpenFields → Admitted → Row
 opened_row t peer request admitted = record {
   triad = request.triad;
   peer = peer;
-  kind = admitted.consumer.kind;
-  consumed = admitted.path.consumed;
-  produced = admitted.path.produced;
+  kind = admitted.kind;
+  consumed = admitted.consumed;
+  produced = admitted.produced;
   o_t_id = connection_id t.profile t.next_id;
-  t_o_id = opened_t_o_id t request admitted.group;
-  o_t_api = interval_ms request.o_t_rpi;
-  t_o_api = interval_ms request.t_o_rpi;
+  t_o_id = opened_t_o_id t request admitted.multicast admitted.group;
+  o_t_api = admitted.o_t_api;
+  t_o_api = admitted.t_o_api;
   multiplier = request.multiplier;
-  multicast = is_multicast request.t_o_params.kind;
+  multicast = admitted.multicast;
   opening = t.next_id;
   last = None;
-  deadline = first_deadline t.clock (timeout request.multiplier (interval_ms request.o_t_rpi));
-  state = opened_state t peer request admitted.path admitted.group;
+  deadline = first_deadline t.clock admitted.watchdog.0;
+  state = opened_state t peer admitted admitted.group;
 }
 
 -- THE TABLE AFTER IT
@@ -121,11 +125,11 @@ configured (Some config) None values = values
 configured (Some config) (Some segment) values = put_value config.instance segment values
 
 -- what makes room is gone, the new connection is the last, its data segment is stored, its ids are drawn
-unfoldable pub opened_table : AdapterTable → OpenFields → Row → Admitted → AdapterTable
-opened_table t request row admitted = record t {
-  rows = without_first (makes_room t.rows row.triad) t.rows ++ row ∷ [];
-  values = configured t.profile.config (stored admitted.path.config admitted.path.segment) t.values;
-  next_id = t.next_id + drawn_ids request admitted.group;
+unfoldable pub opened_table : AdapterTable → Row → Admitted → AdapterTable
+opened_table t row admitted = record t {
+  rows = others (makes_room t.rows row.triad) t.rows ++ row ∷ [];
+  values = configured t.profile.config admitted.segment t.values;
+  next_id = t.next_id + drawn_ids admitted.multicast admitted.group;
 }
 
 -- WHAT IS TOLD OF IT

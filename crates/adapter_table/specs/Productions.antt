@@ -1,54 +1,44 @@
--- What producers send: when each is due, its datagram, and how it goes on
+-- What producers send: which are due, what each produces and for whom, and how it goes on
 -- (Volume 1, chapter 3, class 1 transport, production triggers and production inhibit time; Volume 2,
 -- chapter 2, sequenced address item, and chapter 3, multicast connections).
-use Rattle.std.specs.Prelude.{ℕ, ◌==◌, ◌&&◌, ◌||◌, nat_lt, nat_le, Bool, false, if◌then◌else◌, List, [], ◌∷◌, map, filter, flat_map, unwrap_or}
+use Rattle.std.specs.Prelude.{ℕ, ◌==◌, ◌&&◌, Bool, false, if◌then◌else◌, List, [], map, filter, Option, Some, None, unwrap_or}
+use Rattle.std.specs.List.{filter_map}
 use Rattle.cip_types.specs.declared.names.Node.{Node}
-use Rattle.cip_types.specs.declared.names.ConnId.{ConnId}
 use Rattle.cip_types.specs.declared.names.Ms.{Ms}
-use Rattle.cip_netparams.specs.declared.Trigger.{Trigger}
-use Rattle.cip_netparams.specs.declared.Trigger.TheVariants.{Cyclic, ChangeOfState}
-use Rattle.cip_datagram.specs.Datagram.{datagram_text}
-use Rattle.cip_events.specs.declared.event.Sending.{Sending}
-use Rattle.cip_productions.specs.declared.production.Production.{Production}
+use Rattle.cip_types.specs.Order.{in_order, first_of_each}
+use Rattle.cip_productions.specs.declared.production.Producer.{Producer}
+use Rattle.cip_productions.specs.Productions.{produced, is_production_due, changed, is_produced_on_change, Produced, produced_by, same_producer, by_number, by_due}
 use Rattle.adapter_table.specs.declared.row.Row.{Row}
 use Rattle.adapter_table.specs.declared.row.State.{State}
 use Rattle.adapter_table.specs.declared.row.State.TheVariants.{Established, TimedOut}
 use Rattle.adapter_table.specs.declared.table.PointValue.{PointValue}
 use Rattle.adapter_table.specs.Points.{bytes_at}
-use Rattle.cip_types.specs.Order.{in_order, first_of_each}
-use Rattle.cip_productions.specs.Productions.{produced, production_datagram, is_free, is_prompt_trigger, prompt_production}
 
--- PRODUCERS
+-- PRODUCERS AND THEIR CONNECTIONS
 
--- two states share one producer
-abbrev pub same_producer : State → State → Bool
-same_producer (Established a) (Established b) = a.producer == b.producer
-same_producer (Established a) TimedOut = false
-same_producer TimedOut b = false
+abbrev pub state_producer : Row → State → Option Producer
+state_producer row (Established production) = Some (record { point = row.produced; id = row.t_o_id; production = production })
+state_producer row TimedOut = None
 
-abbrev pub shares_producer : Row → Row → Bool
-shares_producer row other = same_producer row.state other.state
+-- the producer of a connection, which an established one has
+abbrev pub producer_in : Row → Option Producer
+producer_in row = state_producer row row.state
 
--- the connections that are the first of their producers, in opening order
-abbrev pub leaders : List Row → List Row
-leaders rows = first_of_each shares_producer rows
+-- the producers of connections, each once, as the first of its connections tells of it
+abbrev pub producers : List Row → List Producer
+producers rows = first_of_each same_producer (filter_map producer_in rows)
 
-abbrev pub producer_of : State → ℕ
-producer_of (Established production) = production.producer
-producer_of TimedOut = 0
+abbrev pub has_number : ℕ → State → Bool
+has_number number (Established production) = production.producer == number
+has_number number TimedOut = false
 
-abbrev pub due_of : State → ℕ
-due_of (Established production) = production.due.0
-due_of TimedOut = 0
+-- the connection is established, and this is the number of its producer
+abbrev pub is_produced_by : ℕ → Row → Bool
+is_produced_by number row = has_number number row.state
 
--- producers by their numbers
-abbrev pub by_producer : Row → Row → Bool
-by_producer row other = nat_lt (producer_of row.state) (producer_of other.state)
-
--- producers by when they are due, and then by their numbers
-abbrev pub by_due : Row → Row → Bool
-by_due row other =
-    nat_lt (due_of row.state) (due_of other.state) || (due_of row.state == due_of other.state && by_producer row other)
+-- the connections of a producer, in opening order
+abbrev pub group : ℕ → List Row → List Row
+group number rows = filter (is_produced_by number) rows
 
 abbrev pub same_node : Node → Node → Bool
 same_node node other = node.0 == other.0
@@ -57,75 +47,78 @@ abbrev pub peer_of : Row → Node
 peer_of row = row.peer
 
 -- the peers of a producer's connections, in opening order, each once
-abbrev pub consumers : List Row → Row → List Node
-consumers rows row = first_of_each same_node (map peer_of (filter (shares_producer row) rows))
+abbrev pub consumers : ℕ → List Row → List Node
+consumers number rows = first_of_each same_node (map peer_of (group number rows))
 
-abbrev pub state_sending : List Node → ConnId → State → List ℕ → List Sending
-state_sending nodes id TimedOut input = []
-state_sending nodes id (Established production) input =
-    record { address = production.address; nodes = nodes; bytes = datagram_text (production_datagram id production input) } ∷ []
-
--- what a producer sends, told by the first of its connections, where its input holds these bytes
-abbrev pub sending : List Row → List ℕ → Row → List Sending
-sending rows input row = state_sending (consumers rows row) row.t_o_id row.state input
+-- what a producer produces next, where its input holds these bytes: one datagram for all its consumers
+abbrev pub production_of : List Row → List ℕ → Producer → Produced
+production_of rows input producer = produced_by (consumers producer.production.producer rows) input producer
 
 -- PRODUCTIONS THAT ARE DUE
 
+-- the number of the producer of an established connection
+abbrev pub producer_of : State → ℕ
+producer_of (Established production) = production.producer
+producer_of TimedOut = 0
+
+abbrev pub due_of : State → ℕ
+due_of (Established production) = production.due.0
+due_of TimedOut = 0
+
 abbrev pub state_is_due : Ms → State → Bool
-state_is_due clock (Established production) = nat_le production.due.0 clock.0
+state_is_due clock (Established production) = is_production_due clock production
 state_is_due clock TimedOut = false
 
+-- the connection is established, and its producer is due
 abbrev pub is_due : Ms → Row → Bool
 is_due clock row = state_is_due clock row.state
 
--- the producers that are due, each told by the first of its connections, by when they are due
-abbrev pub due_leaders : Ms → List Row → List Row
-due_leaders clock rows = in_order by_due (filter (is_due clock) (leaders rows))
+-- the producers that are due, by when they are, and then by their numbers
+abbrev pub due_producers : Ms → List Row → List Producer
+due_producers clock rows = in_order by_due (producers (filter (is_due clock) rows))
 
--- what the input of a connection holds
-abbrev pub input_of : List PointValue → Row → List ℕ
-input_of values row = unwrap_or (bytes_at values row.produced) []
+-- what the input of a producer holds
+abbrev pub input_of : List PointValue → Producer → List ℕ
+input_of values producer = unwrap_or (bytes_at values producer.point) []
 
-abbrev pub due_sending : List Row → List PointValue → Row → List Sending
-due_sending rows values row = sending rows (input_of values row) row
+abbrev pub due_production : List Row → List PointValue → Producer → Produced
+due_production rows values producer = production_of rows (input_of values producer) producer
 
--- what the producers that are due send
-abbrev pub due_sendings : Ms → List Row → List PointValue → List Sending
-due_sendings clock rows values = flat_map (due_sending rows values) (due_leaders clock rows)
+-- what the producers that are due produce
+abbrev pub due_productions : Ms → List Row → List PointValue → List Produced
+due_productions clock rows values = map (due_production rows values) (due_producers clock rows)
 
-abbrev pub due_state : Ms → ℕ → State → State
-due_state clock api TimedOut = TimedOut
-due_state clock api (Established production) =
-    if nat_le production.due.0 clock.0 then Established (produced clock api production) else Established production
+abbrev pub produced_state : Ms → ℕ → State → State
+produced_state clock api TimedOut = TimedOut
+produced_state clock api (Established production) =
+    if is_production_due clock production then Established (produced clock api production) else Established production
 
 -- a connection's producer has produced, where it was due
-abbrev pub due_row : Ms → Row → Row
-due_row clock row = record row { state = due_state clock row.t_o_api row.state }
+abbrev pub produced_row : Ms → Row → Row
+produced_row clock row = record row { state = produced_state clock row.t_o_api row.state }
 
--- the producer produces as soon as its input is written
-abbrev pub state_is_prompt : Ms → State → Bool
-state_is_prompt clock TimedOut = false
-state_is_prompt clock (Established production) = is_prompt_trigger production.trigger && is_free clock production
+-- CHANGES OF STATE
 
-abbrev pub is_prompt : Ms → ℕ → Row → Bool
-is_prompt clock point row = row.produced == point && state_is_prompt clock row.state
+abbrev pub state_produces_on_change : Ms → State → Bool
+state_produces_on_change clock (Established production) = is_produced_on_change clock production
+state_produces_on_change clock TimedOut = false
 
--- the producers of an input that produce at once, each told by the first of its connections, by their numbers
-abbrev pub prompt_leaders : Ms → ℕ → List Row → List Row
-prompt_leaders clock point rows = in_order by_producer (filter (is_prompt clock point) (leaders rows))
+-- the connection is established, and a write of this input makes its producer produce at once
+abbrev pub produces_on_change : Ms → ℕ → Row → Bool
+produces_on_change clock point row = row.produced == point && state_produces_on_change clock row.state
 
--- what the change-of-state producers of an input send at once, when it holds these bytes
-abbrev pub prompt_sendings : Ms → ℕ → List ℕ → List Row → List Sending
-prompt_sendings clock point input rows = flat_map (sending rows input) (prompt_leaders clock point rows)
+-- the producers of an input that produce at once when it is written, by their numbers
+abbrev pub producers_on_change : Ms → ℕ → List Row → List Producer
+producers_on_change clock point rows = in_order by_number (producers (filter (produces_on_change clock point) rows))
 
-abbrev pub prompt_by : Trigger → Ms → ℕ → Production → State
-prompt_by Cyclic clock api production = Established production
-prompt_by ChangeOfState clock api production = Established (prompt_production clock api production)
+-- what they produce, when the input holds these bytes
+abbrev pub productions_on_change : Ms → ℕ → List ℕ → List Row → List Produced
+productions_on_change clock point input rows = map (production_of rows input) (producers_on_change clock point rows)
 
-abbrev pub prompt_state : Ms → ℕ → State → State
-prompt_state clock api TimedOut = TimedOut
-prompt_state clock api (Established production) = prompt_by production.trigger clock api production
+abbrev pub changed_state : Ms → ℕ → State → State
+changed_state clock api TimedOut = TimedOut
+changed_state clock api (Established production) = Established (changed clock api production)
 
 -- a connection's producer has done what a write of its input asks of it
-abbrev pub prompt_row : Ms → ℕ → Row → Row
-prompt_row clock point row = if row.produced == point then record row { state = prompt_state clock row.t_o_api row.state } else row
+abbrev pub changed_row : Ms → ℕ → Row → Row
+changed_row clock point row = if row.produced == point then record row { state = changed_state clock row.t_o_api row.state } else row

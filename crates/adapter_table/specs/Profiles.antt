@@ -1,8 +1,9 @@
 -- What an adapter is made of, and the first thing that is wrong with it
 -- (Volume 1, chapter 3, connection points; Volume 2, chapter 3, multicast addresses need a host id).
-use Rattle.std.specs.Prelude.{ℕ, ◌-◌, ◌%◌, ◌^◌, ◌==◌, ◌&&◌, not, nat_le, Bool, true, if◌then◌else◌, List, [], ◌∷◌, ◌++◌, length, map, Option, Some, None, option_to_list}
+use Rattle.std.specs.Prelude.{ℕ, ◌-◌, ◌%◌, ◌^◌, ◌==◌, ◌&&◌, not, nat_le, Bool, true, List, [], ◌∷◌, ◌++◌, length, map, Option, Some, None, option_to_list}
 use Rattle.std.specs.Int.{is_power_of_two}
 use Rattle.std.specs.List.{list_any, list_all}
+use Rattle.cip_types.specs.Cases.{Case, first_case}
 use Rattle.cip_types.specs.declared.names.Identity.{Identity}
 use Rattle.adapter_table.specs.declared.profile.OutputPoint.{OutputPoint}
 use Rattle.adapter_table.specs.declared.profile.InputPoint.{InputPoint}
@@ -84,11 +85,8 @@ is_revision identity = nat_le 1 identity.major && (nat_le identity.major 127 && 
 
 -- THE FIRST FAULT
 
--- a test of a profile: whether it fails, and what is then wrong
-abbrev pub ProfileTest : Type 0
-ProfileTest = Bool × ProfileFault
-
-abbrev pub profile_tests : Profile → List ProfileTest
+-- what can be wrong, in order
+abbrev pub profile_tests : Profile → List (Case ProfileFault)
 profile_tests profile =
     (profile.incarnation == 0, Incarnation)
     ∷ (not (is_address profile.node.0 profile.mask), Address)
@@ -98,10 +96,6 @@ profile_tests profile =
     ∷ (not (is_revision profile.identity), IdentityFault)
     ∷ []
 
--- what is wrong by the first test that fails
-abbrev pub first_fault : List ProfileTest → Option ProfileFault
-first_fault [] = None
-first_fault (test ∷ rest) = if test.0 then Some test.1 else first_fault rest
-
+-- the first thing that is wrong
 unfoldable pub profile_fault : Profile → Option ProfileFault
-profile_fault profile = first_fault (profile_tests profile)
+profile_fault profile = first_case (profile_tests profile)

@@ -1,6 +1,7 @@
 -- Requests to the message router: what is replied, and what becomes of the table
 -- (Volume 1, chapter 2, message router request and reply formats, and chapter 3, Connection Manager).
-use Rattle.std.specs.Prelude.{ℕ, ◌==◌, not, length, find, if◌then◌else◌, Bool, true, false, List, [], ◌∷◌, Option, Some, None, Result, Ok, Err}
+use Rattle.std.specs.Prelude.{ℕ, ◌==◌, not, length, find, Bool, true, false, List, [], ◌∷◌, Option, Some, None, Result, Ok, Err}
+use Rattle.cip_types.specs.Cases.{first_case_or}
 use Rattle.cip_types.specs.declared.names.Node.{Node}
 use Rattle.cip_fwdopen.specs.Open.{OpenFields}
 use Rattle.cip_events.specs.declared.event.Notice.{Notice}
@@ -22,7 +23,7 @@ use Rattle.cip_router.specs.Replies as replies
 use Rattle.cip_router.specs.declared.refusal.Refusal.{Refusal}
 use Rattle.cip_router.specs.declared.refusal.Status.{Status}
 use Rattle.cip_router.specs.Refusals.{refusal_fault, status_fault}
-use Rattle.adapter_table.specs.Checks.{Admitted, standing, verdict}
+use Rattle.adapter_table.specs.Checks.{Admitted, admission}
 use Rattle.adapter_table.specs.Opening.{opened_row, opened_table, opened_reply, opened_address, opened_notices}
 use Rattle.cip_events.specs.Answers.{plain_answer}
 
@@ -57,7 +58,7 @@ admitted_open t peer large request admitted =
       reply = opened large (opened_reply row);
       address = opened_address row;
       notices = opened_notices t.rows row;
-      table = opened_table t request row admitted;
+      table = opened_table t row admitted;
     }
 
 abbrev pub judged_open : AdapterTable → Node → Bool → OpenFields → Result Admitted Refusal → Served
@@ -66,7 +67,7 @@ judged_open t peer large request (Ok admitted) = admitted_open t peer large requ
 
 -- a Forward_Open
 unfoldable pub served_open : AdapterTable → Node → Bool → OpenFields → Served
-served_open t peer large request = judged_open t peer large request (verdict (standing t) request)
+served_open t peer large request = judged_open t peer large request (admission t request)
 
 -- a close of no connection
 abbrev pub unknown_close : AdapterTable → CloseFields → Served
@@ -104,10 +105,11 @@ is_value_attribute (Some attribute) = attribute == 3
 -- the value of a point that there is, by a request of this service
 abbrev pub get_of : AdapterTable → ℕ → Option ℕ → List ℕ → List ℕ → Served
 get_of t service attribute body value =
-    if not (service == 0x0E) then router_refusal t service status.Service
-    else (if not (is_value_attribute attribute) then router_refusal t service status.Attribute
-    else (if not (length body == 0) then router_refusal t service status.TooMuchData
-    else record { reply = got value; address = None; notices = []; table = t }))
+    first_case_or (record { reply = got value; address = None; notices = []; table = t }) (
+    (not (service == 0x0E), router_refusal t service status.Service)
+    ∷ (not (is_value_attribute attribute), router_refusal t service status.Attribute)
+    ∷ (not (length body == 0), router_refusal t service status.TooMuchData)
+    ∷ [])
 
 abbrev pub assembly_of : AdapterTable → ℕ → Option ℕ → List ℕ → Option (List ℕ) → Served
 assembly_of t service attribute body None = router_refusal t service status.PathDestination

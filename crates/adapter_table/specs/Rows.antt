@@ -50,13 +50,24 @@ abbrev pub is_supported : List Row → Kind → ℕ → Bool
 is_supported rows kind point = list_any (supports kind point) rows
 
 -- the connection is an established listen-only one without support
-abbrev pub is_forsaken : List Row → Row → Bool
-is_forsaken rows row = is_established row && (is_listener row.kind && not (is_supported rows row.kind row.produced))
+abbrev pub is_unsupported : List Row → Row → Bool
+is_unsupported rows row = is_established row && (is_listener row.kind && not (is_supported rows row.kind row.produced))
 
--- the connections without the first that passes a test
-abbrev pub without_first : (Row → Bool) → List Row → List Row
-without_first test [] = []
-without_first test (row ∷ rows) = if test row then rows else row ∷ without_first test rows
+-- the connections that fail a test
+abbrev pub others : (Row → Bool) → List Row → List Row
+others test rows = filter (λ row. not (test row)) rows
+
+-- ---- what holds of each connection, and of each two
+
+-- it holds of each
+abbrev pub Each : (Row → Type 0) → List Row → Type 0
+Each P [] = Unit {0}
+Each P (row ∷ rows) = P row × Each P rows
+
+-- it holds of each connection and each that stands behind it
+abbrev pub EachTwo : (Row → Row → Type 0) → List Row → Type 0
+EachTwo R [] = Unit {0}
+EachTwo R (row ∷ rows) = Each (R row) rows × EachTwo R rows
 
 -- ---- what a write changes
 

@@ -1,6 +1,6 @@
 -- The value of an output from scratch: what the last event that touched it left there
 -- (Volume 1, chapter 3, run/idle and connection timeouts; chapter 5, Assembly object).
-use Rattle.std.specs.Prelude.{ℕ, ◌==◌, ◌&&◌, not, Bool, if◌then◌else◌, List, find, replicate, Option, Some, None, Result, Ok, Err}
+use Rattle.std.specs.Prelude.{ℕ, ◌≡◌, ◌==◌, ◌&&◌, not, Bool, if◌then◌else◌, List, find, replicate, Option, Some, None, Result, Ok, Err}
 use Rattle.std.specs.List.{list_any}
 use Rattle.cip_types.specs.declared.names.Node.{Node}
 use Rattle.cip_datagram.specs.declared.datagram.DatagramFault.{DatagramFault}
@@ -18,6 +18,7 @@ use Rattle.adapter_table.specs.declared.profile.Profile.{Profile}
 use Rattle.adapter_table.specs.declared.row.Row.{Row}
 use Rattle.adapter_table.specs.declared.table.AdapterTable.{AdapterTable}
 use Rattle.adapter_table.specs.Profiles.{is_output_at}
+use Rattle.adapter_table.specs.Points.{bytes_at}
 use Rattle.adapter_table.specs.Rows.{drives}
 use Rattle.adapter_table.specs.Datagrams.{is_for, row_delivery, run_data}
 
@@ -42,42 +43,42 @@ left_lost (Some output) = left_by output.fault output.len
 -- ---- data
 
 -- what a datagram for an output leaves there: its data in run mode, the idle action in idle mode
-abbrev pub left_fed : Option OutputPoint → DatagramFields → Delivery → Option (List ℕ)
-left_fed output d Applied = Some (run_data (header_at d.payload))
-left_fed output d Idle = left_idle output
-left_fed output d Heartbeat = None
-left_fed output d Duplicate = None
-left_fed output d Old = None
-left_fed output d UnknownId = None
-left_fed output d WrongSize = None
-left_fed output d Malformed = None
+abbrev pub left_accepted : Option OutputPoint → DatagramFields → Delivery → Option (List ℕ)
+left_accepted output d Applied = Some (run_data (header_at d.payload))
+left_accepted output d Idle = left_idle output
+left_accepted output d Heartbeat = None
+left_accepted output d Duplicate = None
+left_accepted output d Old = None
+left_accepted output d UnknownId = None
+left_accepted output d WrongSize = None
+left_accepted output d Malformed = None
 
 -- the same at one output, of a datagram for this connection
-abbrev pub fed_at : ℕ → Profile → DatagramFields → Row → Option (List ℕ)
-fed_at point profile d row =
-    if row.consumed == point then left_fed (find (is_output_at point) profile.outputs) d (row_delivery profile row d) else None
+abbrev pub accepted_at : ℕ → Profile → DatagramFields → Row → Option (List ℕ)
+accepted_at point profile d row =
+    if row.consumed == point then left_accepted (find (is_output_at point) profile.outputs) d (row_delivery profile row d) else None
 
-abbrev pub fed_by : ℕ → Profile → DatagramFields → Option Row → Option (List ℕ)
-fed_by point profile d None = None
-fed_by point profile d (Some row) = fed_at point profile d row
+abbrev pub accepted_by : ℕ → Profile → DatagramFields → Option Row → Option (List ℕ)
+accepted_by point profile d None = None
+accepted_by point profile d (Some row) = accepted_at point profile d row
 
-abbrev pub read_fed : ℕ → AdapterTable → Node → Result DatagramFields DatagramFault → Option (List ℕ)
-read_fed point t peer (Err fault) = None
-read_fed point t peer (Ok d) = fed_by point t.profile d (find (is_for peer d.connection) t.rows)
+abbrev pub read_accepted : ℕ → AdapterTable → Node → Result DatagramFields DatagramFault → Option (List ℕ)
+read_accepted point t peer (Err fault) = None
+read_accepted point t peer (Ok d) = accepted_by point t.profile d (find (is_for peer d.connection) t.rows)
 
 -- what the data of an event leave at an output
-abbrev pub fed : ℕ → AdapterTable → Event → Option (List ℕ)
-fed point t (Request peer bytes) = None
-fed point t (StreamOpened stream peer) = None
-fed point t (Frame stream bytes) = None
-fed point t (StreamCut stream) = None
-fed point t (Datagram peer bytes) = read_fed point t peer (datagram_reading bytes)
-fed point t (Write other bytes) = None
-fed point t (Read other) = None
-fed point t (Tick ms) = None
-fed point t (Mode run) = None
-fed point t (Start slot) = None
-fed point t (Stop slot) = None
+abbrev pub data_left : ℕ → AdapterTable → Event → Option (List ℕ)
+data_left point t (Request peer bytes) = None
+data_left point t (StreamOpened stream peer) = None
+data_left point t (Frame stream bytes) = None
+data_left point t (StreamCut stream) = None
+data_left point t (Datagram peer bytes) = read_accepted point t peer (datagram_reading bytes)
+data_left point t (Write other bytes) = None
+data_left point t (Read other) = None
+data_left point t (Tick ms) = None
+data_left point t (Mode run) = None
+data_left point t (Start slot) = None
+data_left point t (Stop slot) = None
 
 -- ---- the loss of the owner
 
@@ -92,4 +93,10 @@ lost point old new = if is_lost point old.rows new.rows then left_lost (find (is
 
 -- what an event that leads from one table to another leaves at an output, where it touches it
 abbrev pub left_at : ℕ → AdapterTable → Event → AdapterTable → Option (List ℕ)
-left_at point old event new = or_else (fed point old event) (lost point old new)
+left_at point old event new = or_else (data_left point old event) (lost point old new)
+
+-- it leaves at each output what it says where it touches it, and otherwise what the output held
+abbrev pub Leaves : AdapterTable → Event → AdapterTable → Type 0
+Leaves t event next =
+    (point : ℕ) (output : OutputPoint) → find (is_output_at point) t.profile.outputs ≡ Some output →
+    bytes_at next.values point ≡ or_else (left_at point t event next) (bytes_at t.values point)

@@ -1,13 +1,14 @@
 -- What holds of every table that a run reaches.
-use Rattle.std.specs.Prelude.{ℕ, ◌≡◌, ◌≤◌, ◌<◌, ◌==◌, Bool, true, false, List, [], ◌∷◌, length}
+use Rattle.std.specs.Prelude.{ℕ, ◌≡◌, ◌≤◌, ◌<◌, ◌+◌, ◌==◌, Bool, true, false, List, [], ◌∷◌, length}
 use Rattle.std.specs.List.{list_any}
 use Rattle.cip_types.specs.declared.names.ConnId.{ConnId}
 use Rattle.adapter_table.specs.declared.profile.Profile.{Profile}
 use Rattle.adapter_table.specs.declared.row.Row.{Row}
 use Rattle.adapter_table.specs.declared.table.Stream.{Stream}
 use Rattle.adapter_table.specs.declared.table.AdapterTable.{AdapterTable}
-use Rattle.adapter_table.specs.Rows.{has_triad, drivers, is_forsaken, is_member}
+use Rattle.adapter_table.specs.Rows.{has_triad, drivers, is_established, is_unsupported, is_member, Each, EachTwo}
 use Rattle.adapter_table.specs.Opening.{connection_id}
+use Rattle.adapter_table.specs.Productions.{producer_of}
 use Rattle.adapter_table.specs.Streams.{is_stream}
 
 -- no two connections have one triad
@@ -34,7 +35,7 @@ HasOneOwner rows = (point : ℕ) → length (drivers point rows) ≤ 1
 
 -- no established listen-only connection is without support
 abbrev pub ListenersAreSupported : List Row → Type 0
-ListenersAreSupported rows = list_any (is_forsaken rows) rows ≡ false
+ListenersAreSupported rows = list_any (is_unsupported rows) rows ≡ false
 
 -- two established multicast connections of one input have one T->O id, one packet interval, and equal
 -- productions, the producer's number among them
@@ -55,6 +56,65 @@ abbrev pub GroupsAgree : List Row → Type 0
 GroupsAgree [] = Unit {0}
 GroupsAgree (row ∷ rows) = AllAgree row rows × GroupsAgree rows
 
+-- ---- openings and producers
+
+-- the first of two connections was opened before the second
+abbrev pub OpensBefore : Row → Row → Type 0
+OpensBefore row later = row.opening < later.opening
+
+-- openings strictly rise along the rows
+abbrev pub OpeningsRise : List Row → Type 0
+OpeningsRise rows = EachTwo OpensBefore rows
+
+-- an established connection's producer has the number of its own opening or of an earlier one, below the next one
+abbrev pub ProducerIsDrawn : ℕ → Row → Type 0
+ProducerIsDrawn next_id row =
+    is_established row ≡ true → (producer_of row.state ≤ row.opening) × (producer_of row.state < next_id)
+
+abbrev pub ProducersAreDrawn : ℕ → List Row → Type 0
+ProducersAreDrawn next_id rows = Each (ProducerIsDrawn next_id) rows
+
+-- an established point to point connection's producer has the number of its own opening
+abbrev pub SingleHasItsOwn : Row → Type 0
+SingleHasItsOwn row = is_established row ≡ true → row.multicast ≡ false → producer_of row.state ≡ row.opening
+
+abbrev pub SinglesHaveTheirOwn : List Row → Type 0
+SinglesHaveTheirOwn rows = Each SingleHasItsOwn rows
+
+-- the counter of an established multicast connection's T->O id is its producer's number plus one, below the next one
+abbrev pub MulticastIdIsDrawn : Profile → ℕ → Row → Type 0
+MulticastIdIsDrawn profile next_id row =
+    is_established row ≡ true → row.multicast ≡ true →
+    (row.t_o_id ≡ connection_id profile (producer_of row.state + 1)) × (producer_of row.state + 1 < next_id)
+
+abbrev pub MulticastIdsAreDrawn : Profile → ℕ → List Row → Type 0
+MulticastIdsAreDrawn profile next_id rows = Each (MulticastIdIsDrawn profile next_id) rows
+
+-- two multicast connections of one input that share its producer
+pub record AreOfOneGroup (a b : Row) : Type 0 where
+  pub first : a.multicast ≡ true
+  pub second : b.multicast ≡ true
+  pub input : a.produced ≡ b.produced
+  pub shared : SharesProducer a b
+
+-- two established connections have one producer only where they are multicast ones of one input, and then one
+-- T->O id, one packet interval and equal productions
+abbrev pub ShareInGroup : Row → Row → Type 0
+ShareInGroup a b = is_established a ≡ true → is_established b ≡ true → producer_of a.state ≡ producer_of b.state → AreOfOneGroup a b
+
+abbrev pub GroupsAloneShare : List Row → Type 0
+GroupsAloneShare rows = EachTwo ShareInGroup rows
+
+-- what holds of openings, of producers and of their numbers
+pub record ProducersAreSound (profile : Profile) (next_id : ℕ) (rows : List Row) : Type 0 where
+  pub openings_rise : OpeningsRise rows
+  pub are_drawn : ProducersAreDrawn next_id rows
+  pub single : SinglesHaveTheirOwn rows
+  pub multicast : MulticastIdsAreDrawn profile next_id rows
+  pub shared : GroupsAloneShare rows
+
+-- ---- streams, and all of it
+
 -- no two open streams have one number
 abbrev pub StreamsDiffer : List Stream → Type 0
 StreamsDiffer [] = Unit {0}
@@ -68,6 +128,7 @@ pub record IsSound (t : AdapterTable) : Type 0 where
   pub ids_are_drawn : IdsAreDrawn t.profile t.next_id t.rows
   pub listeners_are_supported : ListenersAreSupported t.rows
   pub groups_agree : GroupsAgree t.rows
+  pub producers : ProducersAreSound t.profile t.next_id t.rows
   pub ids_are_left : t.next_id ≤ 16777216
   pub few_streams : length t.streams ≤ 16
   pub streams_differ : StreamsDiffer t.streams

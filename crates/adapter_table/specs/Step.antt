@@ -17,7 +17,8 @@ use Rattle.cip_events.specs.Answers.{plain_answer, value_answer}
 use Rattle.adapter_table.specs.Streams.{stream_opened, stream_cut}
 use Rattle.adapter_table.specs.Encapsulation.{frame}
 use Rattle.adapter_table.specs.Datagrams.{received}
-use Rattle.adapter_table.specs.Productions.{prompt_sendings, prompt_row}
+use Rattle.cip_productions.specs.Productions.{sent}
+use Rattle.adapter_table.specs.Productions.{productions_on_change, changed_row}
 use Rattle.adapter_table.specs.Ticks.{tick}
 
 abbrev pub read_of : AdapterTable → Option (List ℕ) → Result Next StepFault
@@ -36,15 +37,15 @@ written_table t point bytes = record t {
 }
 
 -- each change-of-state producer of the input has produced, or is due when it may
-unfoldable pub prompt_table : AdapterTable → ℕ → AdapterTable
-prompt_table t point = record t { rows = map (prompt_row t.clock point) t.rows }
+unfoldable pub changed_table : AdapterTable → ℕ → AdapterTable
+changed_table t point = record t { rows = map (changed_row t.clock point) t.rows }
 
--- what the change-of-state producers send at once
+-- what the change-of-state producers of the input send at once
 abbrev pub write_answer : AdapterTable → ℕ → List ℕ → Answer
-write_answer written point bytes = record (plain_answer Done) { datagrams = prompt_sendings written.clock point bytes written.rows }
+write_answer written point bytes = record (plain_answer Done) { datagrams = map sent (productions_on_change written.clock point bytes written.rows) }
 
 abbrev pub written : AdapterTable → ℕ → List ℕ → Next
-written t point bytes = (write_answer t point bytes, prompt_table t point)
+written t point bytes = (write_answer t point bytes, changed_table t point)
 
 abbrev pub write_of : AdapterTable → ℕ → List ℕ → Option InputPoint → Result Next StepFault
 write_of t point bytes None = Err fault.NoSuchPoint

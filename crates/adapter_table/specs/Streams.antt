@@ -21,9 +21,13 @@ is_stream number stream = stream.number == number
 abbrev pub is_other_stream : ℕ → Stream → Bool
 is_other_stream number stream = not (is_stream number stream)
 
--- a stream of this number is open, or 16 are
+-- how many streams are open at most
+abbrev pub most_streams : ℕ
+most_streams = 16
+
+-- a stream of this number is open, or as many as can be are
 abbrev pub is_taken : List Stream → ℕ → Bool
-is_taken streams number = list_any (is_stream number) streams || nat_le 16 (length streams)
+is_taken streams number = list_any (is_stream number) streams || nat_le most_streams (length streams)
 
 -- a stream of a peer, on which no session is registered
 abbrev pub new_stream : ℕ → Node → Stream

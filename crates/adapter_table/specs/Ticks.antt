@@ -15,9 +15,11 @@ use Rattle.adapter_table.specs.declared.row.State.TheVariants.{TimedOut}
 use Rattle.adapter_table.specs.declared.table.PointValue.{PointValue}
 use Rattle.adapter_table.specs.declared.table.AdapterTable.{AdapterTable}
 use Rattle.adapter_table.specs.Rows.{is_established}
-use Rattle.adapter_table.specs.Closing.{closed_values, forsaken, staying, dropped_notice}
+use Rattle.adapter_table.specs.Closing.{closed_values, unsupported, staying, dropped_notice}
+use Rattle.cip_types.specs.Cases.{first_case_or}
 use Rattle.cip_types.specs.Order.{in_order}
-use Rattle.adapter_table.specs.Productions.{due_sendings, due_row}
+use Rattle.cip_productions.specs.Productions.{sent}
+use Rattle.adapter_table.specs.Productions.{due_productions, produced_row}
 use Rattle.adapter_table.specs.Requests.{Next}
 use Rattle.cip_events.specs.Clock.{longest_tick, clock_end}
 
@@ -56,7 +58,7 @@ expired_notice row = notice.Expired row.triad
 
 -- the connections that time out, and then the listeners that are dropped
 abbrev pub expiry_notices : Ms → List Row → List Notice
-expiry_notices clock rows = map expired_notice (expired clock rows) ++ map dropped_notice (forsaken (expired_rows clock rows))
+expiry_notices clock rows = map expired_notice (expired clock rows) ++ map dropped_notice (unsupported (expired_rows clock rows))
 
 unfoldable pub expired_table : AdapterTable → AdapterTable
 expired_table t = record t {
@@ -67,7 +69,7 @@ expired_table t = record t {
 -- PRODUCTIONS
 
 unfoldable pub produced_table : AdapterTable → AdapterTable
-produced_table t = record t { rows = map (due_row t.clock) t.rows }
+produced_table t = record t { rows = map (produced_row t.clock) t.rows }
 
 -- A TICK
 
@@ -75,7 +77,7 @@ produced_table t = record t { rows = map (due_row t.clock) t.rows }
 abbrev pub tick_answer : AdapterTable → List Row → Answer
 tick_answer clocked left = record {
   frames = [];
-  datagrams = due_sendings clocked.clock left clocked.values;
+  datagrams = map sent (due_productions clocked.clock left clocked.values);
   verdict = Done;
   notices = expiry_notices clocked.clock clocked.rows;
 }
@@ -85,9 +87,9 @@ elapsed clocked =
     let left = expired_table clocked in
     (tick_answer clocked left.rows, produced_table left)
 
--- some milliseconds pass
+-- some milliseconds pass: no more than a tick has, and not past the end of the clock
 unfoldable pub tick : AdapterTable → ℕ → Result Next StepFault
-tick t ms =
-    if nat_lt longest_tick ms then Err fault.TickTooLong
-    else (if nat_lt clock_end (t.clock.0 + ms) then Err fault.ClockEnd
-    else Ok (elapsed (clocked_table t ms)))
+tick t ms = first_case_or (Ok (elapsed (clocked_table t ms))) (
+    (nat_lt longest_tick ms, Err fault.TickTooLong)
+    ∷ (nat_lt clock_end (t.clock.0 + ms), Err fault.ClockEnd)
+    ∷ [])

@@ -1,11 +1,12 @@
 -- What every table of an adapter keeps that was made from a faultless profile, whatever happens to it: the
 -- laws of `Sound`, points with their bytes, owners that consume outputs, and numbers that have not passed
 -- their limits.
-use Rattle.std.specs.Prelude.{◌≡◌, ◌≤◌, ◌+◌, ◌^◌, true, List, [], ◌∷◌, find, is_some}
+use Rattle.std.specs.Prelude.{◌≡◌, ◌≤◌, ◌+◌, ◌^◌, true, List, find, is_some}
 use Rattle.adapter_table.specs.declared.profile.Profile.{Profile}
 use Rattle.adapter_table.specs.declared.row.Row.{Row}
 use Rattle.adapter_table.specs.declared.table.AdapterTable.{AdapterTable}
 use Rattle.adapter_table.specs.Profiles.{is_output_at}
+use Rattle.adapter_table.specs.Rows.{Each}
 use Rattle.adapter_table.specs.Productions.{due_of}
 use Rattle.cip_productions.specs.Kinds.{is_owner}
 use Rattle.adapter_table.specs.Shapes.{IsShaped}
@@ -13,15 +14,14 @@ use Rattle.adapter_table.specs.Sound.{IsSound}
 
 -- a connection within the limits of an adapter: packet intervals in milliseconds, the place of the
 -- multiplier, when its producer is due
-pub record FitsRow (profile : Profile) (row : Row) : Type 0 where
+pub record FitsRow (row : Row) : Type 0 where
   pub multiplier : row.multiplier ≤ 7
   pub o_t_api : row.o_t_api ≤ 10000
   pub t_o_api : row.t_o_api ≤ 10000
   pub due : due_of row.state ≤ 2 ^ 48 + 10000
 
-abbrev pub RowsFit : Profile → List Row → Type 0
-RowsFit profile [] = Unit {0}
-RowsFit profile (row ∷ rows) = FitsRow profile row × RowsFit profile rows
+abbrev pub RowsFit : List Row → Type 0
+RowsFit rows = Each FitsRow rows
 
 -- the connection consumes an output, if it is an exclusive owner
 abbrev pub ConsumesOutput : Profile → Row → Type 0
@@ -29,12 +29,11 @@ ConsumesOutput profile row = is_owner row.kind ≡ true → is_some (find (is_ou
 
 -- each exclusive owner does
 abbrev pub OwnersConsume : Profile → List Row → Type 0
-OwnersConsume profile [] = Unit {0}
-OwnersConsume profile (row ∷ rows) = ConsumesOutput profile row × OwnersConsume profile rows
+OwnersConsume profile rows = Each (ConsumesOutput profile) rows
 
 pub record IsWhole (t : AdapterTable) : Type 0 where
   pub sound : IsSound t
   pub shaped : IsShaped t.profile t.values
   pub consume : OwnersConsume t.profile t.rows
-  pub fits : RowsFit t.profile t.rows
+  pub fits : RowsFit t.rows
   pub clock : t.clock.0 ≤ 2 ^ 48

@@ -14,7 +14,7 @@ pub const LONGEST_CONFIG: u64 = 400;
 /// What happens to an output when its owner goes idle or is lost.
 ///
 /// Volume 1, chapter 3, connection timeouts.
-#[derive(Clone, Copy, Debug, PartialEq, Eq)]
+#[derive(Clone, Copy, PartialEq, Eq)]
 pub enum Action {
     /// The output keeps its last run-mode data.
     Hold,
@@ -24,7 +24,7 @@ pub enum Action {
 
 /// A connection point that consumes: its instance, its length in bytes, and what happens to it when its
 /// owner is idle and when its owner is lost.
-#[derive(Clone, Copy, Debug, PartialEq, Eq)]
+#[derive(Clone, Copy, PartialEq, Eq)]
 pub struct OutputPoint {
     pub instance: u32,
     pub len: u64,
@@ -33,7 +33,7 @@ pub struct OutputPoint {
 }
 
 /// A connection point that is produced, or a configuration: its instance and its length in bytes.
-#[derive(Clone, Copy, Debug, PartialEq, Eq)]
+#[derive(Clone, Copy, PartialEq, Eq)]
 pub struct InputPoint {
     pub instance: u32,
     pub len: u64,
@@ -42,7 +42,7 @@ pub struct InputPoint {
 /// An adapter: the byte that begins its connection ids (its incarnation), its address and network mask,
 /// who it is, its points, and the two points without data that input-only and listen-only connections
 /// consume.
-#[derive(Debug, PartialEq, Drop)]
+#[derive(PartialEq, Drop)]
 pub struct Profile {
     pub incarnation: u8,
     pub node: Node,

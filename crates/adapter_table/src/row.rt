@@ -4,7 +4,7 @@ use cip_productions::{Accepted, Kind, Production};
 use cip_types::{ConnId, Ms, Node, Triad};
 
 /// Whether a connection lives.
-#[derive(Clone, Copy, Debug, PartialEq, Eq)]
+#[derive(Clone, Copy, PartialEq, Eq)]
 pub enum State {
     /// It lives, and produces.
     Established(Production),
@@ -16,7 +16,7 @@ pub enum State {
 /// time-out multiplier, its place in the order of openings, and how far it has come.
 ///
 /// Volume 1, chapter 3, connection object attributes.
-#[derive(Clone, Copy, Debug, PartialEq, Eq)]
+#[derive(Clone, Copy, PartialEq, Eq)]
 pub struct Row {
     pub triad: Triad,
     pub peer: Node,

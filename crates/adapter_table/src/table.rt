@@ -5,7 +5,7 @@ use crate::row::Row;
 use cip_types::{Items, Ms, Node};
 
 /// The bytes of a point.
-#[derive(Debug, PartialEq, Drop)]
+#[derive(PartialEq, Drop)]
 pub struct PointValue {
     pub point: u32,
     pub bytes: Items<u8>,
@@ -14,7 +14,7 @@ pub struct PointValue {
 /// A stream of a peer that is open: its number, whose it is, and whether a session is registered on it.
 ///
 /// Volume 2, chapter 2, encapsulation sessions.
-#[derive(Clone, Copy, Debug, PartialEq, Eq)]
+#[derive(Clone, Copy, PartialEq, Eq)]
 pub struct Stream {
     pub number: u16,
     pub peer: Node,
@@ -24,7 +24,7 @@ pub struct Stream {
 /// An adapter: its profile, its connections in opening order, what its points hold, its clock, the
 /// counter part of the next connection id, and the streams that are open, in the order in which they were
 /// opened.
-#[derive(Debug, PartialEq, Drop)]
+#[derive(PartialEq, Drop)]
 pub struct AdapterTable {
     pub profile: Profile,
     pub rows: Items<Row>,

@@ -2,9 +2,9 @@
 use Rattle.std.proofs.Common.{◌≡◌, ◌<◌, ◌≤◌, ℕ, zero, suc, List, [], ◌∷◌, ◌++◌, length, map, find, take, drop, get_or, Option, Some, None, Bor, refl, sym, ◌∙◌, ap, arith}
 use Rattle.std.specs.Prelude.{Result, IfOk, IfSome}
 use Rattle.std.specs.Option.{option_map, ok_or}
+use Rattle.cip_types.proofs.Places.{written_back}
 use Rattle.adapter_table.specs.Profiles.{profile_fault}
 use Rattle.assembly_set.specs.declared.fault.PointFault.{PointFault}
-use Rattle.std.proofs.lemmas.Grind.{common_steps}
 use Rattle.adapter_table.specs.declared.profile.Profile.{Profile}
 use Rattle.adapter_table.specs.declared.profile.InputPoint.{InputPoint}
 use Rattle.adapter_table.specs.declared.profile.OutputPoint.{OutputPoint}
@@ -38,10 +38,6 @@ pub fit_at : (point len : ℕ) (values : List PointValue) (i : ℕ) (d : PointVa
 fit_at point len [] i d fit lt is = absurd (omega arith)
 fit_at point len (value ∷ values) zero d fit lt is = fit.0 is
 fit_at point len (value ∷ values) (suc i) d fit lt is = fit_at point len values i d fit.1 (omega arith) is
-
--- a slice of a whole vector, written back
-pub written_back : {X : Type 0} (n : ℕ) (xs ys : List X) → length ys ≡ n → take n (ys ++ drop (length ys) xs) ≡ ys
-written_back n xs ys len = grind (arith, common_steps)
 
 -- a slice of the values that is changed in place, its shapes staying, leaves them sound
 pub sound_written : (profile : Profile) (n : ℕ) (values lent new : List PointValue) → IsShaped profile values → lent ≡ values → length lent ≡ n → length new ≡ length lent → map shape_of new ≡ map shape_of lent → IsShaped profile (take n (new ++ drop (length new) values))

@@ -2,7 +2,7 @@
 
 ghost use Rattle.std.specs.Prelude.{◌≡◌};
 
-use cip_tables::StepFault;
+use cip_events::StepFault;
 
 /// Why a point is not read or written, the first that holds.
 #[derive(Clone, Copy, Debug, PartialEq, Eq)]

@@ -9,6 +9,3 @@ mod values;
 
 pub use fault::PointFault;
 pub use set::AssemblySet;
-
-#[cfg(test)]
-mod tests;

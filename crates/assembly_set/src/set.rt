@@ -11,7 +11,7 @@ ghost use Rattle.adapter_table.specs.Shapes.{IsShaped, len_of};
 
 use crate::fault::PointFault;
 use crate::values::{act, copied, find_value, opening_values, put_value};
-use cip_tables::{InputPoint, OutputPoint, PointValue, Profile};
+use adapter_table::{InputPoint, OutputPoint, PointValue, Profile};
 use cip_types::{Items, OutOfMemory};
 use std::alloc::Global;
 use std::marker::Model;

@@ -6,7 +6,7 @@ ghost use Rattle.adapter_table.specs.Profiles.{as_point};
 ghost use Rattle.adapter_table.specs.Points.{changed_value, put_value, bytes_at, zeros, opening_values, zeroed_value, acted_values};
 ghost use Rattle.adapter_table.specs.Shapes.{FitPoint, shape_of};
 
-use cip_tables::{Action, InputPoint, OutputPoint, PointValue, Profile};
+use adapter_table::{Action, InputPoint, OutputPoint, PointValue, Profile};
 use cip_types::{Items, OutOfMemory};
 use std::alloc::Global;
 

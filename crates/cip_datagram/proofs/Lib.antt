@@ -1,2 +1,3 @@
 pub mod DatagramLaws
 pub mod HeaderLaws
+pub mod Samples

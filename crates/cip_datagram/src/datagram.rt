@@ -21,7 +21,7 @@ pub enum DatagramFault {
 /// One datagram of a class 1 connection.
 ///
 /// Volume 2, chapter 2, common packet format.
-#[derive(Clone, Copy, Debug)]
+#[derive(Clone, Copy)]
 pub struct Datagram<'a> {
     pub connection: ConnId,
     /// The number of the datagram on its connection.

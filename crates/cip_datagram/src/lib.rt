@@ -5,14 +5,13 @@
 
 mod datagram;
 mod fixed;
+mod laws;
 mod mode;
 mod read;
 mod write;
 
 pub use datagram::{Datagram, DatagramFault};
+pub use laws::reads_back;
 pub use mode::{header, read_header};
 pub use read::read_datagram;
 pub use write::write_datagram;
-
-#[cfg(test)]
-mod tests;

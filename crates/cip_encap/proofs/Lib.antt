@@ -1,3 +1,4 @@
 pub mod MessageLaws
 pub mod StreamLaws
 pub mod PacketLaws
+pub mod Samples

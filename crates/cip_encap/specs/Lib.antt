@@ -4,3 +4,4 @@ pub mod Head
 pub mod Stream
 pub mod Packet
 pub mod PacketReading
+pub mod ReadsBack

@@ -6,7 +6,7 @@ ghost use Rattle.cip_types.specs.Fields.{Finds, fields_at};
 use cip_types::fields::{u16_at, u32_at};
 
 /// The numbers in front of the data, as they are.
-#[derive(Clone, Copy, Debug)]
+#[derive(Clone, Copy)]
 pub struct Head {
     pub interface: u32,
     pub timeout: u16,

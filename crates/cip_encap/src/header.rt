@@ -24,7 +24,7 @@ fn u64_at(bytes: &[u8]) -> Option<(u64, &[u8])>
 /// The numbers of a header, as they are.
 ///
 /// Volume 2, chapter 2, encapsulation messages.
-#[derive(Clone, Copy, Debug, PartialEq, Eq)]
+#[derive(Clone, Copy, PartialEq, Eq)]
 pub struct MessageHeader {
     pub command: u16,
     /// The length of the data, as the header says it.

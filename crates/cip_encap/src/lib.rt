@@ -6,6 +6,7 @@
 
 mod head;
 mod header;
+mod laws;
 mod message;
 mod packet;
 mod read;
@@ -13,11 +14,9 @@ mod splitter;
 mod write;
 
 pub use header::{MessageHeader, read_message_header};
+pub use laws::reads_back;
 pub use message::{EncapFault, MessageView};
 pub use packet::{CommonPacket, ItemFault, SocketAddress, read_items, write_items};
 pub use read::read_message;
 pub use splitter::{Message, SplitFault, Splitter};
 pub use write::write_message;
-
-#[cfg(test)]
-mod tests;

@@ -16,7 +16,7 @@ pub enum EncapFault {
 /// One encapsulation message. Its length field is the length of its data.
 ///
 /// Volume 2, chapter 2, encapsulation messages.
-#[derive(Clone, Copy, Debug)]
+#[derive(Clone, Copy)]
 pub struct MessageView<'a> {
     pub command: u16,
     /// The session handle.

@@ -24,7 +24,7 @@ pub enum ItemFault {
 /// The items of an explicit request or reply: the data of the command SendRRData.
 ///
 /// Volume 2, chapter 2, common packet format.
-#[derive(Clone, Copy, Debug)]
+#[derive(Clone, Copy)]
 pub struct CommonPacket<'a> {
     /// Seconds.
     pub timeout: u16,
@@ -35,7 +35,7 @@ pub struct CommonPacket<'a> {
 /// Where the datagrams of a multicast connection go to.
 ///
 /// Volume 2, chapter 2, socket address item.
-#[derive(Clone, Copy, Debug, PartialEq, Eq)]
+#[derive(Clone, Copy, PartialEq, Eq)]
 pub struct SocketAddress {
     pub port: u16,
     pub address: Node,

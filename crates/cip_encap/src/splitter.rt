@@ -123,7 +123,7 @@ fn split(alloc: Global, kept: &[u8], piece: &[u8]) -> Result<(Vec<Message>, Vec<
 
 /// Cuts a stream into messages, whatever pieces it comes in. It keeps the bytes behind the last whole
 /// message, and is seen as these.
-#[derive(Debug, Drop)]
+#[derive(Drop)]
 pub struct Splitter {
     kept: Vec<u8>,
 }

@@ -7,3 +7,4 @@ pub mod Arrangements
 pub mod Walks
 pub mod Texts
 pub mod PathLaws
+pub mod Samples

@@ -1,7 +1,8 @@
 -- What is written is a text of the path or the target.
-use Rattle.std.proofs.Common.{◌≡◌, ℕ, ◌/◌, ◌<◌, ◌^◌, ltb, List, [], ◌∷◌, length, Option, Some, None, refl, arith, inl, inr}
+use Rattle.std.proofs.Common.{◌≡◌, ℕ, ◌+◌, ◌/◌, ◌%◌, ◌<◌, ◌^◌, ltb, List, [], ◌∷◌, length, Option, Some, None, refl, ap, ◌∙◌, arith, inl, inr}
 use Rattle.std.specs.List.{flat_map, AllByRecursion}
 use Rattle.std.proofs.lemmas.List.Concat.{flat_map-cons}
+use Rattle.std.proofs.lemmas.List.{length-append}
 use Rattle.std.proofs.lemmas.Bool.{ltb-true, cases_Bool}
 use Rattle.cip_epath.specs.declared.path.Target.{Target}
 use Rattle.cip_epath.specs.declared.segment.LogicalType.{LogicalType}
@@ -83,3 +84,31 @@ target_fits c i (Some a) f = (f.class, (f.instance, (f.attribute, tt)))
 
 pub target_text_is : (t : Target) → TargetFits t → IsTextOf IsTarget (target_text t) t
 target_text_is t f = (target_segments t, texts_are (target_segments t) (target_fits t.class t.instance t.attribute f), refl)
+
+-- ---- whole words
+
+logical_whole : (kind : LogicalType) (value : ℕ) → length (logical_text kind value) % 2 ≡ 0
+logical_whole kind value =
+    elim (cases_Bool (ltb value 256)) [
+      | inl t ↦ rw t refl
+      | inr f ↦ elim (cases_Bool (ltb value 65536)) [
+        | inl t ↦ rw (f, t) refl
+        | inr g ↦ rw (f, g) refl
+      ]
+    ]
+
+segment_whole : (s : SegmentValue) → SegmentFits s → length (segment_text s) % 2 ≡ 0
+segment_whole (logical kind value) fits = logical_whole kind value
+segment_whole (key k) fits = refl
+segment_whole (bytes content) fits = omega (arith, fits.2)
+segment_whole (inhibit ms) fits = refl
+
+texts_whole : (ss : List SegmentValue) → AllByRecursion SegmentFits ss → length (flat_map segment_text ss) % 2 ≡ 0
+texts_whole [] fits = refl
+texts_whole (s ∷ ss) fits =
+    let len : length (flat_map segment_text (s ∷ ss)) ≡ length (segment_text s) + length (flat_map segment_text ss) = ap length (flat_map-cons segment_text s ss) ∙ length-append (segment_text s) (flat_map segment_text ss) in
+    omega (arith, len, segment_whole s fits.0, texts_whole ss fits.1)
+
+-- the text that is written of a path is whole words
+pub path_text_whole : (p : PathFields) → PathFits p → length (path_text p) % 2 ≡ 0
+path_text_whole p f = texts_whole (path_segments p) (path_fits p.key p.inhibit p.class p.config p.consumed p.produced p.segment f)

@@ -4,3 +4,4 @@ pub mod Path
 pub mod Reading
 pub mod Draft
 pub mod Written
+pub mod ReadsBack

@@ -8,14 +8,14 @@ use crate::key::Key;
 use crate::segment::{LogicalType, Segment};
 
 /// The front of a path: a key, where there is one, and the class.
-#[derive(Clone, Copy, Debug)]
+#[derive(Clone, Copy)]
 pub struct Head {
     pub key: Option<Key>,
     pub class: u32,
 }
 
 /// How far a path has come, its inhibit segments left aside.
-#[derive(Clone, Copy, Debug)]
+#[derive(Clone, Copy)]
 pub enum Draft<'a> {
     Start,
     Keyed(Key),
@@ -30,7 +30,7 @@ pub enum Draft<'a> {
 }
 
 /// The inhibit segments so far.
-#[derive(Clone, Copy, Debug)]
+#[derive(Clone, Copy)]
 pub enum Inhibits {
     Nothing,
     One(u8),
@@ -38,7 +38,7 @@ pub enum Inhibits {
 }
 
 /// How far the target of a request has come.
-#[derive(Clone, Copy, Debug)]
+#[derive(Clone, Copy)]
 pub enum TargetDraft {
     Start,
     Classed(u32),

@@ -7,6 +7,7 @@ mod check;
 mod draft;
 mod fault;
 mod key;
+mod laws;
 mod path;
 mod read;
 mod reading;
@@ -16,9 +17,7 @@ mod write;
 pub use check::check_key;
 pub use fault::PathFault;
 pub use key::{Key, KeyFault};
+pub use laws::reads_back;
 pub use path::{ConnPath, Target};
 pub use read::{read_path, read_target};
 pub use write::{write_path, write_target};
-
-#[cfg(test)]
-mod tests;

@@ -25,7 +25,7 @@ pub struct ConnPath<'a> {
 /// What an explicit request is for.
 ///
 /// Volume 1, chapter 2, request path.
-#[derive(Clone, Copy, Debug, PartialEq, Eq)]
+#[derive(Clone, Copy, PartialEq, Eq)]
 pub struct Target {
     pub class: u32,
     pub instance: u32,

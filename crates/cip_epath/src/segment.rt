@@ -3,7 +3,7 @@
 use crate::key::Key;
 
 /// What the value of a logical segment names.
-#[derive(Clone, Copy, Debug, PartialEq, Eq)]
+#[derive(Clone, Copy)]
 pub enum LogicalType {
     Class,
     Instance,
@@ -13,7 +13,7 @@ pub enum LogicalType {
 }
 
 /// One segment of a path.
-#[derive(Clone, Copy, Debug)]
+#[derive(Clone, Copy)]
 pub enum Segment<'a> {
     Logical(LogicalType, u32),
     Key(Key),

@@ -1,6 +1,6 @@
 //! Writing paths.
 
-ghost use Rattle.std.specs.Prelude.{◌≡◌, ◌/◌, ◌≤◌, ◌++◌, ◌∷◌, [], length, Ok, OnOk, IfOk, IfSome};
+ghost use Rattle.std.specs.Prelude.{◌≡◌, ◌/◌, ◌%◌, ◌≤◌, ◌++◌, ◌∷◌, [], length, Ok, OnOk, IfOk, IfSome};
 ghost use Rattle.cip_epath.specs.Key.{view_key};
 ghost use Rattle.cip_epath.specs.Segment.{type_code, key_text, KeyFits};
 ghost use Rattle.cip_epath.specs.Path.{view_path, IsPath, IsTarget, IsTextOf};
@@ -86,6 +86,8 @@ pub fn write_path(alloc: Global, path: &ConnPath<'_>) -> Result<Vec<u8>, OutOfMe
     ensures text { IfOk result (λ v. v.items ≡ path_text (view_path path.now)) }
     ensures is_text { IfOk result (λ v. IsTextOf IsPath v.items (view_path path.now)) }
     ensures read_back { IfOk result (λ v. path_reading v.items ≡ Ok (view_path path.now)) }
+    ensures whole_words { IfOk result (λ v. length v.items % 2 ≡ 0) }
+    ensures short { IfOk result (λ v. length v.items ≤ 510) }
 {
     let mut out = Vec::new(alloc);
     if let Some(key) = &path.key {

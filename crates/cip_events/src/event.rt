@@ -7,7 +7,7 @@ use cip_types::{ConnId, Fault, Items, Mismatch, Node, OutOfMemory, Triad};
 use thiserror::Error;
 
 /// One thing that happens at a device.
-#[derive(Debug, PartialEq, Drop)]
+#[derive(PartialEq, Drop)]
 pub enum Event {
     /// A peer sends a request to the message router.
     Request { peer: Node, bytes: Items<u8> },
@@ -34,7 +34,7 @@ pub enum Event {
 }
 
 /// Whom a frame goes to.
-#[derive(Clone, Copy, Debug, PartialEq, Eq)]
+#[derive(Clone, Copy, PartialEq, Eq)]
 pub enum Recipient {
     /// The other end of a stream.
     Stream(u16),
@@ -43,14 +43,14 @@ pub enum Recipient {
 }
 
 /// Bytes that go to one recipient.
-#[derive(Debug, PartialEq, Drop)]
+#[derive(PartialEq, Drop)]
 pub struct Frame {
     pub to: Recipient,
     pub bytes: Items<u8>,
 }
 
 /// A datagram that goes out: the address that it is sent to, the nodes that consume it, and its bytes.
-#[derive(Debug, PartialEq, Drop)]
+#[derive(PartialEq, Drop)]
 pub struct Sending {
     pub address: Node,
     pub nodes: Items<Node>,
@@ -82,7 +82,7 @@ pub enum Delivery {
 }
 
 /// What became of an event.
-#[derive(Debug, PartialEq, Drop)]
+#[derive(PartialEq, Drop)]
 pub enum Verdict {
     /// It was dealt with.
     Done,
@@ -97,7 +97,7 @@ pub enum Verdict {
 }
 
 /// Why a reply does not open the connection of a scanner's slot: the first that holds.
-#[derive(Clone, Copy, Debug, PartialEq, Eq)]
+#[derive(Clone, Copy, PartialEq, Eq)]
 pub enum Reason {
     /// The encapsulation message has this status, which is not 0.
     Encap(u32),
@@ -110,7 +110,7 @@ pub enum Reason {
 }
 
 /// What happened to a connection, a stream or a slot.
-#[derive(Clone, Copy, Debug, PartialEq, Eq)]
+#[derive(Clone, Copy, PartialEq, Eq)]
 pub enum Notice {
     /// A connection was opened, with this O->T id.
     Opened(Triad, ConnId),
@@ -134,7 +134,7 @@ pub enum Notice {
 
 /// What a device answers to an event: frames, datagrams, what became of the event, and what happened to
 /// connections and streams, each in order.
-#[derive(Debug, PartialEq, Drop)]
+#[derive(PartialEq, Drop)]
 pub struct Answer {
     pub frames: Items<Frame>,
     pub datagrams: Items<Sending>,

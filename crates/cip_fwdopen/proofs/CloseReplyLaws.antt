@@ -1,5 +1,5 @@
 -- A reply to a request to close is read one way, and what is written is read again.
-use Rattle.std.proofs.Common.{◌≡◌, ℕ, true, false, eqb, List, [], ◌∷◌, ◌++◌, Some, None, Result, Ok, Err, refl, sym, ap, subst, ◌∙◌, arith, rules, inl, inr}
+use Rattle.std.proofs.Common.{◌≡◌, ℕ, true, false, eqb, List, [], ◌∷◌, ◌++◌, Option, Some, None, Result, Ok, Err, refl, sym, ap, subst, ◌∙◌, arith, rules, inl, inr}
 use Rattle.std.specs.List.{AllByRecursion}
 use Rattle.std.proofs.lemmas.Bool.{cases_Bool, eqb-true, eqb-false, eq-eqb}
 use Rattle.std.proofs.lemmas.List.{append-nil}
@@ -13,12 +13,12 @@ use Rattle.cip_fwdopen.specs.declared.close.CloseAnswer.{CloseAnswer}
 use Rattle.cip_fwdopen.specs.declared.close.CloseAnswer.TheVariants.{Closed, Refused}
 use Rattle.cip_fwdopen.specs.declared.close.CloseReply.{CloseReply}
 use Rattle.cip_fwdopen.specs.Readings.{seen}
-use Rattle.cip_fwdopen.specs.Reply.{IsFailureText, failure_reading, TriadFits, Unread, unread_reading}
-use Rattle.cip_fwdopen.specs.Close.{closed_text, closed_reply, closed_widths, closed_numbers, closed_application_len, closed_of, IsClosedText, IsCloseAnswerText, IsCloseReplyText, IsCloseReplyReading, closed_reading, unclosed_by, close_answer_reading, with_close_answer, close_reply_reading}
+use Rattle.cip_fwdopen.specs.Reply.{IsFailureText, failure_reading, TriadFits, RefusedFits, refused_text, Unread, unread_reading}
+use Rattle.cip_fwdopen.specs.Close.{closed_text, closed_reply, closed_widths, closed_numbers, closed_application_len, closed_of, IsClosedText, IsCloseAnswerText, IsCloseReplyText, IsCloseReplyReading, closed_reading, unclosed_by, refused_close, close_answer_reading, with_close_answer, close_reply_reading}
 use Rattle.cip_fwdopen.proofs.AmongLaws.{IsAnswered, answered_seen, tail_reads, tail_is_answered}
 use Rattle.cip_fwdopen.proofs.AnswerLaws.{failure_reads, failure_is_answered}
 use Rattle.cip_fwdopen.proofs.ReplyLaws as reply
-use Rattle.cip_fwdopen.proofs.WrittenLaws.{front_stands}
+use Rattle.cip_fwdopen.proofs.WrittenLaws.{front_stands, refused_among}
 
 -- ---- the data
 
@@ -108,3 +108,9 @@ closed_text_is t fits =
 -- what is written of a closed connection reads as it
 pub closed_text_reads : (t : Triad) → TriadFits t → close_reply_reading (closed_text t) ≡ Ok (closed_reply t)
 closed_text_reads t fits = reply_reads (closed_text t) (closed_reply t) (closed_text_is t fits)
+
+-- what is written of a refusal reads as it
+pub refused_close_reads : (service : ℕ) (fault : Fault) (triad : Option Triad) → RefusedFits fault triad → close_reply_reading (refused_text service fault triad) ≡ Ok (refused_close service fault triad)
+refused_close_reads service fault triad fits =
+    reply_reads (refused_text service fault triad) (refused_close service fault triad)
+    (refused_among IsCloseAnswerText (unclosed_by fault triad) service fault.general fault.extra triad (λ f text refuses same is. (refuses, same, is)) fits)

@@ -3,29 +3,32 @@ use Rattle.std.proofs.Common.{◌≡◌, ℕ, ◌+◌, ◌*◌, ◌/◌, ◌%◌
 use Rattle.std.proofs.lemmas.Bool.{cases_Bool, eqb-true, eqb-false, eq-eqb}
 use Rattle.std.proofs.lemmas.List.{append-nil, length-append}
 use Rattle.cip_types.specs.declared.Fault.{Fault}
+use Rattle.cip_types.specs.declared.Triad.{Triad}
 use Rattle.cip_types.proofs.FieldLaws.{IsBytes}
 use Rattle.cip_epath.specs.declared.path.Target.{Target}
 use Rattle.cip_epath.specs.declared.segment.LogicalType.{LogicalType}
 use Rattle.cip_epath.specs.declared.segment.LogicalType.TheVariants.{Class, Instance, Attribute}
 use Rattle.cip_epath.specs.Path.{IsTarget, IsTextOf}
-use Rattle.cip_epath.specs.Written.{logical_text, target_text}
+use Rattle.cip_epath.specs.Written.{logical_text, target_text, TargetFits}
+use Rattle.cip_epath.proofs.Texts.{target_text_is}
 use Rattle.cip_fwdopen.specs.declared.fault.ReadFault.{ReadFault}
 use Rattle.cip_fwdopen.specs.declared.fault.ReadFault.TheVariants.{NotEnough}
 use Rattle.cip_fwdopen.specs.Readings.{seen}
-use Rattle.cip_fwdopen.specs.Reply.{Unread, unread_reading}
+use Rattle.cip_fwdopen.specs.Reply.{IsFailureText, failure_reading, RefusedFits, refused_text, Unread, unread_reading}
 use Rattle.cip_fwdopen.specs.Request.{IsRequestText, request_reading}
-use Rattle.cip_fwdopen.specs.Get.{get_text, get_request, got_text, Gotten, value, refusal, GetFields, got_reply, IsGottenText, IsGetReplyText, IsGetReplyReading, refusal_reading, gotten_reading, with_gotten, get_reply_reading}
+use Rattle.cip_fwdopen.specs.Get.{get_text, get_request, got_text, Gotten, value, refusal, GetFields, got_reply, refused_get, IsGottenText, IsGetReplyText, IsGetReplyReading, refusal_by, gotten_reading, with_gotten, get_reply_reading}
 use Rattle.cip_fwdopen.proofs.RequestLaws.{request_reads}
-use Rattle.cip_fwdopen.proofs.AmongLaws.{IsAnswered}
+use Rattle.cip_fwdopen.proofs.AmongLaws.{IsAnswered, answered_seen}
+use Rattle.cip_fwdopen.proofs.AnswerLaws.{failure_reads, failure_is_answered}
 use Rattle.cip_fwdopen.proofs.ReplyLaws as reply
-use Rattle.cip_fwdopen.proofs.WrittenLaws.{front_stands}
+use Rattle.cip_fwdopen.proofs.WrittenLaws.{front_stands, refused_among}
 
 -- ---- the data of a reply
 
 on_success : (fault : Fault) (t : List ℕ) → eqb fault.general 0 ≡ true → gotten_reading fault t ≡ Ok (value t)
 on_success fault t e = rw e refl
 
-on_failure : (fault : Fault) (t : List ℕ) → eqb fault.general 0 ≡ false → gotten_reading fault t ≡ refusal_reading fault t
+on_failure : (fault : Fault) (t : List ℕ) → eqb fault.general 0 ≡ false → gotten_reading fault t ≡ seen (refusal_by fault) (failure_reading t)
 on_failure fault t e = rw e refl
 
 answer_reads : (fault : Fault) (t : List ℕ) (a : Gotten) → IsGottenText fault t a → gotten_reading fault t ≡ Ok a
@@ -33,26 +36,22 @@ answer_reads fault t (value bytes) is = on_success fault t (eq-eqb fault.general
 answer_reads fault t (refusal f) is =
     elim (cases_Bool (eqb fault.general 0)) [
       | inl e ↦ absurd (is.0 (eqb-true fault.general 0 e))
-      | inr e ↦ on_failure fault t e ∙ ap (refusal_reading fault) is.2 ∙ ap (λ (x : Fault). Ok (refusal x)) (sym is.1)
+      | inr e ↦ on_failure fault t e ∙ ap (seen (refusal_by fault)) (failure_reads t is.2.0 is.2.1) ∙ ap (λ (x : Fault). Ok (refusal x)) (sym is.1)
     ]
-
--- data of a refusal is too much, whatever follows
-refusal_answered : (fault : Fault) (bytes : List ℕ) → eqb fault.general 0 ≡ false → IsAnswered (IsGottenText fault) (gotten_reading fault) bytes (refusal_reading fault bytes)
-refusal_answered fault [] e = (eqb-false fault.general 0 e, refl, refl)
-refusal_answered fault (b ∷ bytes) e = (([], b ∷ bytes, omega arith, refl, (refusal fault, (eqb-false fault.general 0 e, refl, refl))), λ more. on_failure fault (b ∷ (bytes ++ more)) e)
 
 answer_is_answered : (fault : Fault) (bytes : List ℕ) → IsBytes bytes → IsAnswered (IsGottenText fault) (gotten_reading fault) bytes (gotten_reading fault bytes)
 answer_is_answered fault bytes fits =
     elim (cases_Bool (eqb fault.general 0)) [
       | inl e ↦ subst (IsAnswered (IsGottenText fault) (gotten_reading fault) bytes) (sym (on_success fault bytes e)) (eqb-true fault.general 0 e, refl)
-      | inr e ↦ subst (IsAnswered (IsGottenText fault) (gotten_reading fault) bytes) (sym (on_failure fault bytes e)) (refusal_answered fault bytes e)
+      | inr e ↦ subst (IsAnswered (IsGottenText fault) (gotten_reading fault) bytes) (sym (on_failure fault bytes e))
+          (answered_seen (refusal_by fault) IsFailureText (IsGottenText fault) failure_reading (gotten_reading fault) (λ t named is. (eqb-false fault.general 0 e, refl, (named, is))) (λ t. on_failure fault t e) bytes (failure_reading bytes) (failure_is_answered bytes fits))
     ]
 
 some_answer : (fault : Fault) → reply.SomeAnswer IsGottenText fault
 some_answer fault =
     elim (cases_Bool (eqb fault.general 0)) [
       | inl e ↦ record { text = []; answer = value []; is = (eqb-true fault.general 0 e, refl) }
-      | inr e ↦ record { text = []; answer = refusal fault; is = (eqb-false fault.general 0 e, refl, refl) }
+      | inr e ↦ record { text = []; answer = refusal fault; is = (eqb-false fault.general 0 e, refl, (None, refl)) }
     ]
 
 content : reply.IsRead IsGottenText gotten_reading
@@ -96,6 +95,12 @@ got_text_is bytes = ((0x8E ∷ 0 ∷ 0 ∷ 0 ∷ [], []), bytes, front_stands 0x
 -- what is written of a value reads as it
 pub got_text_reads : (bytes : List ℕ) → get_reply_reading (got_text bytes) ≡ Ok (got_reply bytes)
 got_text_reads bytes = reply_reads (got_text bytes) (got_reply bytes) (got_text_is bytes)
+
+-- what is written of a refusal reads as it
+pub refused_get_reads : (service : ℕ) (fault : Fault) (triad : Option Triad) → RefusedFits fault triad → get_reply_reading (refused_text service fault triad) ≡ Ok (refused_get service fault)
+refused_get_reads service fault triad fits =
+    reply_reads (refused_text service fault triad) (refused_get service fault)
+    (refused_among IsGottenText (refusal fault) service fault.general fault.extra triad (λ f text refuses same is. (refuses, same, (triad, is))) fits)
 
 -- ---- the request
 
@@ -149,3 +154,7 @@ get_text_is t is =
 -- what is written of a request reads as it
 pub get_text_reads : (t : Target) → IsTextOf IsTarget (target_text t) t → request_reading (get_text t) ≡ Ok (get_request t)
 get_text_reads t is = request_reads (get_text t) (get_request t) (get_text_is t is)
+
+-- what is written of a target whose numbers fit their fields reads as it
+pub get_reads : (t : Target) → TargetFits t → request_reading (get_text t) ≡ Ok (get_request t)
+get_reads t fits = get_text_reads t (target_text_is t fits)

@@ -12,3 +12,4 @@ pub mod WrittenLaws
 pub mod CloseLaws
 pub mod CloseReplyLaws
 pub mod GetLaws
+pub mod Samples

@@ -1,5 +1,5 @@
 -- Replies that are written are read again.
-use Rattle.std.proofs.Common.{◌≡◌, ℕ, ◌*◌, ◌%◌, ◌<◌, ◌^◌, Bool, true, false, List, [], ◌∷◌, ◌++◌, length, Option, Some, None, Ok, refl, sym, ap, arith, inr}
+use Rattle.std.proofs.Common.{◌≡◌, ◌≢◌, ℕ, ◌*◌, ◌%◌, ◌<◌, ◌^◌, Bool, true, false, List, [], ◌∷◌, ◌++◌, length, Option, Some, None, Ok, refl, sym, ap, arith, inr}
 use Rattle.std.specs.Prelude.{IfSome}
 use Rattle.std.specs.Option.{option_map}
 use Rattle.std.specs.Int.{w16, to_le_bytes}
@@ -10,7 +10,7 @@ use Rattle.cip_types.specs.Fields.{fields_text, field_at}
 use Rattle.cip_types.proofs.FieldLaws.{wide16, field_again}
 use Rattle.cip_fwdopen.specs.declared.reply.Opened as made
 use Rattle.cip_fwdopen.specs.Front.{Begins}
-use Rattle.cip_fwdopen.specs.Reply.{reply_service, opened_widths, opened_numbers, opened_service, opened_text, opened_reply, refused_text, refused_reply, failure_text, reply_widths, IsReplyFront, IsOpenedText, IsFailureText, IsOpenReplyText, open_reply_reading, OpenedFits, TriadFits, RefusedFits}
+use Rattle.cip_fwdopen.specs.Reply.{reply_service, opened_widths, opened_numbers, opened_service, opened_text, opened_reply, refused_text, refused_reply, failure_text, reply_widths, IsReplyFront, IsOpenedText, IsFailureText, IsAnswerText, refused_by, IsReplyText, IsOpenReplyText, open_reply_reading, OpenedFits, TriadFits, RefusedFits}
 use Rattle.cip_fwdopen.proofs.OpenReplyLaws.{reply_reads}
 
 -- ---- what stands in front of the data
@@ -60,21 +60,24 @@ fault_with general extra = record { general = general; extra = extra }
 word_back : (code : ℕ) → code < 2 ^ 16 → option_map (λ (x : ℕ × List ℕ). x.0) (field_at w16 (to_le_bytes w16 code)) ≡ Some code
 word_back code small = ap (option_map (λ (x : ℕ × List ℕ). x.0)) (field_again w16 wide16 code [] small)
 
-refused_with : (service general : ℕ) (extra : Option ℕ) (triad : Option Triad) → RefusedFits (fault_with general extra) triad → IsOpenReplyText (refused_text service (fault_with general extra) triad) (refused_reply service (fault_with general extra) triad)
+-- a refusal is a text of each kind of reply that says by a fault and a failure's data what it does
+pub refused_among : {A : Type 0} (IsAnswer : Fault → List ℕ → A → Type 0) (answer : A) (service general : ℕ) (extra : Option ℕ) (triad : Option Triad)
+    → ((f : Fault) (text : List ℕ) → f.general ≢ 0 → fault_with general extra ≡ f → IsFailureText text triad → IsAnswer f text answer)
+    → RefusedFits (fault_with general extra) triad → IsReplyText IsAnswer (refused_text service (fault_with general extra) triad) (reply_service service) answer
 unfolding refused_text
-refused_with service general None triad fits =
-    ((reply_service service ∷ 0 ∷ general ∷ 0 ∷ [], []), failure_text triad, front_stands (reply_service service) general 0 [] (failure_text triad) (omega arith) fits.general (omega arith) refl, refl, (fits.refuses, refl, failure_data triad fits.triad))
-refused_with service general (Some code) triad fits = (
+refused_among IsAnswer answer service general None triad kept fits =
+    ((reply_service service ∷ 0 ∷ general ∷ 0 ∷ [], []), failure_text triad, front_stands (reply_service service) general 0 [] (failure_text triad) (omega arith) fits.general (omega arith) refl, refl, kept (fault_with general None) (failure_text triad) fits.refuses refl (failure_data triad fits.triad))
+refused_among IsAnswer answer service general (Some code) triad kept fits = (
   (reply_service service ∷ 0 ∷ general ∷ 1 ∷ [], to_le_bytes w16 code),
   failure_text triad,
   front_stands (reply_service service) general 1 (to_le_bytes w16 code) (failure_text triad) (omega arith) fits.general (omega arith) refl,
   refl,
-  (fits.refuses, ap (fault_with general) (sym (word_back code fits.extra)), failure_data triad fits.triad),
+  kept (fault_with general (option_map (λ (x : ℕ × List ℕ). x.0) (field_at w16 (to_le_bytes w16 code)))) (failure_text triad) fits.refuses (ap (fault_with general) (sym (word_back code fits.extra))) (failure_data triad fits.triad),
 )
 
 -- what is written of a refusal is a text of it
 pub refused_text_is : (service : ℕ) (fault : Fault) (triad : Option Triad) → RefusedFits fault triad → IsOpenReplyText (refused_text service fault triad) (refused_reply service fault triad)
-refused_text_is service fault triad fits = refused_with service fault.general fault.extra triad fits
+refused_text_is service fault triad fits = refused_among IsAnswerText (refused_by fault triad) service fault.general fault.extra triad (λ f text refuses same is. (refuses, same, is)) fits
 
 -- what is written of a refusal reads as it
 pub refused_text_reads : (service : ℕ) (fault : Fault) (triad : Option Triad) → RefusedFits fault triad → open_reply_reading (refused_text service fault triad) ≡ Ok (refused_reply service fault triad)

@@ -24,7 +24,7 @@ use Rattle.cip_fwdopen.specs.declared.close.CloseAnswer.{CloseAnswer}
 use Rattle.cip_fwdopen.specs.declared.close.CloseAnswer.TheVariants.{Closed, Refused}
 use Rattle.cip_fwdopen.specs.declared.close.CloseReply.{CloseReply}
 use Rattle.cip_fwdopen.specs.Readings.{IsReadingOf, IsReadingAmong, answer_of, number, seen}
-use Rattle.cip_fwdopen.specs.Reply.{triad_widths, triad_numbers, IsFailureText, failure_reading, IsReplyText, unread_reading, reply_of}
+use Rattle.cip_fwdopen.specs.Reply.{reply_service, triad_widths, triad_numbers, IsFailureText, failure_reading, IsReplyText, unread_reading, reply_of}
 
 -- a request to close, wherever its path lies in memory
 pub record CloseFields : Type 0 where
@@ -131,6 +131,10 @@ closed_reading bytes = answer_of (found_image closed_of (tailed_found closed_wid
 -- the refusal with the fault, by the connection that its data names
 abbrev pub unclosed_by : Fault → Option Triad → CloseAnswer
 unclosed_by fault triad = Refused (record { fault = fault; triad = triad })
+
+-- what the reply that refuses a request of the service says, as a reply to a request to close
+abbrev pub refused_close : ℕ → Fault → Option Triad → CloseReply
+refused_close service fault triad = record { service = reply_service service; answer = unclosed_by fault triad }
 
 -- the reading of the data of a reply with the fault
 abbrev pub close_answer_reading : Fault → List ℕ → Result CloseAnswer ReadFault

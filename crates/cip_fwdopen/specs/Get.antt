@@ -2,18 +2,18 @@
 -- chapter 2, message router request and response).
 --
 -- A request: service 0x0E, words of the path, the path, no data. Data of a success: the attribute's
--- value, which is whatever bytes are left. Data of a failure: none.
-use Rattle.std.specs.Prelude.{◌≡◌, ◌≢◌, ◌==◌, ℕ, ◌/◌, if◌then◌else◌, List, [], ◌∷◌, length, Result, Ok, Err}
+-- value, which is whatever bytes are left. Data of a failure: as in a reply to a Forward_Open.
+use Rattle.std.specs.Prelude.{◌≡◌, ◌≢◌, ◌==◌, ℕ, ◌/◌, if◌then◌else◌, List, [], ◌∷◌, length, Option, Result, Ok}
 use Rattle.cip_types.specs.declared.Fault.{Fault}
+use Rattle.cip_types.specs.declared.Triad.{Triad}
 use Rattle.cip_epath.specs.declared.path.Target.{Target}
 use Rattle.cip_epath.specs.Written.{target_text}
 use Rattle.cip_fwdopen.specs.declared.fault.ReadFault.{ReadFault}
-use Rattle.cip_fwdopen.specs.declared.fault.ReadFault.TheVariants.{TooMuch}
 use Rattle.cip_fwdopen.specs.declared.get.GetAnswer.{GetAnswer}
 use Rattle.cip_fwdopen.specs.declared.get.GetAnswer.TheVariants.{Got, Refused}
 use Rattle.cip_fwdopen.specs.declared.get.GetReply.{GetReply}
-use Rattle.cip_fwdopen.specs.Readings.{IsReadingAmong}
-use Rattle.cip_fwdopen.specs.Reply.{IsReplyText, unread_reading, reply_of}
+use Rattle.cip_fwdopen.specs.Readings.{IsReadingAmong, seen}
+use Rattle.cip_fwdopen.specs.Reply.{reply_service, IsFailureText, failure_reading, IsReplyText, unread_reading, reply_of}
 use Rattle.cip_fwdopen.specs.Request.{RequestFields}
 
 -- ---- requests
@@ -55,10 +55,15 @@ view_get r = record { service = r.service; answer = view_answer r.answer }
 abbrev pub got_reply : List ℕ → GetFields
 got_reply bytes = record { service = 0x8E; answer = value bytes }
 
--- the text is the data of what a reply with the fault says; general status 0 is a success
+-- what the reply that refuses a request of the service says
+abbrev pub refused_get : ℕ → Fault → GetFields
+refused_get service fault = record { service = reply_service service; answer = refusal fault }
+
+-- the text is the data of what a reply with the fault says; general status 0 is a success, and the connection
+-- that a failure names is not kept
 abbrev pub IsGottenText : Fault → List ℕ → Gotten → Type 0
 IsGottenText fault text (value bytes) = (fault.general ≡ 0) × (text ≡ bytes)
-IsGottenText fault text (refusal f) = (fault.general ≢ 0) × (f ≡ fault) × (text ≡ [])
+IsGottenText fault text (refusal f) = (fault.general ≢ 0) × (f ≡ fault) × ((named : Option Triad) × IsFailureText text named)
 
 -- the text is a reply
 abbrev pub IsGetReplyText : List ℕ → GetFields → Type 0
@@ -68,14 +73,13 @@ IsGetReplyText text r = IsReplyText IsGottenText text r.service r.answer
 abbrev pub IsGetReplyReading : List ℕ → Result GetFields ReadFault → Type 0
 IsGetReplyReading = IsReadingAmong IsGetReplyText
 
--- the reading of the data of a failure
-abbrev pub refusal_reading : Fault → List ℕ → Result Gotten ReadFault
-refusal_reading fault [] = Ok (refusal fault)
-refusal_reading fault (b ∷ bytes) = Err TooMuch
+-- the refusal with the fault, whichever connection its data names
+abbrev pub refusal_by : Fault → Option Triad → Gotten
+refusal_by fault named = refusal fault
 
 -- the reading of the data of a reply with the fault
 abbrev pub gotten_reading : Fault → List ℕ → Result Gotten ReadFault
-gotten_reading fault bytes = if fault.general == 0 then Ok (value bytes) else refusal_reading fault bytes
+gotten_reading fault bytes = if fault.general == 0 then Ok (value bytes) else seen (refusal_by fault) (failure_reading bytes)
 
 -- the reply whose data was read
 abbrev pub with_gotten : ℕ → Gotten → GetFields

@@ -6,3 +6,4 @@ pub mod Numbers
 pub mod Reply
 pub mod Close
 pub mod Get
+pub mod ReadsBack

@@ -29,7 +29,7 @@ pub struct CloseRequest<'a> {
 }
 
 /// What a reply to a Forward_Close says.
-#[derive(Clone, Copy, Debug, PartialEq, Eq)]
+#[derive(Clone, Copy, PartialEq, Eq)]
 pub enum CloseAnswer {
     Closed(Triad),
     Refused(Refused),
@@ -38,7 +38,7 @@ pub enum CloseAnswer {
 /// A reply to a Forward_Close.
 ///
 /// Volume 1, chapter 3, Forward_Close service, successful and unsuccessful response.
-#[derive(Clone, Copy, Debug, PartialEq, Eq)]
+#[derive(Clone, Copy, PartialEq, Eq)]
 pub struct CloseReply {
     /// The reply's service byte. It is not judged.
     pub service: u8,

@@ -6,7 +6,7 @@ ghost use Rattle.cip_fwdopen.specs.Open.{params_width};
 use cip_types::fields::{u8_at, u16_at, u32_at};
 
 /// What stands before the path. The connection parameters are words that are not read yet.
-#[derive(Clone, Copy, Debug)]
+#[derive(Clone, Copy)]
 pub struct Fixed {
     pub priority_tick: u8,
     pub ticks: u8,

@@ -11,7 +11,7 @@ use cip_types::fields::{u8_at, u16_at, u32_at};
 use cip_types::{ConnId, Fault, Triad};
 
 /// What stands before the additional words of a reply.
-#[derive(Clone, Copy, Debug)]
+#[derive(Clone, Copy)]
 pub struct Head {
     pub service: u8,
     pub reserved: u8,
@@ -42,7 +42,7 @@ impl Head {
 }
 
 /// A reply whose data is not read.
-#[derive(Clone, Copy, Debug)]
+#[derive(Clone, Copy)]
 pub struct Unread<'a> {
     pub service: u8,
     /// The general status, and of the additional words the first.
@@ -79,7 +79,7 @@ pub fn unread_at(bytes: &[u8]) -> Option<Unread<'_>>
 }
 
 /// What stands before the application reply of a success.
-#[derive(Clone, Copy, Debug)]
+#[derive(Clone, Copy)]
 pub struct Success {
     pub opened: Opened,
     pub application_words: u8,
@@ -124,7 +124,7 @@ impl Success {
 }
 
 /// What stands before the path of a request to close.
-#[derive(Clone, Copy, Debug)]
+#[derive(Clone, Copy)]
 pub struct CloseFront {
     pub priority_tick: u8,
     pub ticks: u8,
@@ -165,7 +165,7 @@ impl CloseFront {
 }
 
 /// What stands before the application reply of a success of closing.
-#[derive(Clone, Copy, Debug)]
+#[derive(Clone, Copy)]
 pub struct ClosedFront {
     pub triad: Triad,
     pub application_words: u8,

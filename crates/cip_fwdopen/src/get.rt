@@ -8,13 +8,14 @@ ghost use Rattle.cip_fwdopen.specs.Get.{GetFields, get_text, get_request, got_te
 
 use crate::fault::ReadFault;
 use crate::front::unread_at;
+use crate::reply::failure_of;
 use cip_epath::{Target, write_target};
 use cip_types::fields::put_bytes;
 use cip_types::{Fault, OutOfMemory};
 use std::alloc::Global;
 
 /// What a reply to a Get_Attribute_Single says.
-#[derive(Clone, Copy, Debug, PartialEq, Eq)]
+#[derive(Clone, Copy, PartialEq, Eq)]
 pub enum GetAnswer<'a> {
     /// The attribute's value. It is not read.
     Got(&'a [u8]),
@@ -24,7 +25,7 @@ pub enum GetAnswer<'a> {
 /// A reply to a Get_Attribute_Single.
 ///
 /// Volume 1, appendix A, Get_Attribute_Single service.
-#[derive(Clone, Copy, Debug, PartialEq, Eq)]
+#[derive(Clone, Copy, PartialEq, Eq)]
 pub struct GetReply<'a> {
     /// The reply's service byte. It is not judged.
     pub service: u8,
@@ -37,10 +38,8 @@ fn answer_of(fault: Fault, bytes: &[u8]) -> Result<GetAnswer<'_>, ReadFault>
     if fault.general == 0 {
         return Ok(GetAnswer::Got(bytes));
     }
-    if bytes.is_empty() {
-        return Ok(GetAnswer::Refused(fault));
-    }
-    Err(ReadFault::TooMuch)
+    let _named = failure_of(bytes)?;
+    Ok(GetAnswer::Refused(fault))
 }
 
 fn whole_reply(bytes: &[u8]) -> Result<GetReply<'_>, ReadFault>
@@ -57,11 +56,12 @@ fn whole_reply(bytes: &[u8]) -> Result<GetReply<'_>, ReadFault>
 }
 
 /// The reply that the bytes are. With general status 0 the value is whatever stands behind the
-/// additional words. With another one the fault keeps of these the first alone, and no data follows
-/// them. Neither the service nor the reserved byte is judged.
+/// additional words. With another one the fault keeps of these the first alone, and the data is that of
+/// any failure (10 bytes, or 8, or none, none of them looked at). Neither the service nor the reserved
+/// byte is judged.
 ///
-/// NotEnough where the bytes end before the additional words do, TooMuch where data follows them in a
-/// refusal; never Path.
+/// NotEnough where the bytes are no reply and a longer reply begins so; TooMuch where they are none,
+/// none begins so, and a reply stands in front of them; never Path.
 ///
 /// Volume 1, appendix A, Get_Attribute_Single service, and chapter 2, message router response.
 pub fn read_get_reply(bytes: &[u8]) -> Result<GetReply<'_>, ReadFault>

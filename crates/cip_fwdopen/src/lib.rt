@@ -6,6 +6,7 @@ mod fault;
 mod fixed;
 mod front;
 mod get;
+mod laws;
 mod message;
 mod open;
 mod reply;
@@ -16,10 +17,8 @@ pub use close::{
 };
 pub use fault::ReadFault;
 pub use get::{GetAnswer, GetReply, read_get_reply, write_get, write_got};
+pub use laws::reads_back;
 pub use message::{Request, read_request};
 pub use open::{OpenRequest, read_open};
 pub use reply::{OpenAnswer, OpenReply, Opened, Refused, read_open_reply};
 pub use write::{write_open, write_opened, write_refused};
-
-#[cfg(test)]
-mod tests;

@@ -12,7 +12,7 @@ use cip_types::fields::u8_at;
 /// A request: a service, what it is for, and its data, which is not read.
 ///
 /// Volume 1, chapter 2, message router request.
-#[derive(Clone, Copy, Debug)]
+#[derive(Clone, Copy)]
 pub struct Request<'a> {
     pub service: u8,
     pub target: Target,

@@ -26,7 +26,7 @@ pub struct Opened {
 /// What a target says of a connection that it did not open.
 ///
 /// Volume 1, chapter 3, Forward_Open service, unsuccessful response.
-#[derive(Clone, Copy, Debug, PartialEq, Eq)]
+#[derive(Clone, Copy, PartialEq, Eq)]
 pub struct Refused {
     pub fault: Fault,
     /// The connection that the request named, where the reply says it.
@@ -34,14 +34,14 @@ pub struct Refused {
 }
 
 /// What a reply to a Forward_Open says.
-#[derive(Clone, Copy, Debug, PartialEq, Eq)]
+#[derive(Clone, Copy, PartialEq, Eq)]
 pub enum OpenAnswer {
     Opened(Opened),
     Refused(Refused),
 }
 
 /// A reply to a Forward_Open or a Large_Forward_Open.
-#[derive(Clone, Copy, Debug, PartialEq, Eq)]
+#[derive(Clone, Copy, PartialEq, Eq)]
 pub struct OpenReply {
     /// The reply's service byte. It is not judged.
     pub service: u8,

@@ -1,12 +1,14 @@
 -- A word carries one value of the parameters, which is what its fields say.
-use Rattle.std.proofs.Common.{◌≡◌, ℕ, ◌/◌, ◌%◌, ◌<◌, ◌^◌, Bool, true, false, eqb, arith, refl, sym, ap, ◌∙◌}
+use Rattle.std.proofs.Common.{◌≡◌, ℕ, ◌/◌, ◌%◌, ◌<◌, ◌^◌, Bool, true, false, Some, eqb, arith, refl, sym, ap, ◌∙◌}
 use Rattle.std.specs.Int.{from_bool}
 use Rattle.cip_netparams.specs.declared.NetParams.{NetParams}
 use Rattle.cip_netparams.specs.declared.Priority.{Priority}
 use Rattle.cip_netparams.specs.declared.Priority.TheVariants.{Low, High, Scheduled, Urgent}
 use Rattle.cip_netparams.specs.declared.ConnectionType.{ConnectionType}
 use Rattle.cip_netparams.specs.declared.ConnectionType.TheVariants.{Null, Multicast, PointToPoint, Reserved}
-use Rattle.cip_netparams.specs.Word.{priority_code, type_code, priority_of, type_of, IsWord16, IsWord32, word16, word32, params16, params32}
+use Rattle.cip_netparams.specs.declared.Trigger.{Trigger}
+use Rattle.cip_netparams.specs.declared.Trigger.TheVariants.{Cyclic, ChangeOfState}
+use Rattle.cip_netparams.specs.Word.{priority_code, type_code, priority_of, type_of, IsWord16, IsWord32, word16, word32, params16, params32, trigger_of, trigger_byte}
 use Rattle.cip_netparams.proofs.Bits.{flag_below, fields_16, fields_32, sum_16, sum_32}
 
 pub priority_below : (p : Priority) → priority_code p < 4
@@ -85,3 +87,10 @@ carries_16 w a lt s v p k r = (omega arith, (w / 4096 % 2, omega arith, omega (a
 
 pub carries_32 : (w : ℕ) (a : NetParams) → w < 2 ^ 32 → a.size ≡ w % 65536 → from_bool a.variable ≡ w / 2 ^ 25 % 2 → priority_code a.priority ≡ w / 2 ^ 26 % 4 → type_code a.kind ≡ w / 2 ^ 29 % 4 → from_bool a.redundant ≡ w / 2 ^ 31 → IsWord32 w a
 carries_32 w a lt s v p k r = (omega arith, (w / 2 ^ 16 % 512, w / 2 ^ 28 % 2, omega arith, omega arith, omega (arith, sum_32 w lt)))
+
+-- ---- a trigger's byte names it
+
+-- the trigger is read from its byte
+pub trigger_reads : (t : Trigger) → trigger_of (trigger_byte t) ≡ Some t
+trigger_reads Cyclic = refl
+trigger_reads ChangeOfState = refl

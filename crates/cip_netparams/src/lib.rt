@@ -2,10 +2,12 @@
 //! connections.
 #![tactic(auto)]
 
+mod laws;
 mod rate;
 mod trigger_byte;
 mod word;
 
+pub use laws::reads_back;
 pub use rate::{api_of, timeout_of};
 pub use word::{read16, read32, write16, write32};
 
@@ -56,6 +58,3 @@ pub enum Trigger {
     /// When the data changed, and at the latest after a packet interval.
     ChangeOfState,
 }
-
-#[cfg(test)]
-mod tests;

@@ -1,13 +1,18 @@
--- What one producer does: its numbers and counts, when it is due again, and its datagram
+-- What one producer does: its numbers and counts, when it is due again, and what it sends
 -- (Volume 1, chapter 3, class 1 transport, production triggers and production inhibit time; Volume 2,
 -- chapter 2, sequenced address item).
-use Rattle.std.specs.Prelude.{ℕ, ◌+◌, ◌%◌, ◌^◌, nat_lt, nat_le, min, Bool, true, false, if◌then◌else◌, List, Option, Some, None}
+use Rattle.std.specs.Prelude.{ℕ, ◌+◌, ◌%◌, ◌^◌, ◌==◌, ◌&&◌, ◌||◌, nat_lt, nat_le, min, Bool, true, false, if◌then◌else◌, List, Option, Some, None}
 use Rattle.cip_types.specs.declared.names.ConnId.{ConnId}
+use Rattle.cip_types.specs.declared.names.Node.{Node}
 use Rattle.cip_types.specs.declared.names.Ms.{Ms}
 use Rattle.cip_netparams.specs.declared.Trigger.{Trigger}
 use Rattle.cip_netparams.specs.declared.Trigger.TheVariants.{Cyclic, ChangeOfState}
-use Rattle.cip_datagram.specs.Datagram.{DatagramFields}
+use Rattle.cip_datagram.specs.Datagram.{DatagramFields, datagram_text}
+use Rattle.cip_events.specs.declared.event.Sending.{Sending}
 use Rattle.cip_productions.specs.declared.production.Production.{Production}
+use Rattle.cip_productions.specs.declared.production.Producer.{Producer}
+
+-- HOW A PRODUCER GOES ON
 
 -- the count of the next datagram, which rises with new data
 abbrev pub next_count : Production → ℕ
@@ -28,14 +33,11 @@ produced clock api production = record production {
   last = Some clock;
 }
 
--- the datagram of a producer
-abbrev pub production_datagram : ConnId → Production → List ℕ → DatagramFields
-production_datagram id production input = record {
-  connection = id.0;
-  sequence = production.sequence;
-  count = next_count production;
-  payload = input;
-}
+-- the production is due
+abbrev pub is_production_due : Ms → Production → Bool
+is_production_due clock production = nat_le production.due.0 clock.0
+
+-- CHANGES OF STATE
 
 -- when a producer was last held back to
 abbrev pub is_over : Option Ms → ℕ → Ms → Bool
@@ -46,9 +48,10 @@ is_over (Some last) inhibit clock = nat_le (last.0 + inhibit) clock.0
 abbrev pub is_free : Ms → Production → Bool
 is_free clock production = is_over production.last production.inhibit clock
 
-abbrev pub is_prompt_trigger : Trigger → Bool
-is_prompt_trigger Cyclic = false
-is_prompt_trigger ChangeOfState = true
+-- a producer of this trigger produces at changes of state too
+abbrev pub is_on_change : Trigger → Bool
+is_on_change Cyclic = false
+is_on_change ChangeOfState = true
 
 -- due when the production inhibit time is over, and no later than before
 abbrev pub sooner_due : Option Ms → ℕ → Ms → Ms
@@ -59,6 +62,69 @@ sooner_due (Some last) inhibit due = record { 0 = min due.0 (last.0 + inhibit) }
 abbrev pub held : Production → Production
 held production = record production { due = sooner_due production.last production.inhibit production.due }
 
--- what a change-of-state producer does at a write of its input
-abbrev pub prompt_production : Ms → ℕ → Production → Production
-prompt_production clock api production = if is_free clock production then produced clock api production else held production
+-- a change of state makes the producer produce at once
+abbrev pub is_produced_on_change : Ms → Production → Bool
+is_produced_on_change clock production = is_on_change production.trigger && is_free clock production
+
+-- what a change of state makes of a change-of-state producer: it produces, or is due when it may
+abbrev pub produced_or_held : Ms → ℕ → Production → Production
+produced_or_held clock api production = if is_free clock production then produced clock api production else held production
+
+-- the same by its trigger: a cyclic producer goes on as before
+abbrev pub changed_by : Trigger → Ms → ℕ → Production → Production
+changed_by Cyclic clock api production = production
+changed_by ChangeOfState clock api production = produced_or_held clock api production
+
+-- the producer after a change of state, which a write of its point is
+abbrev pub changed : Ms → ℕ → Production → Production
+changed clock api production = changed_by production.trigger clock api production
+
+-- WHAT IS PRODUCED
+
+-- the datagram of a producer
+abbrev pub production_datagram : ConnId → Production → List ℕ → DatagramFields
+production_datagram id production input = record {
+  connection = id.0;
+  sequence = production.sequence;
+  count = next_count production;
+  payload = input;
+}
+
+-- one production: the number of the producer, the point whose bytes it sends, the address that they are sent
+-- to, the nodes that consume them, and the datagram
+pub record Produced : Type 0 where
+  pub producer : ℕ
+  pub point : ℕ
+  pub address : Node
+  pub nodes : List Node
+  pub datagram : DatagramFields
+
+-- what a producer produces next for these nodes, where its point holds these bytes
+abbrev pub produced_by : List Node → List ℕ → Producer → Produced
+produced_by nodes input producer = record {
+  producer = producer.production.producer;
+  point = producer.point;
+  address = producer.production.address;
+  nodes = nodes;
+  datagram = production_datagram producer.id producer.production input;
+}
+
+-- the bytes of a production
+abbrev pub sent : Produced → Sending
+sent production = record { address = production.address; nodes = production.nodes; bytes = datagram_text production.datagram }
+
+-- SEVERAL PRODUCERS
+
+-- two are one producer
+abbrev pub same_producer : Producer → Producer → Bool
+same_producer producer other = producer.production.producer == other.production.producer
+
+-- producers by their numbers
+abbrev pub by_number : Producer → Producer → Bool
+by_number producer other = nat_lt producer.production.producer other.production.producer
+
+-- producers by when they are due, and then by their numbers
+abbrev pub by_due : Producer → Producer → Bool
+by_due producer other =
+    nat_lt producer.production.due.0 other.production.due.0
+    || (producer.production.due.0 == other.production.due.0 && by_number producer other)

@@ -1,8 +1,38 @@
-//! What a connection remembers of the datagrams that it accepted.
+//! What a connection remembers of the datagrams that it accepted, and which it accepts.
+
+ghost use Rattle.std.specs.Prelude.{◌≡◌};
+ghost use Rattle.cip_productions.specs.Acceptance.{is_news, is_repeated};
+
+use cip_types::{newer32, same16};
 
 /// The sequence number and the sequence count of the datagram that was last accepted.
-#[derive(Clone, Copy, Debug, PartialEq, Eq)]
+#[derive(Clone, Copy, PartialEq, Eq)]
 pub struct Accepted {
     pub number: u32,
     pub count: u16,
+}
+
+/// Whether a datagram of this number is accepted: the first is, and a later one where its number is newer than
+/// the last accepted one. Takes no memory.
+///
+/// Volume 2, chapter 2, sequenced address item.
+pub fn is_news(last: Option<Accepted>, sequence: u32) -> bool
+    ensures { result ≡ is_news last sequence }
+{
+    match last {
+        Some(last) => newer32(sequence, last.number),
+        None => true,
+    }
+}
+
+/// Whether a datagram of this count has no new data. Takes no memory.
+///
+/// Volume 1, chapter 3, class 1 transport.
+pub fn is_repeated(last: Option<Accepted>, count: u16) -> bool
+    ensures { result ≡ is_repeated last count }
+{
+    match last {
+        Some(last) => same16(count, last.count),
+        None => false,
+    }
 }

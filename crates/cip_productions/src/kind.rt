@@ -3,7 +3,7 @@
 /// What a connection is for.
 ///
 /// Volume 1, chapter 3, application connection types.
-#[derive(Clone, Copy, Debug, PartialEq, Eq)]
+#[derive(Clone, Copy, PartialEq, Eq)]
 pub enum Kind {
     /// It drives an output, alone.
     ExclusiveOwner,

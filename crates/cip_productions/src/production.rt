@@ -1,12 +1,12 @@
-//! The producer of a connection.
+//! Producers.
 
 use cip_netparams::Trigger;
-use cip_types::{Ms, Node};
+use cip_types::{ConnId, Ms, Node};
 
-/// The producer of a connection's T->O data.
+/// The production of a connection's data.
 ///
 /// Volume 1, chapter 3, transport class 1 and production triggers.
-#[derive(Clone, Copy, Debug, PartialEq, Eq)]
+#[derive(Clone, Copy, PartialEq, Eq)]
 pub struct Production {
     /// Which producer it is: the opening number of the connection that began it.
     pub producer: u32,
@@ -26,4 +26,14 @@ pub struct Production {
     pub inhibit: u8,
     /// When it last produced.
     pub last: Option<Ms>,
+}
+
+/// A producer: the point whose bytes it sends, the connection id of its datagrams, and its production.
+///
+/// Volume 1, chapter 3, transport class 1.
+#[derive(Clone, Copy)]
+pub struct Producer {
+    pub point: u32,
+    pub id: ConnId,
+    pub production: Production,
 }

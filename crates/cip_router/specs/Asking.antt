@@ -1,8 +1,10 @@
 -- What a request to the message router asks (Volume 1, chapter 2, message router request, and chapter 3,
 -- Connection Manager services).
-use Rattle.std.specs.Prelude.{ℕ, ◌==◌, ◌&&◌, Bool, true, false, if◌then◌else◌, List, [], ◌∷◌, Option, Result, Ok, Err}
+use Rattle.std.specs.Prelude.{ℕ, ◌==◌, ◌&&◌, Bool, true, false, List, [], ◌∷◌, Option, Result, Ok, Err}
+use Rattle.cip_types.specs.Cases.{first_case_or}
 use Rattle.cip_fwdopen.specs.declared.fault.ReadFault.{ReadFault}
 use Rattle.cip_fwdopen.specs.declared.fault.ReadFault.TheVariants.{NotEnough, TooMuch, Path}
+use Rattle.cip_epath.specs.declared.path.Target.{Target}
 use Rattle.cip_fwdopen.specs.Open.{OpenFields, view_open, open_reading}
 use Rattle.cip_fwdopen.specs.Close.{CloseFields, view_close, close_reading}
 use Rattle.cip_fwdopen.specs.Request.{RequestFields, request_reading}
@@ -44,18 +46,22 @@ asked_close service (Err fault) = refused service (data_status fault)
 
 -- a service of the Connection Manager
 abbrev pub asked_manager : ℕ → List ℕ → AskedFields
-asked_manager service body =
-    if service == 0x54 then asked_open service false (open_reading false body)
-    else (if service == 0x5B then asked_open service true (open_reading true body)
-    else (if service == 0x4E then asked_close service (close_reading body)
-    else refused service status.Service))
+asked_manager service body = first_case_or (refused service status.Service) (
+    (service == 0x54, asked_open service false (open_reading false body))
+    ∷ (service == 0x5B, asked_open service true (open_reading true body))
+    ∷ (service == 0x4E, asked_close service (close_reading body))
+    ∷ [])
 
--- the Connection Manager is class 6, instance 1, and the assemblies are class 4; nothing else is served
+-- the Connection Manager is class 6, instance 1
+abbrev pub is_manager : Target → Bool
+is_manager target = target.class == 6 && target.instance == 1
+
+-- and the assemblies are class 4; nothing else is served
 abbrev pub asked_object : RequestFields → AskedFields
-asked_object request =
-    if request.target.class == 6 && request.target.instance == 1 then asked_manager request.service request.body
-    else (if request.target.class == 4 then assembly request.service request.target.instance request.target.attribute request.body
-    else refused request.service status.PathDestination)
+asked_object request = first_case_or (refused request.service status.PathDestination) (
+    (is_manager request.target, asked_manager request.service request.body)
+    ∷ (request.target.class == 4, assembly request.service request.target.instance request.target.attribute request.body)
+    ∷ [])
 
 abbrev pub asked_of : ℕ → Result RequestFields ReadFault → AskedFields
 asked_of service (Err fault) = refused service (data_status fault)

@@ -1,6 +1,7 @@
 -- The commands of encapsulation messages, and the statuses of refusals (Volume 2, chapter 2, encapsulation
 -- commands and encapsulation status codes).
-use Rattle.std.specs.Prelude.{ℕ, ◌==◌, Bool, true, false, if◌then◌else◌}
+use Rattle.std.specs.Prelude.{ℕ, ◌==◌, Bool, true, false, [], ◌∷◌}
+use Rattle.cip_types.specs.Cases.{first_case_or}
 use Rattle.cip_router.specs.declared.command.Command.{Command}
 use Rattle.cip_router.specs.declared.command.Command.TheVariants as command
 use Rattle.cip_router.specs.declared.command.EncapStatus.{EncapStatus}
@@ -8,13 +9,13 @@ use Rattle.cip_router.specs.declared.command.EncapStatus.TheVariants as status
 
 -- what a message asks by its command
 abbrev pub command_of : ℕ → Command
-command_of code =
-    if code == 0x0000 then command.Nop
-    else (if code == 0x0004 then command.ListServices
-    else (if code == 0x0065 then command.RegisterSession
-    else (if code == 0x0066 then command.UnregisterSession
-    else (if code == 0x006F then command.SendRrData
-    else command.Other))))
+command_of code = first_case_or command.Other (
+    (code == 0x0000, command.Nop)
+    ∷ (code == 0x0004, command.ListServices)
+    ∷ (code == 0x0065, command.RegisterSession)
+    ∷ (code == 0x0066, command.UnregisterSession)
+    ∷ (code == 0x006F, command.SendRrData)
+    ∷ [])
 
 -- the commands that never have a reply
 abbrev pub is_silent : Command → Bool

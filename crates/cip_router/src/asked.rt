@@ -14,7 +14,7 @@ use cip_fwdopen::{
 /// A request by what it asks.
 ///
 /// Volume 1, chapter 2, message router request, and chapter 3, Connection Manager services.
-#[derive(Clone, Copy, Debug)]
+#[derive(Clone, Copy)]
 pub enum Asked<'a> {
     /// There is not even a service.
     Nothing,

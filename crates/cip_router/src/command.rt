@@ -6,7 +6,7 @@ ghost use Rattle.cip_router.specs.Commands.{command_of, is_silent, encap_code};
 /// What an encapsulation message asks, by its command.
 ///
 /// Volume 2, chapter 2, encapsulation commands.
-#[derive(Clone, Copy, Debug, PartialEq, Eq)]
+#[derive(Clone, Copy, PartialEq, Eq)]
 pub enum Command {
     /// Nothing.
     Nop,
@@ -54,7 +54,7 @@ impl Command {
 /// Why an encapsulation message is refused.
 ///
 /// Volume 2, chapter 2, encapsulation status codes.
-#[derive(Clone, Copy, Debug, PartialEq, Eq)]
+#[derive(Clone, Copy, PartialEq, Eq)]
 pub enum EncapStatus {
     /// The command is not served, or not on this stream.
     InvalidCommand,

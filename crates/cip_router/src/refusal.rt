@@ -9,7 +9,7 @@ use cip_types::Fault;
 /// standard's.
 ///
 /// Volume 1, chapter 3, Connection Manager extended status codes.
-#[derive(Clone, Copy, Debug, PartialEq, Eq)]
+#[derive(Clone, Copy, PartialEq, Eq)]
 pub enum Refusal {
     /// A connection of this triad is established.
     InUse,
@@ -103,7 +103,7 @@ impl Refusal {
 /// Why the message router refuses a request by itself.
 ///
 /// Volume 1, appendix B, general status codes.
-#[derive(Clone, Copy, Debug, PartialEq, Eq)]
+#[derive(Clone, Copy, PartialEq, Eq)]
 pub enum Status {
     /// The request path does not read.
     PathSegment,

@@ -10,7 +10,7 @@ use std::alloc::Global;
 /// A reply of the message router, of its Connection Manager, or of a point.
 ///
 /// Volume 1, chapter 2, message router reply, and chapter 3, Connection Manager.
-#[derive(Clone, Copy, Debug)]
+#[derive(Clone, Copy)]
 pub enum Reply<'a> {
     /// A connection was opened, by a Forward_Open or (`true`) a Large_Forward_Open.
     Opened(bool, Opened),

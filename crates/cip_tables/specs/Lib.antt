@@ -3,3 +3,4 @@ pub mod Whole
 pub mod Scratch
 pub mod Step
 pub mod Run
+pub mod Newest

@@ -8,7 +8,8 @@ use Rattle.cip_tables.specs.declared.table.DeviceTable.{DeviceTable}
 use Rattle.cip_tables.specs.declared.table.DeviceTable.TheVariants.{Adapter}
 use Rattle.adapter_table.specs.Profiles.{is_output_at}
 use Rattle.adapter_table.specs.Points.{bytes_at}
-use Rattle.cip_tables.specs.Step.{step, opening_table, config_fault}
+use Rattle.cip_tables.specs.Step.{step, opening_table, config_fault, bytes_in}
+use Rattle.cip_tables.specs.Whole.{IsWholeDevice}
 use Rattle.cip_events.specs.Outcomes.{Outcome}
 use Rattle.cip_tables.specs.Run.{Runs, table_of, performed}
 use Rattle.adapter_table.specs.Scratch.{or_else, left_at}
@@ -24,14 +25,30 @@ last_touched point t (event ∷ events) =
     let next = table_of t (step t event) in
     or_else (last_touched point next events) (touched point t event next)
 
--- the value of an output of a device that began so and performed the events: what touched it last, or zeros
-abbrev pub value_from_scratch : Config → List Event → OutputPoint → List ℕ
-value_from_scratch made events output = unwrap_or (last_touched output.instance (opening_table made) events) (replicate output.len 0)
+-- the outputs of a device
+abbrev pub outputs_of : DeviceTable → List OutputPoint
+outputs_of (Adapter t) = t.profile.outputs
 
--- what each output holds after any run of a fresh device whose profile has nothing wrong with it
+-- the value of an output after the events: what touched it last, or what it held in the opening table
+abbrev pub value_from_scratch : DeviceTable → List Event → ℕ → Option (List ℕ)
+value_from_scratch old events point = or_else (last_touched point old events) (bytes_in old point)
+
+-- what each output holds after any run from a whole table
 abbrev pub OutputsAreFromScratch : Type 0
 OutputsAreFromScratch =
+    (old new : DeviceTable) (events : List Event) (outcomes : List Outcome) (point : ℕ) (output : OutputPoint) →
+    IsWholeDevice old → Runs old events outcomes new →
+    find (is_output_at point) (outputs_of new) ≡ Some output →
+    bytes_in new point ≡ value_from_scratch old (performed events outcomes) point
+
+-- the same from a fresh device on: what touched it last, or zeros
+abbrev pub fresh_value : Config → List Event → OutputPoint → List ℕ
+fresh_value made events output = unwrap_or (last_touched output.instance (opening_table made) events) (replicate output.len 0)
+
+-- what each output holds after any run of a fresh device whose profile has nothing wrong with it
+abbrev pub FreshOutputsAreFromScratch : Type 0
+FreshOutputsAreFromScratch =
     (made : Config) (events : List Event) (outcomes : List Outcome) (t : AdapterTable) (output : OutputPoint) →
     config_fault made ≡ None → Runs (opening_table made) events outcomes (Adapter t) →
     find (is_output_at output.instance) t.profile.outputs ≡ Some output →
-    bytes_at t.values output.instance ≡ Some (value_from_scratch made (performed events outcomes) output)
+    bytes_at t.values output.instance ≡ Some (fresh_value made (performed events outcomes) output)

@@ -1,18 +1,28 @@
 -- What holds of every table that a run reaches.
-use Rattle.std.specs.Prelude.{List}
+use Rattle.std.specs.Prelude.{◌≡◌, ◌≤◌, List, Ok}
 use Rattle.cip_events.specs.declared.event.Event.{Event}
+use Rattle.cip_events.specs.Outcomes.{Outcome}
 use Rattle.adapter_table.specs.declared.table.AdapterTable.{AdapterTable}
+use Rattle.adapter_table.specs.Sound.{IsSound}
+use Rattle.cip_tables.specs.declared.table.Config.{Config}
 use Rattle.cip_tables.specs.declared.table.DeviceTable.{DeviceTable}
 use Rattle.cip_tables.specs.declared.table.DeviceTable.TheVariants.{Adapter}
-use Rattle.cip_tables.specs.declared.table.Config.{Config}
-use Rattle.cip_tables.specs.Step.{opening_table}
-use Rattle.cip_events.specs.Outcomes.{Outcome}
+use Rattle.cip_tables.specs.Step.{DeviceNext, step, opening_table}
 use Rattle.cip_tables.specs.Run.{Runs}
-use Rattle.adapter_table.specs.Sound.{IsSound}
+use Rattle.cip_tables.specs.Whole.{IsWholeDevice, next_id_of}
 
 abbrev pub IsSoundDevice : DeviceTable → Type 0
 IsSoundDevice (Adapter t) = IsSound t
 
--- in every adapter's table that a run from a fresh device reaches, this holds
-abbrev pub OverEveryRun : (AdapterTable → Type 0) → Type 0
-OverEveryRun Holds = (made : Config) (events : List Event) (outcomes : List Outcome) (t : AdapterTable) → Runs (opening_table made) events outcomes (Adapter t) → Holds t
+-- in every adapter's table that a run reaches this holds: a run from a whole table, and one from a fresh device
+pub record OverEveryRun (Holds : AdapterTable → Type 0) : Type 0 where
+  pub whole : (old : DeviceTable) (events : List Event) (outcomes : List Outcome) (t : AdapterTable) → IsWholeDevice old → Runs old events outcomes (Adapter t) → Holds t
+  pub fresh : (made : Config) (events : List Event) (outcomes : List Outcome) (t : AdapterTable) → Runs (opening_table made) events outcomes (Adapter t) → Holds t
+
+-- the counter of the next connection id is no less after a step
+abbrev pub StepsCountOn : Type 0
+StepsCountOn = (old : DeviceTable) (event : Event) (next : DeviceNext) → step old event ≡ Ok next → next_id_of old ≤ next_id_of next.1
+
+-- nor after a run
+abbrev pub RunsCountOn : Type 0
+RunsCountOn = (old new : DeviceTable) (events : List Event) (outcomes : List Outcome) → Runs old events outcomes new → next_id_of old ≤ next_id_of new

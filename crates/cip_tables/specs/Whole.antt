@@ -21,6 +21,14 @@ next_id_of (Adapter t) = t.next_id
 abbrev pub with_next_id : DeviceTable → ℕ → DeviceTable
 with_next_id (Adapter t) counter = Adapter (record t { next_id = counter })
 
--- each table that a run from a fresh device of a faultless profile reaches is whole
+-- each table that a run from a whole one reaches is whole
+abbrev pub RunsKeepWhole : Type 0
+RunsKeepWhole = (old new : DeviceTable) (events : List Event) (outcomes : List Outcome) → IsWholeDevice old → Runs old events outcomes new → IsWholeDevice new
+
+-- a fresh device of a faultless profile is whole
+abbrev pub FreshDevicesAreWhole : Type 0
+FreshDevicesAreWhole = (made : Config) → config_fault made ≡ None → IsWholeDevice (opening_table made)
+
+-- each table that a run from such a device reaches is whole
 abbrev pub TablesAreWhole : Type 0
 TablesAreWhole = (made : Config) (events : List Event) (outcomes : List Outcome) (t : AdapterTable) → config_fault made ≡ None → Runs (opening_table made) events outcomes (Adapter t) → IsWhole t

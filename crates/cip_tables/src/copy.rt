@@ -14,7 +14,7 @@ use std::marker::Model;
 
 /// A whole table of a device, which contracts see as that table. A device gives one of itself, and another
 /// can be made that goes on from it.
-#[derive(Debug, Drop)]
+#[derive(Drop)]
 pub struct TableCopy {
     table: DeviceTable,
 }
@@ -74,7 +74,8 @@ impl Config {
     pub fn copy(&self, alloc: Global) -> Result<Config, OutOfMemory>
         ensures { IfOk result (λ copy. copy ≡ self.now) }
     {
-        let Config::Adapter(profile) = self;
-        Ok(Config::Adapter(profile.copy(alloc)?))
+        match self {
+            Config::Adapter(profile) => Ok(Config::Adapter(profile.copy(alloc)?)),
+        }
     }
 }

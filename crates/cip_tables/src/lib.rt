@@ -20,6 +20,3 @@ pub use cip_router::{Asked, Command, EncapStatus, Refusal, Reply, Status, read_a
 pub use copy::TableCopy;
 pub use device::{Device, run};
 pub use table::{Config, DeviceTable};
-
-#[cfg(test)]
-mod tests;

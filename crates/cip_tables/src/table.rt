@@ -3,13 +3,13 @@
 use adapter_table::{AdapterTable, Profile};
 
 /// The table of a device of any kind.
-#[derive(Debug, PartialEq, Drop)]
+#[derive(PartialEq, Drop)]
 pub enum DeviceTable {
     Adapter(AdapterTable),
 }
 
 /// What a device is made of.
-#[derive(Debug, PartialEq, Drop)]
+#[derive(PartialEq, Drop)]
 pub enum Config {
     Adapter(Profile),
 }

@@ -1,2 +1,5 @@
 pub mod FieldLaws
 pub mod TextLaws
+pub mod Places
+pub mod Orders
+pub mod Samples

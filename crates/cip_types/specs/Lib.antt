@@ -2,3 +2,4 @@ pub mod Circle
 pub mod Fields
 pub mod Texts
 pub mod Order
+pub mod Cases

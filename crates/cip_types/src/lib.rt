@@ -12,6 +12,3 @@ pub use circle::{newer32, same16};
 pub use items::Items;
 pub use memory::OutOfMemory;
 pub use names::{ConnId, Fault, Identity, Mismatch, Ms, Node, Triad};
-
-#[cfg(test)]
-mod tests;

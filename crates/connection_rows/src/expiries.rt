@@ -1,22 +1,15 @@
 //! Connections that time out.
 
 ghost use Rattle.std.specs.Prelude.{◌≡◌, ◌++◌, map, filter, IfOk};
-ghost use Rattle.adapter_table.specs.Closing.{forsaken, dropped_notice};
+ghost use Rattle.adapter_table.specs.Closing.{unsupported, dropped_notice};
 ghost use Rattle.adapter_table.specs.Ticks.{has_expired, expired, expired_row, expired_rows, expired_notice};
 
-use crate::order::{By, sorted};
-use crate::rows::{copied, is_forsaken};
-use cip_tables::{Notice, Row, State};
+use crate::order::{Deadlines, sorted};
+use crate::rows::{copied, is_unsupported};
+use adapter_table::{Row, expired_row, has_expired};
+use cip_events::Notice;
 use cip_types::{Ms, OutOfMemory};
-use open_checks::is_established;
 use std::alloc::Global;
-
-/// Whether a connection is established, and its deadline has come.
-fn has_expired(row: &Row, clock: Ms) -> bool
-    ensures { result ≡ has_expired clock row.now }
-{
-    is_established(row) && row.deadline.0 <= clock.0
-}
 
 /// The connections whose deadline has come, by their deadlines and then in the order of openings.
 ///
@@ -25,7 +18,7 @@ pub fn expired(alloc: Global, rows: &[Row], clock: Ms) -> Result<Vec<Row>, OutOf
     ensures { IfOk result (λ gone. gone.items ≡ expired clock rows.now) }
 {
     let gone = expiring(alloc, rows, clock)?;
-    sorted(alloc, &gone, By::Deadline)
+    sorted(alloc, &gone, &Deadlines)
 }
 
 fn expiring(alloc: Global, rows: &[Row], clock: Ms) -> Result<Vec<Row>, OutOfMemory>
@@ -40,26 +33,18 @@ fn expiring(alloc: Global, rows: &[Row], clock: Ms) -> Result<Vec<Row>, OutOfMem
     Ok(gone)
 }
 
-fn expire_row(row: &mut Row, clock: Ms)
-    ensures { row.new ≡ expired_row clock row.old }
-{
-    if has_expired(row, clock) {
-        row.state = State::TimedOut;
-    }
-}
-
 fn expire_rows(rows: &mut [Row], clock: Ms)
     ensures { rows.new ≡ expired_rows clock rows.old }
 {
     for row in rows.iter_mut() {
-        expire_row(row, clock);
+        *row = expired_row(*row, clock);
     }
 }
 
 /// The connections once those whose deadline has come have timed out.
 ///
 /// Volume 1, chapter 3, inactivity watchdog.
-pub fn faded(alloc: Global, rows: &[Row], clock: Ms) -> Result<Vec<Row>, OutOfMemory>
+pub fn expired_rows(alloc: Global, rows: &[Row], clock: Ms) -> Result<Vec<Row>, OutOfMemory>
     ensures { IfOk result (λ left. left.items ≡ expired_rows clock rows.now) }
 {
     let mut left = copied(alloc, rows)?;
@@ -70,11 +55,11 @@ pub fn faded(alloc: Global, rows: &[Row], clock: Ms) -> Result<Vec<Row>, OutOfMe
 /// What is told of connections that time out, in this order, and then of the listen-only ones among those
 /// left that are dropped.
 pub fn expiry_notices(alloc: Global, gone: &[Row], left: &[Row]) -> Result<Vec<Notice>, OutOfMemory>
-    ensures { IfOk result (λ notices. notices.items ≡ map expired_notice gone.now ++ map dropped_notice (forsaken left.now)) }
+    ensures { IfOk result (λ notices. notices.items ≡ map expired_notice gone.now ++ map dropped_notice (unsupported left.now)) }
 {
     let mut notices = expired_notices(alloc, gone)?;
     for row in left {
-        if is_forsaken(left, row) {
+        if is_unsupported(left, row) {
             notices.push(Notice::Dropped(row.triad))?;
         }
     }

@@ -1,27 +1,25 @@
 //! Lists of connections in opening order: what makes room and what is dropped, which connection a datagram
-//! is for and what becomes of it, which connections time out, and what their producers send.
+//! is for, which connections time out, and what their producers send. What happens to one connection is
+//! adapter_table's.
 //!
 //! Volume 1, chapter 3, application connection types, class 1 transport, connection timeouts, production
 //! triggers.
 #![tactic(auto)]
 
+mod changes;
 mod deliveries;
 mod expiries;
 mod order;
+mod producers;
 mod productions;
-mod prompt;
 mod rows;
-mod sendings;
 
-pub use deliveries::{accept_rows, find_target, judge};
-pub use expiries::{expired, expiry_notices, faded};
-pub use productions::{due_sendings, produced_rows};
-pub use prompt::{
-    is_prompted, prompt_sendings, prompted_rows, write_and_prompt_rows, written_rows,
+pub use changes::{
+    changed_rows, produces_at_once, sent_on_change, write_and_change_rows, written_rows,
 };
+pub use deliveries::{accept_rows, find_target};
+pub use expiries::{expired, expired_rows, expiry_notices};
+pub use productions::{produced_rows, sent_when_due};
 pub use rows::{
     append_row, closed_notices, copied, find_row, make_room, others, replaced, staying,
 };
-
-#[cfg(test)]
-mod tests;

@@ -1,28 +1,18 @@
 //! Productions that are due.
 
-ghost use Rattle.std.specs.Prelude.{◌≡◌, ◌≤◌, ◌+◌, ◌^◌, map, filter, flat_map, length, IfOk};
-ghost use Rattle.adapter_table.specs.declared.profile.Profile.{Profile};
-ghost use Rattle.adapter_table.specs.Productions.{due_of, is_due, due_leaders, input_of, due_sending, due_sendings, due_state, due_row, leaders};
-ghost use Rattle.cip_productions.specs.Productions.{due_again, produced};
+ghost use Rattle.std.specs.Prelude.{◌≡◌, ◌≤◌, ◌^◌, map, filter, length, IfOk};
+ghost use Rattle.cip_productions.specs.Productions.{sent};
+ghost use Rattle.adapter_table.specs.Productions.{is_due, due_producers, input_of, due_production, due_productions, produced_row};
 ghost use Rattle.adapter_table.specs.Whole.{RowsFit};
 
 use crate::order::{By, sorted};
-use crate::sendings::{leaders, next_count, sending};
+use crate::producers::{producers, sending};
+use adapter_table::{Row, is_due, produced_row};
 use assembly_set::AssemblySet;
-use cip_netparams::Trigger;
-use cip_tables::{Production, Row, Sending, State};
+use cip_events::Sending;
+use cip_productions::Producer;
 use cip_types::{Ms, OutOfMemory};
 use std::alloc::Global;
-
-/// Whether a connection's producer is due.
-fn is_due(row: &Row, clock: Ms) -> bool
-    ensures { result ≡ is_due clock row.now }
-{
-    match row.state {
-        State::Established(production) => production.due.0 <= clock.0,
-        State::TimedOut => false,
-    }
-}
 
 fn due_only(alloc: Global, rows: &[Row], clock: Ms) -> Result<Vec<Row>, OutOfMemory>
     ensures { IfOk result (λ due. due.items ≡ filter (is_due clock) rows.now) }
@@ -36,25 +26,36 @@ fn due_only(alloc: Global, rows: &[Row], clock: Ms) -> Result<Vec<Row>, OutOfMem
     Ok(due)
 }
 
-/// The producers that are due, each told by the first of its connections, by when they are due and then by
-/// their numbers.
-fn due_leaders(alloc: Global, rows: &[Row], clock: Ms) -> Result<Vec<Row>, OutOfMemory>
-    ensures { IfOk result (λ due. due.items ≡ due_leaders clock rows.now) }
+/// The producers that are due, by when they are and then by their numbers.
+fn due_producers(alloc: Global, rows: &[Row], clock: Ms) -> Result<Vec<Producer>, OutOfMemory>
+    ensures { IfOk result (λ due. due.items ≡ due_producers clock rows.now) }
 {
-    let leaders = leaders(alloc, rows)?;
-    let due = due_only(alloc, &leaders, clock)?;
-    sorted(alloc, &due, By::Due)
+    let due = due_only(alloc, rows, clock)?;
+    let producers = producers(alloc, &due)?;
+    sorted(alloc, &producers, &By::Due)
 }
 
-/// What the input of a connection holds.
-fn input_of<'a>(assemblies: &'a AssemblySet, row: &Row) -> &'a [u8]
-    ensures value { result.now ≡ input_of assemblies.now.values row.now }
+/// What the input of a producer holds.
+fn input_of<'a>(assemblies: &'a AssemblySet, producer: &Producer) -> &'a [u8]
+    ensures value { result.now ≡ input_of assemblies.now.values producer.now }
     ensures short { length result.now ≤ 65533 }
 {
-    match assemblies.read(row.produced) {
+    match assemblies.read(producer.point) {
         Ok(input) => input,
         Err(_) => &[],
     }
+}
+
+/// What a producer that is due sends.
+fn due_sending(
+    alloc: Global,
+    rows: &[Row],
+    assemblies: &AssemblySet,
+    producer: &Producer,
+) -> Result<Sending, OutOfMemory>
+    ensures { IfOk result (λ sending. sending ≡ sent (due_production rows.now assemblies.now.values producer.now)) }
+{
+    sending(alloc, rows, input_of(assemblies, producer), producer)
 }
 
 /// What these producers send.
@@ -62,15 +63,13 @@ fn sendings(
     alloc: Global,
     rows: &[Row],
     assemblies: &AssemblySet,
-    due: &[Row],
+    due: &[Producer],
 ) -> Result<Vec<Sending>, OutOfMemory>
-    ensures { IfOk result (λ sent. sent.items ≡ flat_map (due_sending rows.now assemblies.now.values) due.now) }
+    ensures { IfOk result (λ sendings. sendings.items ≡ map sent (map (due_production rows.now assemblies.now.values) due.now)) }
 {
     let mut sendings = Vec::new(alloc);
-    for row in due {
-        if let Some(sent) = sending(alloc, rows, input_of(assemblies, row), row)? {
-            sendings.push(sent)?;
-        }
+    for producer in due {
+        sendings.push(due_sending(alloc, rows, assemblies, producer)?)?;
     }
     Ok(sendings)
 }
@@ -78,75 +77,25 @@ fn sendings(
 /// What the producers that are due send: one datagram each.
 ///
 /// Volume 1, chapter 3, class 1 transport; Volume 2, chapter 3, multicast connections.
-pub fn due_sendings(
+pub fn sent_when_due(
     alloc: Global,
     rows: &[Row],
     assemblies: &AssemblySet,
     clock: Ms,
 ) -> Result<Vec<Sending>, OutOfMemory>
-    ensures { IfOk result (λ sent. sent.items ≡ due_sendings clock rows.now assemblies.now.values) }
+    ensures { IfOk result (λ sendings. sendings.items ≡ map sent (due_productions clock rows.now assemblies.now.values)) }
 {
-    let due = due_leaders(alloc, rows, clock)?;
+    let due = due_producers(alloc, rows, clock)?;
     sendings(alloc, rows, assemblies, &due)
 }
 
-/// When a producer that produces now is due again.
-fn due_again(trigger: Trigger, clock: u64, due: u64, api: u32) -> u64
-    requires time { clock ≤ 2 ^ 48 }
-    requires due { due ≤ 2 ^ 48 + 10000 }
-    ensures { result ≡ due_again trigger clock due api }
-{
-    let next = due + u64::from(api);
-    match trigger {
-        Trigger::Cyclic if clock < next => next,
-        _ => clock + u64::from(api),
-    }
-}
-
-/// A producer after a production.
-pub fn produced(production: Production, clock: Ms, api: u32) -> Production
-    requires time { clock.0 ≤ 2 ^ 48 }
-    requires due { production.due.0 ≤ 2 ^ 48 + 10000 }
-    ensures { result ≡ produced clock api production }
-{
-    Production {
-        sequence: production.sequence.wrapping_add(1),
-        count: next_count(&production),
-        written: false,
-        due: Ms(due_again(production.trigger, clock.0, production.due.0, api)),
-        last: Some(clock),
-        ..production
-    }
-}
-
-fn due_state(state: State, clock: Ms, api: u32) -> State
-    requires time { clock.0 ≤ 2 ^ 48 }
-    requires due { due_of state ≤ 2 ^ 48 + 10000 }
-    ensures { result ≡ due_state clock api state }
-{
-    match state {
-        State::Established(production) if production.due.0 <= clock.0 => {
-            State::Established(produced(production, clock, api))
-        }
-        other => other,
-    }
-}
-
-fn produce_row(row: &mut Row, clock: Ms)
-    requires time { clock.0 ≤ 2 ^ 48 }
-    requires due { due_of row.old.state ≤ 2 ^ 48 + 10000 }
-    ensures { row.new ≡ due_row clock row.old }
-{
-    row.state = due_state(row.state, clock, row.t_o_api);
-}
-
 fn produce_rows(rows: &mut [Row], clock: Ms)
-    requires fit { (profile : Profile) × RowsFit profile rows.old }
+    requires fit { RowsFit rows.old }
     requires time { clock.0 ≤ 2 ^ 48 }
-    ensures { rows.new ≡ map (due_row clock) rows.old }
+    ensures { rows.new ≡ map (produced_row clock) rows.old }
 {
     for row in rows.iter_mut() {
-        produce_row(row, clock);
+        *row = produced_row(*row, clock);
     }
 }
 
@@ -154,9 +103,9 @@ fn produce_rows(rows: &mut [Row], clock: Ms)
 ///
 /// Volume 1, chapter 3, production triggers.
 pub fn produced_rows(rows: Vec<Row>, clock: Ms) -> Vec<Row>
-    requires fit { (profile : Profile) × RowsFit profile rows.items }
+    requires fit { RowsFit rows.items }
     requires time { clock.0 ≤ 2 ^ 48 }
-    ensures { result.items ≡ map (due_row clock) rows.items }
+    ensures { result.items ≡ map (produced_row clock) rows.items }
 {
     let mut after = rows;
     produce_rows(&mut after, clock);

@@ -1,15 +1,17 @@
 //! Lists of connections.
 
-ghost use Rattle.std.specs.Prelude.{◌≡◌, ◌≤◌, vec_len, vec_capacity, ◌<◌, ◌∷◌, ◌++◌, [], find, OnOk, IfOk, map};
-ghost use Rattle.std.specs.List.{list_any, position, position_or_len, remove};
-ghost use Rattle.std.specs.Option.{option_map};
-ghost use Rattle.adapter_table.specs.Rows.{has_triad, is_timed_out, is_forsaken, written_row, without_first};
-ghost use Rattle.adapter_table.specs.Closing.{without_triad, staying, forsaken, dropped_notice};
-ghost use Rattle.adapter_table.specs.Opening.{makes_room, triad_of, replaced_triad};
+ghost use Rattle.std.specs.Prelude.{◌≡◌, ◌≤◌, vec_len, vec_capacity, ◌<◌, ◌∷◌, ◌++◌, [], find, OnOk, IfOk, map, length, nat_le};
+ghost use Rattle.std.specs.List.{list_any};
+ghost use Rattle.adapter_table.specs.Rows.{has_triad, is_timed_out, is_unsupported, written_row, others};
+ghost use Rattle.adapter_table.specs.Closing.{without_triad, staying, unsupported, dropped_notice};
+ghost use Rattle.adapter_table.specs.Opening.{is_opened_as, makes_room_by, makes_room, replaced_triad};
 
-use cip_tables::{Kind, Notice, Production, Row, State};
+use adapter_table::{
+    MOST_ROWS, Row, has_triad, is_established, is_supported, is_timed_out, written_row,
+};
+use cip_events::Notice;
+use cip_productions::Kind;
 use cip_types::{OutOfMemory, Triad};
-use open_checks::{MOST_ROWS, has_triad, is_established, is_supported, is_timed_out};
 use std::alloc::Global;
 
 fn is_known(rows: &[Row], triad: Triad) -> bool
@@ -18,54 +20,80 @@ fn is_known(rows: &[Row], triad: Triad) -> bool
     rows.iter().any(|row| has_triad(row, triad))
 }
 
-fn place_of(rows: &[Row], triad: Triad) -> Option<usize>
-    ensures { result ≡ position (has_triad triad) rows.now }
+/// The timed-out connection that was opened first.
+fn first_timed_out(rows: &[Row]) -> Option<Row>
+    ensures { result ≡ find is_timed_out rows.now }
 {
-    rows.iter().position(|row| has_triad(row, triad))
+    rows.iter().copied().find(|row| is_timed_out(row))
 }
 
-fn first_timed_out(rows: &[Row]) -> Option<usize>
-    ensures { result ≡ position is_timed_out rows.now }
+fn is_opened_as(found: Option<Row>, row: &Row) -> bool
+    ensures { result ≡ is_opened_as found row.now }
 {
-    rows.iter().position(|row| is_timed_out(row))
-}
-
-/// Where the connection is that makes room for a new one, or how many there are where none is.
-#[tactic(auto, using(crate::proofs::Places::none_passes, crate::proofs::Places::position_or))]
-fn leaving(rows: &[Row], triad: Triad) -> usize
-    ensures { result ≡ position_or_len (makes_room rows.now triad) rows.now }
-{
-    if is_known(rows, triad) {
-        place_of(rows, triad).unwrap_or(rows.len())
-    } else if rows.len() >= MOST_ROWS {
-        first_timed_out(rows).unwrap_or(rows.len())
-    } else {
-        rows.len()
+    match found {
+        Some(found) => row.opening == found.opening,
+        None => false,
     }
+}
+
+/// What tells which connection makes room for a new one.
+#[derive(Clone, Copy)]
+struct Room {
+    triad: Triad,
+    known: bool,
+    full: bool,
+    first: Option<Row>,
+}
+
+fn room_for(rows: &[Row], triad: Triad) -> Room
+    ensures triad { result.triad ≡ triad }
+    ensures known { result.known ≡ list_any (has_triad triad) rows.now }
+    ensures full { result.full ≡ nat_le 64 (length rows.now) }
+    ensures first { result.first ≡ find is_timed_out rows.now }
+{
+    Room {
+        triad,
+        known: is_known(rows, triad),
+        full: rows.len() >= MOST_ROWS,
+        first: first_timed_out(rows),
+    }
+}
+
+/// Whether a connection makes the room.
+fn makes_room(room: Room, row: &Row) -> bool
+    ensures { result ≡ makes_room_by room.known room.full room.first room.triad row.now }
+{
+    if room.known {
+        has_triad(row, room.triad)
+    } else {
+        room.full && is_opened_as(room.first, row)
+    }
+}
+
+/// The connection that makes the room.
+fn leaving(rows: &[Row], room: Room) -> Option<Row>
+    ensures { result ≡ find (makes_room_by room.known room.full room.first room.triad) rows.now }
+{
+    rows.iter().copied().find(|row| makes_room(room, row))
 }
 
 /// The triad of the connection that makes room for a new one.
 pub fn replaced(rows: &[Row], triad: Triad) -> Option<Triad>
     ensures { result ≡ replaced_triad rows.now triad }
 {
-    let at = leaving(rows, triad);
-    if at < rows.len() {
-        Some(rows[at].triad)
-    } else {
-        None
+    match leaving(rows, room_for(rows, triad)) {
+        Some(row) => Some(row.triad),
+        None => None,
     }
 }
 
-/// Takes out the connection at a place, if there is one.
-#[tactic(auto, using(crate::proofs::Places::remove_past))]
-fn remove_at(rows: &mut Vec<Row>, at: usize)
-    ensures items { rows.new.items ≡ remove rows.old.items at }
+/// Takes out the connection that makes the room.
+fn remove_room(rows: &mut Vec<Row>, room: Room)
+    ensures items { rows.new.items ≡ others (makes_room_by room.known room.full room.first room.triad) rows.old.items }
     ensures len { vec_len rows.new ≤ vec_len rows.old }
     ensures capacity { vec_capacity rows.new ≡ vec_capacity rows.old }
 {
-    if at < rows.len() {
-        rows.remove(at);
-    }
+    rows.retain(|row| !makes_room(room, row));
 }
 
 /// The connection of a triad, in any state.
@@ -76,12 +104,10 @@ pub fn find_row(rows: &[Row], triad: Triad) -> Option<Row>
 }
 
 /// Takes out the connection of a triad, if there is one. Takes no memory.
-#[tactic(auto, using(crate::proofs::Places::without_first_at, crate::proofs::Places::position_or))]
 fn remove_triad(rows: &mut Vec<Row>, triad: Triad)
     ensures { rows.new.items ≡ without_triad triad rows.old.items }
 {
-    let at = place_of(rows, triad).unwrap_or(rows.len());
-    remove_at(rows, at);
+    rows.retain(|row| !has_triad(row, triad));
 }
 
 /// A copy of the connections.
@@ -101,8 +127,8 @@ pub fn others(alloc: Global, rows: &[Row], triad: Triad) -> Result<Vec<Row>, Out
 }
 
 /// Whether a connection is an established listen-only one without support.
-pub fn is_forsaken(rows: &[Row], row: &Row) -> bool
-    ensures { result ≡ is_forsaken rows.now row.now }
+pub fn is_unsupported(rows: &[Row], row: &Row) -> bool
+    ensures { result ≡ is_unsupported rows.now row.now }
 {
     is_established(row)
         && row.kind == Kind::ListenOnly
@@ -115,7 +141,7 @@ pub fn staying(alloc: Global, rows: &[Row]) -> Result<Vec<Row>, OutOfMemory>
 {
     let mut left = Vec::new(alloc);
     for row in rows {
-        if !is_forsaken(rows, row) {
+        if !is_unsupported(rows, row) {
             left.push(*row)?;
         }
     }
@@ -124,31 +150,16 @@ pub fn staying(alloc: Global, rows: &[Row]) -> Result<Vec<Row>, OutOfMemory>
 
 /// What is told of the close of a connection, the others being left.
 pub fn closed_notices(alloc: Global, left: &[Row], triad: Triad) -> Result<Vec<Notice>, OutOfMemory>
-    ensures { IfOk result (λ notices. notices.items ≡ Notice.Closed triad ∷ map dropped_notice (forsaken left.now)) }
+    ensures { IfOk result (λ notices. notices.items ≡ Notice.Closed triad ∷ map dropped_notice (unsupported left.now)) }
 {
     let mut notices = Vec::new(alloc);
     notices.push(Notice::Closed(triad))?;
     for row in left {
-        if is_forsaken(left, row) {
+        if is_unsupported(left, row) {
             notices.push(Notice::Dropped(row.triad))?;
         }
     }
     Ok(notices)
-}
-
-/// An established connection's producer has new data, where the input is its own.
-fn write_row(row: &mut Row, point: u32)
-    ensures { row.new ≡ written_row point row.old }
-{
-    if row.produced == point {
-        row.state = match row.state {
-            State::Established(production) => State::Established(Production {
-                written: true,
-                ..production
-            }),
-            State::TimedOut => State::TimedOut,
-        };
-    }
 }
 
 /// The producers of an input have new data. Takes no memory.
@@ -156,7 +167,7 @@ pub fn write_rows(rows: &mut [Row], point: u32)
     ensures { rows.new ≡ map (written_row point) rows.old }
 {
     for row in rows.iter_mut() {
-        write_row(row, point);
+        *row = written_row(*row, point);
     }
 }
 
@@ -170,12 +181,11 @@ pub fn make_room(rows: &mut Vec<Row>) -> Result<(), OutOfMemory>
 }
 
 /// Puts a connection last, and takes out the one that makes room for it. Takes no memory.
-#[tactic(auto, using(crate::proofs::Places::without_first_at))]
 pub fn append_row(rows: &mut Vec<Row>, row: Row)
     requires { vec_len rows.old < vec_capacity rows.old }
-    ensures { rows.new.items ≡ without_first (makes_room rows.old.items row.triad) rows.old.items ++ row ∷ [] }
+    ensures { rows.new.items ≡ others (makes_room rows.old.items row.triad) rows.old.items ++ row ∷ [] }
 {
-    let at = leaving(rows, row.triad);
-    remove_at(rows, at);
+    let room = room_for(rows, row.triad);
+    remove_room(rows, room);
     rows.push_reserved(row);
 }

@@ -5,10 +5,8 @@ ghost use Rattle.std.specs.List.{position, position_or_len};
 ghost use Rattle.adapter_table.specs.Profiles.{is_at, host_id};
 ghost use Rattle.adapter_table.specs.Opening.{multicast_address, address_of};
 
-use cip_netparams::ConnectionType;
-use cip_tables::{InputPoint, Profile};
+use adapter_table::{InputPoint, Profile};
 use cip_types::Node;
-use open_checks::is_multicast;
 
 /// The first multicast address of all, 239.192.1.0.
 const FIRST_MULTICAST: u64 = 0xEFC0_0100;
@@ -19,7 +17,7 @@ fn input_position(inputs: &[InputPoint], point: u32) -> Option<usize>
     inputs.iter().position(|input| input.instance == point)
 }
 
-#[tactic(auto, using(connection_rows::proofs::Places::position_or, connection_rows::proofs::Places::place_bound))]
+#[tactic(auto, using(cip_types::proofs::Places::position_or, cip_types::proofs::Places::place_bound))]
 fn place_of_input(inputs: &[InputPoint], point: u32) -> usize
     ensures value { result ≡ position_or_len (is_at point) inputs.now }
     ensures bound { result ≤ length inputs.now }
@@ -48,11 +46,11 @@ fn multicast_address(profile: &Profile, point: u32) -> Node
 }
 
 /// Where the datagrams of a producer go: to its group, or to the one consumer.
-pub fn address_of(profile: &Profile, peer: Node, kind: ConnectionType, point: u32) -> Node
+pub fn address_of(profile: &Profile, peer: Node, multicast: bool, point: u32) -> Node
     requires { length profile.now.inputs ≤ 8 }
-    ensures { result ≡ address_of profile.now peer kind point }
+    ensures { result ≡ address_of profile.now peer multicast point }
 {
-    if is_multicast(kind) {
+    if multicast {
         multicast_address(profile, point)
     } else {
         peer

@@ -8,10 +8,10 @@ ghost use Rattle.device_answers.specs.Routes.{view_echo, view_frame_reply, IsWri
 
 use crate::replies::{FrameReply, write_frame_reply};
 use crate::routes::{Echo, Route};
+use adapter_table::{Row, State};
+use cip_events::{Answer, Frame, Notice, Recipient, Sending, Verdict};
 use cip_fwdopen::Opened;
-use cip_tables::{
-    Answer, EncapStatus, Frame, Notice, Recipient, Reply, Row, Sending, State, Verdict,
-};
+use cip_router::{EncapStatus, Reply};
 use cip_types::{Items, Node, OutOfMemory, Triad};
 use std::alloc::Global;
 
@@ -122,6 +122,7 @@ pub fn unserved_answer(alloc: Global, route: Route) -> Result<Answer, OutOfMemor
         }
     }
 }
+
 /// The answer where a stream ended with its session. Want of memory is the only fault.
 pub fn ended_answer(alloc: Global, number: u16) -> Result<Answer, OutOfMemory>
     ensures { IfOk result (λ answer. answer ≡ record { frames = []; datagrams = []; verdict = Verdict.Done; notices = Notice.StreamClosed number ∷ [] }) }

@@ -12,7 +12,7 @@ use cip_encap::{read_message, read_message_header};
 /// The bytes of a frame, by what they say.
 ///
 /// Volume 2, chapter 2, encapsulation messages.
-#[derive(Clone, Copy, Debug)]
+#[derive(Clone, Copy)]
 pub enum FrameView<'a> {
     /// Too few bytes for a header.
     Headless,

@@ -19,9 +19,6 @@ pub use frames::{FrameView, is_protocol, read_frame};
 pub use replies::{FrameReply, write_frame_reply};
 pub use routes::{Echo, Route};
 pub use streams::{
-    add_stream, copied_streams, drop_stream, find_stream, has_session, is_taken, mark_registered,
+    add_stream, copied_streams, drop_stream, find_stream, has_session, is_taken, register_stream,
     session_of,
 };
-
-#[cfg(test)]
-mod tests;

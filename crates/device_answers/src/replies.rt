@@ -8,7 +8,7 @@ ghost use Rattle.device_answers.specs.Routes.{view_echo, view_frame_reply, IsWri
 
 use crate::routes::Echo;
 use cip_encap::{MessageView, SocketAddress, write_items, write_message};
-use cip_tables::{EncapStatus, Reply};
+use cip_router::{EncapStatus, Reply};
 use cip_types::{Node, OutOfMemory};
 use std::alloc::Global;
 
@@ -27,7 +27,7 @@ const DATAGRAM_PORT: u16 = 2222;
 /// What is replied to a frame.
 ///
 /// Volume 2, chapter 2, encapsulation commands.
-#[derive(Clone, Copy, Debug)]
+#[derive(Clone, Copy)]
 pub enum FrameReply<'a> {
     /// The services of the device.
     Services,

@@ -12,7 +12,7 @@ use cip_types::Node;
 /// context.
 ///
 /// Volume 2, chapter 2, encapsulation messages.
-#[derive(Clone, Copy, Debug, PartialEq, Eq)]
+#[derive(Clone, Copy, PartialEq, Eq)]
 pub struct Echo {
     pub command: u16,
     pub session: u32,
@@ -44,7 +44,7 @@ impl Echo {
 }
 
 /// Where the reply to a request of a peer goes.
-#[derive(Clone, Copy, Debug, PartialEq, Eq)]
+#[derive(Clone, Copy, PartialEq, Eq)]
 pub enum Route {
     /// To the peer itself.
     Peer(Node),

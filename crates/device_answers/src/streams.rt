@@ -4,7 +4,7 @@ ghost use Rattle.std.specs.Prelude.{◌≡◌, ◌∷◌, ◌++◌, [], IfOk, On
 ghost use Rattle.std.specs.List.{list_any};
 ghost use Rattle.adapter_table.specs.Streams.{is_stream, is_other_stream, is_taken, session_of, has_session, registered_stream};
 
-use cip_tables::Stream;
+use adapter_table::Stream;
 use cip_types::OutOfMemory;
 use std::alloc::Global;
 
@@ -79,25 +79,29 @@ pub fn drop_stream(streams: &mut Vec<Stream>, number: u16)
     streams.retain(|stream| !is_stream(stream, number));
 }
 
-fn register(stream: &mut Stream, number: u16)
-    ensures { stream.new ≡ registered_stream number stream.old }
+fn registered_stream(stream: Stream, number: u16) -> Stream
+    ensures { result ≡ registered_stream number stream }
 {
-    if stream.number == number {
-        stream.registered = true;
+    if !is_stream(&stream, number) {
+        return stream;
+    }
+    Stream {
+        registered: true,
+        ..stream
     }
 }
 
-fn mark(streams: &mut [Stream], number: u16)
+fn register(streams: &mut [Stream], number: u16)
     ensures { streams.new ≡ map (registered_stream number) streams.old }
 {
     for stream in streams.iter_mut() {
-        register(stream, number);
+        *stream = registered_stream(*stream, number);
     }
 }
 
 /// A session is registered on the stream of this number. Takes no memory.
-pub fn mark_registered(streams: &mut Vec<Stream>, number: u16)
+pub fn register_stream(streams: &mut Vec<Stream>, number: u16)
     ensures { streams.new.items ≡ map (registered_stream number) streams.old.items }
 {
-    mark(streams, number);
+    register(streams, number);
 }

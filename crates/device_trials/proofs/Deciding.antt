@@ -1,8 +1,7 @@
 -- Outcomes that pass the derived test for equal values are equal, and equal ones pass it.
-use Rattle.std.proofs.Common.{◌≡◌, List, rules}
+use Rattle.std.proofs.Common.{◌≡◌, rules}
 use Rattle.std.specs.Bool.{Decides}
-use Rattle.std.specs.Result.{result_eq}
-use Rattle.std.specs.Cmp.Lexicographic.{pointwise, pointwise_decides}
+use Rattle.std.specs.Cmp.Lexicographic.{pointwise_decides}
 use Rattle.std.proofs.lemmas.Bool.Decides.{Decides-eqb, Decides-and, Decides-like}
 use Rattle.cip_types.specs.declared.names.Triad.{Triad}
 use Rattle.cip_types.specs.declared.names.Node.{Node}
@@ -18,14 +17,14 @@ use Rattle.cip_events.specs.declared.event.StepFault.{StepFault}
 use Rattle.cip_types.specs.contracts.names.NodePartialEq.TheImpl as node
 use Rattle.cip_types.specs.contracts.names.ConnIdPartialEq.TheImpl as id
 use Rattle.cip_types.specs.contracts.names.TriadPartialEq.TheImpl as triad
-use Rattle.cip_tables.specs.contracts.event.RecipientPartialEq.TheImpl as recipient
-use Rattle.cip_tables.specs.contracts.event.FramePartialEq.TheImpl as frame
-use Rattle.cip_tables.specs.contracts.event.SendingPartialEq.TheImpl as sending
-use Rattle.cip_tables.specs.contracts.event.DeliveryPartialEq.TheImpl as delivery
-use Rattle.cip_tables.specs.contracts.event.VerdictPartialEq.TheImpl as verdict
-use Rattle.cip_tables.specs.contracts.event.NoticePartialEq.TheImpl as notice
-use Rattle.cip_tables.specs.contracts.event.AnswerPartialEq.TheImpl as answer
-use Rattle.cip_tables.specs.contracts.event.StepFaultPartialEq.TheImpl as fault
+use Rattle.cip_events.specs.contracts.event.RecipientPartialEq.TheImpl as recipient
+use Rattle.cip_events.specs.contracts.event.FramePartialEq.TheImpl as frame
+use Rattle.cip_events.specs.contracts.event.SendingPartialEq.TheImpl as sending
+use Rattle.cip_events.specs.contracts.event.DeliveryPartialEq.TheImpl as delivery
+use Rattle.cip_events.specs.contracts.event.VerdictPartialEq.TheImpl as verdict
+use Rattle.cip_events.specs.contracts.event.NoticePartialEq.TheImpl as notice
+use Rattle.cip_events.specs.contracts.event.AnswerPartialEq.TheImpl as answer
+use Rattle.cip_events.specs.contracts.event.StepFaultPartialEq.TheImpl as fault
 
 node_decides : (a b : Node) → Decides ((node.ghosts).eq a b) (a ≡ b)
 node_decides a b = search rules

@@ -1,5 +1,5 @@
 -- Turns are answered as told one by one, up to the first that is not.
-use Rattle.std.proofs.Common.{◌≡◌, ℕ, ◌+◌, ◌<◌, Bool, true, false, List, length, take, drop, map, get_or, Result, Ok, Err, subst, sym}
+use Rattle.std.proofs.Common.{◌≡◌, ℕ, ◌+◌, ◌<◌, Bool, true, false, List, length, take, drop, get_or, Result, Ok, Err, subst}
 use Rattle.std.specs.Result.{OnErr}
 use Rattle.std.proofs.lemmas.List.{map_more, drop_more}
 use Rattle.cip_tables.specs.declared.table.DeviceTable.{DeviceTable}

@@ -1,5 +1,5 @@
 -- Trials: turns at a fresh adapter of a common profile.
-use Rattle.std.specs.Prelude.{ℕ, ◌≡◌, [], ◌∷◌, Option, Some, None}
+use Rattle.std.specs.Prelude.{ℕ, ◌≡◌, [], ◌∷◌, Option, Some}
 use Rattle.cip_events.specs.declared.event.NewFault.{NewFault}
 use Rattle.cip_events.specs.declared.event.NewFault.TheVariants as fault
 use Rattle.adapter_table.specs.declared.profile.OutputPoint.{OutputPoint}

@@ -1,6 +1,5 @@
 -- What happens at a device in a trial, and what it is to answer: as an event and as an outcome.
-use Rattle.std.specs.Prelude.{ℕ, List, [], ◌∷◌, map, Result, Ok, Err}
-use Rattle.cip_types.specs.declared.names.Node.{Node}
+use Rattle.std.specs.Prelude.{ℕ, List, [], ◌∷◌, map, Ok, Err}
 use Rattle.cip_events.specs.declared.event.Event.{Event}
 use Rattle.cip_events.specs.declared.event.Event.TheVariants as event
 use Rattle.cip_events.specs.declared.event.Frame.{Frame}

@@ -9,6 +9,3 @@ mod turn;
 pub use player::play;
 pub use trial::{Trial, common_profile};
 pub use turn::{Deed, Said, Sent, Turn};
-
-#[cfg(test)]
-mod tests;

@@ -11,7 +11,7 @@ use std::alloc::Global;
 
 /// Turns that begin at a fresh adapter of the common profile with this output and a configuration of this many
 /// bytes.
-#[derive(Clone, Copy, Debug)]
+#[derive(Clone, Copy)]
 pub struct Trial<'a> {
     pub name: &'a str,
     pub output: OutputPoint,

@@ -11,7 +11,7 @@ use cip_types::{Items, Node, OutOfMemory};
 use std::alloc::Global;
 
 /// One thing that happens at a device.
-#[derive(Clone, Copy, Debug)]
+#[derive(Clone, Copy)]
 pub enum Deed<'a> {
     /// A peer sends a request to the message router.
     Request(Node, &'a [u8]),
@@ -32,11 +32,11 @@ pub enum Deed<'a> {
 }
 
 /// A datagram that is to go out: the address that it is sent to, the nodes that consume it, and its bytes.
-#[derive(Clone, Copy, Debug)]
+#[derive(Clone, Copy)]
 pub struct Sent<'a>(pub Node, pub &'a [Node], pub &'a [u8]);
 
 /// What a device is to answer, and nothing else.
-#[derive(Clone, Copy, Debug)]
+#[derive(Clone, Copy)]
 pub enum Said<'a> {
     /// A reply to a peer, and what happened to connections.
     Reply(Node, &'a [u8], &'a [Notice]),

@@ -1,20 +1,74 @@
 -- What a run of the program prints.
-use Rattle.std.specs.Prelude.{ℕ, ◌≡◌, List, Option, IfSome}
+use Rattle.std.specs.Prelude.{ℕ, ◌≡◌, ◌≤◌, ◌<◌, ◌⊎◌, Bool, true, false, List, [], ◌++◌, length, codes, decimal, Option, Some, None, Result, Ok, Err, IfSome}
 use Rattle.std.specs.Io.KnownBytes.{Appends}
-use Rattle.cip_events.specs.declared.event.Event.{Event}
-use Rattle.adapter_table.specs.declared.profile.Profile.{Profile}
-use Rattle.cip_tables.specs.declared.table.Config.TheVariants.{Adapter}
-use Rattle.cip_tables.specs.declared.table.DeviceTable.{DeviceTable}
-use Rattle.cip_tables.specs.Step.{opening_table}
-use Rattle.cip_events.specs.Outcomes.{Outcome}
-use Rattle.cip_tables.specs.Run.{Runs}
-use Rattle.eip_trace.specs.Forms.{IsTrace}
-use Rattle.eip_trace.specs.Told.{outcomes_text}
+use Rattle.trace_text.specs.declared.trace.Trace.{Trace}
+use Rattle.trace_text.specs.declared.trace.TraceFault.TheVariants as trace
+use Rattle.trace_text.specs.Reading.{trace_reading}
+use Rattle.trace_text.specs.Told.{outcomes_text}
+use Rattle.trace_stepper.specs.declared.player.PlayFault.{PlayFault}
+use Rattle.trace_stepper.specs.declared.player.PlayFault.TheVariants as play
+use Rattle.trace_stepper.specs.Compared.{IsJudged}
+use Rattle.trace_stepper.specs.Playing.{WritesFirst}
+use Rattle.trace_stepper.specs.Stepping.{outcomes_told}
+use Rattle.eip_line.specs.declared.program.ProgramFault.{ProgramFault}
+use Rattle.eip_line.specs.declared.program.ProgramFault.TheVariants as program
 
--- the text tells the outcomes of the events, one after the other, at a fresh adapter of the profile
-abbrev pub IsToldRun : Profile → List Event → List ℕ → Type 0
-IsToldRun profile events told = (outcomes : List Outcome) × ((after : DeviceTable) × Runs (opening_table (Adapter profile)) events outcomes after) × (told ≡ outcomes_text 1 outcomes)
+-- the most bytes of a trace
+abbrev pub longest_trace : ℕ
+longest_trace = 16777216
 
--- What is written, where it is known, tells the outcomes of the trace that was to be read, where that is known.
+-- the trace that is read, where what was to be read is known
+abbrev pub Reads : Option (List ℕ) → Trace → Type 0
+Reads input trace = IfSome input (λ text. (trace_reading text ≡ Ok trace) × (length text ≤ longest_trace))
+
+-- the line that tells the first difference
+abbrev pub differs_line : ℕ → List ℕ
+differs_line number = codes "differs " ++ (decimal number ++ codes "\n")
+
+-- all outcomes of the trace are written, and all are as recorded
 abbrev pub PrintsRun : Option (List ℕ) → Option (List ℕ) → Option (List ℕ) → Type 0
-PrintsRun input old new = (profile : Profile) × ((events : List Event) × ((told : List ℕ) × (IfSome input (λ text. IsTrace text profile events) × IsToldRun profile events told × Appends old new told)))
+PrintsRun input old new = (trace : Trace) × (Reads input trace × Appends old new (outcomes_text 1 (outcomes_told trace)) × IsJudged trace.events (outcomes_told trace) (length trace.events) None)
+
+-- all outcomes are written, and a last line that tells the first that is not as recorded
+abbrev pub PrintsDifference : Option (List ℕ) → Option (List ℕ) → Option (List ℕ) → Type 0
+PrintsDifference input old new = (trace : Trace) × ((number : ℕ) × (Reads input trace × Appends old new (outcomes_text 1 (outcomes_told trace) ++ differs_line number) × IsJudged trace.events (outcomes_told trace) (length trace.events) (Some number)))
+
+-- the first outcomes of the trace are written, each whole
+abbrev pub PrintsFirst : Option (List ℕ) → Option (List ℕ) → Option (List ℕ) → Type 0
+PrintsFirst input old new = (trace : Trace) × (Reads input trace × WritesFirst trace old new)
+
+-- What was printed when a run ends so: a trace that is refused prints nothing.
+abbrev pub IsStepped : Option (List ℕ) → Option (List ℕ) → Option (List ℕ) → Result Bool ProgramFault → Type 0
+IsStepped input old new (Ok true) = PrintsRun input old new
+IsStepped input old new (Ok false) = PrintsDifference input old new
+IsStepped input old new (Err program.TooLong) = IfSome input (λ text. longest_trace < length text) × (new ≡ old)
+IsStepped input old new (Err (program.BadLine number)) = IfSome input (λ text. trace_reading text ≡ Err (trace.BadLine number)) × (new ≡ old)
+IsStepped input old new (Err (program.BadProfile number)) = IfSome input (λ text. trace_reading text ≡ Err (trace.BadProfile number)) × (new ≡ old)
+IsStepped input old new (Err program.Read) = new ≡ old
+IsStepped input old new (Err program.OutOfMemory) = (new ≡ old) ⊎ PrintsFirst input old new
+IsStepped input old new (Err program.Write) = Unit {0}
+
+-- what ends the reading of the text
+abbrev pub IsTextFault : ProgramFault → Type 0
+IsTextFault program.TooLong = Unit {0}
+IsTextFault program.Read = Unit {0}
+IsTextFault program.OutOfMemory = Unit {0}
+IsTextFault fault = ⊥
+
+-- the trace was read, or it was refused
+abbrev pub IsTraceRead : Option (List ℕ) → Result Trace ProgramFault → Type 0
+IsTraceRead input (Ok trace) = Reads input trace
+IsTraceRead input (Err program.TooLong) = IfSome input (λ text. longest_trace < length text)
+IsTraceRead input (Err (program.BadLine number)) = IfSome input (λ text. trace_reading text ≡ Err (trace.BadLine number))
+IsTraceRead input (Err (program.BadProfile number)) = IfSome input (λ text. trace_reading text ≡ Err (trace.BadProfile number))
+IsTraceRead input (Err program.Read) = Unit {0}
+IsTraceRead input (Err program.OutOfMemory) = Unit {0}
+IsTraceRead input (Err program.Write) = ⊥
+
+-- What is written behind the outcomes: nothing, or the line of the first difference.
+abbrev pub IsFinished : Option (List ℕ) → Option ℕ → Option (List ℕ) → Result Bool ProgramFault → Type 0
+IsFinished old None new (Ok same) = (same ≡ true) × Appends old new []
+IsFinished old (Some number) new (Ok same) = (same ≡ false) × Appends old new (differs_line number)
+IsFinished old differs new (Err program.OutOfMemory) = Appends old new []
+IsFinished old differs new (Err program.Write) = Unit {0}
+IsFinished old differs new (Err fault) = ⊥

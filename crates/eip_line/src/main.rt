@@ -6,7 +6,7 @@ mod program;
 
 pub use program::program;
 use std::env;
-use std::io::ErrorKind;
+use std::io::{BufWriter, ErrorKind};
 use std::process::ExitCode;
 
 /// The status for a command line that is none of the program's.
@@ -28,11 +28,15 @@ fn main(rt: HostRuntime) -> ExitCode {
         let _ = eprintln!(rt; "no memory");
         return ExitCode::from(1);
     };
+    let Ok(mut out) = BufWriter::new(rt.alloc(), rt.stdout()) else {
+        let _ = eprintln!(rt; "no memory");
+        return ExitCode::from(1);
+    };
     let status = program(
         &rt,
         words.as_slice(),
         &mut rt.stdin(),
-        &mut rt.stdout(),
+        &mut out,
         &mut rt.stderr(),
     );
     ExitCode::from(status)

@@ -1,21 +1,17 @@
 //! The program, over any streams.
 
-ghost use Rattle.std.specs.Prelude.{◌≡◌, ◌<◌, length, None, IfOk, OnOk, IfErr, IfSome, string_bytes};
+ghost use Rattle.std.specs.Prelude.{◌≡◌, ◌<◌, ◌≤◌, ◌⊎◌, ◌≢◌, [], length, IfOk, IfErr, OnOk, IfSome};
 ghost use Rattle.std.specs.Io.KnownBytes.{Appends};
-ghost use Rattle.adapter_table.specs.Profiles.{profile_fault};
-ghost use Rattle.eip_line.specs.Printed.{IsToldRun, PrintsRun};
-ghost use Rattle.eip_line.specs.Faults.{IsRefused};
-ghost use Rattle.eip_trace.specs.Forms.{IsTrace};
+ghost use Rattle.eip_line.specs.Printed.{longest_trace, PrintsRun, IsStepped, IsFinished, IsTraceRead, IsTextFault};
 
 use crate::commands::{Misuse, Task, read_task};
-use cip_tables::{Config, Device, NewFault, run};
-use cip_types::OutOfMemory;
-use eip_trace::{Trace, TraceFault, all_lines, read_trace};
 use plain_engine::PlainAdapter;
 use std::alloc::Global;
 use std::convert::AsStr;
 use std::io::{ErrorKind, Read, Write};
 use thiserror::Error;
+use trace_stepper::{PlayFault, play};
+use trace_text::{Trace, TraceFault, read_trace};
 
 /// The status of a run that failed.
 const FAILED: u8 = 1;
@@ -49,16 +45,6 @@ pub enum ProgramFault {
     Write,
 }
 
-impl From<OutOfMemory> for ProgramFault {
-    ghost use Rattle.eip_line.specs.declared.program.ProgramFault.TheVariants as fault;
-
-    ghost from_gives = { λ _ f. f ≡ fault.OutOfMemory };
-
-    fn from(_error: OutOfMemory) -> ProgramFault {
-        ProgramFault::OutOfMemory
-    }
-}
-
 impl From<TraceFault> for ProgramFault {
     ghost use Rattle.eip_line.specs.Faults.{program_fault_of_trace};
 
@@ -67,27 +53,16 @@ impl From<TraceFault> for ProgramFault {
     fn from(fault: TraceFault) -> ProgramFault {
         match fault {
             TraceFault::BadLine(number) => ProgramFault::BadLine(number),
+            TraceFault::BadProfile(number) => ProgramFault::BadProfile(number),
             TraceFault::OutOfMemory => ProgramFault::OutOfMemory,
         }
     }
 }
 
-impl From<NewFault> for ProgramFault {
-    ghost use Rattle.eip_line.specs.Faults.{program_fault_of_new};
-
-    ghost from_gives = { λ error fault. fault ≡ program_fault_of_new error };
-
-    fn from(fault: NewFault) -> ProgramFault {
-        match fault {
-            NewFault::Profile(first) => ProgramFault::BadProfile(first.number()),
-            NewFault::OutOfMemory => ProgramFault::OutOfMemory,
-        }
-    }
-}
-
 /// Runs the program on the words of a command line, the first of them its own name, and answers its
-/// status: 0, or 1 after one line on `err` that tells why, or 2 where the command line is none of the
-/// program's, which prints nothing.
+/// status: 0; or 1 where an outcome is not as recorded, after a last line that tells which, or after one line
+/// on `err` that tells another reason; or 2 where the command line is none of the program's, which prints
+/// nothing.
 pub fn program<R, S, I, O, E>(rt: &R, words: &[S], reader: &mut I, out: &mut O, err: &mut E) -> u8
 where
     R: AllocGlobal,
@@ -107,7 +82,8 @@ where
         Task::Step => step(rt.alloc(), reader, out),
     };
     match done {
-        Ok(()) => 0,
+        Ok(true) => 0,
+        Ok(false) => FAILED,
         Err(fault) => failed(err, fault),
     }
 }
@@ -120,42 +96,88 @@ fn failed<E: Write>(err: &mut E, fault: ProgramFault) -> u8
     FAILED
 }
 
-/// Steps an adapter by the trace that the reader holds, and prints the outcomes. Nothing is printed before
-/// all is known.
-fn step<I: Read, O: Write>(alloc: Global, reader: &mut I, out: &mut O) -> Result<(), ProgramFault>
-    ensures { OnOk result (PrintsRun (I.remaining reader.old) (O.contents out.old) (O.contents out.new)) }
+/// Steps an adapter by the trace that the reader holds, and prints the outcomes as they come. False where one
+/// is not as recorded.
+fn step<I: Read, O: Write>(alloc: Global, reader: &mut I, out: &mut O) -> Result<bool, ProgramFault>
+    ensures { IsStepped (I.remaining reader.old) (O.contents out.old) (O.contents out.new) result }
 {
     let trace = trace_of(alloc, reader)?;
-    let told = outcomes(alloc, trace)?;
-    write_text(out, told.as_str())
+    match play::<PlainAdapter, O>(alloc, &trace, out) {
+        Ok(differs) => finish(alloc, out, differs),
+        Err(fault) => stop(out, fault),
+    }
 }
 
+/// The last line, where an outcome is not as recorded, and the end of what is written.
+fn finish<O: Write>(
+    alloc: Global,
+    out: &mut O,
+    differs: Option<usize>,
+) -> Result<bool, ProgramFault>
+    ensures { IsFinished (O.contents out.old) differs (O.contents out.new) result }
+{
+    let Some(number) = differs else {
+        flush(out)?;
+        return Ok(true);
+    };
+    let Ok(line) = format!(in alloc; "differs {number}\n") else {
+        return stopped(out);
+    };
+    if out.write_all(line.as_bytes()).is_err() {
+        return Err(ProgramFault::Write);
+    }
+    flush(out)?;
+    Ok(false)
+}
+
+/// What is written where the trace was not played to its end: no more than stands there.
+fn stop<O: Write>(out: &mut O, fault: PlayFault) -> Result<bool, ProgramFault>
+    ensures kept { result ≡ Err ProgramFault.OutOfMemory → (fault ≢ PlayFault.Write) × Appends (O.contents out.old) (O.contents out.new) [] }
+    ensures fault { (result ≡ Err ProgramFault.OutOfMemory) ⊎ (result ≡ Err ProgramFault.Write) }
+{
+    match fault {
+        PlayFault::Write => Err(ProgramFault::Write),
+        PlayFault::Profile => stopped(out),
+        PlayFault::OutOfMemory => stopped(out),
+    }
+}
+
+/// What is written where memory was refused: no more than stands there.
+fn stopped<O: Write>(out: &mut O) -> Result<bool, ProgramFault>
+    ensures kept { result ≡ Err ProgramFault.OutOfMemory → Appends (O.contents out.old) (O.contents out.new) [] }
+    ensures fault { (result ≡ Err ProgramFault.OutOfMemory) ⊎ (result ≡ Err ProgramFault.Write) }
+{
+    flush(out)?;
+    Err(ProgramFault::OutOfMemory)
+}
+
+/// Hands on what was written.
+fn flush<O: Write>(out: &mut O) -> Result<(), ProgramFault>
+    ensures kept { OnOk result (Appends (O.contents out.old) (O.contents out.new) []) }
+    ensures fault { IfErr result (λ fault. fault ≡ ProgramFault.Write) }
+{
+    match out.flush() {
+        Ok(()) => Ok(()),
+        Err(_) => Err(ProgramFault::Write),
+    }
+}
+
+/// The trace that the reader holds.
 fn trace_of<I: Read>(alloc: Global, reader: &mut I) -> Result<Trace, ProgramFault>
-    ensures { IfOk result (λ trace. IfSome (I.remaining reader.old) (λ input. IsTrace input trace.profile trace.events.items)) }
+    ensures { IsTraceRead (I.remaining reader.old) result }
 {
-    let text = read_text(alloc, reader)?;
+    let text = match read_text(alloc, reader) {
+        Ok(text) => text,
+        Err(fault) => return Err(fault),
+    };
     Ok(read_trace(alloc, text.as_slice())?)
-}
-
-/// The lines that tell the outcomes of a trace's events at a fresh adapter of its profile.
-///
-/// The faults: `BadProfile` with the number of the first thing that is wrong, and `OutOfMemory`, also where
-/// it is what a step answers.
-fn outcomes(alloc: Global, trace: Trace) -> Result<String, ProgramFault>
-    ensures told { IfOk result (λ told. IsToldRun trace.profile trace.events.items (string_bytes told)) }
-    ensures good { OnOk result (profile_fault trace.profile ≡ None) }
-    ensures fault { IfErr result (IsRefused (profile_fault trace.profile)) }
-{
-    let Trace { profile, events } = trace;
-    let mut device = PlainAdapter::new(alloc, Config::Adapter(profile))?;
-    let outcomes = run(alloc, &mut device, events.as_slice())?;
-    Ok(all_lines(alloc, outcomes.as_slice())?)
 }
 
 /// All that the reader has left, if it is no longer than the longest trace.
 fn read_text<I: Read>(alloc: Global, reader: &mut I) -> Result<Vec<u8>, ProgramFault>
-    ensures all { IfOk result (λ text. IfSome (I.remaining reader.old) (λ input. text.items ≡ input)) }
-    ensures long { result ≡ Err ProgramFault.TooLong → IfSome (I.remaining reader.old) (λ input. LONGEST_TRACE < length input) }
+    ensures all { IfOk result (λ text. IfSome (I.remaining reader.old) (λ input. (text.items ≡ input) × (length input ≤ longest_trace))) }
+    ensures long { result ≡ Err ProgramFault.TooLong → IfSome (I.remaining reader.old) (λ input. longest_trace < length input) }
+    ensures fault { IfErr result IsTextFault }
 {
     let mut text = Vec::new(alloc);
     let limit = LONGEST_TRACE as u64 + 1;
@@ -170,13 +192,4 @@ fn read_text<I: Read>(alloc: Global, reader: &mut I) -> Result<Vec<u8>, ProgramF
         return Err(ProgramFault::TooLong);
     }
     Ok(text)
-}
-
-/// Writes a text and nothing else.
-fn write_text<O: Write>(out: &mut O, text: &str) -> Result<(), ProgramFault>
-    ensures { OnOk result (Appends (O.contents out.old) (O.contents out.new) text.now) }
-{
-    out.write_all(text.as_bytes())
-        .map_err(|_| ProgramFault::Write)?;
-    out.flush().map_err(|_| ProgramFault::Write)
 }

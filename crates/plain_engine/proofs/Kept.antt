@@ -19,17 +19,17 @@ use Rattle.adapter_table.specs.declared.table.AdapterTable.{AdapterTable}
 use Rattle.adapter_table.specs.Profiles.{is_at}
 use Rattle.adapter_table.specs.Shapes.{len_of}
 use Rattle.adapter_table.specs.Rows.{written_state, written_row}
-use Rattle.cip_types.specs.Order.{differs}
 use Rattle.adapter_table.specs.Closing.{stays, staying}
 use Rattle.adapter_table.specs.Datagrams.{is_for, row_delivery, run_data}
-use Rattle.adapter_table.specs.Productions.{shares_producer, leaders, state_is_prompt, is_prompt, prompt_sendings, prompt_row}
+use Rattle.cip_productions.specs.Productions.{sent}
+use Rattle.adapter_table.specs.Productions.{state_produces_on_change, produces_on_change, productions_on_change, changed_row}
 use Rattle.adapter_table.specs.Ticks.{expired_row, expired_rows}
-use Rattle.adapter_table.specs.Whole.{RowsFit, IsWhole}
+use Rattle.adapter_table.specs.Whole.{FitsRow, RowsFit, IsWhole}
 use Rattle.adapter_table.specs.Whole.{ConsumesOutput}
-use Rattle.adapter_table.proofs.EachLemmas.{each_found}
+use Rattle.adapter_table.proofs.EachLemmas.{each_filter, each_map, each_found}
 use Rattle.adapter_table.proofs.FedLemmas.{applied_fits, applied_output}
-use Rattle.adapter_table.proofs.WholeLemmas.{fits_filter, fits_map, fits_expired, fits_written}
-use Rattle.assembly_set.proofs.Shaping.{written_back}
+use Rattle.adapter_table.proofs.WholeLemmas.{fits_expired, fits_written}
+use Rattle.cip_types.proofs.Places.{written_back}
 use Rattle.std.proofs.lemmas.List.{length-map}
 use Rattle.assembly_set.specs.declared.fault.PointFault.TheVariants.{WrongLength}
 use Rattle.assembly_set.specs.Assemblies.{is_output, input_fault, write_fault}
@@ -45,10 +45,10 @@ rows_by f n rows lent new same long is =
     written_back n rows new (ap (length {A = Row}) is ∙ length-map lent f ∙ long) ∙ is ∙ ap (map f) same
 
 -- the same of rows whose input is written
-pub written_back_rows : (n : ℕ) (rows lent new : List Row) (clock : Ms) (point : ℕ) → lent ≡ rows → length lent ≡ n → new ≡ map (prompt_row clock point) (map (written_row point) lent) → take n (new ++ drop (length new) rows) ≡ map (prompt_row clock point) (map (written_row point) rows)
+pub written_back_rows : (n : ℕ) (rows lent new : List Row) (clock : Ms) (point : ℕ) → lent ≡ rows → length lent ≡ n → new ≡ map (changed_row clock point) (map (written_row point) lent) → take n (new ++ drop (length new) rows) ≡ map (changed_row clock point) (map (written_row point) rows)
 written_back_rows n rows lent new clock point same long is =
-    written_back n rows new (ap (length {A = Row}) is ∙ length-map (map (written_row point) lent) (prompt_row clock point) ∙ length-map lent (written_row point) ∙ long)
-    ∙ is ∙ ap (λ (l : List Row). map (prompt_row clock point) (map (written_row point) l)) same
+    written_back n rows new (ap (length {A = Row}) is ∙ length-map (map (written_row point) lent) (changed_row clock point) ∙ length-map lent (written_row point) ∙ long)
+    ∙ is ∙ ap (λ (l : List Row). map (changed_row clock point) (map (written_row point) l)) same
 
 -- ---- a datagram is applied
 
@@ -64,15 +64,15 @@ feeds_len t peer d row delivery found is whole applied =
 
 -- ---- rows within their limits
 
-pub fits_left : (clock : Ms) (profile : Profile) (rows : List Row) → RowsFit profile rows → RowsFit profile (staying (expired_rows clock rows))
-fits_left clock profile rows fit =
-    let faded = expired_rows clock rows in
-    fits_filter (stays (expired_rows clock rows)) profile faded (fits_map (expired_row clock) profile (fits_expired clock profile) rows fit)
+pub fits_left : (clock : Ms) (rows : List Row) → RowsFit rows → RowsFit (staying (expired_rows clock rows))
+fits_left clock rows fit =
+    let after = expired_rows clock rows in
+    each_filter FitsRow (stays (expired_rows clock rows)) after (each_map FitsRow (expired_row clock) (fits_expired clock) rows fit)
 
-pub fits_flagged : (point : ℕ) (profile : Profile) (rows : List Row) → RowsFit profile rows → RowsFit profile (map (written_row point) rows)
-fits_flagged point profile rows fit = fits_map (written_row point) profile (fits_written point profile) rows fit
+pub fits_flagged : (point : ℕ) (rows : List Row) → RowsFit rows → RowsFit (map (written_row point) rows)
+fits_flagged point rows fit = each_map FitsRow (written_row point) (fits_written point) rows fit
 
--- ---- a write without prompt producers
+-- ---- a write that makes no producer produce
 
 or_false : (a b : Bool) → (a || b) ≡ false → (a ≡ false) × (b ≡ false)
 or_false true b h = absurd cc
@@ -100,33 +100,18 @@ pub without_fault : {P : Type 0} (given : Result (Unit {0}) PointFault) → resu
 without_fault (Ok done) none holds = holds
 without_fault (Err fault) none holds = absurd cc
 
--- a write leaves open whether a producer is prompt
-prompt_written : (clock : Ms) (state : State) → state_is_prompt clock (written_state state) ≡ state_is_prompt clock state
-prompt_written clock (Established production) = refl
-prompt_written clock TimedOut = refl
+-- a write leaves open whether a producer produces at it
+changed_written : (clock : Ms) (state : State) → state_produces_on_change clock (written_state state) ≡ state_produces_on_change clock state
+changed_written clock (Established production) = refl
+changed_written clock TimedOut = refl
 
-prompt_step : (b : Bool) (clock : Ms) (point : ℕ) (row : Row) → is_prompt clock point (cond b (record row { state = written_state row.state }) row) ≡ is_prompt clock point row
-prompt_step true clock point row = ap (λ b. row.produced == point && b) (prompt_written clock row.state)
-prompt_step false clock point row = refl
+changed_step : (b : Bool) (clock : Ms) (point : ℕ) (row : Row) → produces_on_change clock point (cond b (record row { state = written_state row.state }) row) ≡ produces_on_change clock point row
+changed_step true clock point row = ap (λ b. row.produced == point && b) (changed_written clock row.state)
+changed_step false clock point row = refl
 
-any_written : (clock : Ms) (point : ℕ) (rows : List Row) → list_any (is_prompt clock point) (map (written_row point) rows) ≡ list_any (is_prompt clock point) rows
+any_written : (clock : Ms) (point : ℕ) (rows : List Row) → list_any (produces_on_change clock point) (map (written_row point) rows) ≡ list_any (produces_on_change clock point) rows
 any_written clock point [] = refl
-any_written clock point (row ∷ rows) = rw (prompt_step (row.produced == point) clock point row) (ap (λ b. is_prompt clock point row || b) (any_written clock point rows))
-
-any_filter : (p q : Row → Bool) (rows : List Row) → list_any q rows ≡ false → list_any q (filter p rows) ≡ false
-any_filter p q [] none = refl
-any_filter p q (row ∷ rows) none =
-    let parts = or_false (q row) (list_any q rows) none in
-    filter_step (p row) (any_filter p q rows parts.1) where
-      filter_step : (b : Bool) → list_any q (filter p rows) ≡ false → list_any q (cond b (row ∷ filter p rows) (filter p rows)) ≡ false
-      filter_step true rest = rw (or_false (q row) (list_any q rows) none).0 rest
-      filter_step false rest = rest
-
-any_leader : (q : Row → Bool) (rows : List Row) → list_any q rows ≡ false → list_any q (leaders rows) ≡ false
-any_leader q [] none = refl
-any_leader q (row ∷ rows) none =
-    let parts = or_false (q row) (list_any q rows) none in
-    rw parts.0 (any_filter (differs shares_producer row) q (leaders rows) (any_leader q rows parts.1))
+any_written clock point (row ∷ rows) = rw (changed_step (row.produced == point) clock point row) (ap (λ b. produces_on_change clock point row || b) (any_written clock point rows))
 
 none_passes : (q : Row → Bool) (rows : List Row) → list_any q rows ≡ false → filter q rows ≡ []
 none_passes q [] none = refl
@@ -134,8 +119,8 @@ none_passes q (row ∷ rows) none =
     let parts = or_false (q row) (list_any q rows) none in
     rw parts.0 (none_passes q rows parts.1)
 
--- so where none was prompt before, nothing is sent
-pub nothing_prompt : (clock : Ms) (point : ℕ) (bytes : List ℕ) (rows : List Row) → list_any (is_prompt clock point) rows ≡ false → prompt_sendings clock point bytes (map (written_row point) rows) ≡ []
-nothing_prompt clock point bytes rows none =
+-- so where none would, nothing is sent
+pub nothing_on_change : (clock : Ms) (point : ℕ) (bytes : List ℕ) (rows : List Row) → list_any (produces_on_change clock point) rows ≡ false → map sent (productions_on_change clock point bytes (map (written_row point) rows)) ≡ []
+nothing_on_change clock point bytes rows none =
     let none_written = any_written clock point rows ∙ none in
-    rw (none_passes (is_prompt clock point) (leaders (map (written_row point) rows)) (any_leader (is_prompt clock point) (map (written_row point) rows) none_written)) refl
+    rw (none_passes (produces_on_change clock point) (map (written_row point) rows) none_written) refl

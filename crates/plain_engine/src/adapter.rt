@@ -2,14 +2,12 @@
 
 mod streams;
 
-ghost use Rattle.std.specs.Prelude.{◌≡◌, ◌≢◌, ◌+◌, ◌^◌, ◌∷◌, [], Ok, Err, Some, None, Result, IfOk, IfErr, ◌<◌, ◌≤◌, IsTrue, false, find, length};
+ghost use Rattle.std.specs.Prelude.{◌≡◌, ◌≢◌, ◌+◌, ◌^◌, ◌∷◌, [], Ok, Err, Some, None, Result, IfOk, IfErr, ◌<◌, ◌≤◌, IsTrue, false, true, find, length};
 ghost use Rattle.std.specs.Option.{option_map, ForSome};
-ghost use Rattle.cip_epath.specs.Path.{view_path};
 ghost use Rattle.cip_fwdopen.specs.Open.{view_open};
 ghost use Rattle.cip_fwdopen.specs.Close.{view_close};
-ghost use Rattle.cip_netparams.specs.Rate.{is_interval};
 ghost use Rattle.cip_router.specs.Replies.{view_reply};
-ghost use Rattle.adapter_table.specs.Checks.{standing, verdict, view_admission, drawn_ids};
+ghost use Rattle.adapter_table.specs.Checks.{Gives, config_bytes, admission, view_admission, drawn_ids};
 ghost use Rattle.adapter_table.specs.Opening.{opened_row, opened_production, opened_state, opened_t_o_id, connection_id, configured};
 ghost use Rattle.cip_router.specs.Asking.{asked_reading};
 ghost use Rattle.adapter_table.specs.Requests.{requested, served, admitted_open, served_open, router_refusal, known_close, served_close, served_assembly, is_value_attribute};
@@ -17,23 +15,23 @@ ghost use Rattle.device_answers.specs.Routes.{peer_of, routed, routed_answer, Is
 ghost use Rattle.adapter_table.specs.Closing.{closed_values};
 ghost use Rattle.cip_datagram.specs.Datagram.{view_datagram};
 ghost use Rattle.cip_datagram.specs.Header.{header_at};
-ghost use Rattle.adapter_table.specs.Datagrams.{is_for, row_delivery, run_data, fed_values, fed_table, delivered, found_datagram, received};
+ghost use Rattle.adapter_table.specs.Datagrams.{is_for, row_delivery, run_data, accepted_values, accepted_table, delivered, found_datagram, received};
 ghost use Rattle.cip_events.specs.Answers.{is_accepted};
-ghost use Rattle.adapter_table.specs.Productions.{is_prompt};
+ghost use Rattle.adapter_table.specs.Productions.{produces_on_change};
 ghost use Rattle.adapter_table.specs.Ticks.{clocked_table, elapsed, expired_values, tick};
 ghost use Rattle.adapter_table.specs.Points.{put_value};
 ghost use Rattle.adapter_table.specs.Shapes.{len_of};
 ghost use Rattle.adapter_table.specs.Whole.{IsWhole};
-ghost use Rattle.adapter_table.specs.Step.{write, read, written_table, prompt_table, write_answer, written};
+ghost use Rattle.adapter_table.specs.Step.{write, read, written_table, changed_table, write_answer, written};
 ghost use Rattle.cip_events.specs.Outcomes.{Follows};
 ghost use Rattle.assembly_set.specs.Assemblies.{config_len, is_output, write_fault};
 ghost use Rattle.std.specs.List.{list_any};
 
+use adapter_table::{drives, row_delivery};
+use app_rules::{Listed, View, admit, drawn_ids};
 use assembly_set::AssemblySet;
 use cip_datagram::{Datagram, read_datagram, read_header};
-use cip_epath::ConnPath;
 use cip_fwdopen::{CloseRequest, OpenRequest};
-use cip_netparams::{api_of, timeout_of};
 use cip_tables::{
     AdapterTable, Admission, Answer, Asked, Config, Delivery, Device, DeviceTable, Event, NewFault,
     Outcome, Production, Refusal, Reply, Row, State, Status, StepFault, Stream, TableCopy, Verdict,
@@ -41,16 +39,13 @@ use cip_tables::{
 };
 use cip_types::{ConnId, Items, Ms, Node, OutOfMemory};
 use connection_rows::{
-    accept_rows, append_row, closed_notices, copied, due_sendings, expired, expiry_notices, faded,
-    find_row, find_target, is_prompted, judge, make_room, others, produced_rows, prompt_sendings,
-    prompted_rows, replaced, staying, write_and_prompt_rows, written_rows,
+    accept_rows, append_row, changed_rows, closed_notices, copied, expired, expired_rows,
+    expiry_notices, find_row, find_target, make_room, others, produced_rows, produces_at_once,
+    replaced, sent_on_change, sent_when_due, staying, write_and_change_rows, written_rows,
 };
 use device_answers::{
     Route, address_of, copied_streams, opened_address, opened_reply, opening_notices, plain_answer,
     reply_answer, told_answer, unserved_answer,
-};
-use open_checks::{
-    Standing, admit, drawn_ids, drives, is_multicast, served_inhibit, served_trigger, stored,
 };
 use std::alloc::Global;
 use std::marker::Model;
@@ -98,44 +93,54 @@ impl Model for PlainAdapter {
 // OPENING
 
 impl PlainAdapter {
-    ghost use Rattle.open_checks.specs.Views.{view_standing};
-
-    fn standing(&self) -> Standing<'_>
-        ensures { view_standing result ≡ standing self.now }
+    /// What the configuration holds.
+    fn config_bytes(&self) -> Option<&[u8]>
+        ensures { option_map (λ lent. lent.now) result ≡ config_bytes self.now.values self.now.profile.config }
     {
-        Standing {
-            assemblies: &self.assemblies,
-            rows: &self.rows,
-            next_id: self.next_id,
+        match self.assemblies.profile().config {
+            Some(config) => self.assemblies.read(config.instance).ok(),
+            None => None,
         }
     }
 
-    /// The producer that a connection begins.
-    fn production(&self, peer: Node, request: &OpenRequest<'_>, path: &ConnPath<'_>) -> Production
-        ensures { result ≡ opened_production self.now peer (view_open request.now) (view_path path.now) }
+    /// What a request to open a connection is admitted as, or why it is refused. Takes no memory.
+    fn judge<'a>(&self, request: &OpenRequest<'a>) -> Result<Admission<'a>, Refusal>
+        ensures { Gives view_admission result (admission self.now (view_open request.now)) }
     {
-        let trigger = served_trigger(request.trigger);
-        let kind = request.t_o_params.kind;
+        let view = View {
+            profile: self.assemblies.profile(),
+            config: self.config_bytes(),
+            connections: &Listed(&self.rows),
+            next_id: self.next_id,
+        };
+        admit(&view, request)
+    }
+
+    /// The producer that a connection begins.
+    fn production(&self, peer: Node, admission: &Admission<'_>) -> Production
+        ensures { result ≡ opened_production self.now peer (view_admission admission.now) }
+    {
+        let point = admission.produced;
         Production {
             producer: self.next_id,
             sequence: 1,
             count: 0,
             written: true,
             due: self.clock,
-            address: address_of(self.assemblies.profile(), peer, kind, path.produced),
-            trigger,
-            inhibit: served_inhibit(trigger, path.inhibit),
+            address: address_of(self.assemblies.profile(), peer, admission.multicast, point),
+            trigger: admission.trigger,
+            inhibit: admission.inhibit,
             last: None,
         }
     }
 
     /// The state of a connection that is opened: it shares a producer, or begins one.
-    fn state_of(&self, peer: Node, request: &OpenRequest<'_>, admission: &Admission<'_>) -> State
-        ensures { result ≡ opened_state self.now peer (view_open request.now) (view_path admission.now.path) admission.now.group }
+    fn opened_state(&self, peer: Node, admission: &Admission<'_>) -> State
+        ensures { result ≡ opened_state self.now peer (view_admission admission.now) admission.now.group }
     {
         match admission.group {
             Some(member) => member.state,
-            None => State::Established(self.production(peer, request, &admission.path)),
+            None => State::Established(self.production(peer, admission)),
         }
     }
 
@@ -147,12 +152,17 @@ impl PlainAdapter {
     }
 
     /// The T->O id of a connection that is opened.
-    fn t_o_id_of(&self, request: &OpenRequest<'_>, group: Option<Row>) -> ConnId
-        requires { self.now.next_id + drawn_ids (view_open request.now) group ≤ 16777216 }
-        ensures { result ≡ opened_t_o_id self.now (view_open request.now) group }
+    fn opened_t_o_id(
+        &self,
+        request: &OpenRequest<'_>,
+        multicast: bool,
+        group: Option<Row>,
+    ) -> ConnId
+        requires { self.now.next_id + drawn_ids multicast group ≤ 16777216 }
+        ensures { result ≡ opened_t_o_id self.now (view_open request.now) multicast group }
     {
         let Some(member) = group else {
-            if is_multicast(request.t_o_params.kind) {
+            if multicast {
                 return self.connection_id(self.next_id + 1);
             }
             return request.t_o_id;
@@ -162,33 +172,28 @@ impl PlainAdapter {
 
     /// The connection that an admitted request opens.
     #[tactic(auto, unfolding(adapter_table::specs::Opening::opened_row))]
-    fn row_of(&self, peer: Node, request: &OpenRequest<'_>, admission: &Admission<'_>) -> Row
-        requires o_t { IsTrue (is_interval request.now.o_t_rpi) }
-        requires t_o { IsTrue (is_interval request.now.t_o_rpi) }
-        requires waits { request.now.multiplier ≤ 7 }
-        requires left { self.now.next_id + drawn_ids (view_open request.now) admission.now.group ≤ 16777216 }
-        requires draws { 1 ≤ drawn_ids (view_open request.now) admission.now.group }
+    fn opened_row(&self, peer: Node, request: &OpenRequest<'_>, admission: &Admission<'_>) -> Row
+        requires waits { admission.now.watchdog.0 ≤ 5120000 }
+        requires left { self.now.next_id + drawn_ids admission.now.multicast admission.now.group ≤ 16777216 }
+        requires draws { 1 ≤ drawn_ids admission.now.multicast admission.now.group }
         ensures { result ≡ opened_row self.now peer (view_open request.now) (view_admission admission.now) }
     {
-        let o_t_api = api_of(request.o_t_rpi).unwrap();
-        let t_o_api = api_of(request.t_o_rpi).unwrap();
-        let timeout = timeout_of(request.multiplier, o_t_api).unwrap();
         Row {
             triad: request.triad,
             peer,
-            kind: admission.consumer.kind,
-            consumed: admission.path.consumed,
-            produced: admission.path.produced,
+            kind: admission.kind,
+            consumed: admission.consumed,
+            produced: admission.produced,
             o_t_id: self.connection_id(self.next_id),
-            t_o_id: self.t_o_id_of(request, admission.group),
-            o_t_api,
-            t_o_api,
+            t_o_id: self.opened_t_o_id(request, admission.multicast, admission.group),
+            o_t_api: admission.o_t_api,
+            t_o_api: admission.t_o_api,
             multiplier: request.multiplier,
-            multicast: is_multicast(request.t_o_params.kind),
+            multicast: admission.multicast,
             opening: self.next_id,
             last: None,
-            deadline: Ms(self.clock.0 + FIRST_WATCHDOG.max(timeout.0)),
-            state: self.state_of(peer, request, admission),
+            deadline: Ms(self.clock.0 + FIRST_WATCHDOG.max(admission.watchdog.0)),
+            state: self.opened_state(peer, admission),
         }
     }
 
@@ -199,19 +204,19 @@ impl PlainAdapter {
         route: Route,
         large: bool,
         request: &OpenRequest<'_>,
-        admission: &Admission<'_>,
+        admitted: &Admission<'_>,
     ) -> Outcome
-        requires { verdict (standing self.old) (view_open request.now) ≡ Ok (view_admission admission.now) }
-        ensures { Follows (Ok (routed self.old route (Some (admitted_open self.old (peer_of route) large (view_open request.now) (view_admission admission.now))))) self.old result self.new }
+        requires { admission self.old (view_open request.now) ≡ Ok (view_admission admitted.now) }
+        ensures { Follows (Ok (routed self.old route (Some (admitted_open self.old (peer_of route) large (view_open request.now) (view_admission admitted.now))))) self.old result self.new }
     {
-        let row = self.row_of(route.peer(), request, admission);
+        let row = self.opened_row(route.peer(), request, admitted);
         let notices = opening_notices(self.alloc, replaced(&self.rows, row.triad), &row)?;
         let reply = Reply::Opened(large, opened_reply(&row));
         let answer = reply_answer(self.alloc, route, &reply, opened_address(&row), notices)?;
         make_room(&mut self.rows)?;
-        configure(&mut self.assemblies, stored(&admission.path));
+        configure(&mut self.assemblies, admitted.segment);
         append_row(&mut self.rows, row);
-        self.next_id += drawn_ids(request, admission.group);
+        self.next_id += drawn_ids(admitted.multicast, admitted.group);
         Ok(answer)
     }
 
@@ -220,8 +225,8 @@ impl PlainAdapter {
     fn forward_open(&mut self, route: Route, large: bool, request: &OpenRequest<'_>) -> Outcome
         ensures { Follows (Ok (routed self.old route (Some (served_open self.old (peer_of route) large (view_open request.now))))) self.old result self.new }
     {
-        match admit(self.standing(), request) {
-            Ok(admission) => self.open(route, large, request, &admission),
+        match self.judge(request) {
+            Ok(admitted) => self.open(route, large, request, &admitted),
             Err(why) => {
                 let service = if large { 0x5B } else { 0x54 };
                 let reply = Reply::Refused(service, why.fault(), Some(request.triad));
@@ -334,13 +339,13 @@ impl PlainAdapter {
 impl PlainAdapter {
     /// The connection that a datagram is for has accepted it: its data stand at the output, or the idle
     /// action is done, as its delivery says.
-    #[tactic(auto, unfolding(adapter_table::specs::Datagrams::fed_table))]
-    fn feed(&mut self, peer: Node, datagram: &Datagram<'_>, row: &Row, delivery: Delivery)
+    #[tactic(auto, unfolding(adapter_table::specs::Datagrams::accepted_table))]
+    fn accept(&mut self, peer: Node, datagram: &Datagram<'_>, row: &Row, delivery: Delivery)
         requires found { find (is_for peer datagram.now.connection.0) self.old.rows ≡ Some row.now }
         requires judged { row_delivery self.old.profile row.now (view_datagram datagram.now) ≡ delivery }
-        ensures { self.new ≡ fed_table self.old peer (view_datagram datagram.now) row.now delivery }
+        ensures { self.new ≡ accepted_table self.old peer (view_datagram datagram.now) row.now delivery }
     {
-        feed_values(&mut self.assemblies, row.consumed, datagram, delivery);
+        accept_values(&mut self.assemblies, row.consumed, datagram, delivery);
         accept_rows(&mut self.rows, self.clock, peer, datagram);
     }
 
@@ -351,9 +356,9 @@ impl PlainAdapter {
         let Some(row) = find_target(&self.rows, peer, datagram.connection) else {
             return Delivery::UnknownId;
         };
-        let delivery = judge(&self.assemblies, &row, datagram);
+        let delivery = row_delivery(self.assemblies.profile(), &row, datagram);
         if is_accepted(delivery) {
-            self.feed(peer, datagram, &row, delivery);
+            self.accept(peer, datagram, &row, delivery);
         }
         delivery
     }
@@ -390,7 +395,7 @@ fn run_data<'a>(datagram: &Datagram<'a>) -> &'a [u8]
 }
 
 /// What a datagram with this delivery does to the output of its connection. Takes no memory.
-fn feed_values(
+fn accept_values(
     assemblies: &mut AssemblySet,
     point: u32,
     datagram: &Datagram<'_>,
@@ -398,7 +403,7 @@ fn feed_values(
 )
     requires output { delivery ≡ Delivery.Applied → IsTrue (is_output assemblies.old.profile point) }
     requires right_length { delivery ≡ Delivery.Applied → len_of assemblies.old.profile point ≡ Some (length (run_data (header_at (view_datagram datagram.now).payload))) }
-    ensures { assemblies.new ≡ record assemblies.old { values = fed_values assemblies.old.profile point (view_datagram datagram.now) delivery assemblies.old.values } }
+    ensures { assemblies.new ≡ record assemblies.old { values = accepted_values assemblies.old.profile point (view_datagram datagram.now) delivery assemblies.old.values } }
 {
     match delivery {
         Delivery::Applied => assemblies.apply(point, run_data(datagram)),
@@ -429,10 +434,10 @@ impl PlainAdapter {
     {
         let clock = Ms(self.clock.0 + u64::from(ms));
         let gone = expired(self.alloc, &self.rows, clock)?;
-        let faded = faded(self.alloc, &self.rows, clock)?;
-        let notices = expiry_notices(self.alloc, &gone, &faded)?;
-        let left = staying(self.alloc, &faded)?;
-        let datagrams = due_sendings(self.alloc, &left, &self.assemblies, clock)?;
+        let after = expired_rows(self.alloc, &self.rows, clock)?;
+        let notices = expiry_notices(self.alloc, &gone, &after)?;
+        let left = staying(self.alloc, &after)?;
+        let datagrams = sent_when_due(self.alloc, &left, &self.assemblies, clock)?;
         self.pass(clock, &gone, produced_rows(left, clock));
         Ok(told_answer(self.alloc, datagrams, notices))
     }
@@ -465,15 +470,15 @@ fn lose_owners(assemblies: &mut AssemblySet, gone: &[Row])
 
 impl PlainAdapter {
     /// Sets what an input holds, where no producer produces at once.
-    #[tactic(auto, unfolding(adapter_table::specs::Step::written_table, adapter_table::specs::Step::prompt_table))]
+    #[tactic(auto, unfolding(adapter_table::specs::Step::written_table, adapter_table::specs::Step::changed_table))]
     fn write_quietly(&mut self, point: u32, bytes: &[u8]) -> Outcome
         requires input { write_fault self.old.profile point (length bytes.now) ≡ None }
-        requires quiet { list_any (is_prompt self.old.clock point) self.old.rows ≡ false }
+        requires quiet { list_any (produces_on_change self.old.clock point) self.old.rows ≡ false }
         ensures answer { result ≡ Ok (write_answer (written_table self.old point bytes.now) point bytes.now) }
-        ensures table { self.new ≡ prompt_table (written_table self.old point bytes.now) point }
+        ensures table { self.new ≡ changed_table (written_table self.old point bytes.now) point }
     {
         let _written = self.assemblies.write(point, bytes);
-        write_and_prompt_rows(&mut self.rows, self.clock, point);
+        write_and_change_rows(&mut self.rows, self.clock, point);
         Ok(plain_answer(self.alloc, Verdict::Done))
     }
 
@@ -488,15 +493,15 @@ impl PlainAdapter {
     }
 
     /// Sets what an input holds, and its change-of-state producers produce.
-    #[tactic(auto, unfolding(adapter_table::specs::Step::written_table, adapter_table::specs::Step::prompt_table))]
-    fn write_promptly(&mut self, point: u32, bytes: &[u8]) -> Outcome
+    #[tactic(auto, unfolding(adapter_table::specs::Step::written_table, adapter_table::specs::Step::changed_table))]
+    fn write_on_change(&mut self, point: u32, bytes: &[u8]) -> Outcome
         requires input { write_fault self.old.profile point (length bytes.now) ≡ None }
         requires short { length bytes.now ≤ 1400 }
         ensures { Follows (Ok (written (written_table self.old point bytes.now) point bytes.now)) self.old result self.new }
     {
         let rows = written_rows(self.alloc, &self.rows, point)?;
-        let datagrams = prompt_sendings(self.alloc, &rows, self.clock, point, bytes)?;
-        self.put(point, bytes, prompted_rows(rows, self.clock, point));
+        let datagrams = sent_on_change(self.alloc, &rows, self.clock, point, bytes)?;
+        self.put(point, bytes, changed_rows(rows, self.clock, point));
         Ok(told_answer(self.alloc, datagrams, Vec::new(self.alloc)))
     }
 
@@ -504,7 +509,7 @@ impl PlainAdapter {
     #[tactic(auto, unfolding(adapter_table::specs::Step::write))]
     fn write(&mut self, point: u32, bytes: &[u8]) -> Outcome
         ensures step { Follows (write self.old point bytes.now) self.old result self.new }
-        ensures no_memory { list_any (is_prompt self.old.clock point) self.old.rows ≡ false → result ≢ Err StepFault.OutOfMemory }
+        ensures no_memory { list_any (produces_on_change self.old.clock point) self.old.rows ≡ false → result ≢ Err StepFault.OutOfMemory }
     {
         let Some(input) = self.assemblies.input(point) else {
             return Err(StepFault::NoSuchPoint);
@@ -512,8 +517,8 @@ impl PlainAdapter {
         if bytes.len() as u64 != input.len {
             return Err(StepFault::WrongLength);
         }
-        if is_prompted(&self.rows, self.clock, point) {
-            return self.write_promptly(point, bytes);
+        if produces_at_once(&self.rows, self.clock, point) {
+            return self.write_on_change(point, bytes);
         }
         self.write_quietly(point, bytes)
     }
@@ -562,6 +567,10 @@ impl Device for PlainAdapter {
 
     ghost table = { λ adapter. Adapter adapter };
 
+    ghost ADAPTER = { true };
+
+    const ADAPTER: bool = true;
+
     fn new(alloc: Global, config: Config) -> Result<Self, NewFault> {
         let Config::Adapter(profile) = config;
         profile.check()?;
@@ -606,6 +615,7 @@ impl Device for PlainAdapter {
         self.write(point, bytes)
     }
 
+    #[tactic(auto, unfolding(cip_tables::specs::Step::step, adapter_table::specs::Step::read))]
     fn read_point(&self, point: u32) -> Result<&[u8], StepFault> {
         Ok(self.assemblies.read(point)?)
     }
@@ -619,6 +629,10 @@ impl Device for PlainAdapter {
             next_id: self.next_id,
             streams: Items::copy_of(self.alloc, &self.streams)?,
         }))
+    }
+
+    fn is_whole(&self) {
+        let _clock = self.clock;
     }
 }
 

@@ -4,6 +4,3 @@
 mod adapter;
 
 pub use adapter::PlainAdapter;
-
-#[cfg(test)]
-mod tests;

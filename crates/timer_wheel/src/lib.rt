@@ -9,8 +9,6 @@ mod place;
 mod search;
 mod slots;
 mod sweep;
-#[cfg(test)]
-mod tests;
 
 use cip_types::OutOfMemory;
 use place::{FREE, Timer, slot_of};
@@ -21,7 +19,7 @@ use std::marker::Model;
 use sweep::{Step, sweep};
 
 /// What names a timer of a wheel.
-#[derive(Clone, Copy, Debug, PartialEq, Eq, PartialOrd, Ord)]
+#[derive(Clone, Copy, PartialEq, Eq, PartialOrd, Ord)]
 pub struct Token(pub u64);
 
 /// A map from tokens to deadlines, with a clock in milliseconds.

@@ -6,7 +6,7 @@ ghost use Rattle.timer_wheel.specs.Place as spec;
 use crate::Token;
 
 /// A deadline, in milliseconds, and the token that fires there.
-#[derive(Clone, Copy, Debug, PartialEq, Eq, PartialOrd, Ord)]
+#[derive(Clone, Copy, PartialEq, Eq, PartialOrd, Ord)]
 pub struct Timer {
     pub deadline: u64,
     pub token: Token,

@@ -15,7 +15,7 @@ use cip_tables::{Answer, Command, EncapStatus, Outcome, StepFault, Stream, Verdi
 use cip_types::{Node, OutOfMemory};
 use device_answers::{
     Echo, FrameReply, FrameView, Route, add_stream, drop_stream, ended_answer, find_stream,
-    frame_answer, has_session, is_protocol, is_taken, mark_registered, plain_answer, read_frame,
+    frame_answer, has_session, is_protocol, is_taken, plain_answer, read_frame, register_stream,
     session_of,
 };
 
@@ -65,10 +65,10 @@ impl PlainAdapter {
 
     /// A session is registered on the stream.
     #[tactic(auto, unfolding(adapter_table::specs::Streams::registered_table))]
-    fn mark_registered(&mut self, number: u16)
+    fn register_stream(&mut self, number: u16)
         ensures { self.new ≡ registered_table self.old number }
     {
-        mark_registered(&mut self.streams, number);
+        register_stream(&mut self.streams, number);
     }
 
     fn tell(&self, number: u16, echo: Echo, reply: &FrameReply<'_>) -> Result<Answer, OutOfMemory>
@@ -91,12 +91,12 @@ impl PlainAdapter {
     {
         let reply = FrameReply::Registered(session_of(stream));
         let answer = self.tell(stream.number, echo, &reply)?;
-        self.mark_registered(stream.number);
+        self.register_stream(stream.number);
         Ok(answer)
     }
 
     /// RegisterSession.
-    fn register(&mut self, stream: &Stream, echo: Echo, body: &[u8]) -> Outcome
+    fn register_session(&mut self, stream: &Stream, echo: Echo, body: &[u8]) -> Outcome
         ensures { Follows (Ok (framed stream.now.number (view_echo echo) (register_session self.old stream.now body.now))) self.old result self.new }
     {
         if body.len() != 4 {
@@ -121,7 +121,7 @@ impl PlainAdapter {
     }
 
     /// UnRegisterSession.
-    fn unregister(&mut self, stream: &Stream, echo: Echo) -> Outcome
+    fn unregister_session(&mut self, stream: &Stream, echo: Echo) -> Outcome
         ensures { Follows (Ok (framed stream.now.number (view_echo echo) (unregister_session self.old stream.now echo.session))) self.old result self.new }
     {
         if has_session(stream, echo.session) {
@@ -157,8 +157,8 @@ impl PlainAdapter {
         match Command::of(echo.command) {
             Command::Nop => Ok(plain_answer(self.alloc, Verdict::Done)),
             Command::ListServices => Ok(self.tell(stream.number, echo, &FrameReply::Services)?),
-            Command::RegisterSession => self.register(stream, echo, body),
-            Command::UnregisterSession => self.unregister(stream, echo),
+            Command::RegisterSession => self.register_session(stream, echo, body),
+            Command::UnregisterSession => self.unregister_session(stream, echo),
             Command::SendRrData => self.send_rr_data(stream, echo, body),
             Command::Other => self.refuse_frame(stream.number, echo, EncapStatus::InvalidCommand),
         }

@@ -1,14 +1,14 @@
 use Rattle.std.proofs.Common.{arith}
 use Rattle.std.proofs.lemmas.List.{take_more}
 use Rattle.cip_tables.proofs.RunLemmas.{Runs_more, run_all, run_folds}
-use Rattle.cip_tables.proofs.RunKeeps.{run_sound}
+use Rattle.cip_tables.proofs.RunKeeps.{run_sound, run_whole}
 use Rattle.cip_tables.proofs.device.run.Goals as goal
 
 pub loop-event-preserved : goal.loop-event-preserved
 loop-event-preserved g c = record {
   told =
       rw (c.push_reserved.ensures.items, take_more c.args.events.now c.loop-event.event-index c.event-item.result (omega arith), ← c.event-item.is)
-      (Runs_more _ _ _ _ _ _ _ c.loop-event.invariant.told c.step-outcome.ensures);
+      (Runs_more _ _ _ _ _ _ _ c.loop-event.invariant.told c.step-outcome.ensures.step);
   count = omega arith;
   room = omega arith;
 }
@@ -22,6 +22,7 @@ returns g c =
       run = ran;
       outcomes = folds.told;
       table = folds.table;
-      sound = run_sound _ c.args.events.now c.loop-event.outcomes.items _ ran;
+      sound = run_sound c.tables_are_sound.ensures.steps _ c.args.events.now c.loop-event.outcomes.items _ ran;
+      whole = λ whole. run_whole c.tables_are_whole.ensures.steps _ _ c.args.events.now c.loop-event.outcomes.items whole ran;
       err = tt;
     }

@@ -1,5 +1,6 @@
-use Rattle.cip_tables.proofs.RunKeeps.{reached_sound}
+use Rattle.adapter_table.specs.Sound.{IsSound, GroupsAgree}
+use Rattle.cip_tables.proofs.RunKeeps.{over_every}
 use Rattle.cip_tables.proofs.laws.groups_share_one_production.Goals as goal
 
 pub returns : goal.returns
-returns c = λ made events outcomes t ran. (reached_sound made events outcomes t ran).groups_agree
+returns c = over_every IsSound (λ t. GroupsAgree t.rows) (λ t sound. sound.groups_agree) c.tables_are_sound.ensures

@@ -1,5 +1,6 @@
-use Rattle.cip_tables.proofs.RunKeeps.{reached_sound}
+use Rattle.adapter_table.specs.Sound.{IsSound, IdsAreDrawn}
+use Rattle.cip_tables.proofs.RunKeeps.{over_every}
 use Rattle.cip_tables.proofs.laws.ids_are_below_the_next.Goals as goal
 
 pub returns : goal.returns
-returns c = λ made events outcomes t ran. (reached_sound made events outcomes t ran).ids_are_drawn
+returns c = over_every IsSound (λ t. IdsAreDrawn t.profile t.next_id t.rows) (λ t sound. sound.ids_are_drawn) c.tables_are_sound.ensures

@@ -1,5 +1,6 @@
-use Rattle.cip_tables.proofs.RunKeeps.{reached_sound}
+use Rattle.adapter_table.specs.Sound.{IsSound, StreamsDiffer}
+use Rattle.cip_tables.proofs.RunKeeps.{over_every}
 use Rattle.cip_tables.proofs.laws.streams_are_distinct.Goals as goal
 
 pub returns : goal.returns
-returns c = λ made events outcomes t ran. (reached_sound made events outcomes t ran).streams_differ
+returns c = over_every IsSound (λ t. StreamsDiffer t.streams) (λ t sound. sound.streams_differ) c.tables_are_sound.ensures

@@ -1,5 +1,6 @@
-use Rattle.cip_tables.proofs.RunKeeps.{reached_sound}
+use Rattle.adapter_table.specs.Sound.{IsSound, TriadsDiffer}
+use Rattle.cip_tables.proofs.RunKeeps.{over_every}
 use Rattle.cip_tables.proofs.laws.triads_are_distinct.Goals as goal
 
 pub returns : goal.returns
-returns c = λ made events outcomes t ran. (reached_sound made events outcomes t ran).triads_differ
+returns c = over_every IsSound (λ t. TriadsDiffer t.rows) (λ t sound. sound.triads_differ) c.tables_are_sound.ensures

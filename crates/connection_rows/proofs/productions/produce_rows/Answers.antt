@@ -1,11 +1,11 @@
 use Rattle.std.proofs.Common.{arith}
-use Rattle.adapter_table.specs.Productions.{due_row}
-use Rattle.assembly_set.proofs.Places.{map_more}
+use Rattle.adapter_table.specs.Productions.{produced_row}
+use Rattle.cip_types.proofs.Places.{map_more}
 use Rattle.connection_rows.proofs.Orders.{fits_at}
 use Rattle.connection_rows.proofs.productions.produce_rows.Goals as goal
 
-pub produce_row-requires-clause-due : goal.produce_row-requires-clause-due
-produce_row-requires-clause-due c = (fits_at (due_row c.args.clock) c.args.rows.now c.loop-row.rows c.loop-row.row-index _ c.requires.fit.0 c.requires.fit.1 (omega arith) (omega arith) c.loop-row.invariant).due
+pub produced_row-requires-clause-due : goal.produced_row-requires-clause-due
+produced_row-requires-clause-due c = (fits_at (produced_row c.args.clock) c.args.rows.now c.loop-row.rows c.loop-row.row-index _ c.requires.fit (omega arith) (omega arith) c.loop-row.invariant).due
 
 pub loop-row-preserved : goal.loop-row-preserved
-loop-row-preserved c = map_more (due_row c.args.clock) c.args.rows.now c.loop-row.rows c.loop-row.row-index _ _ (omega arith) (omega arith) c.loop-row.invariant c.produce_row.ensures
+loop-row-preserved c = map_more (produced_row c.args.clock) c.args.rows.now c.loop-row.rows c.loop-row.row-index _ _ (omega arith) (omega arith) c.loop-row.invariant c.produced_row.ensures

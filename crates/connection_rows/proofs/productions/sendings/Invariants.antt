@@ -1,6 +1,7 @@
-use Rattle.std.proofs.Common.{◌≡◌, take, flat_map}
-use Rattle.adapter_table.specs.Productions.{due_sending}
+use Rattle.std.proofs.Common.{◌≡◌, take, map}
+use Rattle.cip_productions.specs.Productions.{sent}
+use Rattle.adapter_table.specs.Productions.{due_production}
 use Rattle.connection_rows.proofs.productions.sendings.Given as goal
 
-abbrev pub invariant-loop-row : goal.invariant-loop-row
-invariant-loop-row l = l.sendings.items ≡ flat_map (due_sending l.rows l.assemblies.values) (take l.row-index l.due)
+abbrev pub invariant-loop-producer : goal.invariant-loop-producer
+invariant-loop-producer l = l.sendings.items ≡ map sent (map (due_production l.rows l.assemblies.values) (take l.producer-index l.due))

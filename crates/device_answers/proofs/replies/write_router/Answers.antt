@@ -1,7 +1,4 @@
-use Rattle.std.proofs.Common.{◌≤◌, length}
-use Rattle.std.specs.Option.{option_map}
 use Rattle.cip_router.specs.Replies.{view_reply}
-use Rattle.cip_router.specs.Frames.{socket_of}
 use Rattle.adapter_table.proofs.ReplyLemmas.{reply_some, reply_fits, items_fit}
 use Rattle.device_answers.proofs.replies.write_router.Goals as goal
 

@@ -1,4 +1,3 @@
-use Rattle.std.proofs.Common.{arith}
 use Rattle.device_trials.proofs.Telling.{told_more, differs_next, begins, on_err_is}
 use Rattle.device_trials.proofs.player.play.Goals as goal
 

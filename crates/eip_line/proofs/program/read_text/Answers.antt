@@ -1,7 +1,7 @@
 use Rattle.std.proofs.Common.{rules, ◌≡◌, ◌++◌, [], take}
 use Rattle.std.specs.Prelude.{IfSome}
 use Rattle.std.specs.Option.{option_map}
-use Rattle.eip_line.proofs.Limits.{whole, longer, cut}
+use Rattle.eip_line.proofs.Limits.{whole, longer, cut, at_most}
 use Rattle.eip_line.proofs.program.read_text.Goals as goal
 
 pub returns-then-len-gt-LONGEST_TRACE-clause-long : goal.returns-then-len-gt-LONGEST_TRACE-clause-long
@@ -12,4 +12,4 @@ returns-then-len-gt-LONGEST_TRACE-clause-long g c e =
 pub returns-clause-all : goal.returns-clause-all
 returns-clause-all g c =
     let known : IfSome (option_map (take 16777217) (g.I.Read.remaining c.args.reader.now)) (λ xs. c.read_to_end.new.buf.items ≡ [] ++ xs) = cut (λ r. g.I.Read.remaining r.now) c.take.result _ 16777217 _ _ c.take.ensures.limit c.take.ensures.inner c.new-text.ensures.items c.in-Ok.ensures.bytes in
-    whole 16777217 (g.I.Read.remaining c.args.reader.now) c.read_to_end.new.buf.items known (search rules)
+    at_most _ _ (whole 16777217 (g.I.Read.remaining c.args.reader.now) c.read_to_end.new.buf.items known (search rules))

@@ -1,4 +1,3 @@
-use Rattle.std.proofs.Common.{sym, ◌∙◌}
 use Rattle.assembly_set.proofs.Shaping.{output_short}
 use Rattle.assembly_set.proofs.set.AssemblySet.output.Goals as goal
 

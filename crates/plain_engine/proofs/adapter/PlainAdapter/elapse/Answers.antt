@@ -5,7 +5,7 @@ use Rattle.plain_engine.proofs.Kept.{fits_left}
 use Rattle.plain_engine.proofs.adapter.PlainAdapter.elapse.Goals as goal
 
 pub produced_rows-requires-clause-fit : goal.produced_rows-requires-clause-fit
-produced_rows-requires-clause-fit c = (c.self.inside.assemblies.profile, rw (c.in_ok-left.ensures, c.deref-5.ensures.value, c.in_ok-faded.ensures, c.deref-2.ensures.value) (fits_left _ c.self.inside.assemblies.profile c.self.inside.rows.items c.self.invariant.fits))
+produced_rows-requires-clause-fit c = rw (c.in_ok-left.ensures, c.deref-5.ensures.value, c.in_ok-after.ensures, c.deref-2.ensures.value) (fits_left _ c.self.inside.rows.items c.self.invariant.fits)
 
 pub pass-requires : goal.pass-requires
 unfolding clocked_table expired_table produced_table
@@ -14,4 +14,4 @@ pass-requires c =
     let t : AdapterTable = record { profile = own.assemblies.profile; rows = own.rows.items; values = own.assemblies.values; clock = own.clock; next_id = own.next_id; streams = own.streams.items } in
     let asked = rw (← c.self.view_is) at c.requires in
     let left = whole_elapsed t c.args.ms asked c.self.invariant in
-    rw (← c.self.view_is, c.produced_rows.ensures, c.in_ok-left.ensures, c.deref-5.ensures.value, c.in_ok-faded.ensures, c.deref-2.ensures.value, c.deref-7.ensures.value, c.in_ok-gone.ensures, c.deref.ensures.value, c.from.ensures) left
+    rw (← c.self.view_is, c.produced_rows.ensures, c.in_ok-left.ensures, c.deref-5.ensures.value, c.in_ok-after.ensures, c.deref-2.ensures.value, c.deref-7.ensures.value, c.in_ok-gone.ensures, c.deref.ensures.value, c.from.ensures) left

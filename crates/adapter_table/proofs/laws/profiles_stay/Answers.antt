@@ -1,0 +1,5 @@
+use Rattle.adapter_table.proofs.CounterSteps.{profile_stays}
+use Rattle.adapter_table.proofs.laws.profiles_stay.Goals as goal
+
+pub returns : goal.returns
+returns c = profile_stays

@@ -1,0 +1,50 @@
+//! What each step does to a whole table, and what a fresh one is. Each call does nothing: its contract is the law.
+
+ghost use Rattle.std.specs.Prelude.{ℕ, ◌≡◌, ◌≤◌, None};
+ghost use Rattle.adapter_table.specs.declared.profile.Profile.{Profile};
+ghost use Rattle.adapter_table.specs.Profiles.{profile_fault};
+ghost use Rattle.adapter_table.specs.Step.{adapter_table};
+ghost use Rattle.adapter_table.specs.Sound.{IsSound};
+ghost use Rattle.adapter_table.specs.Whole.{IsWhole};
+ghost use Rattle.adapter_table.specs.Newest.{HasNewerNumber, IsAppliedNew, IsNotAgain};
+ghost use Rattle.adapter_table.specs.Laws.{StepsKeep, StepsLeave, RefusalsTouchNothing, FreshOutputsAreZeros, StepsAcceptAfter, RefusalsAcceptNothing};
+
+/// The table of a fresh adapter is sound, and a step from a sound table leads to a sound one.
+pub fn tables_are_sound()
+    ensures fresh { (profile : Profile) → IsSound (adapter_table profile) }
+    ensures steps { StepsKeep IsSound }
+{}
+
+/// The table of a fresh adapter is whole, where nothing is wrong with its profile, and a step from a whole
+/// table leads to a whole one.
+pub fn tables_are_whole()
+    ensures fresh { (profile : Profile) → profile_fault profile ≡ None → IsWhole (adapter_table profile) }
+    ensures steps { StepsKeep IsWhole }
+{}
+
+/// The profile of an adapter stays.
+pub fn profiles_stay()
+    ensures { (profile : Profile) → StepsKeep (λ t. t.profile ≡ profile) }
+{}
+
+/// The counter of the next connection id never falls.
+pub fn counters_never_fall()
+    ensures { (counter : ℕ) → StepsKeep (λ t. counter ≤ t.next_id) }
+{}
+
+/// An output of a fresh adapter holds zeros; after each event it holds what the event left there, or else what
+/// it held.
+pub fn outputs_hold_what_is_left()
+    ensures fresh { FreshOutputsAreZeros }
+    ensures steps { StepsLeave }
+    ensures refusals { RefusalsTouchNothing }
+{}
+
+/// What a connection accepts has a newer number than what it accepted before; where it is applied, it is
+/// run-mode data, with another count than what it accepted before, and so not that datagram again.
+pub fn accepted_datagrams_are_newer()
+    ensures numbers { StepsAcceptAfter HasNewerNumber }
+    ensures applied { StepsAcceptAfter IsAppliedNew }
+    ensures once { StepsAcceptAfter IsNotAgain }
+    ensures refusals { RefusalsAcceptNothing }
+{}

@@ -1,0 +1,110 @@
+-- The fifteen checks in the order of the work: some before the points are looked up, the others of them.
+use Rattle.std.specs.Prelude.{ℕ, Bool, ◌==◌, not, List, [], ◌∷◌, Option, Some, None, Result, Ok, Err, take, drop}
+use Rattle.std.specs.Result.{result_ok}
+use Rattle.cip_epath.specs.declared.fault.PathFault.{PathFault}
+use Rattle.cip_epath.specs.declared.fault.PathFault.TheVariants as path_fault
+use Rattle.cip_epath.specs.Path.{PathFields}
+use Rattle.cip_netparams.specs.Word.{trigger_of}
+use Rattle.cip_netparams.specs.Rate.{interval_ms, timeout}
+use Rattle.cip_fwdopen.specs.Open.{OpenFields}
+use Rattle.cip_router.specs.declared.refusal.Refusal.{Refusal}
+use Rattle.cip_router.specs.declared.refusal.Refusal.TheVariants as refusal
+use Rattle.adapter_table.specs.Checks.{View, Points, Check, check, first_of, is_point_to_point, is_produced_type, joins, has_other_trigger, has_other_inhibit, checks, segment_check, points_of, served_trigger, stored, Admitted, admitted_at}
+use Rattle.adapter_table.specs.declared.row.Row.{Row}
+use Rattle.app_rules.specs.declared.request.Terms.{Terms}
+
+-- where no check fails, what comes after it
+abbrev pub after : {A : Type 0} → Check → Result A Refusal → Result A Refusal
+after None next = next
+after (Some why) next = Err why
+
+-- then, where something was found
+abbrev pub and_then : {A B : Type 0} → Result A Refusal → (A → Result B Refusal) → Result B Refusal
+and_then (Ok found) next = next found
+and_then (Err why) next = Err why
+
+-- a path that is there was read, and one that is not is misarranged
+abbrev pub path_read : Option PathFields → Result PathFields PathFault
+path_read None = Err path_fault.Shape
+path_read (Some path) = Ok path
+
+-- check 5
+abbrev pub type_check : OpenFields → Check
+type_check request =
+    first_of (
+    check (not (is_point_to_point request.o_t_params.kind)) refusal.ConsumedType
+    ∷ check (not (is_produced_type request.t_o_params.kind)) refusal.ProducedType
+    ∷ []
+    )
+
+-- checks 3 to 8, of a path that reads or is misarranged
+abbrev pub request_checks : View → OpenFields → Option PathFields → List Check
+request_checks view request path = take 8 (drop 1 (checks view request (path_read path) (Err refusal.Path)))
+
+-- checks 10 to 13, of points that are found
+abbrev pub points_checks : View → OpenFields → Points → List Check
+points_checks view request points = take 7 (drop 10 (checks view request (path_read None) (Ok points)))
+
+-- what a joiner of these terms is asked of its group, in check 14
+abbrev pub group_check : Terms → ℕ → Option Row → Check
+group_check terms inhibit group =
+    first_of (
+    check (joins group (λ member. not (terms.t_o_api == member.t_o_api))) refusal.PacketInterval
+    ∷ check (joins group (λ member. has_other_trigger terms.trigger member.state)) refusal.Trigger
+    ∷ check (joins group (λ member. has_other_inhibit inhibit member.state)) refusal.PacketInterval
+    ∷ []
+    )
+
+-- checks 14 and 15
+abbrev pub room_checks : View → OpenFields → Points → List Check
+room_checks view request points = drop 17 (checks view request (path_read None) (Ok points))
+
+unfoldable pub request_check : View → OpenFields → Option PathFields → Check
+request_check view request path = first_of (request_checks view request path)
+
+unfoldable pub points_check : View → OpenFields → Points → Check
+points_check view request points = first_of (points_checks view request points)
+
+unfoldable pub room_check : View → OpenFields → Points → Check
+room_check view request points = first_of (room_checks view request points)
+
+-- the path, where its segments read; there is none where they are misarranged
+abbrev pub readable : Result PathFields PathFault → Result (Option PathFields) Refusal
+readable path = after (segment_check path) (Ok (result_ok path))
+
+-- what is decided of a request before its points are looked up
+abbrev pub terms_of : OpenFields → Terms
+terms_of request = record {
+  trigger = served_trigger (trigger_of request.trigger);
+  o_t_api = interval_ms request.o_t_rpi;
+  t_o_api = interval_ms request.t_o_rpi;
+  watchdog = record { 0 = timeout request.multiplier (interval_ms request.o_t_rpi) };
+}
+
+-- what points are admitted as on these terms
+abbrev pub admission_at : Points → Terms → Bool → ℕ → Admitted
+admission_at points terms multicast inhibit = record {
+  kind = points.consumer.kind;
+  consumed = points.path.consumed;
+  produced = points.path.produced;
+  multicast = multicast;
+  trigger = terms.trigger;
+  inhibit = inhibit;
+  o_t_api = terms.o_t_api;
+  t_o_api = terms.t_o_api;
+  watchdog = terms.watchdog;
+  group = points.group;
+  segment = stored points.path.config points.path.segment;
+}
+
+-- what points are admitted as, where their checks pass
+abbrev pub staged_points : View → OpenFields → Points → Result Admitted Refusal
+staged_points view request points =
+    after (points_check view request points) (after (room_check view request points) (Ok (admitted_at request points)))
+
+abbrev pub staged_path : View → OpenFields → Option PathFields → Result Admitted Refusal
+staged_path view request path =
+    after (request_check view request path) (and_then (points_of view request path) (λ points. staged_points view request points))
+
+abbrev pub staged : View → OpenFields → Result PathFields PathFault → Result Admitted Refusal
+staged view request path = and_then (readable path) (λ readable_path. staged_path view request readable_path)

@@ -1,0 +1,16 @@
+-- What the program's values with references are in the definitions.
+use Rattle.std.specs.Prelude.{List}
+use Rattle.std.specs.Option.{option_map}
+use Rattle.cip_types.specs.declared.names.Triad.{Triad}
+use Rattle.cip_epath.specs.Path.{view_path}
+use Rattle.adapter_table.specs.declared.row.Row.{Row}
+use Rattle.adapter_table.specs.Checks as checks
+use Rattle.app_rules.specs.declared.view.View.{View}
+use Rattle.app_rules.specs.declared.points.Points.{Points}
+
+-- how things stand for a request of the triad, by the rows of the connections
+abbrev pub seen : {C : Type 0} → (C → List Row) → View C → Triad → checks.View
+seen rows view triad = checks.view_at view.profile.now (option_map (λ lent. lent.now) view.config) (rows view.connections.now) view.next_id triad
+
+abbrev pub view_points : Points → checks.Points
+view_points points = record { path = view_path points.path; consumer = points.consumer; input = points.input; group = points.group }

@@ -1,0 +1,84 @@
+//! What the checks ask of the connections of an adapter.
+
+ghost use Rattle.std.specs.Prelude.{◌≡◌, List, length, nat_le};
+ghost use Rattle.std.specs.List.{list_any};
+ghost use Rattle.adapter_table.specs.declared.row.Row.{Row};
+ghost use Rattle.cip_productions.specs.declared.kind.Kind.{Kind};
+ghost use Rattle.adapter_table.specs.Rows.{holds_triad, is_established, is_timed_out, drives, is_supported};
+ghost use Rattle.adapter_table.specs.Checks.{group_of};
+
+use adapter_table::{
+    MOST_ROWS, Row, drives, holds_triad, is_established, is_member, is_supported, is_timed_out,
+};
+use cip_productions::Kind;
+use cip_types::Triad;
+
+/// The connections of an adapter, as the checks ask of them; contracts see their list in opening order.
+/// No question takes memory.
+pub trait Connections {
+    ghost rows: { Self → List Row };
+
+    /// Whether the triad is that of an established connection.
+    fn is_held(&self, triad: Triad) -> bool
+        ensures { result ≡ list_any (holds_triad triad) (rows self.now) };
+
+    /// Whether some connection is established.
+    fn has_established(&self) -> bool
+        ensures { result ≡ list_any is_established (rows self.now) };
+
+    /// Whether an established connection owns the output.
+    fn is_driven(&self, point: u32) -> bool
+        ensures { result ≡ list_any (drives point) (rows self.now) };
+
+    /// The first connection of the input's group, whose producer a multicast one joins.
+    fn group_of(&self, point: u32) -> Option<Row>
+        ensures { result ≡ group_of (rows self.now) point };
+
+    /// Whether a listen-only connection is supported on the input.
+    fn is_supported(&self, point: u32) -> bool
+        ensures { result ≡ is_supported (rows self.now) Kind.ListenOnly point };
+
+    /// Whether there are as many connections as there can be.
+    fn is_full(&self) -> bool
+        ensures { result ≡ nat_le 64 (length (rows self.now)) };
+
+    /// Whether some connection has timed out.
+    fn has_timed_out(&self) -> bool
+        ensures { result ≡ list_any is_timed_out (rows self.now) };
+}
+
+/// Connections that stand in a slice, in opening order.
+#[derive(Clone, Copy)]
+pub struct Listed<'a>(pub &'a [Row]);
+
+impl Connections for Listed<'_> {
+    ghost rows = { λ l. l.0.now };
+
+    fn is_held(&self, triad: Triad) -> bool {
+        self.0.iter().any(|row| holds_triad(row, triad))
+    }
+
+    fn has_established(&self) -> bool {
+        self.0.iter().any(|row| is_established(row))
+    }
+
+    fn is_driven(&self, point: u32) -> bool {
+        self.0.iter().any(|row| drives(row, point))
+    }
+
+    fn group_of(&self, point: u32) -> Option<Row> {
+        self.0.iter().copied().find(|row| is_member(row, point))
+    }
+
+    fn is_supported(&self, point: u32) -> bool {
+        is_supported(self.0, Kind::ListenOnly, point)
+    }
+
+    fn is_full(&self) -> bool {
+        self.0.len() >= MOST_ROWS
+    }
+
+    fn has_timed_out(&self) -> bool {
+        self.0.iter().any(|row| is_timed_out(row))
+    }
+}

@@ -1,0 +1,18 @@
+//! The checks of a request to open a connection: what it is admitted as, or the answer of the first
+//! check that it fails.
+//!
+//! Volume 1, chapter 3, Forward_Open and the Connection Manager's extended status codes.
+#![tactic(auto)]
+
+mod connections;
+mod points;
+mod request;
+mod stages;
+mod verdict;
+mod view;
+
+pub use adapter_table::Admission;
+pub use connections::{Connections, Listed};
+pub use stages::drawn_ids;
+pub use verdict::admit;
+pub use view::View;

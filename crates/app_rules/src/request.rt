@@ -1,0 +1,167 @@
+//! What a request asks by itself.
+
+ghost use Rattle.std.specs.Prelude.{◌≡◌, ◌&&◌, nat_lt, IfErr, OnOk, IfOk};
+ghost use Rattle.std.specs.Option.{option_map};
+ghost use Rattle.cip_epath.specs.Path.{view_path};
+ghost use Rattle.cip_fwdopen.specs.Open.{view_open};
+ghost use Rattle.cip_epath.specs.Reading.{path_reading};
+ghost use Rattle.adapter_table.specs.Checks.{Gives, key_of, key_check, inhibit_of, is_point_to_point, is_produced_type, is_multicast, is_unserved, is_change_of_state, served_inhibit};
+ghost use Rattle.app_rules.specs.Views.{seen};
+ghost use Rattle.app_rules.specs.Stages.{readable, type_check, request_check, terms_of};
+
+use crate::connections::Connections;
+use crate::view::View;
+use cip_epath::{ConnPath, KeyFault, PathFault, check_key, read_path};
+use cip_fwdopen::OpenRequest;
+use cip_netparams::{ConnectionType, Trigger, api_of, timeout_of};
+use cip_router::Refusal;
+use cip_types::{Identity, Ms};
+
+/// What is decided of a request before its points are looked up: when it produces, its actual packet
+/// intervals in milliseconds, and how long its consumer waits.
+#[derive(Clone, Copy)]
+pub struct Terms {
+    pub trigger: Trigger,
+    pub o_t_api: u32,
+    pub t_o_api: u32,
+    pub watchdog: Ms,
+}
+
+/// The path of a request, where its segments read. There is none where they are misarranged.
+pub fn readable(bytes: &[u8]) -> Result<Option<ConnPath<'_>>, Refusal>
+    ensures { Gives (option_map view_path) result (readable (path_reading bytes.now)) }
+{
+    match read_path(bytes) {
+        Ok(path) => Ok(Some(path)),
+        Err(PathFault::Shape) => Ok(None),
+        Err(_) => Err(Refusal::Segment),
+    }
+}
+
+/// Why the key of a path does not want this device.
+fn key_check(identity: &Identity, path: &Option<ConnPath<'_>>) -> Option<Refusal>
+    ensures { result ≡ key_check identity.now (key_of (option_map view_path path.now)) }
+{
+    let Some(path) = path else {
+        return None;
+    };
+    let key = path.key?;
+    match check_key(&key, identity) {
+        Ok(()) => None,
+        Err(KeyFault::VendorOrProduct) => Some(Refusal::VendorOrProduct),
+        Err(KeyFault::DeviceType) => Some(Refusal::DeviceType),
+        Err(KeyFault::Revision) => Some(Refusal::Revision),
+    }
+}
+
+fn is_point_to_point(kind: ConnectionType) -> bool
+    ensures { result ≡ is_point_to_point kind }
+{
+    kind == ConnectionType::PointToPoint
+}
+
+/// Whether the datagrams of a direction go to a group.
+pub fn is_multicast(kind: ConnectionType) -> bool
+    ensures { result ≡ is_multicast kind }
+{
+    kind == ConnectionType::Multicast
+}
+
+/// Whether the T->O type is one that is served.
+fn is_produced_type(kind: ConnectionType) -> bool
+    ensures { result ≡ is_produced_type kind }
+{
+    is_multicast(kind) || is_point_to_point(kind)
+}
+
+/// Why the connection types are not served.
+fn type_check(request: &OpenRequest<'_>) -> Option<Refusal>
+    ensures { result ≡ type_check (view_open request.now) }
+{
+    if !is_point_to_point(request.o_t_params.kind) {
+        return Some(Refusal::ConsumedType);
+    }
+    if !is_produced_type(request.t_o_params.kind) {
+        return Some(Refusal::ProducedType);
+    }
+    None
+}
+
+/// Whether the multiplier is none, or an owner asks to be redundant.
+fn is_unserved(request: &OpenRequest<'_>) -> bool
+    ensures { result ≡ is_unserved (view_open request.now) }
+{
+    request.multiplier > 7 || request.o_t_params.redundant || request.t_o_params.redundant
+}
+
+/// The production inhibit time that a path asks for, in milliseconds.
+fn inhibit_of(path: &Option<ConnPath<'_>>) -> u8
+    ensures { result ≡ inhibit_of (option_map view_path path.now) }
+{
+    match path {
+        Some(path) => path.inhibit.unwrap_or(0),
+        None => 0,
+    }
+}
+
+/// Whether changes of state are to be held back for longer than the packet interval.
+fn is_held_back(trigger: Trigger, api: u32, inhibit: u8) -> bool
+    ensures { result ≡ (is_change_of_state (Some trigger) && nat_lt api inhibit) }
+{
+    match trigger {
+        Trigger::ChangeOfState => api < u32::from(inhibit),
+        Trigger::Cyclic => false,
+    }
+}
+
+/// The production inhibit time that is served, in milliseconds: a cyclic producer is not held back.
+pub fn served_inhibit(trigger: Trigger, inhibit: Option<u8>) -> u8
+    ensures { result ≡ served_inhibit trigger inhibit }
+{
+    match trigger {
+        Trigger::Cyclic => 0,
+        Trigger::ChangeOfState => inhibit.unwrap_or(0),
+    }
+}
+
+/// What is decided of a request before its points are looked up, or the first check that it fails until
+/// then.
+#[tactic(auto, unfolding(crate::specs::Stages::request_check))]
+pub fn terms_of<C: Connections>(
+    view: &View<'_, C>,
+    request: &OpenRequest<'_>,
+    path: &Option<ConnPath<'_>>,
+) -> Result<Terms, Refusal>
+    ensures refused { IfErr result (λ why. request_check (seen C.rows view.now request.now.triad) (view_open request.now) (option_map view_path path.now) ≡ Some why) }
+    ensures passed { OnOk result (request_check (seen C.rows view.now request.now.triad) (view_open request.now) (option_map view_path path.now) ≡ None) }
+    ensures value { IfOk result (λ terms. terms ≡ terms_of (view_open request.now)) }
+{
+    if view.connections.is_held(request.triad) {
+        return Err(Refusal::InUse);
+    }
+    if let Some(why) = key_check(&view.profile.identity, path) {
+        return Err(why);
+    }
+    if let Some(why) = type_check(request) {
+        return Err(why);
+    }
+    let Some(trigger) = Trigger::read(request.trigger) else {
+        return Err(Refusal::Trigger);
+    };
+    if is_unserved(request) {
+        return Err(Refusal::Parameter);
+    }
+    let (Some(o_t_api), Some(t_o_api)) = (api_of(request.o_t_rpi), api_of(request.t_o_rpi)) else {
+        return Err(Refusal::PacketInterval);
+    };
+    if is_held_back(trigger, t_o_api, inhibit_of(path)) {
+        return Err(Refusal::InhibitTime);
+    }
+    let watchdog = timeout_of(request.multiplier, o_t_api).unwrap();
+    Ok(Terms {
+        trigger,
+        o_t_api,
+        t_o_api,
+        watchdog,
+    })
+}

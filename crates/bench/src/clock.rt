@@ -1,0 +1,49 @@
+//! Processor time, the plain copy, and numbers with a point.
+
+ghost use Rattle.std.specs.Prelude.{◌<◌};
+
+use crate::fault::BenchFault;
+use std::fmt::{Display, Formatter, Write};
+use std::rt::CpuClock;
+use std::{fmt, io};
+
+/// How often each time is taken; the best counts.
+pub const ROUNDS: u32 = 7;
+
+/// The processor time of this thread so far, in nanoseconds.
+pub fn cpu_nanos(rt: &impl CpuClock) -> io::Result<u64> {
+    let time = rt.thread_cpu_time()?;
+    let seconds = time.as_secs().wrapping_mul(1_000_000_000);
+    Ok(seconds.wrapping_add(u64::from(time.subsec_nanos())))
+}
+
+/// The time of copying data in pieces of so many bytes, so many times.
+pub fn copy_nanos(
+    rt: &impl CpuClock,
+    out: &mut Vec<u8>,
+    data: &[u8],
+    piece_len: usize,
+    times: u32,
+) -> Result<u64, BenchFault>
+    requires { 0 < piece_len }
+{
+    let start = cpu_nanos(rt)?;
+    for _ in 0..times {
+        out.clear();
+        for piece in data.chunks(piece_len) {
+            out.extend_from_slice(piece)?;
+        }
+    }
+    Ok(cpu_nanos(rt)?.wrapping_sub(start))
+}
+
+/// The first number divided by the second, which is shown with three places behind the point.
+#[derive(Clone, Copy)]
+pub struct Quotient(pub u64, pub u64);
+
+impl Display for Quotient {
+    fn fmt<W: Write>(&self, f: &mut Formatter<W>) -> fmt::Result {
+        let thousandths = self.0.wrapping_mul(1_000).checked_div(self.1).unwrap_or(0);
+        write!(f, "{}.{:03}", thousandths / 1_000, thousandths % 1_000)
+    }
+}

@@ -1,0 +1,34 @@
+//! Why a run ends early.
+
+use cip_encap::SplitFault;
+use cip_types::OutOfMemory;
+use std::alloc::AllocError;
+use std::io;
+use thiserror::Error;
+
+/// Why a run ends early.
+#[derive(Debug, Drop, Error)]
+pub enum BenchFault {
+    #[error("the one word that may follow is check, wheel, splitter or datagrams")]
+    Usage,
+    #[error("no memory")]
+    OutOfMemory,
+    #[error("what came out is not what was wanted")]
+    Differs,
+    #[error(transparent)]
+    Split(#[from] SplitFault),
+    #[error(transparent)]
+    Io(#[from] io::Error),
+}
+
+impl From<OutOfMemory> for BenchFault {
+    fn from(_error: OutOfMemory) -> BenchFault {
+        BenchFault::OutOfMemory
+    }
+}
+
+impl From<AllocError> for BenchFault {
+    fn from(_error: AllocError) -> BenchFault {
+        BenchFault::OutOfMemory
+    }
+}

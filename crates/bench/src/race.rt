@@ -1,0 +1,96 @@
+//! The wheel beside a sorted list and a binary heap, on the same work.
+//!
+//! Seen on one machine, in percent of the list's time and of the heap's, each the best of five rounds,
+//! with tokens numbered from 0, which the heap has as indices and the wheel looks up by number:
+//!
+//! | timers | busy | idle, 1 ms | idle, 60 ms |
+//! |---|---|---|---|
+//! | 8 | 79, 109 | 97, 135 | 137, 194 |
+//! | 128 | 23, 53 | 55, 142 | 79, 197 |
+//! | 1,024 | 6, 60 | 41, 134 | 61, 203 |
+
+use crate::clock::{Quotient, ROUNDS, cpu_nanos};
+use crate::fault::BenchFault;
+use crate::heap::Heap;
+use crate::list::SortedList;
+use crate::timers::{Load, Timers, Work};
+use std::alloc::Global;
+use std::rt::CpuClock;
+use timer_wheel::Wheel;
+
+const TICKS: u32 = 200_000;
+
+/// Whether the three fire the same tokens in the same order.
+fn agree(alloc: Global, count: u64, work: Work, ticks: u32) -> Result<bool, BenchFault> {
+    let room = count as usize;
+    let mut wheel = Load::new(alloc, Wheel::new(alloc, room)?, count, work)?;
+    let mut list = Load::new(alloc, SortedList::new(alloc, room)?, count, work)?;
+    let mut heap = Load::new(alloc, Heap::new(alloc, room)?, count, work)?;
+    for _ in 0..ticks {
+        wheel.step()?;
+        list.step()?;
+        heap.step()?;
+        if wheel.fired() != list.fired() || wheel.fired() != heap.fired() {
+            return Ok(false);
+        }
+    }
+    Ok(true)
+}
+
+/// Short runs, in the last steps of which idle timers fire too.
+pub fn check(rt: &impl Print, alloc: Global) -> Result<(), BenchFault> {
+    for count in [8, 128, 1_024] {
+        if !agree(alloc, count, Work::Busy, 2_000)?
+            || !agree(alloc, count, Work::Idle(60_000), 300)?
+        {
+            return Err(BenchFault::Differs);
+        }
+    }
+    println!(rt; "wheel, list and heap agree")?;
+    Ok(())
+}
+
+/// The nanoseconds of a tick.
+fn tick_nanos<T: Timers>(rt: &impl CpuClock, mut load: Load<T>) -> Result<u64, BenchFault> {
+    let start = cpu_nanos(rt)?;
+    for _ in 0..TICKS {
+        load.step()?;
+    }
+    Ok(cpu_nanos(rt)?.wrapping_sub(start) / u64::from(TICKS))
+}
+
+/// A line on the three, each the best of some rounds.
+fn report(
+    rt: &(impl Print + CpuClock),
+    alloc: Global,
+    count: u64,
+    name: &str,
+    work: Work,
+) -> Result<(), BenchFault> {
+    let room = count as usize;
+    let (mut wheel, mut list, mut heap) = (u64::MAX, u64::MAX, u64::MAX);
+    for _ in 0..ROUNDS {
+        let load = Load::new(alloc, Wheel::new(alloc, room)?, count, work)?;
+        wheel = wheel.min(tick_nanos(rt, load)?);
+        let load = Load::new(alloc, SortedList::new(alloc, room)?, count, work)?;
+        list = list.min(tick_nanos(rt, load)?);
+        let load = Load::new(alloc, Heap::new(alloc, room)?, count, work)?;
+        heap = heap.min(tick_nanos(rt, load)?);
+    }
+    println!(rt;
+        "{count} timers, {name}: wheel {wheel} ns a tick, list {list}, heap {heap}: {} of the list, {} of the heap",
+        Quotient(wheel, list),
+        Quotient(wheel, heap)
+    )?;
+    Ok(())
+}
+
+/// Prints the nanoseconds of a tick of each.
+pub fn print_times(rt: &(impl Print + CpuClock), alloc: Global) -> Result<(), BenchFault> {
+    for count in [8, 128, 1_024] {
+        report(rt, alloc, count, "busy", Work::Busy)?;
+        report(rt, alloc, count, "idle, steps of 1 ms", Work::Idle(1))?;
+        report(rt, alloc, count, "idle, steps of 60 ms", Work::Idle(60))?;
+    }
+    Ok(())
+}

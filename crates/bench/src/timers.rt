@@ -1,0 +1,105 @@
+//! What is asked of timers.
+
+ghost use Rattle.std.specs.Prelude.{◌^◌, ◌<◌, ◌≤◌};
+
+use std::alloc::{AllocError, Global};
+use timer_wheel::Token;
+
+/// A set of timers, with a clock in milliseconds.
+pub trait Timers: Drop {
+    /// Arms a token that is not armed, so many milliseconds from now.
+    fn start(&mut self, token: Token, after: u64) -> Result<(), AllocError>
+        requires { after < 2 ^ 24 };
+
+    /// Sets the deadline of an armed token anew, so many milliseconds from now.
+    fn refresh(&mut self, token: Token, after: u64) -> Result<(), AllocError>
+        requires { after < 2 ^ 24 };
+
+    /// Moves the clock on, and writes what is due over `out`.
+    fn tick(&mut self, delta: u32, out: &mut Vec<Token>) -> Result<(), AllocError>
+        requires { delta ≤ 60000 };
+
+    /// The same by a millisecond, where each token that was due is armed again after its period.
+    fn turn(&mut self, count: u64, out: &mut Vec<Token>) -> Result<(), AllocError> {
+        self.tick(1, out)?;
+        for token in &*out {
+            self.start(*token, period(count, *token))?;
+        }
+        Ok(())
+    }
+}
+
+/// From one firing of a token to the next, in milliseconds, where there are so many tokens: the first
+/// half are watchdogs, which are refreshed before they fire, and the others productions.
+pub fn period(count: u64, token: Token) -> u64
+    ensures { result < 2 ^ 24 }
+{
+    if token.0 < count / 2 {
+        160
+    } else {
+        10 + token.0 % 7 * 5
+    }
+}
+
+/// A steady load, or ticks of so many milliseconds in which nothing is due for 16,000 s.
+#[derive(Clone, Copy)]
+pub enum Work {
+    Busy,
+    Idle(u32),
+}
+
+/// Timers under a load.
+#[derive(Drop)]
+pub struct Load<T: Timers> {
+    timers: T,
+    fired: Vec<Token>,
+    count: u64,
+    work: Work,
+    // How many 64ths of a refresh are owed, and whose turn it is.
+    owed: u64,
+    next: u64,
+}
+
+impl<T: Timers> Load<T> {
+    /// So many tokens, all armed.
+    pub fn new(alloc: Global, mut timers: T, count: u64, work: Work) -> Result<Self, AllocError> {
+        for token in 0..count {
+            let after = match work {
+                Work::Busy => period(count, Token(token)),
+                Work::Idle(_) => 16_000_000 + token % 4096,
+            };
+            timers.start(Token(token), after)?;
+        }
+        let fired = Vec::with_capacity(alloc, count as usize)?;
+        Ok(Load {
+            timers,
+            fired,
+            count,
+            work,
+            owed: 0,
+            next: 0,
+        })
+    }
+
+    /// A tick. Under the steady load it is a millisecond, in which productions fire and are armed again,
+    /// and watchdogs are refreshed, at 128 timers six of them.
+    pub fn step(&mut self) -> Result<(), AllocError> {
+        if let Work::Idle(ms) = self.work {
+            return self.timers.tick(ms.min(60_000), &mut self.fired);
+        }
+        self.timers.turn(self.count, &mut self.fired)?;
+        self.owed = self.owed.wrapping_add(self.count.wrapping_mul(3));
+        for _ in 0..self.owed / 64 {
+            self.timers.refresh(Token(self.next), 160)?;
+            let after = self.next.wrapping_add(1);
+            self.next = if after < self.count / 2 { after } else { 0 };
+        }
+        self.owed %= 64;
+        Ok(())
+    }
+
+    /// What fired in the last step.
+    pub fn fired(&self) -> &[Token] {
+        &self.fired
+    }
+}

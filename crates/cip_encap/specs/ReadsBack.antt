@@ -1,0 +1,18 @@
+-- What is written is read as the same value: laws of the definitions alone, which `reads_back` promises
+-- (Volume 2, chapter 2, encapsulation messages and common packet format).
+use Rattle.std.specs.Prelude.{◌≡◌, ℕ, ◌≤◌, List, length, Option, Ok}
+use Rattle.cip_encap.specs.declared.packet.SocketAddress.{SocketAddress}
+use Rattle.cip_encap.specs.Message.{MessageFields, MessageFits, message_text}
+use Rattle.cip_encap.specs.Reading.{message_reading}
+use Rattle.cip_encap.specs.Packet.{packet_text}
+use Rattle.cip_encap.specs.PacketReading.{packet_reading}
+
+-- a message
+abbrev pub MessageReadsBack : Type 0
+MessageReadsBack = (m : MessageFields) → MessageFits m → message_reading (message_text m) ≡ Ok m
+
+-- the data among its items, whether a socket address stands behind it or not
+abbrev pub ItemsReadBack : Type 0
+ItemsReadBack =
+    (payload : List ℕ) (socket : Option SocketAddress) → 1 ≤ length payload → length payload ≤ 65535
+    → packet_reading (packet_text payload socket) ≡ Ok (record { timeout = 0; payload = payload })

@@ -1,6 +1,0 @@
-use Rattle.adapter_table.specs.Productions.{prompt_row}
-use Rattle.assembly_set.proofs.Places.{Mapped}
-use Rattle.connection_rows.proofs.prompt.prompt_rows.Given as goal
-
-abbrev pub invariant-loop-row : goal.invariant-loop-row
-invariant-loop-row l = Mapped (prompt_row l.clock l.point) l.initial.rows l.rows l.row-index

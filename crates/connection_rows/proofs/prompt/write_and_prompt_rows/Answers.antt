@@ -1,5 +1,0 @@
-use Rattle.connection_rows.proofs.Orders.{fits_flagged}
-use Rattle.connection_rows.proofs.prompt.write_and_prompt_rows.Goals as goal
-
-pub prompt_rows-requires-clause-fit : goal.prompt_rows-requires-clause-fit
-prompt_rows-requires-clause-fit c = (c.requires.fit.0, rw c.write_rows.ensures (fits_flagged c.args.point c.requires.fit.0 c.args.rows.now c.requires.fit.1))

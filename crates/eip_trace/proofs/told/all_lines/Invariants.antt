@@ -1,6 +1,0 @@
-use Rattle.std.proofs.Common.{string_bytes}
-use Rattle.eip_trace.proofs.ToldLemmas.{IsToldSoFar}
-use Rattle.eip_trace.proofs.told.all_lines.Given as goal
-
-abbrev pub invariant-loop-index : goal.invariant-loop-index
-invariant-loop-index l = IsToldSoFar (string_bytes l.lines) l.outcomes l.index

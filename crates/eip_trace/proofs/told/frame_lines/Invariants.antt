@@ -1,6 +1,0 @@
-use Rattle.std.proofs.Common.{◌≡◌, string_bytes, flat_map, take}
-use Rattle.eip_trace.specs.Told.{frame_line}
-use Rattle.eip_trace.proofs.told.frame_lines.Given as goal
-
-abbrev pub invariant-loop-frame : goal.invariant-loop-frame
-invariant-loop-frame l = string_bytes l.lines ≡ flat_map (frame_line l.number) (take l.frame-index l.frames)

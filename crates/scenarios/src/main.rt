@@ -1,0 +1,67 @@
+//! Plays traces over the devices of the line, each named for the behaviour that it shows, and prints a line
+//! for each: whether all outcomes are as recorded.
+#![tactic(auto)]
+
+use plain_engine::PlainAdapter;
+use std::env;
+use std::fs::{self, Files};
+use std::process::ExitCode;
+use thiserror::Error;
+use trace_stepper::{Differs, StepperFault, compare, replay};
+use trace_text::{TraceFault, read_trace};
+
+/// Why a scenario does not hold.
+#[derive(Clone, Copy, Debug, Error)]
+enum Failure {
+    #[error("fault Read")]
+    Read,
+    #[error("{0}")]
+    Trace(TraceFault),
+    #[error("{0}")]
+    Stepper(StepperFault),
+    #[error("{0}")]
+    Differs(Differs),
+}
+
+/// Plays the traces whose files the command line names.
+fn main(rt: HostRuntime) -> ExitCode {
+    let Ok(words) = env::args(&rt) else {
+        return ExitCode::from(2);
+    };
+    let Ok(words) = words.collect::<Vec<String>>(rt.alloc()) else {
+        return ExitCode::from(2);
+    };
+    let mut status = 0;
+    for name in words.iter().skip(1) {
+        let told = match held(&rt, name.as_str()) {
+            Ok(()) => println!(rt; "{name} holds"),
+            Err(failure) => {
+                status = 1;
+                println!(rt; "{name}: {failure}")
+            }
+        };
+        if told.is_err() {
+            status = 1;
+        }
+    }
+    ExitCode::from(status)
+}
+
+/// Whether the trace of this file holds over each engine.
+fn held<R: AllocGlobal + Files>(rt: &R, name: &str) -> Result<(), Failure> {
+    let Ok(text) = fs::read(rt, name) else {
+        return Err(Failure::Read);
+    };
+    let trace = match read_trace(rt.alloc(), text.as_slice()) {
+        Ok(trace) => trace,
+        Err(fault) => return Err(Failure::Trace(fault)),
+    };
+    let report = match replay::<PlainAdapter>(rt.alloc(), &trace) {
+        Ok(report) => report,
+        Err(fault) => return Err(Failure::Stepper(fault)),
+    };
+    match compare(&trace, report.outcomes.as_slice()) {
+        Ok(()) => Ok(()),
+        Err(differs) => Err(Failure::Differs(differs)),
+    }
+}

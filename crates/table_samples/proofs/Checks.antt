@@ -1,0 +1,612 @@
+-- The checks of a request to open: each by itself, and which of two goes first.
+use Rattle.std.proofs.Common.{◌≡◌, refl, ℕ, List, [], ◌∷◌, None, Err}
+use Rattle.cip_events.specs.declared.event.Event.TheVariants.{Read, Tick}
+use Rattle.cip_events.specs.declared.event.StepFault.TheVariants.{NoSuchPoint}
+use Rattle.adapter_table.specs.declared.profile.Profile.{Profile}
+use Rattle.cip_events.specs.Outcomes.{Outcome}
+use Rattle.cip_tables.specs.Run.{outcomes_of}
+use Rattle.table_samples.specs.Hex.{hex}
+use Rattle.table_samples.specs.Devices.{common, configured, peer}
+use Rattle.table_samples.specs.Requests.{Asking, owner, gatherer, listener, consumer, inhibited, keyed, followed, opened_reply}
+use Rattle.table_samples.specs.Runs.{said, after, opens, replies, opened_notice, accepts, refuses, holds, id}
+use Rattle.table_samples.proofs.Computing.{computing}
+
+-- what a fresh device says to a request
+abbrev asked : Asking → List Outcome
+asked a = said common (opens a ∷ [])
+
+-- what it says where the output has an owner
+abbrev asked_owned : Asking → List Outcome
+asked_owned a = said common (opens owner ∷ opens a ∷ [])
+
+abbrev refused : Asking → ℕ → List Outcome
+refused a code = refuses peer a code ∷ []
+
+abbrev accepted : Asking → List Outcome
+accepted a = accepts peer a 1 0x20000001 ∷ []
+
+abbrev refused_owned : Asking → ℕ → List Outcome
+refused_owned a code = accepts peer owner 1 0x20000001 ∷ refuses peer a code ∷ []
+
+abbrev at : List ℕ → Asking
+at path = record owner { path = path }
+
+-- ---- the path's segments
+
+abbrev unread : Asking
+unread = at (hex "91 02")
+
+no_segment : asked unread ≡ refused unread 0x0315
+unfolding computing
+no_segment = refl
+
+abbrev cut : Asking
+cut = at (hex "20 04 24 97 2C 96 2D 00")
+
+a_segment_is_cut : asked cut ≡ refused cut 0x0315
+unfolding computing
+a_segment_is_cut = refl
+
+abbrev strange : Asking
+strange = at (hex "34 05 00 00 00 00 00 00 00 00 20 04 24 97 2C 96 2C 64")
+
+a_key_of_another_format : asked strange ≡ refused strange 0x0315
+unfolding computing
+a_key_of_another_format = refl
+
+segments_before_the_triad : asked_owned unread ≡ refused_owned unread 0x0315
+unfolding computing
+segments_before_the_triad = refl
+
+-- ---- the triad
+
+the_triad_again : asked_owned owner ≡ refused_owned owner 0x0100
+unfolding computing
+the_triad_again = refl
+
+abbrev another_vendor : Asking
+another_vendor = keyed (hex "02 00 00 00 00 00 00 00") owner
+
+the_triad_before_the_key : asked_owned another_vendor ≡ refused_owned another_vendor 0x0100
+unfolding computing
+the_triad_before_the_key = refl
+
+-- another vendor's, or another device's, of the same serial number is another triad
+abbrev second_originator : Asking
+second_originator = record (consumer 1) { originator = 0x12345679 }
+
+a_triad_has_three_parts : asked_owned second_originator ≡ accepts peer owner 1 0x20000001 ∷ accepts peer second_originator 2 0x20000002 ∷ []
+unfolding computing
+a_triad_has_three_parts = refl
+
+-- ---- the key
+
+vendor : asked another_vendor ≡ refused another_vendor 0x0114
+unfolding computing
+vendor = refl
+
+abbrev another_product : Asking
+another_product = keyed (hex "01 00 0C 00 08 00 02 03") owner
+
+product : asked another_product ≡ refused another_product 0x0114
+unfolding computing
+product = refl
+
+abbrev another_type : Asking
+another_type = keyed (hex "01 00 0D 00 07 00 02 03") owner
+
+device_type : asked another_type ≡ refused another_type 0x0115
+unfolding computing
+device_type = refl
+
+abbrev anything : Asking
+anything = keyed (hex "00 00 00 00 00 00 00 00") owner
+
+zeros_match_anything : asked anything ≡ accepted anything
+unfolding computing
+zeros_match_anything = refl
+
+-- a key of the device with this major byte and this minor revision
+abbrev revised : ℕ → ℕ → Asking
+revised major minor = keyed (0x01 ∷ 0x00 ∷ 0x0C ∷ 0x00 ∷ 0x07 ∷ 0x00 ∷ major ∷ minor ∷ []) owner
+
+the_same_revision : asked (revised 0x02 0x03) ≡ accepted (revised 0x02 0x03)
+unfolding computing
+the_same_revision = refl
+
+an_older_minor_revision : asked (revised 0x02 0x02) ≡ refused (revised 0x02 0x02) 0x0116
+unfolding computing
+an_older_minor_revision = refl
+
+an_older_minor_one_compatibly : asked (revised 0x82 0x02) ≡ accepted (revised 0x82 0x02)
+unfolding computing
+an_older_minor_one_compatibly = refl
+
+the_same_compatibly : asked (revised 0x82 0x03) ≡ accepted (revised 0x82 0x03)
+unfolding computing
+the_same_compatibly = refl
+
+a_newer_minor_one_compatibly : asked (revised 0x82 0x04) ≡ refused (revised 0x82 0x04) 0x0116
+unfolding computing
+a_newer_minor_one_compatibly = refl
+
+another_major_revision : asked (revised 0x03 0x03) ≡ refused (revised 0x03 0x03) 0x0116
+unfolding computing
+another_major_revision = refl
+
+an_older_major_one_compatibly : asked (revised 0x81 0x03) ≡ refused (revised 0x81 0x03) 0x0116
+unfolding computing
+an_older_major_one_compatibly = refl
+
+any_major_revision : asked (revised 0x00 0x03) ≡ accepted (revised 0x00 0x03)
+unfolding computing
+any_major_revision = refl
+
+any_major_one_with_a_wrong_minor_one : asked (revised 0x00 0x04) ≡ refused (revised 0x00 0x04) 0x0116
+unfolding computing
+any_major_one_with_a_wrong_minor_one = refl
+
+any_major_one_compatibly : asked (revised 0x80 0x02) ≡ accepted (revised 0x80 0x02)
+unfolding computing
+any_major_one_compatibly = refl
+
+any_major_one_with_a_newer_minor_one : asked (revised 0x80 0x04) ≡ refused (revised 0x80 0x04) 0x0116
+unfolding computing
+any_major_one_with_a_newer_minor_one = refl
+
+any_minor_revision : asked (revised 0x02 0x00) ≡ accepted (revised 0x02 0x00)
+unfolding computing
+any_minor_revision = refl
+
+abbrev vendor_and_type : Asking
+vendor_and_type = keyed (hex "02 00 0D 00 00 00 00 00") owner
+
+the_vendor_before_the_device_type : asked vendor_and_type ≡ refused vendor_and_type 0x0114
+unfolding computing
+the_vendor_before_the_device_type = refl
+
+abbrev type_and_product : Asking
+type_and_product = keyed (hex "00 00 0D 00 08 00 00 00") owner
+
+the_product_before_the_device_type : asked type_and_product ≡ refused type_and_product 0x0114
+unfolding computing
+the_product_before_the_device_type = refl
+
+abbrev type_and_revision : Asking
+type_and_revision = keyed (hex "00 00 0D 00 00 00 05 00") owner
+
+the_device_type_before_the_revision : asked type_and_revision ≡ refused type_and_revision 0x0115
+unfolding computing
+the_device_type_before_the_revision = refl
+
+abbrev revision_and_type : Asking
+revision_and_type = record (revised 0x05 0x00) { o_t_params = 0x280A }
+
+the_revision_before_the_types : asked revision_and_type ≡ refused revision_and_type 0x0116
+unfolding computing
+the_revision_before_the_types = refl
+
+-- ---- the types
+
+abbrev o_t : ℕ → Asking
+o_t word = record owner { o_t_params = word }
+
+abbrev t_o : ℕ → Asking
+t_o word = record owner { t_o_params = word }
+
+a_null_consumed_type : asked (o_t 0x080A) ≡ refused (o_t 0x080A) 0x0123
+unfolding computing
+a_null_consumed_type = refl
+
+a_multicast_consumed_type : asked (o_t 0x280A) ≡ refused (o_t 0x280A) 0x0123
+unfolding computing
+a_multicast_consumed_type = refl
+
+a_reserved_consumed_type : asked (o_t 0x680A) ≡ refused (o_t 0x680A) 0x0123
+unfolding computing
+a_reserved_consumed_type = refl
+
+a_null_produced_type : asked (t_o 0x0806) ≡ refused (t_o 0x0806) 0x0124
+unfolding computing
+a_null_produced_type = refl
+
+a_reserved_produced_type : asked (t_o 0x6806) ≡ refused (t_o 0x6806) 0x0124
+unfolding computing
+a_reserved_produced_type = refl
+
+abbrev both_null : Asking
+both_null = record owner { o_t_params = 0x080A; t_o_params = 0x0806 }
+
+the_consumed_type_before_the_produced_one : asked both_null ≡ refused both_null 0x0123
+unfolding computing
+the_consumed_type_before_the_produced_one = refl
+
+abbrev null_by_the_application : Asking
+null_by_the_application = record owner { t_o_params = 0x0806; trigger = 0x21 }
+
+the_produced_type_before_the_trigger : asked null_by_the_application ≡ refused null_by_the_application 0x0124
+unfolding computing
+the_produced_type_before_the_trigger = refl
+
+-- priority, variable size and the spare bit are not judged
+abbrev otherwise : Asking
+otherwise = record owner { o_t_params = 0x5E0A; t_o_params = 0x5E06 }
+
+other_bits_of_the_parameters : asked otherwise ≡ accepted otherwise
+unfolding computing
+other_bits_of_the_parameters = refl
+
+-- ---- class and trigger
+
+abbrev by : ℕ → Asking
+by trigger = record owner { trigger = trigger }
+
+the_application_s_trigger : asked (by 0x21) ≡ refused (by 0x21) 0x0103
+unfolding computing
+the_application_s_trigger = refl
+
+class_0 : asked (by 0x00) ≡ refused (by 0x00) 0x0103
+unfolding computing
+class_0 = refl
+
+class_3 : asked (by 0x03) ≡ refused (by 0x03) 0x0103
+unfolding computing
+class_3 = refl
+
+change_of_state : asked (by 0x11) ≡ accepted (by 0x11)
+unfolding computing
+change_of_state = refl
+
+the_direction_is_not_judged : asked (by 0x81) ≡ accepted (by 0x81)
+unfolding computing
+the_direction_is_not_judged = refl
+
+nor_with_change_of_state : asked (by 0x91) ≡ accepted (by 0x91)
+unfolding computing
+nor_with_change_of_state = refl
+
+abbrev application_and_multiplier : Asking
+application_and_multiplier = record owner { trigger = 0x21; multiplier = 8 }
+
+the_trigger_before_the_multiplier : asked application_and_multiplier ≡ refused application_and_multiplier 0x0103
+unfolding computing
+the_trigger_before_the_multiplier = refl
+
+-- ---- multiplier, redundant owners
+
+abbrev waiting : ℕ → Asking
+waiting multiplier = record owner { multiplier = multiplier }
+
+the_greatest_multiplier : asked (waiting 7) ≡ accepted (waiting 7)
+unfolding computing
+the_greatest_multiplier = refl
+
+no_multiplier : asked (waiting 8) ≡ refused (waiting 8) 0x0108
+unfolding computing
+no_multiplier = refl
+
+a_redundant_owner_consumed : asked (o_t 0xC80A) ≡ refused (o_t 0xC80A) 0x0108
+unfolding computing
+a_redundant_owner_consumed = refl
+
+a_redundant_owner_produced : asked (t_o 0xC806) ≡ refused (t_o 0xC806) 0x0108
+unfolding computing
+a_redundant_owner_produced = refl
+
+abbrev redundant_at_once : Asking
+redundant_at_once = record owner { t_o_params = 0xC806; o_t_rpi = 0 }
+
+a_redundant_owner_before_the_intervals : asked redundant_at_once ≡ refused redundant_at_once 0x0108
+unfolding computing
+a_redundant_owner_before_the_intervals = refl
+
+-- ---- packet intervals
+
+abbrev every : ℕ → ℕ → Asking
+every o_t_rpi t_o_rpi = record owner { o_t_rpi = o_t_rpi; t_o_rpi = t_o_rpi }
+
+-- the intervals are asked for, and these are given
+abbrev paced : ℕ → ℕ → ℕ → ℕ → Type 0
+paced o_t_rpi t_o_rpi o_t_api t_o_api =
+    asked (every o_t_rpi t_o_rpi)
+    ≡ replies peer (opened_reply owner (id 1) 0x20000001 o_t_api t_o_api) (opened_notice owner 1 ∷ []) ∷ []
+
+the_longest_intervals : paced 10000000 10000000 10000000 10000000
+unfolding computing
+the_longest_intervals = refl
+
+the_shortest_intervals : paced 1 1 1000 1000
+unfolding computing
+the_shortest_intervals = refl
+
+intervals_are_rounded_up : paced 9001 10001 10000 11000
+unfolding computing
+intervals_are_rounded_up = refl
+
+no_consumed_interval : asked (every 0 10000) ≡ refused owner 0x0111
+unfolding computing
+no_consumed_interval = refl
+
+no_produced_interval : asked (every 10000 0) ≡ refused owner 0x0111
+unfolding computing
+no_produced_interval = refl
+
+too_long_a_consumed_interval : asked (every 10000001 10000) ≡ refused owner 0x0111
+unfolding computing
+too_long_a_consumed_interval = refl
+
+too_long_a_produced_interval : asked (every 10000 10000001) ≡ refused owner 0x0111
+unfolding computing
+too_long_a_produced_interval = refl
+
+abbrev held_by_none : Asking
+held_by_none = inhibited 11 (every 0 10000)
+
+the_intervals_before_the_inhibit_time : asked held_by_none ≡ refused held_by_none 0x0111
+unfolding computing
+the_intervals_before_the_inhibit_time = refl
+
+-- ---- the production inhibit time
+
+an_inhibit_time_below_the_interval : asked (inhibited 5 owner) ≡ accepted owner
+unfolding computing
+an_inhibit_time_below_the_interval = refl
+
+an_inhibit_time_equal_to_the_interval : asked (inhibited 10 owner) ≡ accepted owner
+unfolding computing
+an_inhibit_time_equal_to_the_interval = refl
+
+an_inhibit_time_above_the_interval : asked (inhibited 11 owner) ≡ refused owner 0x011B
+unfolding computing
+an_inhibit_time_above_the_interval = refl
+
+-- it is the T->O interval that counts, rounded up
+an_inhibit_time_up_to_the_rounded_interval :
+    asked (inhibited 10 (every 5000 9001))
+    ≡ replies peer (opened_reply owner (id 1) 0x20000001 5000 10000) (opened_notice owner 1 ∷ []) ∷ []
+unfolding computing
+an_inhibit_time_up_to_the_rounded_interval = refl
+
+a_cyclic_request_is_not_held_back : asked (record (inhibited 11 owner) { trigger = 0x01 }) ≡ accepted owner
+unfolding computing
+a_cyclic_request_is_not_held_back = refl
+
+abbrev held_elsewhere : Asking
+held_elsewhere = inhibited 11 (at (hex "20 05 24 97 2C 96 2C 64"))
+
+the_inhibit_time_before_the_path : asked held_elsewhere ≡ refused held_elsewhere 0x011B
+unfolding computing
+the_inhibit_time_before_the_path = refl
+
+-- an inhibit segment stands anywhere
+an_inhibit_time_at_the_end : asked (record (followed (hex "43 0B") owner) { trigger = 0x11 }) ≡ refused owner 0x011B
+unfolding computing
+an_inhibit_time_at_the_end = refl
+
+-- ---- the path
+
+abbrev misarranged : Asking
+misarranged = at (hex "20 04 2C 96")
+
+a_misarranged_path : asked misarranged ≡ refused misarranged 0x0117
+unfolding computing
+a_misarranged_path = refl
+
+another_class : asked (at (hex "20 05 24 97 2C 96 2C 64")) ≡ refused owner 0x0117
+unfolding computing
+another_class = refl
+
+two_inhibit_times : asked (inhibited 5 (inhibited 5 owner)) ≡ refused owner 0x0117
+unfolding computing
+two_inhibit_times = refl
+
+no_key_of_a_misarranged_path : asked (keyed (hex "02 00 00 00 00 00 00 00") misarranged) ≡ refused misarranged 0x0117
+unfolding computing
+no_key_of_a_misarranged_path = refl
+
+no_inhibit_time_of_a_misarranged_path : asked (inhibited 11 misarranged) ≡ refused misarranged 0x0117
+unfolding computing
+no_inhibit_time_of_a_misarranged_path = refl
+
+another_configuration : asked (at (hex "20 04 24 98 2C 96 2C 64")) ≡ refused owner 0x0129
+unfolding computing
+another_configuration = refl
+
+another_consumed_point : asked (at (hex "20 04 24 97 2C 70 2C 64")) ≡ refused owner 0x012A
+unfolding computing
+another_consumed_point = refl
+
+another_produced_point : asked (at (hex "20 04 24 97 2C 96 2C 71")) ≡ refused owner 0x012B
+unfolding computing
+another_produced_point = refl
+
+the_class_before_the_configuration : asked (at (hex "20 05 24 98 2C 96 2C 64")) ≡ refused owner 0x0117
+unfolding computing
+the_class_before_the_configuration = refl
+
+the_configuration_before_the_consumed_point : asked (at (hex "20 04 24 98 2C 70 2C 64")) ≡ refused owner 0x0129
+unfolding computing
+the_configuration_before_the_consumed_point = refl
+
+the_consumed_point_before_the_produced_one : asked (at (hex "20 04 24 97 2C 70 2C 71")) ≡ refused owner 0x012A
+unfolding computing
+the_consumed_point_before_the_produced_one = refl
+
+the_produced_point_before_the_data : asked (at (hex "20 04 24 97 2C 96 2C 71 80 01 AA BB")) ≡ refused owner 0x012B
+unfolding computing
+the_produced_point_before_the_data = refl
+
+no_configuration_is_named : asked (at (hex "20 04 2C 96 2C 64")) ≡ accepted owner
+unfolding computing
+no_configuration_is_named = refl
+
+-- ---- the data segment
+
+-- the owner with two bytes of configuration, and input only
+abbrev configuring : Asking
+configuring = followed (hex "80 01 AA BB") owner
+
+abbrev reading : List ℕ → Asking
+reading segment = followed segment (consumer 2)
+
+-- what is said to a request beside the owner that has configured the device
+abbrev asked_configured : Asking → List Outcome
+asked_configured a = said configured (opens configuring ∷ opens a ∷ Read 151 ∷ [])
+
+abbrev refused_configured : Asking → ℕ → List Outcome
+refused_configured a code = accepts peer owner 1 0x20000001 ∷ refuses peer a code ∷ holds (hex "AA BB") ∷ []
+
+abbrev accepted_configured : Asking → List Outcome
+accepted_configured a = accepts peer owner 1 0x20000001 ∷ accepts peer a 2 0x20000002 ∷ holds (hex "AA BB") ∷ []
+
+no_data_leave_the_configuration : asked_configured (reading []) ≡ accepted_configured (reading [])
+unfolding computing
+no_data_leave_the_configuration = refl
+
+equal_data : asked_configured (reading (hex "80 01 AA BB")) ≡ accepted_configured (reading [])
+unfolding computing
+equal_data = refl
+
+other_data : asked_configured (reading (hex "80 01 AA CC")) ≡ refused_configured (reading []) 0x0106
+unfolding computing
+other_data = refl
+
+longer_data : asked_configured (reading (hex "80 02 AA BB 00 00")) ≡ refused_configured (reading []) 0x0126
+unfolding computing
+longer_data = refl
+
+empty_data_are_not_absent : asked_configured (reading (hex "80 00")) ≡ refused_configured (reading []) 0x0126
+unfolding computing
+empty_data_are_not_absent = refl
+
+the_data_s_length_before_its_bytes : asked_configured (reading (hex "80 02 AA CC 00 00")) ≡ refused_configured (reading []) 0x0126
+unfolding computing
+the_data_s_length_before_its_bytes = refl
+
+abbrev changing : Asking
+changing = record (reading (hex "80 01 AA CC")) { o_t_params = 0x4803 }
+
+the_data_s_bytes_before_the_sizes : asked_configured changing ≡ refused_configured changing 0x0106
+unfolding computing
+the_data_s_bytes_before_the_sizes = refl
+
+data_without_a_configuration : asked (at (hex "20 04 2C 96 2C 64 80 01 AA BB")) ≡ refused owner 0x0126
+unfolding computing
+data_without_a_configuration = refl
+
+abbrev unnamed : Asking
+unnamed = record (consumer 2) { path = hex "20 04 2C 98 2C 64 80 00" }
+
+empty_data_without_a_configuration : asked_configured unnamed ≡ accepted_configured unnamed
+unfolding computing
+empty_data_without_a_configuration = refl
+
+abbrev oversized : Asking
+oversized = record configuring { t_o_params = 0x4807 }
+
+a_refused_request_stores_nothing : said configured (opens oversized ∷ Read 151 ∷ []) ≡ refuses peer owner 0x0128 ∷ holds (hex "00 00") ∷ []
+unfolding computing
+a_refused_request_stores_nothing = refl
+
+-- ---- sizes
+
+too_small_a_consumed_size : asked (o_t 0x4809) ≡ refused owner 0x0127
+unfolding computing
+too_small_a_consumed_size = refl
+
+too_large_a_produced_size : asked (t_o 0x4807) ≡ refused owner 0x0128
+unfolding computing
+too_large_a_produced_size = refl
+
+abbrev beating : Asking
+beating = record (consumer 2) { o_t_params = 0x4806 }
+
+a_heartbeat_has_no_data : asked beating ≡ refused beating 0x0127
+unfolding computing
+a_heartbeat_has_no_data = refl
+
+abbrev both_sizes : Asking
+both_sizes = record owner { o_t_params = 0x4809; t_o_params = 0x4807 }
+
+the_consumed_size_before_the_produced_one : asked both_sizes ≡ refused owner 0x0127
+unfolding computing
+the_consumed_size_before_the_produced_one = refl
+
+-- ---- owners
+
+abbrev second : Asking
+second = record owner { serial = 2; t_o_id = 0x20000002 }
+
+another_owner : asked_owned second ≡ refused_owned second 0x0106
+unfolding computing
+another_owner = refl
+
+abbrev second_oversized : Asking
+second_oversized = record second { t_o_params = 0x4807 }
+
+the_sizes_before_ownership : asked_owned second_oversized ≡ refused_owned second 0x0128
+unfolding computing
+the_sizes_before_ownership = refl
+
+abbrev first_multicast : Asking
+first_multicast = record owner { t_o_params = 0x2806 }
+
+abbrev second_multicast : Asking
+second_multicast = record second { t_o_params = 0x2806; t_o_rpi = 20000 }
+
+ownership_before_the_group :
+    said common (opens first_multicast ∷ opens second_multicast ∷ [])
+    ≡ accepts peer owner 1 0x10000002 ∷ refuses peer second 0x0106 ∷ []
+unfolding computing
+ownership_before_the_group = refl
+
+-- ---- listeners
+
+abbrev listening_alone : Asking
+listening_alone = record listener { t_o_params = 0x4806 }
+
+a_listener_is_multicast : asked listening_alone ≡ refused listening_alone 0x0124
+unfolding computing
+a_listener_is_multicast = refl
+
+and_that_before_its_support : said common (opens gatherer ∷ opens listening_alone ∷ []) ≡ accepts peer gatherer 1 0x10000002 ∷ refuses peer listener 0x0124 ∷ []
+unfolding computing
+and_that_before_its_support = refl
+
+a_listener_without_support : asked listener ≡ refused listener 0x0119
+unfolding computing
+a_listener_without_support = refl
+
+a_point_to_point_connection_supports_none : asked_owned listener ≡ refused_owned listener 0x0119
+unfolding computing
+a_point_to_point_connection_supports_none = refl
+
+too_small_a_listener : asked (record listener { t_o_params = 0x2805 }) ≡ refused listener 0x0128
+unfolding computing
+too_small_a_listener = refl
+
+-- ---- lost connections
+
+-- a lost connection keeps no configuration
+a_lost_connection_s_configuration_changes :
+    outcomes_of (after configured (opens configuring ∷ Tick 10000 ∷ [])) (opens (reading (hex "80 01 AA CC")) ∷ Read 151 ∷ [])
+    ≡ accepts peer (reading []) 2 0x20000002 ∷ holds (hex "AA CC") ∷ []
+unfolding computing
+a_lost_connection_s_configuration_changes = refl
+
+-- and supports no listener
+a_lost_connection_supports_none :
+    outcomes_of (after common (opens gatherer ∷ Tick 10000 ∷ [])) (opens listener ∷ []) ≡ refuses peer listener 0x0119 ∷ []
+unfolding computing
+a_lost_connection_supports_none = refl
+
+-- ---- a device without a configuration
+
+abbrev unconfigured : Profile
+unconfigured = record common { config = None }
+
+no_configuration_can_be_named :
+    said unconfigured (opens owner ∷ opens (at (hex "20 04 2C 96 2C 64")) ∷ Read 151 ∷ [])
+    ≡ refuses peer owner 0x0129 ∷ accepts peer owner 1 0x20000001 ∷ Err NoSuchPoint ∷ []
+unfolding computing
+no_configuration_can_be_named = refl

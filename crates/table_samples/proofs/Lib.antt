@@ -1,0 +1,11 @@
+pub mod Computing
+pub mod Opens
+pub mod Checks
+pub mod Groups
+pub mod Rooms
+pub mod Deliveries
+pub mod Productions
+pub mod Times
+pub mod Requests
+pub mod Profiles
+pub mod Frames

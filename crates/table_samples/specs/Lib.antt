@@ -1,0 +1,7 @@
+pub mod Hex
+pub mod Devices
+pub mod Requests
+pub mod Datagrams
+pub mod Runs
+pub mod Rows
+pub mod Messages

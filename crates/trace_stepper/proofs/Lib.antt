@@ -1,0 +1,3 @@
+mod OutcomesEqual
+mod Plays
+mod Steps

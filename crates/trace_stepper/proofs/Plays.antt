@@ -1,0 +1,116 @@
+-- A trace that is played.
+use Rattle.std.proofs.Common.{suc, ◌≡◌, ℕ, ◌+◌, ◌<◌, Bool, true, false, List, [], ◌∷◌, ◌++◌, length, Option, Some, None, Ok, refl, sym, ap, subst, ◌∙◌, arith, append_assoc}
+use Rattle.std.specs.Prelude.{slice_get, nat_lt}
+use Rattle.std.specs.Io.KnownBytes.{Appends}
+use Rattle.std.proofs.lemmas.Bool.Decides.{nat_tests}
+use Rattle.std.proofs.lemmas.List.{append-nil}
+use Rattle.cip_tables.specs.declared.table.DeviceTable.{DeviceTable}
+use Rattle.cip_tables.specs.Step.{opening_table}
+use Rattle.cip_events.specs.Outcomes.{Outcome}
+use Rattle.cip_tables.specs.Run.{outcomes_of}
+use Rattle.trace_text.specs.declared.trace.Trace.{Trace}
+use Rattle.trace_text.specs.Reading.{Entry}
+use Rattle.trace_text.specs.Told.{outcome_text, outcomes_text}
+use Rattle.trace_stepper.specs.Compared.{AgreesWith, AgreeAt, AgreeBefore, recorded_at, IsJudged, JudgesOn}
+use Rattle.trace_stepper.specs.Playing.{WritesFirst}
+use Rattle.trace_stepper.specs.Stepping.{events_of, outcomes_told, MovesOn}
+use Rattle.trace_stepper.proofs.Steps.{begun, gone_on, gone_through}
+
+chained : (old mid new : Option (List ℕ)) (a b : List ℕ) → Appends old mid a → Appends mid new b → Appends old new (a ++ b)
+chained None mid new a b one two = tt
+chained (Some xs) None new a b one two = absurd one
+chained (Some xs) (Some ys) None a b one two = absurd two
+chained (Some xs) (Some ys) (Some zs) a b one two = two ∙ ap (λ f. f ++ b) one ∙ append_assoc xs a b
+
+nothing : (old : Option (List ℕ)) → Appends old old []
+nothing None = tt
+nothing (Some xs) = sym (append-nil xs)
+
+text_pushed : (number : ℕ) (outcomes : List Outcome) (last : Outcome) → outcomes_text number (outcomes ++ last ∷ []) ≡ outcomes_text number outcomes ++ outcome_text (number + length outcomes) last
+text_pushed number [] last = let here : number ≡ number + 0 = omega arith in append-nil _ ∙ ap (λ n. outcome_text n last) here
+text_pushed number (outcome ∷ outcomes) last =
+    let place : number + 1 + length outcomes ≡ number + length (outcome ∷ outcomes) = omega arith in
+    ap (λ rest. outcome_text number outcome ++ rest) (text_pushed (number + 1) outcomes last ∙ ap (λ n. outcomes_text (number + 1) outcomes ++ outcome_text n last) place)
+    ∙ sym (append_assoc (outcome_text number outcome) (outcomes_text (number + 1) outcomes) _)
+
+got : (front rest : List Outcome) (outcome : Outcome) → slice_get (front ++ outcome ∷ rest) (length front) ≡ Some outcome
+got [] rest outcome = refl
+got (first ∷ front) rest outcome = got front rest outcome
+
+length_pushed : (front : List Outcome) (outcome : Outcome) → length (front ++ outcome ∷ []) ≡ length front + 1
+length_pushed [] outcome = refl
+length_pushed (first ∷ front) outcome = let more = length_pushed front outcome in omega (arith, more)
+
+before_more : (entries : List Entry) (outcomes : List Outcome) (count : ℕ) → AgreeBefore entries outcomes count → AgreeAt entries outcomes count → AgreeBefore entries outcomes (count + 1)
+before_more entries outcomes count before at place below = choose (nat_lt place count) refl
+  where
+    choose : (b : Bool) → nat_lt place count ≡ b → AgreeAt entries outcomes place
+    choose true is = before place (grind (arith, nat_tests, is))
+    choose false is = let same : count ≡ place = grind (arith, nat_tests, is, below) in subst (AgreeAt entries outcomes) same at
+
+judged_more : (entries : List Entry) (outcomes : List Outcome) (place : ℕ) (outcome : Outcome) (differs differs' : Option ℕ) → slice_get outcomes place ≡ Some outcome → IsJudged entries outcomes place differs → JudgesOn entries place outcome differs differs' → IsJudged entries outcomes (place + 1) differs'
+judged_more entries outcomes place outcome (Some number) differs' given judged on = subst (IsJudged entries outcomes (place + 1)) (sym on) judged
+judged_more entries outcomes place outcome None None given judged on = before_more entries outcomes place judged (subst (AgreesWith (recorded_at entries place)) (sym given) on)
+judged_more entries outcomes place outcome None (Some number) given judged on = (place, on.0, judged, λ agree. on.1 (subst (AgreesWith (recorded_at entries place)) given agree))
+
+-- the first outcomes are told and judged, and the others are to come
+pub record IsPlaying (trace : Trace) (old now : Option (List ℕ)) (table : DeviceTable) (left : List Entry) (place : ℕ) (differs : Option ℕ) : Type 0 where
+  pub front : List Outcome
+  pub told : outcomes_told trace ≡ front ++ outcomes_of table (events_of left)
+  pub counted : length front ≡ place
+  pub written : Appends old now (outcomes_text 1 front)
+  pub judged : IsJudged trace.events (outcomes_told trace) place differs
+  pub all : place + length left ≡ length trace.events
+
+pub play_begun : (trace : Trace) (old : Option (List ℕ)) (table : DeviceTable) (left : List Entry) → table ≡ opening_table trace.config → left ≡ trace.events → IsPlaying trace old old table left 0 None
+play_begun trace old table left fresh all = record {
+  front = [];
+  told = begun trace [] table left refl fresh all;
+  counted = refl;
+  written = nothing old;
+  judged = λ place below. absurd (omega (arith, below));
+  all = omega (arith, ap length all);
+}
+
+pub play_more : (trace : Trace) (old now next : Option (List ℕ)) (table table' : DeviceTable) (left rest : List Entry) (place : ℕ) (differs differs' : Option ℕ) (outcome : Outcome) (text : List ℕ) → IsPlaying trace old now table left place differs → MovesOn table left (Ok (Some outcome)) table' rest → text ≡ outcome_text (place + 1) outcome → Appends now next text → JudgesOn trace.events place outcome differs differs' → IsPlaying trace old next table' rest (place + 1) differs'
+play_more trace old now next table table' left rest place differs differs' outcome text playing moves is written judges =
+    let front : List Outcome = playing.front in
+    let told : outcomes_told trace ≡ (front ++ outcome ∷ []) ++ outcomes_of table' (events_of rest) = gone_on (outcomes_told trace) front (front ++ outcome ∷ []) table table' left rest outcome playing.told moves refl in
+    let apart : outcomes_told trace ≡ front ++ outcome ∷ outcomes_of table' (events_of rest) = told ∙ append_assoc front (outcome ∷ []) (outcomes_of table' (events_of rest)) in
+    let given : slice_get (outcomes_told trace) place ≡ Some outcome = ap (λ os. slice_get os place) apart ∙ ap (λ n. slice_get (front ++ outcome ∷ outcomes_of table' (events_of rest)) n) (sym playing.counted) ∙ got front (outcomes_of table' (events_of rest)) outcome in
+    let number : 1 + length front ≡ place + 1 = omega (arith, playing.counted) in
+    let text_is : outcomes_text 1 front ++ text ≡ outcomes_text 1 (front ++ outcome ∷ []) = ap (λ t. outcomes_text 1 front ++ t) (is ∙ ap (λ n. outcome_text n outcome) (sym number)) ∙ sym (text_pushed 1 front outcome) in
+    let fewer : length left ≡ suc (length rest) = ap length moves.1 in
+    record {
+      front = front ++ outcome ∷ [];
+      told = told;
+      counted = length_pushed front outcome ∙ ap (λ n. n + 1) playing.counted;
+      written = subst (Appends old next) text_is (chained old now next (outcomes_text 1 front) text playing.written written);
+      judged = judged_more trace.events (outcomes_told trace) place outcome differs differs' given playing.judged judges;
+      all = omega (arith, playing.all, fewer);
+    }
+
+pub play_stopped : (trace : Trace) (old now : Option (List ℕ)) (table : DeviceTable) (left : List Entry) (place : ℕ) (differs : Option ℕ) → IsPlaying trace old now table left place differs → WritesFirst trace old now
+play_stopped trace old now table left place differs playing = (playing.front, (outcomes_of table (events_of left), (playing.told, playing.written)))
+
+pub play_ended : (trace : Trace) (old now : Option (List ℕ)) (table table' : DeviceTable) (left rest : List Entry) (place : ℕ) (differs : Option ℕ) → IsPlaying trace old now table left place differs → MovesOn table left (Ok None) table' rest → Appends old now (outcomes_text 1 (outcomes_told trace)) × IsJudged trace.events (outcomes_told trace) (length trace.events) differs
+play_ended trace old now table table' left rest place differs playing moves =
+    let whole : outcomes_told trace ≡ playing.front = gone_through (outcomes_told trace) playing.front table table' left rest playing.told moves in
+    let none : length left ≡ 0 = ap length moves.0 in
+    let last : place ≡ length trace.events = omega (arith, playing.all, none) in
+    (subst (λ os. Appends old now (outcomes_text 1 os)) (sym whole) playing.written, subst (λ n. IsJudged trace.events (outcomes_told trace) n differs) last playing.judged)
+
+-- a place is left where an entry is
+pub place_left : (trace : Trace) (old now : Option (List ℕ)) (table table' : DeviceTable) (left rest : List Entry) (place : ℕ) (differs : Option ℕ) (outcome : Outcome) → IsPlaying trace old now table left place differs → MovesOn table left (Ok (Some outcome)) table' rest → place < length trace.events
+place_left trace old now table table' left rest place differs outcome playing moves =
+    let fewer : length left ≡ suc (length rest) = ap length moves.1 in
+    omega (arith, playing.all, fewer)
+
+-- a text is cleared, and the outcome is put there
+pub put_alone : (text before after told : List ℕ) → text ≡ after → after ≡ before ++ told → before ≡ [] → text ≡ told
+put_alone text before after told is put cleared = is ∙ put ∙ ap (λ front. front ++ told) cleared
+
+pub played_on : (trace : Trace) (old now next : Option (List ℕ)) (table table' : DeviceTable) (left rest : List Entry) (place number : ℕ) (differs differs' : Option ℕ) (outcome : Outcome) (text : List ℕ) → IsPlaying trace old now table left place differs → MovesOn table left (Ok (Some outcome)) table' rest → number ≡ place + 1 → text ≡ outcome_text number outcome → Appends now next text → JudgesOn trace.events place outcome differs differs' → IsPlaying trace old next table' rest number differs'
+played_on trace old now next table table' left rest place number differs differs' outcome text playing moves numbered is written judges =
+    let told : text ≡ outcome_text (place + 1) outcome = is ∙ ap (λ n. outcome_text n outcome) numbered in
+    subst (λ n. IsPlaying trace old next table' rest n differs') (sym numbered) (play_more trace old now next table table' left rest place differs differs' outcome text playing moves told written judges)

@@ -1,0 +1,39 @@
+-- What a stepper does: a device takes the events of a trace, one after the other.
+use Rattle.std.specs.Prelude.{◌≡◌, ◌≢◌, List, [], ◌∷◌, map, Option, Some, None, Result, Ok, Err}
+use Rattle.cip_events.specs.declared.event.Event.{Event}
+use Rattle.cip_events.specs.declared.profile_fault.ProfileFault.{ProfileFault}
+use Rattle.cip_tables.specs.declared.table.DeviceTable.{DeviceTable}
+use Rattle.cip_events.specs.Outcomes.{Outcome}
+use Rattle.cip_tables.specs.Run.{outcome_of, table_of, outcomes_of}
+use Rattle.cip_tables.specs.Step.{step, opening_table}
+use Rattle.trace_text.specs.declared.trace.Trace.{Trace}
+use Rattle.trace_text.specs.Reading.{Entry}
+use Rattle.trace_stepper.specs.declared.stepper.StepperFault.{StepperFault}
+use Rattle.trace_stepper.specs.declared.stepper.StepperFault.TheVariants as fault
+use Rattle.trace_stepper.specs.declared.player.PlayFault.{PlayFault}
+use Rattle.trace_stepper.specs.declared.player.PlayFault.TheVariants as play
+
+-- the events of entries
+abbrev pub events_of : List Entry → List Event
+events_of entries = map (λ entry. entry.0) entries
+
+-- the outcomes of a trace's events at a fresh device
+abbrev pub outcomes_told : Trace → List Outcome
+outcomes_told trace = outcomes_of (opening_table trace.config) (events_of trace.events)
+
+-- The next entry's event is taken, with the outcome of the table's step; or no entry is left; or memory is
+-- wanted, and the same event is next again.
+abbrev pub MovesOn : DeviceTable → List Entry → Result (Option Outcome) StepperFault → DeviceTable → List Entry → Type 0
+MovesOn old left (Ok (Some outcome)) new rest = (entry : Entry) × (left ≡ entry ∷ rest) × (outcome ≡ outcome_of (step old entry.0)) × (new ≡ table_of old (step old entry.0))
+MovesOn old left (Ok None) new rest = (left ≡ []) × (rest ≡ []) × (new ≡ old)
+MovesOn old left (Err fault.OutOfMemory) new rest = (left ≢ []) × (rest ≡ left) × (new ≡ old)
+MovesOn old left (Err fault.Profile) new rest = ⊥
+
+-- a stepper is refused for what is wrong with the profile, or else for want of memory
+abbrev pub IsRefused : Option ProfileFault → StepperFault → Type 0
+IsRefused wrong fault.Profile = wrong ≢ None
+IsRefused wrong fault.OutOfMemory = wrong ≡ None
+
+abbrev pub play_fault_of : StepperFault → PlayFault
+play_fault_of fault.Profile = play.Profile
+play_fault_of fault.OutOfMemory = play.OutOfMemory

@@ -1,0 +1,55 @@
+//! Outcomes beside those that a trace records.
+
+ghost use Rattle.std.specs.Prelude.{◌≡◌, ◌↔◌, IsTrue, option_map};
+ghost use Rattle.trace_stepper.specs.Compared.{AgreesWith, IsCompared};
+
+use cip_tables::{Answer, Outcome};
+use thiserror::Error;
+use trace_text::Trace;
+
+/// The number, from 1, of the first event of which another outcome is recorded, or of which one is recorded
+/// and none was given.
+#[derive(Clone, Copy, Debug, PartialEq, Eq, Error)]
+#[error("differs {0}")]
+pub struct Differs(pub usize);
+
+/// Whether the outcomes agree with those that the trace records. Takes no memory.
+pub fn compare(trace: &Trace, outcomes: &[Outcome]) -> Result<(), Differs>
+    ensures { IsCompared trace.now.events outcomes.now result }
+{
+    for (place, entry) in trace.events.as_slice().iter().enumerate() {
+        if !agrees(&entry.1, outcomes.get(place)) {
+            return Err(Differs(place + 1));
+        }
+    }
+    Ok(())
+}
+
+/// Whether an outcome is the one that is recorded, where one is. Takes no memory.
+pub fn agrees(recorded: &Option<Outcome>, given: Option<&Outcome>) -> bool
+    ensures { IsTrue result ↔ AgreesWith recorded.now (option_map (λ outcome. outcome.now) given.entry) }
+{
+    match recorded {
+        None => true,
+        Some(recorded) => match given {
+            None => false,
+            Some(given) => same(given, recorded),
+        },
+    }
+}
+
+fn same(one: &Outcome, other: &Outcome) -> bool
+    ensures { IsTrue result ↔ (one.now ≡ other.now) }
+{
+    match (one, other) {
+        (Ok(one), Ok(other)) => same_answer(one, other),
+        (Err(one), Err(other)) => one == other,
+        _ => false,
+    }
+}
+
+fn same_answer(one: &Answer, other: &Answer) -> bool
+    ensures { IsTrue result ↔ (one.now ≡ other.now) }
+{
+    one == other
+}

@@ -1,0 +1,10 @@
+//! What a device makes of a trace, event by event, and what is recorded of that.
+#![tactic(auto)]
+
+mod compared;
+mod player;
+mod stepper;
+
+pub use compared::{Differs, agrees, compare};
+pub use player::{PlayFault, play};
+pub use stepper::{Report, Stepper, StepperFault, replay};

@@ -1,0 +1,113 @@
+//! The outcomes of a trace, written as they come.
+
+ghost use Rattle.std.specs.Prelude.{◌≡◌, ◌<◌, ◌+◌, length, IfErr, OnOk, OnErr};
+ghost use Rattle.std.specs.Io.KnownBytes.{Appends};
+ghost use Rattle.trace_text.specs.Told.{outcome_text};
+ghost use Rattle.trace_stepper.specs.Compared.{JudgesOn};
+ghost use Rattle.trace_stepper.specs.Playing.{IsPlayed};
+
+use crate::compared::agrees;
+use crate::stepper::{Stepper, StepperFault};
+use cip_tables::{Device, Outcome};
+use cip_types::OutOfMemory;
+use std::alloc::Global;
+use std::io::Write;
+use thiserror::Error;
+use trace_text::{Trace, push_outcome};
+
+/// Why a trace was not played to its end.
+#[derive(Clone, Copy, Debug, PartialEq, Eq, Error)]
+pub enum PlayFault {
+    /// The profile is wrong.
+    #[error("bad profile")]
+    Profile,
+    /// A growth of memory was refused.
+    #[error("no memory")]
+    OutOfMemory,
+    /// The outcomes could not be written.
+    #[error("fault Write")]
+    Write,
+}
+
+impl From<OutOfMemory> for PlayFault {
+    ghost use Rattle.trace_stepper.specs.declared.player.PlayFault.TheVariants as fault;
+
+    ghost from_gives = { λ _ f. f ≡ fault.OutOfMemory };
+
+    fn from(_error: OutOfMemory) -> PlayFault {
+        PlayFault::OutOfMemory
+    }
+}
+
+impl From<StepperFault> for PlayFault {
+    ghost use Rattle.trace_stepper.specs.Stepping.{play_fault_of};
+
+    ghost from_gives = { λ fault f. f ≡ play_fault_of fault };
+
+    fn from(fault: StepperFault) -> PlayFault {
+        match fault {
+            StepperFault::Profile => PlayFault::Profile,
+            StepperFault::OutOfMemory => PlayFault::OutOfMemory,
+        }
+    }
+}
+
+/// Writes the outcomes of a trace's events at a fresh device, each as it comes, and answers the number of the
+/// first event whose outcome is not the one that is recorded.
+pub fn play<D: Device + Drop, O: Write>(
+    alloc: Global,
+    trace: &Trace,
+    out: &mut O,
+) -> Result<Option<usize>, PlayFault>
+    ensures { IsPlayed trace.now (O.contents out.old) (O.contents out.new) result }
+{
+    let mut stepper: Stepper<'_, D> = Stepper::new(alloc, trace)?;
+    let mut text = String::new(alloc);
+    let mut place = 0;
+    let mut differs = None;
+    while let Some(outcome) = stepper.next()? {
+        let number = place_after(trace, place);
+        text.clear();
+        push_outcome(alloc, &mut text, number as u64, &outcome)?;
+        write_text(out, text.as_str())?;
+        differs = judge(trace, place, differs, &outcome);
+        place = number;
+    }
+    Ok(differs)
+}
+
+/// The place after the one of an entry, which is the entry's number.
+fn place_after(trace: &Trace, place: usize) -> usize
+    requires { place < length trace.now.events }
+    ensures { result ≡ place + 1 }
+{
+    let _entry = &trace.events.as_slice()[place];
+    place + 1
+}
+
+/// Writes a text and nothing else.
+fn write_text<O: Write>(out: &mut O, text: &str) -> Result<(), PlayFault>
+    ensures ok { OnOk result (Appends (O.contents out.old) (O.contents out.new) text.now) }
+    ensures fault { IfErr result (λ fault. fault ≡ PlayFault.Write) }
+{
+    match out.write_all(text.as_bytes()) {
+        Ok(()) => Ok(()),
+        Err(_) => Err(PlayFault::Write),
+    }
+}
+
+/// The first difference, with one outcome more.
+fn judge(trace: &Trace, place: usize, differs: Option<usize>, outcome: &Outcome) -> Option<usize>
+    requires { place < length trace.now.events }
+    ensures { JudgesOn trace.now.events place outcome.now differs result }
+{
+    if differs.is_some() {
+        return differs;
+    }
+    let entry = &trace.events.as_slice()[place];
+    if agrees(&entry.1, Some(outcome)) {
+        None
+    } else {
+        Some(place + 1)
+    }
+}

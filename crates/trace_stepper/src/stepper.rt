@@ -1,0 +1,135 @@
+//! A device that takes the events of a trace.
+
+ghost use Rattle.std.specs.Prelude.{◌≡◌, ◌↔◌, None, Err, IsTrue, IfOk, IfErr, drop};
+ghost use Rattle.cip_tables.specs.Step.{opening_table, config_fault};
+ghost use Rattle.trace_stepper.specs.Stepping.{outcomes_told, MovesOn, IsRefused};
+
+use cip_tables::{Config, Device, NewFault, Outcome, StepFault};
+use cip_types::{Items, OutOfMemory};
+use std::alloc::{AllocFailed, Global};
+use thiserror::Error;
+use trace_text::Trace;
+
+/// Why a trace's events are not taken.
+#[derive(Clone, Copy, Debug, PartialEq, Eq, Error)]
+pub enum StepperFault {
+    /// The profile is wrong.
+    #[error("bad profile")]
+    Profile,
+    /// A growth of memory was refused.
+    #[error("no memory")]
+    OutOfMemory,
+}
+
+impl From<OutOfMemory> for StepperFault {
+    ghost use Rattle.trace_stepper.specs.declared.stepper.StepperFault.TheVariants as fault;
+
+    ghost from_gives = { λ _ f. f ≡ fault.OutOfMemory };
+
+    fn from(_error: OutOfMemory) -> StepperFault {
+        StepperFault::OutOfMemory
+    }
+}
+
+impl<T: Drop> From<AllocFailed<T>> for StepperFault {
+    ghost use Rattle.trace_stepper.specs.declared.stepper.StepperFault.TheVariants as fault;
+
+    ghost from_gives = { λ _ f. f ≡ fault.OutOfMemory };
+
+    fn from(_refused: AllocFailed<T>) -> StepperFault {
+        StepperFault::OutOfMemory
+    }
+}
+
+/// A device of a trace's configuration, and the place in the trace of the event that it takes next.
+#[derive(Drop)]
+pub struct Stepper<'a, D> {
+    device: D,
+    trace: &'a Trace,
+    place: usize,
+}
+
+impl<'a, D: Device> Stepper<'a, D> {
+    /// A fresh device that is to take the events of a trace from the first on.
+    ///
+    /// The faults, in order: `Profile`, `OutOfMemory`.
+    pub fn new(alloc: Global, trace: &'a Trace) -> Result<Stepper<'a, D>, StepperFault>
+        ensures table { IfOk result (λ stepper. D.table stepper.device ≡ opening_table trace.now.config) }
+        ensures events { IfOk result (λ stepper. drop stepper.place stepper.trace.now.events ≡ trace.now.events) }
+        ensures good { IfOk result (λ _. config_fault trace.now.config ≡ None) }
+        ensures fault { IfErr result (IsRefused (config_fault trace.now.config)) }
+    {
+        if !is_good(&trace.config) {
+            return Err(StepperFault::Profile);
+        }
+        let Ok(config) = trace.config.copy(alloc) else {
+            return Err(StepperFault::OutOfMemory);
+        };
+        match D::new(alloc, config) {
+            Ok(device) => Ok(Stepper {
+                device,
+                trace,
+                place: 0,
+            }),
+            Err(NewFault::Profile(_)) => Err(StepperFault::Profile),
+            Err(NewFault::OutOfMemory) => Err(StepperFault::OutOfMemory),
+        }
+    }
+
+    /// The outcome of the next event, None after the last one. The one fault is `OutOfMemory`: then the same
+    /// event is next again.
+    pub fn next(&mut self) -> Result<Option<Outcome>, StepperFault>
+        ensures { MovesOn (D.table self.old.device) (drop self.old.place self.old.trace.now.events) result (D.table self.new.device) (drop self.new.place self.new.trace.now.events) }
+    {
+        let Some(entry) = self.trace.events.as_slice().get(self.place) else {
+            return Ok(None);
+        };
+        let outcome = self.device.step(&entry.0);
+        if wants_memory(&outcome) {
+            return Err(StepperFault::OutOfMemory);
+        }
+        self.place += 1;
+        Ok(Some(outcome))
+    }
+}
+
+/// Whether a device can be made of a configuration.
+fn is_good(config: &Config) -> bool
+    ensures { IsTrue result ↔ (config_fault config.now ≡ None) }
+{
+    let Config::Adapter(profile) = config;
+    profile.check().is_ok()
+}
+
+/// Whether a growth of memory was refused.
+fn wants_memory(outcome: &Outcome) -> bool
+    ensures { IsTrue result ↔ (outcome.now ≡ Err StepFault.OutOfMemory) }
+{
+    match outcome {
+        Err(StepFault::OutOfMemory) => true,
+        _ => false,
+    }
+}
+
+/// What a device makes of all events of a trace.
+#[derive(Drop)]
+pub struct Report {
+    pub outcomes: Items<Outcome>,
+}
+
+/// The outcomes of a trace's events at a fresh device.
+///
+/// The faults: `Profile`, and `OutOfMemory` wherever a growth was refused.
+pub fn replay<D: Device + Drop>(alloc: Global, trace: &Trace) -> Result<Report, StepperFault>
+    ensures outcomes { IfOk result (λ report. report.outcomes ≡ outcomes_told trace.now) }
+    ensures fault { IfErr result (IsRefused (config_fault trace.now.config)) }
+{
+    let mut stepper: Stepper<'_, D> = Stepper::new(alloc, trace)?;
+    let mut outcomes = Vec::new(alloc);
+    while let Some(outcome) = stepper.next()? {
+        outcomes.push(outcome)?;
+    }
+    Ok(Report {
+        outcomes: Items::from_vec(outcomes),
+    })
+}

@@ -1,0 +1,6 @@
+mod EntryTexts
+mod LineWords
+mod NodeWords
+mod NumberWords
+mod Pieces
+mod TextLines

@@ -1,0 +1,88 @@
+-- The lines of a text, one after the other.
+use Rattle.std.proofs.Common.{Ok, Err, Result, ◌≡◌, ◌≢◌, ℕ, ◌+◌, ◌-◌, ◌<◌, Bool, true, false, cond, ltb, get_or, List, [], ◌∷◌, length, take, drop, Some, None, refl, ap, ◌∙◌, arith}
+use Rattle.std.specs.Prelude.{position, Option, IfNone, ok_or}
+use Rattle.std.specs.List.{position_or_len}
+use Rattle.std.proofs.lemmas.Bool.Decides.{nat_tests}
+use Rattle.std.proofs.lemmas.List.{take_all, length-drop, drop-drop}
+use Rattle.std.proofs.lemmas.List.Sums.{fails_before_first}
+use Rattle.std.proofs.lemmas.List.Elements.{All-from_get_or}
+use Rattle.std.proofs.lemmas.List.Splits.{slice_split_first, slice_split_none, length-slice_split}
+use Rattle.trace_text.specs.declared.draft.Draft.{Draft}
+use Rattle.trace_text.specs.declared.trace.Trace.{Trace}
+use Rattle.trace_text.specs.declared.trace.TraceFault.{TraceFault}
+use Rattle.trace_text.specs.declared.trace.TraceFault.TheVariants.{BadLine}
+use Rattle.trace_text.specs.Reading.{is_line_feed, parts_of, draft_after, state_after, told, told_from, ended}
+
+chosen : (b : Bool) (n i : ℕ) → cond b (Some n) None ≡ Some i → (b ≡ true) × (n ≡ i)
+chosen true n i e = (refl, cc)
+chosen false n i e = absurd (cc)
+
+-- the first LF parts a line from the rest
+pub first_line : (text : List ℕ) (i : ℕ) → position is_line_feed text ≡ Some i → parts_of text ≡ take i text ∷ parts_of (drop (i + 1) text)
+first_line text i found =
+    let at = chosen _ _ _ found in
+    let within : position_or_len is_line_feed text < length text = grind (arith, nat_tests, at.0) in
+    slice_split_first is_line_feed text 0 within ∙ ap (λ n. take n text ∷ parts_of (drop (n + 1) text)) at.1
+
+-- what stands after the byte at i, cut out by its length
+pub after_byte : (text back : List ℕ) (i : ℕ) → back ≡ drop i text → take (length back - 1) (drop 1 back) ≡ drop (i + 1) text
+after_byte text back i is = take_all (length back - 1) (drop 1 back) (omega (arith, length-drop 1 back)) ∙ ap (drop 1) is ∙ drop-drop 1 i text
+
+open_end : {X : Type 0} (b : Bool) (n : X) → cond b (Some n) None ≡ None → b ≡ false
+open_end true n e = absurd (cc)
+open_end false n e = refl
+
+-- where there is no LF, the text is the one part
+pub last_line : (text : List ℕ) → position is_line_feed text ≡ None → parts_of text ≡ text ∷ []
+last_line text none =
+    let past : ltb (position_or_len is_line_feed text) (length text) ≡ false = open_end _ _ none in
+    let none_before : (k : ℕ) → k < length text → is_line_feed (get_or text k 0) ≡ false = λ k below. fails_before_first is_line_feed text k 0 (grind (arith, nat_tests, past)) in
+    slice_split_none is_line_feed text (All-from_get_or (λ byte. is_line_feed byte ≡ false) text 0 none_before)
+
+pub if_none : {A : Type 0} (r : Option A) (P : Type 0) → P → IfNone r P
+if_none None P holds = holds
+if_none (Some value) P holds = tt
+
+some_part : (text : List ℕ) → parts_of text ≢ []
+some_part text none = absurd (omega (arith, length-slice_split is_line_feed text, ap length none))
+
+abbrev Parts : Type 0
+Parts = List (List ℕ)
+
+-- a line that is there is read first
+pub line_told : (number : ℕ) (state : Result Draft ℕ) (text rest line : List ℕ) → parts_of text ≡ line ∷ parts_of rest → told_from number state (parts_of text) ≡ told_from (number + 1) (state_after number state line) (parts_of rest)
+line_told number state text rest line parted = ap (told_from number state) parted ∙ go (parts_of rest) (some_part rest)
+  where
+    go : (parts : Parts) → parts ≢ [] → told_from number state (line ∷ parts) ≡ told_from (number + 1) (state_after number state line) parts
+    go [] some = absurd (some refl)
+    go (next ∷ parts) some = refl
+
+-- what is bad stays so
+pub stays_bad : (number bad : ℕ) (parts : Parts) → told_from number (Err bad) parts ≡ Err (BadLine bad)
+stays_bad number bad [] = refl
+stays_bad number bad (last ∷ []) = refl
+stays_bad number bad (line ∷ next ∷ parts) = stays_bad (number + 1) bad (next ∷ parts)
+
+-- a line that is good
+pub good_line : (said : Result Trace TraceFault) (number : ℕ) (draft draft' : Draft) (text rest line : List ℕ) → said ≡ told_from number (Ok draft) (parts_of text) → parts_of text ≡ line ∷ parts_of rest → draft_after draft line ≡ Some draft' → said ≡ told_from (number + 1) (Ok draft') (parts_of rest)
+good_line said number draft draft' text rest line so_far parted good = so_far ∙ line_told number (Ok draft) text rest line parted ∙ ap (λ d. told_from (number + 1) (ok_or d number) (parts_of rest)) good
+
+-- a line that is bad
+pub bad_line : (said : Result Trace TraceFault) (number : ℕ) (draft : Draft) (text rest line : List ℕ) → said ≡ told_from number (Ok draft) (parts_of text) → parts_of text ≡ line ∷ parts_of rest → draft_after draft line ≡ None → said ≡ Err (BadLine number)
+bad_line said number draft text rest line so_far parted bad = so_far ∙ line_told number (Ok draft) text rest line parted ∙ ap (λ d. told_from (number + 1) (ok_or d number) (parts_of rest)) bad ∙ stays_bad (number + 1) number (parts_of rest)
+
+ended_open : (number : ℕ) (draft : Draft) (text : List ℕ) → 0 < length text → ended number (Ok draft) text ≡ Err (BadLine number)
+ended_open number draft [] some = absurd (omega arith)
+ended_open number draft (byte ∷ text) some = refl
+
+-- what no LF ends is bad
+pub open_line : (said : Result Trace TraceFault) (number : ℕ) (draft : Draft) (text : List ℕ) → said ≡ told_from number (Ok draft) (parts_of text) → parts_of text ≡ text ∷ [] → 0 < length text → said ≡ Err (BadLine number)
+open_line said number draft text so_far parted some = so_far ∙ ap (told_from number (Ok draft)) parted ∙ ended_open number draft text some
+
+empty_is : (text : List ℕ) → length text ≡ 0 → text ≡ []
+empty_is [] none = refl
+empty_is (byte ∷ text) none = absurd (omega arith)
+
+-- the end of the text
+pub text_ends : (said : Result Trace TraceFault) (number : ℕ) (draft : Draft) (text : List ℕ) → said ≡ told_from number (Ok draft) (parts_of text) → parts_of text ≡ text ∷ [] → length text ≡ 0 → said ≡ told number draft
+text_ends said number draft text so_far parted none = so_far ∙ ap (told_from number (Ok draft)) parted ∙ ap (ended number (Ok draft)) (empty_is text none)

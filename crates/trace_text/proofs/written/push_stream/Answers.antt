@@ -1,0 +1,8 @@
+use Rattle.std.proofs.Common.{append_assoc, refl}
+use Rattle.cip_events.specs.declared.event.Event.TheVariants.{StreamOpened}
+use Rattle.trace_text.specs.Written.{line_text, event_words}
+use Rattle.trace_text.proofs.Pieces.{three}
+use Rattle.trace_text.proofs.written.push_stream.Goals as goal
+
+pub returns : goal.returns
+returns c = three _ _ _ _ _ _ _ (line_text (event_words (StreamOpened c.args.stream c.args.peer))) c.in_ok-write.ensures.bytes c.in_ok-push_node.ensures c.in_ok-push_str.ensures.bytes (simp append_assoc refl)

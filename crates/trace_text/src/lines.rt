@@ -1,0 +1,65 @@
+//! The lines of a trace, one by one.
+
+ghost use Rattle.std.specs.Prelude.{◌≡◌, Some, IfSome, IfNone};
+ghost use Rattle.std.specs.List.{list_all};
+ghost use Rattle.trace_text.specs.Reader.{unread_words, Takes, Finds};
+ghost use Rattle.trace_text.specs.Forms.{is_ascii, line_of, line_reader};
+
+use crate::event_lines::{
+    read_cut, read_datagram, read_frame, read_read, read_request, read_stream, read_tick,
+    read_write,
+};
+use crate::forms::Line;
+use crate::part_lines::read_part;
+use crate::profile_lines::{read_adapter, read_heartbeat, read_output, read_point};
+use crate::words::{LineFault, Words, read_u64};
+use std::alloc::Global;
+use std::str;
+
+/// What a line tells.
+///
+/// The faults: `Bad` where it tells nothing, and `OutOfMemory`.
+#[tactic(auto, unfolding(crate::specs::Forms::line_of))]
+pub fn read_line(alloc: Global, line: &[u8]) -> Result<Line, LineFault>
+    ensures { Finds (line_of line.now) result }
+{
+    if !is_ascii(line) {
+        return Err(LineFault::Bad);
+    }
+    match str::from_utf8(line) {
+        Ok(text) => read_words(alloc, &mut Words::of(text)),
+        Err(_) => Err(LineFault::Bad),
+    }
+}
+
+fn is_ascii(line: &[u8]) -> bool
+    ensures { result ≡ is_ascii line.now }
+{
+    line.iter().all(|byte| *byte < 128)
+}
+
+fn read_words(alloc: Global, words: &mut Words<'_>) -> Result<Line, LineFault>
+    ensures { Takes (line_reader (unread_words words.old)) result (unread_words words.new) }
+{
+    let word = words.word()?;
+    match word {
+        "adapter" => Ok(Line::Adapter(read_adapter(words)?)),
+        "output" => Ok(Line::Output(read_output(words)?)),
+        "input" => Ok(Line::Input(read_point(words)?)),
+        "config" => Ok(Line::Config(read_point(words)?)),
+        "heartbeat" => Ok(Line::Heartbeat(read_heartbeat(words)?)),
+        "request" => Ok(Line::Event(read_request(alloc, words)?)),
+        "stream" => Ok(Line::Event(read_stream(words)?)),
+        "frame" => Ok(Line::Event(read_frame(alloc, words)?)),
+        "cut" => Ok(Line::Event(read_cut(words)?)),
+        "datagram" => Ok(Line::Event(read_datagram(alloc, words)?)),
+        "write" => Ok(Line::Event(read_write(alloc, words)?)),
+        "read" => Ok(Line::Event(read_read(words)?)),
+        "tick" => Ok(Line::Event(read_tick(words)?)),
+        _ => {
+            let number = read_u64(word).ok_or(LineFault::Bad)?;
+            let part = read_part(alloc, words)?;
+            Ok(Line::Recorded(number, part))
+        }
+    }
+}
