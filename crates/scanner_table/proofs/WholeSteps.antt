@@ -4,6 +4,7 @@ use Rattle.std.specs.List.{list_any}
 use Rattle.std.proofs.lemmas.Bool.{and_parts, or_parts}
 use Rattle.std.proofs.lemmas.Bool.Decides.{nat_tests}
 use Rattle.std.proofs.lemmas.List.{length-replicate, length-map}
+use Rattle.cip_types.specs.Cases.{first_case}
 use Rattle.cip_types.specs.declared.names.Mismatch.{Mismatch}
 use Rattle.cip_types.specs.declared.names.Mismatch.TheVariants as mismatch
 use Rattle.cip_types.specs.declared.names.Node.{Node}
@@ -25,7 +26,7 @@ use Rattle.cip_fwdopen.specs.declared.reply.Opened as made
 use Rattle.cip_fwdopen.specs.declared.reply.OpenAnswer.{OpenAnswer}
 use Rattle.cip_fwdopen.specs.declared.reply.OpenAnswer.TheVariants as answer
 use Rattle.cip_productions.specs.Acceptance.{is_news, is_repeated}
-use Rattle.conn_state.specs.Answers.{is_wanted_id, answer_tests, first_mismatch, has_intervals}
+use Rattle.conn_state.specs.Answers.{is_wanted_id, answer_tests, has_intervals}
 use Rattle.scanner_table.specs.declared.profile.SlotConfig.{SlotConfig}
 use Rattle.scanner_table.specs.declared.slot.Connection.{Connection}
 use Rattle.scanner_table.specs.declared.slot.Opening as opening
@@ -223,7 +224,7 @@ established_differ t place o success at clear whole =
     let numbered : list_any (uses_id (0 + place.number) place.config.target success.t_o_id) (places t) ≡ false = subst (λ (n : ℕ). list_any (uses_id n place.config.target success.t_o_id) (places t) ≡ false) same free in
     differ_established 0 place.number place.config place.slot (new_connection t place o success) (replicate place.config.in_len 0) t.profile.slots t.slots at.config numbered whole.ids_differ
 
-keeps_success : (t : ScannerTable) (place : Place) (o : opening.Opening) (success : made.Opened) (why : Option Mismatch) → first_mismatch (answer_tests o.wanted success (is_id_free t place success.t_o_id)) ≡ why → IsWhole t → IsAt t place → (place.slot.wanted ≡ true) × (o.request < t.next_request) → Keeps t (judged_success t place o success why)
+keeps_success : (t : ScannerTable) (place : Place) (o : opening.Opening) (success : made.Opened) (why : Option Mismatch) → first_case (answer_tests o.wanted success (is_id_free t place success.t_o_id)) ≡ why → IsWhole t → IsAt t place → (place.slot.wanted ≡ true) × (o.request < t.next_request) → Keeps t (judged_success t place o success why)
 keeps_success t place o success (Some why) is whole at fits = keeps_refused (reason.Mismatch why) t place whole at
 keeps_success t place o success None is whole at fits = record {
   whole = whole_with t place (established_slot place (new_connection t place o success)) whole at.config
@@ -238,7 +239,7 @@ unfolding answered
 keeps_answered t place o (Err why) whole at fits = keeps_refused why t place whole at
 keeps_answered t place o (Ok (answer.Refused r)) whole at fits = keeps_refused (reason.Cip r.fault) t place whole at
 keeps_answered t place o (Ok (answer.Opened success)) whole at fits =
-    keeps_success t place o success (first_mismatch (answer_tests o.wanted success (is_id_free t place success.t_o_id))) refl whole at fits
+    keeps_success t place o success (first_case (answer_tests o.wanted success (is_id_free t place success.t_o_id))) refl whole at fits
 
 -- ---- endings
 

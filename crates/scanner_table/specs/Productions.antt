@@ -1,14 +1,14 @@
--- What the slots send: when each is due, and its datagram (Volume 1, chapter 3, class 1 transport and real
+-- What the slots send: when each is due, and what it produces (Volume 1, chapter 3, class 1 transport and real
 -- time formats; Volume 2, chapter 2, sequenced address item).
-use Rattle.std.specs.Prelude.{ℕ, ◌==◌, ◌&&◌, ◌||◌, nat_lt, nat_le, Bool, true, false, if◌then◌else◌, List, [], ◌∷◌, ◌++◌, map, filter, flat_map}
+use Rattle.std.specs.Prelude.{ℕ, ◌==◌, ◌&&◌, ◌||◌, nat_lt, Bool, true, false, if◌then◌else◌, List, [], ◌∷◌, ◌++◌, map, filter, Option, Some, None}
 use Rattle.std.specs.Int.{w32, to_le_bytes}
+use Rattle.std.specs.List.{filter_map}
 use Rattle.cip_types.specs.declared.names.Ms.{Ms}
 use Rattle.cip_types.specs.Order.{in_order}
-use Rattle.cip_datagram.specs.Datagram.{datagram_text}
 use Rattle.cip_datagram.specs.Header.{mode_header}
-use Rattle.cip_events.specs.declared.event.Sending.{Sending}
 use Rattle.cip_productions.specs.Kinds.{is_owner}
-use Rattle.cip_productions.specs.Productions.{produced, production_datagram}
+use Rattle.cip_productions.specs.declared.production.Producer.{Producer}
+use Rattle.cip_productions.specs.Productions.{is_production_due, produced, Produced, produced_by}
 use Rattle.scanner_table.specs.declared.slot.Connection.{Connection}
 use Rattle.scanner_table.specs.declared.slot.Slot.{Slot}
 use Rattle.scanner_table.specs.declared.slot.SlotState.{SlotState}
@@ -29,35 +29,37 @@ written_state (Established c) = Established (written_connection c)
 written_state (TimedOut link) = TimedOut link
 written_state (Closing c) = Closing c
 
--- DATAGRAMS
+-- WHAT A SLOT PRODUCES
 
 -- what a slot sends: an owner the mode of the application and its output, another kind nothing
 abbrev pub slot_data : Bool → Place → List ℕ
 slot_data run place = if is_owner place.config.kind then to_le_bytes w32 (mode_header run) ++ place.slot.output else []
 
-abbrev pub connection_sending : Bool → Place → Connection → Sending
-connection_sending run place c = record {
-  address = c.production.address;
-  nodes = place.config.target ∷ [];
-  bytes = datagram_text (production_datagram c.link.o_t_id c.production (slot_data run place));
-}
+-- the producer of a slot's connection
+abbrev pub connection_producer : Place → Connection → Producer
+connection_producer place c = record { point = place.number; id = c.link.o_t_id; production = c.production }
 
-abbrev pub state_sending : Bool → Place → SlotState → List Sending
-state_sending run place Idle = []
-state_sending run place (Opening o) = []
-state_sending run place (Established c) = connection_sending run place c ∷ []
-state_sending run place (TimedOut link) = []
-state_sending run place (Closing c) = []
+-- what a connection produces next, for its target alone
+abbrev pub connection_production : Bool → Place → Connection → Produced
+connection_production run place c = produced_by (place.config.target ∷ []) (slot_data run place) (connection_producer place c)
 
-abbrev pub slot_sending : Bool → Place → List Sending
-slot_sending run place = state_sending run place place.slot.state
+abbrev pub state_production : Bool → Place → SlotState → Option Produced
+state_production run place Idle = None
+state_production run place (Opening o) = None
+state_production run place (Established c) = Some (connection_production run place c)
+state_production run place (TimedOut link) = None
+state_production run place (Closing c) = None
+
+-- what a slot produces next, which one with an established connection does
+abbrev pub slot_production : Bool → Place → Option Produced
+slot_production run place = state_production run place place.slot.state
 
 -- SLOTS THAT ARE DUE
 
 abbrev pub state_is_due : Ms → SlotState → Bool
 state_is_due clock Idle = false
 state_is_due clock (Opening o) = false
-state_is_due clock (Established c) = nat_le c.production.due.0 clock.0
+state_is_due clock (Established c) = is_production_due clock c.production
 state_is_due clock (TimedOut link) = false
 state_is_due clock (Closing c) = false
 
@@ -79,9 +81,9 @@ by_due place other =
 abbrev pub due_places : ScannerTable → List Place
 due_places t = in_order by_due (filter (is_due t.clock) (places t))
 
--- what the slots that are due send
-abbrev pub due_sendings : ScannerTable → List Sending
-due_sendings t = flat_map (slot_sending t.run) (due_places t)
+-- what the slots that are due produce
+abbrev pub due_productions : ScannerTable → List Produced
+due_productions t = filter_map (slot_production t.run) (due_places t)
 
 abbrev pub produced_connection : Ms → Connection → Connection
 produced_connection clock c = record c { production = produced clock c.o_t_api c.production }

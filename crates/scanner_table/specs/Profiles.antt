@@ -2,6 +2,7 @@
 -- connection types, requested packet interval, connection timeout multiplier, production inhibit time).
 use Rattle.std.specs.Prelude.{ℕ, ◌%◌, ◌==◌, ◌&&◌, ◌||◌, not, nat_le, Bool, true, if◌then◌else◌, List, [], ◌∷◌, length, Option, Some, None}
 use Rattle.std.specs.List.{list_any, list_all}
+use Rattle.cip_types.specs.Cases.{Case, first_case}
 use Rattle.cip_netparams.specs.declared.Trigger.{Trigger}
 use Rattle.cip_netparams.specs.declared.Trigger.TheVariants.{Cyclic, ChangeOfState}
 use Rattle.cip_netparams.specs.Rate.{is_interval, interval_ms}
@@ -73,11 +74,8 @@ keeps_time profile = list_all has_times profile.slots && (is_wait profile.open_t
 
 -- THE FIRST FAULT
 
--- a test of a profile: whether it fails, and what is then wrong
-abbrev pub ProfileTest : Type 0
-ProfileTest = Bool × ProfileFault
-
-abbrev pub profile_tests : ScannerProfile → List ProfileTest
+-- each test of a profile that may fail, and what is wrong where it does
+abbrev pub profile_tests : ScannerProfile → List (Case ProfileFault)
 profile_tests profile =
     (profile.incarnation == 0, Incarnation)
     ∷ (not (are_served profile), Points)
@@ -87,9 +85,5 @@ profile_tests profile =
     ∷ []
 
 -- what is wrong by the first test that fails
-abbrev pub first_fault : List ProfileTest → Option ProfileFault
-first_fault [] = None
-first_fault (test ∷ rest) = if test.0 then Some test.1 else first_fault rest
-
 unfoldable pub profile_fault : ScannerProfile → Option ProfileFault
-profile_fault profile = first_fault (profile_tests profile)
+profile_fault profile = first_case (profile_tests profile)

@@ -2,6 +2,7 @@
 -- Forward_Open service, successful and unsuccessful response; Volume 2, chapter 2, SendRRData).
 use Rattle.std.specs.Prelude.{ℕ, ◌==◌, ◌&&◌, not, Bool, true, false, if◌then◌else◌, [], ◌∷◌, replicate, Option, Some, None, Result, Ok, Err}
 use Rattle.std.specs.List.{list_any}
+use Rattle.cip_types.specs.Cases.{first_case}
 use Rattle.cip_types.specs.declared.names.ConnId.{ConnId}
 use Rattle.cip_types.specs.declared.names.Mismatch.{Mismatch}
 use Rattle.cip_types.specs.declared.names.Node.{Node}
@@ -22,7 +23,7 @@ use Rattle.cip_events.specs.declared.event.Reason.{Reason}
 use Rattle.cip_events.specs.declared.event.Reason.TheVariants as reason
 use Rattle.cip_productions.specs.declared.production.Production.{Production}
 use Rattle.cip_productions.specs.Watchdog.{first_deadline}
-use Rattle.conn_state.specs.Answers.{answer_tests, first_mismatch, link_of}
+use Rattle.conn_state.specs.Answers.{answer_tests, link_of}
 use Rattle.scanner_table.specs.declared.slot.Connection.{Connection}
 use Rattle.scanner_table.specs.declared.slot.Slot.{Slot}
 use Rattle.scanner_table.specs.declared.slot.SlotState.{SlotState}
@@ -119,4 +120,4 @@ unfoldable pub answered : ScannerTable → Place → asked.Opening → Result Op
 answered t place opening (Err why) = refused t place why
 answered t place opening (Ok (answer.Refused r)) = refused t place (reason.Cip r.fault)
 answered t place opening (Ok (answer.Opened o)) =
-    judged_success t place opening o (first_mismatch (answer_tests opening.wanted o (is_id_free t place o.t_o_id)))
+    judged_success t place opening o (first_case (answer_tests opening.wanted o (is_id_free t place o.t_o_id)))

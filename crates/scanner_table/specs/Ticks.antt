@@ -1,12 +1,13 @@
 -- Time at a scanner. A tick moves the clock, then connections whose deadline has come time out, then slots give
 -- up answers that did not come, then slots that may try open, and then the slots that are due produce (Volume 1,
 -- chapter 3, connection timeouts, inactivity watchdog).
-use Rattle.std.specs.Prelude.{ℕ, ◌+◌, ◌==◌, ◌&&◌, ◌||◌, nat_lt, nat_le, Bool, false, if◌then◌else◌, List, [], filter, Result, Ok, Err}
+use Rattle.std.specs.Prelude.{ℕ, ◌+◌, ◌==◌, ◌&&◌, ◌||◌, nat_lt, nat_le, Bool, false, if◌then◌else◌, List, [], map, filter, Result, Ok, Err}
 use Rattle.cip_types.specs.declared.names.Ms.{Ms}
 use Rattle.cip_types.specs.Order.{in_order}
 use Rattle.cip_events.specs.declared.event.StepFault.{StepFault}
 use Rattle.cip_events.specs.declared.event.StepFault.TheVariants as fault
 use Rattle.cip_events.specs.Clock.{longest_tick, clock_end}
+use Rattle.cip_productions.specs.Productions.{sent}
 use Rattle.scanner_table.specs.declared.slot.SlotState.{SlotState}
 use Rattle.scanner_table.specs.declared.slot.SlotState.TheVariants.{Idle, Opening, Established, TimedOut, Closing}
 use Rattle.scanner_table.specs.declared.table.ScannerTable.{ScannerTable}
@@ -15,7 +16,7 @@ use Rattle.scanner_table.specs.Effects.{Next, Effect, nothing, and_then, on_each
 use Rattle.scanner_table.specs.Opening.{ready_opened}
 use Rattle.scanner_table.specs.Replies.{failed_slot}
 use Rattle.scanner_table.specs.Closing.{given_up}
-use Rattle.scanner_table.specs.Productions.{due_sendings, produced_table}
+use Rattle.scanner_table.specs.Productions.{due_productions, produced_table}
 
 -- CONNECTIONS THAT TIME OUT
 
@@ -86,7 +87,7 @@ elapsed t = and_then (and_then (all_expired t) all_given_up) ready_opened
 
 -- what is sent and told, and the table after the productions
 abbrev pub ticked : Effect → Next
-ticked effect = (sent_answer effect (due_sendings effect.table), produced_table effect.table)
+ticked effect = (sent_answer effect (map sent (due_productions effect.table)), produced_table effect.table)
 
 -- the clock does not pass its end
 abbrev pub clocked : ScannerTable → ℕ → Result Next StepFault

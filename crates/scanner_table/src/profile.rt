@@ -23,7 +23,7 @@ pub const LONGEST_WAIT: u64 = 60_000;
 /// when the target produces, with the least number of milliseconds between two productions at a change.
 ///
 /// Volume 1, chapter 3, Forward_Open service and connection path.
-#[derive(Debug, PartialEq, Drop)]
+#[derive(PartialEq, Drop)]
 pub struct SlotConfig {
     pub target: Node,
     pub kind: Kind,
@@ -45,7 +45,7 @@ pub struct SlotConfig {
 /// A scanner: the byte that begins its connection ids (its incarnation), its address, its vendor number and
 /// serial number, how many milliseconds a target has to answer and how many pass before another try, and its
 /// slots.
-#[derive(Debug, PartialEq, Drop)]
+#[derive(PartialEq, Drop)]
 pub struct ScannerProfile {
     pub incarnation: u8,
     pub node: Node,

@@ -6,7 +6,7 @@ use conn_state::{Link, Wanted};
 
 /// A Forward_Open that is not answered: the number of its request, which names the opening, what was asked
 /// for, and until when an answer counts.
-#[derive(Clone, Copy, Debug, PartialEq, Eq)]
+#[derive(Clone, Copy, PartialEq, Eq)]
 pub struct Opening {
     pub request: u64,
     pub wanted: Wanted,
@@ -17,7 +17,7 @@ pub struct Opening {
 /// milliseconds, the datagram that was last accepted, until when the next one is waited for, and its producer.
 ///
 /// Volume 1, chapter 3, connection object attributes.
-#[derive(Clone, Copy, Debug, PartialEq, Eq)]
+#[derive(Clone, Copy, PartialEq, Eq)]
 pub struct Connection {
     pub opening: u64,
     pub link: Link,
@@ -30,7 +30,7 @@ pub struct Connection {
 
 /// A Forward_Close that is not answered: the number of its request, what names the connection, and until
 /// when an answer is waited for.
-#[derive(Clone, Copy, Debug, PartialEq, Eq)]
+#[derive(Clone, Copy, PartialEq, Eq)]
 pub struct Closing {
     pub request: u64,
     pub link: Link,
@@ -40,7 +40,7 @@ pub struct Closing {
 /// How far the connection of a slot is.
 ///
 /// Volume 1, chapter 3, connection object state.
-#[derive(Clone, Copy, Debug, PartialEq, Eq)]
+#[derive(Clone, Copy, PartialEq, Eq)]
 pub enum SlotState {
     /// There is none.
     Idle,
@@ -56,7 +56,7 @@ pub enum SlotState {
 
 /// A slot: how far its connection is, whether it is to be open, from when on it may be tried again, the bytes
 /// that it sends, and those that it gathered.
-#[derive(Debug, PartialEq, Drop)]
+#[derive(PartialEq, Drop)]
 pub struct Slot {
     pub state: SlotState,
     pub wanted: bool,

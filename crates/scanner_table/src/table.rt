@@ -7,7 +7,7 @@ use cip_types::{Items, Ms, Node};
 /// How far the session of a stream is.
 ///
 /// Volume 2, chapter 2, RegisterSession.
-#[derive(Clone, Copy, Debug, PartialEq, Eq)]
+#[derive(Clone, Copy, PartialEq, Eq)]
 pub enum Stage {
     /// The reply to the registration is waited for.
     Waiting,
@@ -18,7 +18,7 @@ pub enum Stage {
 }
 
 /// A stream to a target that is open: its number, whose it is, and how far its session is.
-#[derive(Clone, Copy, Debug, PartialEq, Eq)]
+#[derive(Clone, Copy, PartialEq, Eq)]
 pub struct TargetStream {
     pub number: u16,
     pub peer: Node,
@@ -28,7 +28,7 @@ pub struct TargetStream {
 /// A scanner: its profile, its slots in the profile's order, whether its application runs, its clock, the
 /// counter part of the next connection id, the serial number of the next opening, the number of the next
 /// request, and the streams that are open, in the order in which they were opened.
-#[derive(Debug, PartialEq, Drop)]
+#[derive(PartialEq, Drop)]
 pub struct ScannerTable {
     pub profile: ScannerProfile,
     pub slots: Items<Slot>,
