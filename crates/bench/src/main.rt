@@ -2,11 +2,13 @@
 //!
 //! With no word, or the word `check`: short runs, and what they came to. With the word `wheel`: the wheel
 //! beside a sorted list and a binary heap. `splitter`: a stream of messages that comes in pieces beside a
-//! copy of the pieces. `datagrams`: writing datagrams beside a copy of their data.
+//! copy of the pieces. `datagrams`: writing datagrams beside a copy of their data. `engine`: datagrams and
+//! ticks at a plain adapter, on one thread, with no network.
 #![tactic(auto)]
 
 mod clock;
 mod datagrams;
+mod engine;
 mod fault;
 mod heap;
 mod list;
@@ -24,7 +26,8 @@ use std::rt::CpuClock;
 fn check(rt: &(impl Print + CpuClock), alloc: Global) -> Result<(), BenchFault> {
     race::check(rt, alloc)?;
     splitter::check(rt, alloc)?;
-    datagrams::check(rt, alloc)
+    datagrams::check(rt, alloc)?;
+    engine::check(rt, alloc)
 }
 
 /// Does what the word asks for.
@@ -41,6 +44,7 @@ fn bench(
         "wheel" => race::print_times(rt, alloc),
         "splitter" => splitter::print_times(rt, alloc),
         "datagrams" => datagrams::print_times(rt, alloc),
+        "engine" => engine::print_times(rt, alloc),
         _ => Err(BenchFault::Usage),
     }
 }

@@ -1,6 +1,7 @@
 -- The electronic key of a path, and the devices that it wants (Volume 1, appendix C, electronic key
 -- segment). A device has its vendor, device type, product code and revision from its Identity object.
-use Rattle.std.specs.Prelude.{ℕ, Bool, ◌==◌, nat_le, ◌||◌, ◌&&◌, not, if◌then◌else◌, Option, Some, None}
+use Rattle.std.specs.Prelude.{ℕ, Bool, ◌==◌, nat_le, ◌||◌, ◌&&◌, not, if◌then◌else◌, List, [], ◌∷◌, Option}
+use Rattle.cip_types.specs.Cases.{Case, first_case}
 use Rattle.cip_types.specs.declared.names.Identity.{Identity}
 use Rattle.cip_epath.specs.declared.key.Key.{Key}
 use Rattle.cip_epath.specs.declared.key.KeyFault.{KeyFault}
@@ -35,10 +36,14 @@ is_type_match k d = is_match k.device_type d.device_type
 abbrev pub is_revision_match : KeyFields → Identity → Bool
 is_revision_match k d = is_match k.major d.major && (if k.compatible then nat_le k.minor d.minor else is_match k.minor d.minor)
 
+-- the three tests of a key, in order: each tells the fault where it fails
+abbrev pub key_tests : KeyFields → Identity → List (Case KeyFault)
+key_tests k d =
+    (not (is_product_match k d), fault.VendorOrProduct)
+    ∷ (not (is_type_match k d), fault.DeviceType)
+    ∷ (not (is_revision_match k d), fault.Revision)
+    ∷ []
+
 -- the first of the three that fails, if one does
 abbrev pub key_fault : KeyFields → Identity → Option KeyFault
-key_fault k d =
-    if not (is_product_match k d) then Some fault.VendorOrProduct
-    else if not (is_type_match k d) then Some fault.DeviceType
-    else if not (is_revision_match k d) then Some fault.Revision
-    else None
+key_fault k d = first_case (key_tests k d)

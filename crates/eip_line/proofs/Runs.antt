@@ -4,14 +4,13 @@ use Rattle.std.specs.Prelude.{IfSome, ◌<◌, ◌⊎◌}
 use Rattle.std.specs.Io.KnownBytes.{Appends}
 use Rattle.std.proofs.lemmas.List.{append-nil}
 use Rattle.trace_text.specs.declared.trace.Trace.{Trace}
-use Rattle.trace_text.specs.Told.{outcomes_text}
 use Rattle.trace_stepper.specs.declared.player.PlayFault.{PlayFault}
 use Rattle.trace_stepper.specs.declared.player.PlayFault.TheVariants as play
 use Rattle.trace_stepper.specs.Playing.{IsPlayed, WritesFirst}
 use Rattle.trace_stepper.specs.Stepping.{outcomes_told}
 use Rattle.eip_line.specs.declared.program.ProgramFault.{ProgramFault}
 use Rattle.eip_line.specs.declared.program.ProgramFault.TheVariants as program
-use Rattle.eip_line.specs.Printed.{longest_trace, Reads, differs_line, PrintsFirst, IsStepped, IsTraceRead, IsTextFault, IsFinished}
+use Rattle.eip_line.specs.Printed.{longest_trace, Reads, differs_line, IsStepped, IsTraceRead, IsTextFault, IsFinished}
 
 chained : (old mid new : Option (List ℕ)) (a b : List ℕ) → Appends old mid a → Appends mid new b → Appends old new (a ++ b)
 chained None mid new a b one two = tt

@@ -5,8 +5,6 @@ use Rattle.trace_text.specs.declared.trace.Trace.{Trace}
 use Rattle.trace_text.specs.declared.trace.TraceFault.TheVariants as trace
 use Rattle.trace_text.specs.Reading.{trace_reading}
 use Rattle.trace_text.specs.Told.{outcomes_text}
-use Rattle.trace_stepper.specs.declared.player.PlayFault.{PlayFault}
-use Rattle.trace_stepper.specs.declared.player.PlayFault.TheVariants as play
 use Rattle.trace_stepper.specs.Compared.{IsJudged}
 use Rattle.trace_stepper.specs.Playing.{WritesFirst}
 use Rattle.trace_stepper.specs.Stepping.{outcomes_told}

@@ -1,0 +1,5 @@
+//! Tests of traces: read, written, replayed and compared.
+#![tactic(auto)]
+
+#[cfg(test)]
+mod tests;
