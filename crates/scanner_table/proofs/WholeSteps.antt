@@ -45,7 +45,7 @@ use Rattle.scanner_table.specs.Opening.{has_request, has_id, can_open, drawn, op
 use Rattle.scanner_table.specs.Replies.{uses_id, open_told, is_id_free, new_connection, established_slot, failed_slot, refused, judged_success, answered}
 use Rattle.scanner_table.specs.Closing.{idle_slot, given_up_state, given_up, target_lost, closing_slot, close_asked, resigned_place, closed_within, stopped, stopped_at}
 use Rattle.scanner_table.specs.Encapsulation.{registering_on, ignored, stream_opened, cut_of, stream_cut, is_registered, session_begun, session_failed, registered, is_awaiting, replied, replied_to, told, frame_answer, frame_of, frame}
-use Rattle.scanner_table.specs.Datagrams.{delivered, is_for, accepted_connection, fed_table, accepted, sized, state_received, received_at, received_as, received}
+use Rattle.scanner_table.specs.Datagrams.{delivered, is_for, accepted_connection, accepted_table, accepted, sized, state_received, received_at, received_as, received}
 use Rattle.scanner_table.specs.Points.{stop_of, stop}
 use Rattle.scanner_table.specs.Whole.{RequestsDiffer, IdsDiffer, FitsState, FitsSlot, IsWhole}
 use Rattle.scanner_table.proofs.IdsLemmas.{Weaker, idle_weaker, opening_weaker, closing_weaker, linked_weaker, all_set, differ_weaker, differ_established}
@@ -429,16 +429,16 @@ quiet_same t place slot state same quieter whole =
     subst (λ (x : Slot). Quieter x.state slot.state) one (subst (λ (x : SlotState). Quieter x slot.state) (sym same.stands) quieter) in
     differ_quieter t.slots (slice_set t.slots place.number slot) (set_quieter place.number t.slots slot stands) whole.requests_differ
 
-fed_fits : (t : ScannerTable) (place : Place) (d : DatagramFields) (c : Connection) (bytes : List ℕ) → IsAt t place → FitsState t.next_request t.clock.0 place.slot.wanted (Established c) → length bytes ≡ place.config.in_len → IsSame t place (Established c) → IsWhole t → IsWhole (fed_table t place d c bytes)
-fed_fits t place d c bytes at fits long now whole =
+accepted_fits : (t : ScannerTable) (place : Place) (d : DatagramFields) (c : Connection) (bytes : List ℕ) → IsAt t place → FitsState t.next_request t.clock.0 place.slot.wanted (Established c) → length bytes ≡ place.config.in_len → IsSame t place (Established c) → IsWhole t → IsWhole (accepted_table t place d c bytes)
+accepted_fits t place d c bytes at fits long now whole =
     whole_with t place (record place.slot { state = Established (accepted_connection t.clock place.config.mult d c); image = bytes }) whole at.config
     (record { output = at.fits.output; image = long; state = (fits.0, record { opening = fits.1.opening; o_t_api = fits.1.o_t_api; t_o_api = fits.1.t_o_api; due = fits.1.due }) })
     (differ_same t place (record place.slot { state = Established (accepted_connection t.clock place.config.mult d c); image = bytes }) (Established c) now (linked_weaker c (accepted_connection t.clock place.config.mult d c) refl) whole)
     (quiet_set t place (record place.slot { state = Established (accepted_connection t.clock place.config.mult d c); image = bytes }) whole (λ old. established_quieter old (accepted_connection t.clock place.config.mult d c)))
 
-accepted_step : (b : Bool) (t : ScannerTable) (place : Place) (d : DatagramFields) (c : Connection) → IsAt t place → FitsState t.next_request t.clock.0 place.slot.wanted (Established c) → length d.payload ≡ place.config.in_len → IsSame t place (Established c) → IsWhole t → IsWhole (cond b (delivered Duplicate (fed_table t place d c place.slot.image)) (delivered Applied (fed_table t place d c d.payload))).1
-accepted_step true t place d c at fits long now whole = fed_fits t place d c place.slot.image at fits at.fits.image now whole
-accepted_step false t place d c at fits long now whole = fed_fits t place d c d.payload at fits long now whole
+accepted_step : (b : Bool) (t : ScannerTable) (place : Place) (d : DatagramFields) (c : Connection) → IsAt t place → FitsState t.next_request t.clock.0 place.slot.wanted (Established c) → length d.payload ≡ place.config.in_len → IsSame t place (Established c) → IsWhole t → IsWhole (cond b (delivered Duplicate (accepted_table t place d c place.slot.image)) (delivered Applied (accepted_table t place d c d.payload))).1
+accepted_step true t place d c at fits long now whole = accepted_fits t place d c place.slot.image at fits at.fits.image now whole
+accepted_step false t place d c at fits long now whole = accepted_fits t place d c d.payload at fits long now whole
 
 news_step : (b : Bool) (t : ScannerTable) (place : Place) (d : DatagramFields) (c : Connection) → IsAt t place → FitsState t.next_request t.clock.0 place.slot.wanted (Established c) → length d.payload ≡ place.config.in_len → IsSame t place (Established c) → IsWhole t → IsWhole (cond b (accepted t place d c) (delivered Old t)).1
 news_step true t place d c at fits long now whole = accepted_step (is_repeated c.last d.count) t place d c at fits long now whole

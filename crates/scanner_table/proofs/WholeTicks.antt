@@ -26,7 +26,7 @@ use Rattle.scanner_table.specs.Effects.{Effect, and_then, done}
 use Rattle.scanner_table.specs.Opening.{ready_opened}
 use Rattle.scanner_table.specs.Replies.{failed_slot}
 use Rattle.scanner_table.specs.Closing.{given_up}
-use Rattle.scanner_table.specs.Productions.{written_connection, produced_connection, written_state, state_is_due, produced_state, due_slot, produced_table}
+use Rattle.scanner_table.specs.Productions.{written_connection, produced_connection, written_state, state_is_due, produced_state, produced_slot, produced_table}
 use Rattle.scanner_table.specs.Ticks.{by_deadline, has_expired, expired_places, expired_state, expired, all_expired, is_overdue, all_given_up, clocked_table, elapsed, ticked, tick}
 use Rattle.scanner_table.specs.Points.{output_slot, written_place, write_length, write_at, write, read_at, read, same_mode, moded_slot, moded_table, mode, wanted_slot, started, start_state, start_at, start}
 use Rattle.scanner_table.specs.Step.{scanner_step, fresh_slot, scanner_table}
@@ -113,7 +113,7 @@ due_step : (b : Bool) (r : ℕ) (clock : Ms) (config : SlotConfig) (slot : Slot)
 due_step true r clock config slot due fits = record { output = fits.output; image = fits.image; state = produced_fits r clock slot.wanted slot.state due fits.state }
 due_step false r clock config slot due fits = fits
 
-slots_produced : (r : ℕ) (clock : Ms) (configs : List SlotConfig) (slots : List Slot) → SlotsFit r clock.0 configs slots → SlotsFit r clock.0 configs (map (due_slot clock) slots)
+slots_produced : (r : ℕ) (clock : Ms) (configs : List SlotConfig) (slots : List Slot) → SlotsFit r clock.0 configs slots → SlotsFit r clock.0 configs (map (produced_slot clock) slots)
 slots_produced r clock [] [] fit = tt
 slots_produced r clock [] (slot ∷ slots) fit = absurd fit
 slots_produced r clock (config ∷ configs) [] fit = absurd fit
@@ -146,7 +146,7 @@ due_weaker_by : (b : Bool) (clock : Ms) (slot : Slot) → Weaker slot.state (con
 due_weaker_by true clock slot = produced_weaker clock slot.state
 due_weaker_by false clock slot = same_weaker slot.state
 
-due_weaker : (clock : Ms) (slot : Slot) → Weaker slot.state (due_slot clock slot).state
+due_weaker : (clock : Ms) (slot : Slot) → Weaker slot.state (produced_slot clock slot).state
 due_weaker clock slot = due_weaker_by (state_is_due clock slot.state) clock slot
 
 produced_quieter : (clock : Ms) (state : SlotState) → Quieter state (produced_state clock state)
@@ -160,12 +160,12 @@ due_quieter_by : (b : Bool) (clock : Ms) (slot : Slot) → Quieter slot.state (c
 due_quieter_by true clock slot = produced_quieter clock slot.state
 due_quieter_by false clock slot = same_quieter slot.state
 
-due_quieter : (clock : Ms) (slot : Slot) → Quieter slot.state (due_slot clock slot).state
+due_quieter : (clock : Ms) (slot : Slot) → Quieter slot.state (produced_slot clock slot).state
 due_quieter clock slot = due_quieter_by (state_is_due clock slot.state) clock slot
 
 produced_whole : (t : ScannerTable) → IsWhole t → IsWhole (produced_table t)
 unfolding produced_table
-produced_whole t whole = whole_slots t (map (due_slot t.clock) t.slots) whole (slots_produced t.next_request t.clock t.profile.slots t.slots whole.slots) (all_map (due_slot t.clock) (due_weaker t.clock) t.slots) (map_quieter (due_slot t.clock) (due_quieter t.clock) t.slots)
+produced_whole t whole = whole_slots t (map (produced_slot t.clock) t.slots) whole (slots_produced t.next_request t.clock t.profile.slots t.slots whole.slots) (all_map (produced_slot t.clock) (due_weaker t.clock) t.slots) (map_quieter (produced_slot t.clock) (due_quieter t.clock) t.slots)
 
 -- ---- a tick
 

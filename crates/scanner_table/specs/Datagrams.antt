@@ -34,8 +34,8 @@ accepted_connection clock mult d c = record c {
 }
 
 -- the image of the slot becomes these bytes, at an accepted datagram
-abbrev pub fed_table : ScannerTable → Place → DatagramFields → Connection → List ℕ → ScannerTable
-fed_table t place d c bytes =
+abbrev pub accepted_table : ScannerTable → Place → DatagramFields → Connection → List ℕ → ScannerTable
+accepted_table t place d c bytes =
     with_slot t place.number (record place.slot { state = Established (accepted_connection t.clock place.config.mult d c); image = bytes })
 
 abbrev pub delivered : Delivery → ScannerTable → Next
@@ -44,8 +44,8 @@ delivered delivery t = (plain_answer (Delivered delivery), t)
 -- the count of the last accepted datagram again brings no new data
 abbrev pub accepted : ScannerTable → Place → DatagramFields → Connection → Next
 accepted t place d c =
-    if is_repeated c.last d.count then delivered Duplicate (fed_table t place d c place.slot.image)
-    else delivered Applied (fed_table t place d c d.payload)
+    if is_repeated c.last d.count then delivered Duplicate (accepted_table t place d c place.slot.image)
+    else delivered Applied (accepted_table t place d c d.payload)
 
 abbrev pub sized : ScannerTable → Place → DatagramFields → Connection → Next
 sized t place d c = if is_news c.last d.sequence then accepted t place d c else delivered Old t

@@ -96,9 +96,9 @@ produced_state clock (TimedOut link) = TimedOut link
 produced_state clock (Closing c) = Closing c
 
 -- a slot has produced, where it was due
-abbrev pub due_slot : Ms → Slot → Slot
-due_slot clock slot = if state_is_due clock slot.state then record slot { state = produced_state clock slot.state } else slot
+abbrev pub produced_slot : Ms → Slot → Slot
+produced_slot clock slot = if state_is_due clock slot.state then record slot { state = produced_state clock slot.state } else slot
 
 -- the table after the productions that are due
 unfoldable pub produced_table : ScannerTable → ScannerTable
-produced_table t = record t { slots = map (due_slot t.clock) t.slots }
+produced_table t = record t { slots = map (produced_slot t.clock) t.slots }

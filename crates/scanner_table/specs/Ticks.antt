@@ -1,7 +1,8 @@
 -- Time at a scanner. A tick moves the clock, then connections whose deadline has come time out, then slots give
 -- up answers that did not come, then slots that may try open, and then the slots that are due produce (Volume 1,
 -- chapter 3, connection timeouts, inactivity watchdog).
-use Rattle.std.specs.Prelude.{ℕ, ◌+◌, ◌==◌, ◌&&◌, ◌||◌, nat_lt, nat_le, Bool, false, if◌then◌else◌, List, [], map, filter, Result, Ok, Err}
+use Rattle.std.specs.Prelude.{ℕ, ◌+◌, ◌==◌, ◌&&◌, ◌||◌, nat_lt, nat_le, Bool, false, List, [], ◌∷◌, map, filter, Result, Ok, Err}
+use Rattle.cip_types.specs.Cases.{first_case_or}
 use Rattle.cip_types.specs.declared.names.Ms.{Ms}
 use Rattle.cip_types.specs.Order.{in_order}
 use Rattle.cip_events.specs.declared.event.StepFault.{StepFault}
@@ -89,10 +90,10 @@ elapsed t = and_then (and_then (all_expired t) all_given_up) ready_opened
 abbrev pub ticked : Effect → Next
 ticked effect = (sent_answer effect (map sent (due_productions effect.table)), produced_table effect.table)
 
--- the clock does not pass its end
-abbrev pub clocked : ScannerTable → ℕ → Result Next StepFault
-clocked t ms = if nat_lt clock_end (t.clock.0 + ms) then Err fault.ClockEnd else Ok (ticked (elapsed (clocked_table t ms)))
-
--- some milliseconds pass, and not too many
+-- some milliseconds pass; not too many, and the clock does not pass its end
 unfoldable pub tick : ScannerTable → ℕ → Result Next StepFault
-tick t ms = if nat_lt longest_tick ms then Err fault.TickTooLong else clocked t ms
+tick t ms = first_case_or (Ok (ticked (elapsed (clocked_table t ms)))) (
+    (nat_lt longest_tick ms, Err fault.TickTooLong)
+    ∷ (nat_lt clock_end (t.clock.0 + ms), Err fault.ClockEnd)
+    ∷ []
+)

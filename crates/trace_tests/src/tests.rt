@@ -15,7 +15,7 @@ const OLD: &str =
 
 /// What a scanner is told, and what it tells of its slots.
 const SLOTS: &str =
-    "adapter 16 192.168.1.10 255.255.255.0 1 12 7 2 3\nheartbeat 152 153\nmode run\n1 done\nmode idle\nstart 0\n3 ignored\n3 note refused 0 encap 4294967295\n3 note refused 1 unreadable\n3 note refused 2 cip 01 0106\n3 note refused 3 cip 1c -\n3 note refused 4 mismatch Triad\n3 note refused 5 mismatch Id\n3 note refused 6 mismatch Api\n3 note no-ids 7\n3 note slot 8 6\nstop 63\n4 fault NoSuchSlot\n";
+    "adapter 16 192.168.1.10 255.255.255.0 1 12 7 2 3\ninput 100 4\nheartbeat 152 153\nmode run\n1 done\nmode idle\nstart 0\n3 ignored\n3 note refused 0 encap 4294967295\n3 note refused 1 unreadable\n3 note refused 2 cip 01 0106\n3 note refused 3 cip 1c -\n3 note refused 4 mismatch Triad\n3 note refused 5 mismatch Id\n3 note refused 6 mismatch Api\n3 note no-ids 7\n3 note slot 8 6\nstop 63\n4 fault NoSuchSlot\n";
 
 fn is_written_as(trace: &Trace, alloc: Global, text: &str) -> bool {
     match write_trace(alloc, trace) {
