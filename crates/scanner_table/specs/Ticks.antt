@@ -96,4 +96,4 @@ tick t ms = first_case_or (Ok (ticked (elapsed (clocked_table t ms)))) (
     (nat_lt longest_tick ms, Err fault.TickTooLong)
     ∷ (nat_lt clock_end (t.clock.0 + ms), Err fault.ClockEnd)
     ∷ []
-)
+    )

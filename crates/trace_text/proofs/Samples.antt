@@ -47,16 +47,16 @@ noted notice = Some (Recorded 12 (part.Notice notice))
 
 notices_of_slots_are_read :
     map line_of (
-        codes "12 note refused 0 encap 4294967295"
-        ∷ codes "12 note refused 1 unreadable"
-        ∷ codes "12 note refused 2 cip 01 0106"
-        ∷ codes "12 note refused 3 cip 1C -"
-        ∷ codes "12 note refused 4 mismatch Triad"
-        ∷ codes "12 note refused 5 mismatch Id"
-        ∷ codes "12 note refused 6 mismatch Api"
-        ∷ codes "12 note no-ids 7"
-        ∷ codes "12 note slot 8 6"
-        ∷ []
+    codes "12 note refused 0 encap 4294967295"
+    ∷ codes "12 note refused 1 unreadable"
+    ∷ codes "12 note refused 2 cip 01 0106"
+    ∷ codes "12 note refused 3 cip 1C -"
+    ∷ codes "12 note refused 4 mismatch Triad"
+    ∷ codes "12 note refused 5 mismatch Id"
+    ∷ codes "12 note refused 6 mismatch Api"
+    ∷ codes "12 note no-ids 7"
+    ∷ codes "12 note slot 8 6"
+    ∷ []
     )
     ≡ map noted told
 unfolding line_of verdict_of mismatch_of number_of general_of extra_of decode_pairs
@@ -69,14 +69,14 @@ ignored_is_read = refl
 -- a status of one or three digits, no extended status, another reason, a word too many, and a state past 8 bits
 other_notices_are_bad :
     map line_of (
-        codes "12 note refused 2 cip 1 0106"
-        ∷ codes "12 note refused 2 cip 01 106"
-        ∷ codes "12 note refused 2 cip 01"
-        ∷ codes "12 note refused 2 mismatch id"
-        ∷ codes "12 note refused 2 unreadable 0"
-        ∷ codes "12 note refused 2"
-        ∷ codes "12 note slot 0 256"
-        ∷ []
+    codes "12 note refused 2 cip 1 0106"
+    ∷ codes "12 note refused 2 cip 01 106"
+    ∷ codes "12 note refused 2 cip 01"
+    ∷ codes "12 note refused 2 mismatch id"
+    ∷ codes "12 note refused 2 unreadable 0"
+    ∷ codes "12 note refused 2"
+    ∷ codes "12 note slot 0 256"
+    ∷ []
     )
     ≡ None ∷ None ∷ None ∷ None ∷ None ∷ None ∷ None ∷ []
 unfolding line_of verdict_of mismatch_of number_of general_of extra_of decode_pairs

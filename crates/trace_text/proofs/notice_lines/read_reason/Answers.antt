@@ -1,4 +1,4 @@
-use Rattle.std.proofs.Common.{◌≡◌, List, ◌∷◌, ◌∙◌, ap, codes, rules}
+use Rattle.std.proofs.Common.{◌≡◌, ◌∷◌, ◌∙◌, ap, codes}
 use Rattle.trace_text.specs.Reader.{unread_words}
 use Rattle.trace_text.proofs.notice_lines.read_reason.Goals as goal
 
