@@ -39,7 +39,7 @@ use Rattle.adapter_table.specs.declared.admission.Consumer.{Consumer}
 use Rattle.adapter_table.specs.declared.admission.Admission.{Admission}
 use Rattle.adapter_table.specs.Profiles.{is_at, is_output_at}
 use Rattle.adapter_table.specs.Points.{bytes_at}
-use Rattle.adapter_table.specs.Rows.{is_established, is_timed_out, holds_triad, drives, is_member, is_supported}
+use Rattle.adapter_table.specs.Rows.{most_rows, is_established, is_timed_out, holds_triad, drives, is_member, is_supported}
 
 -- A CHECK
 
@@ -359,7 +359,7 @@ lacks_ids view request points = nat_lt 16777216 (view.next_id + drawn_ids (is_mu
 
 -- there are 64 connections, and none can make room
 abbrev pub lacks_room : View → Bool
-lacks_room view = nat_le 64 view.count && not view.timed_out
+lacks_room view = nat_le most_rows view.count && not view.timed_out
 
 -- THE FIFTEEN CHECKS
 

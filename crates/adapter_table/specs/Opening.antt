@@ -22,7 +22,7 @@ use Rattle.adapter_table.specs.declared.table.PointValue.{PointValue}
 use Rattle.adapter_table.specs.declared.table.AdapterTable.{AdapterTable}
 use Rattle.adapter_table.specs.Profiles.{host_id, is_at}
 use Rattle.adapter_table.specs.Points.{put_value}
-use Rattle.adapter_table.specs.Rows.{has_triad, is_timed_out, others}
+use Rattle.adapter_table.specs.Rows.{most_rows, has_triad, is_timed_out, others}
 use Rattle.adapter_table.specs.Checks.{Admitted, drawn_ids}
 use Rattle.cip_productions.specs.Watchdog.{first_deadline}
 
@@ -43,7 +43,7 @@ makes_room_by false false first triad row = false
 -- the connection makes room for a new one
 abbrev pub makes_room : List Row → Triad → Row → Bool
 makes_room rows triad row =
-    makes_room_by (list_any (has_triad triad) rows) (nat_le 64 (length rows)) (find is_timed_out rows) triad row
+    makes_room_by (list_any (has_triad triad) rows) (nat_le most_rows (length rows)) (find is_timed_out rows) triad row
 
 abbrev pub triad_of : Row → Triad
 triad_of row = row.triad

@@ -9,6 +9,10 @@ use Rattle.adapter_table.specs.declared.row.State.{State}
 use Rattle.adapter_table.specs.declared.row.State.TheVariants.{Established, TimedOut}
 use Rattle.cip_productions.specs.Kinds.{is_owner, is_listener, same_kind}
 
+-- the most connections of an adapter, timed-out ones among them
+abbrev pub most_rows : ℕ
+most_rows = 64
+
 abbrev pub lives : State → Bool
 lives (Established production) = true
 lives TimedOut = false

@@ -6,10 +6,10 @@ use Rattle.adapter_table.specs.declared.profile.Profile.{Profile}
 use Rattle.adapter_table.specs.declared.row.Row.{Row}
 use Rattle.adapter_table.specs.declared.table.Stream.{Stream}
 use Rattle.adapter_table.specs.declared.table.AdapterTable.{AdapterTable}
-use Rattle.adapter_table.specs.Rows.{has_triad, drivers, is_established, is_unsupported, is_member, Each, EachTwo}
+use Rattle.adapter_table.specs.Rows.{most_rows, has_triad, drivers, is_established, is_unsupported, is_member, Each, EachTwo}
 use Rattle.adapter_table.specs.Opening.{connection_id}
 use Rattle.adapter_table.specs.Productions.{producer_of}
-use Rattle.adapter_table.specs.Streams.{is_stream}
+use Rattle.adapter_table.specs.Streams.{most_streams, is_stream}
 
 -- no two connections have one triad
 abbrev pub TriadsDiffer : List Row → Type 0
@@ -121,7 +121,7 @@ StreamsDiffer [] = Unit {0}
 StreamsDiffer (stream ∷ streams) = (list_any (is_stream stream.number) streams ≡ false) × StreamsDiffer streams
 
 pub record IsSound (t : AdapterTable) : Type 0 where
-  pub few : length t.rows ≤ 64
+  pub few : length t.rows ≤ most_rows
   pub one_owner : HasOneOwner t.rows
   pub triads_differ : TriadsDiffer t.rows
   pub ids_differ : IdsDiffer t.rows
@@ -130,5 +130,5 @@ pub record IsSound (t : AdapterTable) : Type 0 where
   pub groups_agree : GroupsAgree t.rows
   pub producers : ProducersAreSound t.profile t.next_id t.rows
   pub ids_are_left : t.next_id ≤ 16777216
-  pub few_streams : length t.streams ≤ 16
+  pub few_streams : length t.streams ≤ most_streams
   pub streams_differ : StreamsDiffer t.streams

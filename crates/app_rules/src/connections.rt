@@ -4,7 +4,7 @@ ghost use Rattle.std.specs.Prelude.{◌≡◌, List, length, nat_le};
 ghost use Rattle.std.specs.List.{list_any};
 ghost use Rattle.adapter_table.specs.declared.row.Row.{Row};
 ghost use Rattle.cip_productions.specs.declared.kind.Kind.{Kind};
-ghost use Rattle.adapter_table.specs.Rows.{holds_triad, is_established, is_timed_out, drives, is_supported};
+ghost use Rattle.adapter_table.specs.Rows.{most_rows, holds_triad, is_established, is_timed_out, drives, is_supported};
 ghost use Rattle.adapter_table.specs.Checks.{group_of};
 
 use adapter_table::{
@@ -40,7 +40,7 @@ pub trait Connections {
 
     /// Whether there are as many connections as there can be.
     fn is_full(&self) -> bool
-        ensures { result ≡ nat_le 64 (length (rows self.now)) };
+        ensures { result ≡ nat_le most_rows (length (rows self.now)) };
 
     /// Whether some connection has timed out.
     fn has_timed_out(&self) -> bool

@@ -7,6 +7,8 @@ ghost use Rattle.cip_tables.specs.Scratch.{OutputsAreFromScratch, FreshOutputsAr
 ghost use Rattle.cip_tables.specs.Whole.{TablesAreWhole, RunsKeepWhole, FreshDevicesAreWhole};
 ghost use Rattle.cip_tables.specs.Sound.{OverEveryRun, StepsCountOn, RunsCountOn};
 ghost use Rattle.adapter_table.specs.Newest.{HasNewerNumber, IsAppliedNew, IsNotAgain};
+ghost use Rattle.adapter_table.specs.Rows.{most_rows};
+ghost use Rattle.adapter_table.specs.Streams.{most_streams};
 ghost use Rattle.adapter_table.specs.Sound.{IsSound, HasOneOwner, TriadsDiffer, IdsDiffer, IdsAreDrawn, ListenersAreSupported, GroupsAgree, StreamsDiffer, OpeningsRise, ProducersAreDrawn, SinglesHaveTheirOwn, GroupsAloneShare, MulticastIdsAreDrawn};
 
 use adapter_table::laws;
@@ -49,7 +51,7 @@ pub fn ids_are_below_the_next()
 
 /// There are at most 64 connections.
 pub fn at_most_64_connections()
-    ensures { OverEveryRun (λ t. length t.rows ≤ 64) }
+    ensures { OverEveryRun (λ t. length t.rows ≤ most_rows) }
 {
     tables_are_sound();
 }
@@ -116,7 +118,7 @@ pub fn next_id_never_falls()
 
 /// There are at most 16 open streams.
 pub fn at_most_16_streams()
-    ensures { OverEveryRun (λ t. length t.streams ≤ 16) }
+    ensures { OverEveryRun (λ t. length t.streams ≤ most_streams) }
 {
     tables_are_sound();
 }

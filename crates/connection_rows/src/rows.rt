@@ -2,7 +2,7 @@
 
 ghost use Rattle.std.specs.Prelude.{◌≡◌, ◌≤◌, vec_len, vec_capacity, ◌<◌, ◌∷◌, ◌++◌, [], find, OnOk, IfOk, map, length, nat_le};
 ghost use Rattle.std.specs.List.{list_any};
-ghost use Rattle.adapter_table.specs.Rows.{has_triad, is_timed_out, is_unsupported, written_row, others};
+ghost use Rattle.adapter_table.specs.Rows.{most_rows, has_triad, is_timed_out, is_unsupported, written_row, others};
 ghost use Rattle.adapter_table.specs.Closing.{without_triad, staying, unsupported, dropped_notice};
 ghost use Rattle.adapter_table.specs.Opening.{is_opened_as, makes_room_by, makes_room, replaced_triad};
 
@@ -48,7 +48,7 @@ struct Room {
 fn room_for(rows: &[Row], triad: Triad) -> Room
     ensures triad { result.triad ≡ triad }
     ensures known { result.known ≡ list_any (has_triad triad) rows.now }
-    ensures full { result.full ≡ nat_le 64 (length rows.now) }
+    ensures full { result.full ≡ nat_le most_rows (length rows.now) }
     ensures first { result.first ≡ find is_timed_out rows.now }
 {
     Room {
