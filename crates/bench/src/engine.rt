@@ -123,7 +123,10 @@ pub fn check(rt: &impl Print, alloc: Global) -> Result<(), BenchFault> {
     let mut device = adapter(alloc)?;
     let owner = open(alloc, &mut device, &OWN)?;
     send_all(&mut device, owner, 1_000)?;
-    println!(rt; "1000 datagrams applied, one again is {:?}", send(&mut device, owner, 999))?;
+    println!(rt;
+        "1000 datagrams applied, one again is {:?}",
+        send(&mut device, owner, 999)
+    )?;
     open_gatherers(alloc, &mut device, MOST - 1)?;
     let mut sent: u64 = 0;
     for number in 1_000..1_100 {
