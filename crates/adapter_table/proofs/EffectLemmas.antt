@@ -9,7 +9,7 @@ use Rattle.cip_datagram.specs.Datagram.{DatagramFields}
 use Rattle.cip_datagram.specs.Reading.{datagram_reading}
 use Rattle.cip_events.specs.declared.event.Delivery.{Delivery}
 use Rattle.cip_events.specs.declared.event.Event.{Event}
-use Rattle.cip_events.specs.declared.event.Event.TheVariants.{Request, StreamOpened, Frame, StreamCut, Datagram, Write, Read, Tick}
+use Rattle.cip_events.specs.declared.event.Event.TheVariants.{Request, StreamOpened, Frame, StreamCut, Datagram, Write, Read, Tick, Mode, Start, Stop}
 use Rattle.cip_events.specs.declared.event.StepFault.{StepFault}
 use Rattle.cip_events.specs.declared.event.StepFault.TheVariants.{TickTooLong, ClockEnd, WrongLength}
 use Rattle.adapter_table.specs.declared.profile.InputPoint.{InputPoint}
@@ -125,3 +125,6 @@ adapter_keeps P keep t (Datagram peer bytes) next is holds = subst (λ (n : Next
 adapter_keeps P keep t (Write point bytes) next is holds = keeps_write P keep t point bytes next (write_is t point bytes next is) holds
 adapter_keeps P keep t (Read point) next is holds = keeps_read P t (bytes_at t.values point) next is holds
 adapter_keeps P keep t (Tick ms) next is holds = keeps_tick P keep t ms next (tick_is t ms next is) holds
+adapter_keeps P keep t (Mode run) next is holds = absurd cc
+adapter_keeps P keep t (Start slot) next is holds = absurd cc
+adapter_keeps P keep t (Stop slot) next is holds = absurd cc

@@ -12,7 +12,7 @@ use Rattle.cip_datagram.specs.Header.{header_at}
 use Rattle.cip_datagram.specs.Reading.{datagram_reading}
 use Rattle.cip_events.specs.declared.event.Delivery.{Delivery}
 use Rattle.cip_events.specs.declared.event.Delivery.TheVariants.{Duplicate, Heartbeat, Old, WrongSize}
-use Rattle.cip_events.specs.declared.event.Event.TheVariants.{Request, StreamOpened, Frame, StreamCut, Datagram, Write, Read, Tick}
+use Rattle.cip_events.specs.declared.event.Event.TheVariants.{Request, StreamOpened, Frame, StreamCut, Datagram, Write, Read, Tick, Mode, Start, Stop}
 use Rattle.cip_events.specs.Answers.{is_accepted}
 use Rattle.cip_fwdopen.specs.Open.{OpenFields}
 use Rattle.cip_productions.specs.declared.acceptance.Accepted.{Accepted}
@@ -307,6 +307,9 @@ steps_accept R holds opening last t (Datagram peer bytes) next is sound remember
 steps_accept R holds opening last t (Write point bytes) next is sound remembers = (tt, remembers_write opening last t point bytes next (write_is t point bytes next is) remembers)
 steps_accept R holds opening last t (Read point) next is sound remembers = (tt, remembers_read opening last t (bytes_at t.values point) next is remembers)
 steps_accept R holds opening last t (Tick ms) next is sound remembers = (tt, remembers_tick opening last t ms next (tick_is t ms next is) remembers)
+steps_accept R holds opening last t (Mode run) next is sound remembers = absurd cc
+steps_accept R holds opening last t (Start slot) next is sound remembers = absurd cc
+steps_accept R holds opening last t (Stop slot) next is sound remembers = absurd cc
 
 pub steps_accept_newer : StepsAcceptAfter HasNewerNumber
 steps_accept_newer = steps_accept HasNewerNumber (λ profile row d is. newer_than row.last (acceptance_of d (row_delivery profile row d)) (accepted_news (length d.payload == expected_len profile row) (is_news row.last d.sequence) (accepted_delivery row d) is))
@@ -326,3 +329,6 @@ faults_accept_nothing opening t (Datagram peer bytes) fault is = absurd cc
 faults_accept_nothing opening t (Write point bytes) fault is = refl
 faults_accept_nothing opening t (Read point) fault is = refl
 faults_accept_nothing opening t (Tick ms) fault is = refl
+faults_accept_nothing opening t (Mode run) fault is = refl
+faults_accept_nothing opening t (Start slot) fault is = refl
+faults_accept_nothing opening t (Stop slot) fault is = refl

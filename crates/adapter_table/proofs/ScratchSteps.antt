@@ -9,7 +9,7 @@ use Rattle.cip_datagram.specs.Reading.{datagram_reading}
 use Rattle.cip_events.specs.declared.event.Delivery.{Delivery}
 use Rattle.cip_events.specs.declared.event.Delivery.TheVariants.{Applied, Idle, Heartbeat, Duplicate, Old, UnknownId, WrongSize, Malformed}
 use Rattle.cip_events.specs.declared.event.Event.{Event}
-use Rattle.cip_events.specs.declared.event.Event.TheVariants.{Request, StreamOpened, Frame, StreamCut, Datagram, Write, Read, Tick}
+use Rattle.cip_events.specs.declared.event.Event.TheVariants.{Request, StreamOpened, Frame, StreamCut, Datagram, Write, Read, Tick, Mode, Start, Stop}
 use Rattle.adapter_table.specs.declared.profile.InputPoint.{InputPoint}
 use Rattle.adapter_table.specs.declared.profile.OutputPoint.{OutputPoint}
 use Rattle.adapter_table.specs.declared.row.Row.{Row}
@@ -147,6 +147,9 @@ leaves_held t (Datagram peer bytes) next is whole =
 leaves_held t (Write point bytes) next is whole = leaves_write t point bytes next (write_is t point bytes next is) whole.shaped
 leaves_held t (Read point) next is whole = leaves_read t point (bytes_at t.values point) next is
 leaves_held t (Tick ms) next is whole = leaves_tick t ms next (tick_is t ms next is) whole
+leaves_held t (Mode run) next is whole = absurd cc
+leaves_held t (Start slot) next is whole = absurd cc
+leaves_held t (Stop slot) next is whole = absurd cc
 
 -- ---- told of what each output held, which it does
 
@@ -185,3 +188,6 @@ fault_touches_none point t (Datagram peer bytes) fault is = absurd cc
 fault_touches_none point t (Write other bytes) fault is = untouched point t
 fault_touches_none point t (Read other) fault is = untouched point t
 fault_touches_none point t (Tick ms) fault is = untouched point t
+fault_touches_none point t (Mode run) fault is = untouched point t
+fault_touches_none point t (Start slot) fault is = untouched point t
+fault_touches_none point t (Stop slot) fault is = untouched point t

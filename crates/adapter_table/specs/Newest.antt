@@ -11,7 +11,7 @@ use Rattle.cip_datagram.specs.Reading.{datagram_reading}
 use Rattle.cip_events.specs.declared.event.Delivery.{Delivery}
 use Rattle.cip_events.specs.declared.event.Delivery.TheVariants.{Applied, Idle, Heartbeat, Duplicate, Old, UnknownId, WrongSize, Malformed}
 use Rattle.cip_events.specs.declared.event.Event.{Event}
-use Rattle.cip_events.specs.declared.event.Event.TheVariants.{Request, StreamOpened, Frame, StreamCut, Datagram, Write, Read, Tick}
+use Rattle.cip_events.specs.declared.event.Event.TheVariants.{Request, StreamOpened, Frame, StreamCut, Datagram, Write, Read, Tick, Mode, Start, Stop}
 use Rattle.cip_events.specs.Answers.{is_accepted}
 use Rattle.cip_productions.specs.declared.acceptance.Accepted.{Accepted}
 use Rattle.adapter_table.specs.declared.profile.Profile.{Profile}
@@ -74,6 +74,9 @@ accepted_at opening t (Datagram peer bytes) = accepted_read opening t peer (data
 accepted_at opening t (Write point bytes) = []
 accepted_at opening t (Read point) = []
 accepted_at opening t (Tick ms) = []
+accepted_at opening t (Mode run) = []
+accepted_at opening t (Start slot) = []
+accepted_at opening t (Stop slot) = []
 
 -- ---- one after another
 

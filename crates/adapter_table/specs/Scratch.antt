@@ -10,7 +10,7 @@ use Rattle.cip_datagram.specs.Reading.{datagram_reading}
 use Rattle.cip_events.specs.declared.event.Delivery.{Delivery}
 use Rattle.cip_events.specs.declared.event.Delivery.TheVariants.{Applied, Idle, Heartbeat, Duplicate, Old, UnknownId, WrongSize, Malformed}
 use Rattle.cip_events.specs.declared.event.Event.{Event}
-use Rattle.cip_events.specs.declared.event.Event.TheVariants.{Request, StreamOpened, Frame, StreamCut, Datagram, Write, Read, Tick}
+use Rattle.cip_events.specs.declared.event.Event.TheVariants.{Request, StreamOpened, Frame, StreamCut, Datagram, Write, Read, Tick, Mode, Start, Stop}
 use Rattle.adapter_table.specs.declared.profile.Action.{Action}
 use Rattle.adapter_table.specs.declared.profile.Action.TheVariants.{Hold, Zero}
 use Rattle.adapter_table.specs.declared.profile.OutputPoint.{OutputPoint}
@@ -76,6 +76,9 @@ data_left point t (Datagram peer bytes) = read_accepted point t peer (datagram_r
 data_left point t (Write other bytes) = None
 data_left point t (Read other) = None
 data_left point t (Tick ms) = None
+data_left point t (Mode run) = None
+data_left point t (Start slot) = None
+data_left point t (Stop slot) = None
 
 -- ---- the loss of the owner
 

@@ -35,6 +35,9 @@ impl Event {
             },
             Event::Read { point } => Event::Read { point: *point },
             Event::Tick { ms } => Event::Tick { ms: *ms },
+            Event::Mode { run } => Event::Mode { run: *run },
+            Event::Start { slot } => Event::Start { slot: *slot },
+            Event::Stop { slot } => Event::Stop { slot: *slot },
         })
     }
 }

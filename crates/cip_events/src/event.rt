@@ -3,7 +3,7 @@
 ghost use Rattle.std.specs.Prelude.{◌≡◌};
 
 use crate::profile_fault::ProfileFault;
-use cip_types::{ConnId, Items, Node, OutOfMemory, Triad};
+use cip_types::{ConnId, Fault, Items, Mismatch, Node, OutOfMemory, Triad};
 use thiserror::Error;
 
 /// One thing that happens at a device.
@@ -25,6 +25,12 @@ pub enum Event {
     Read { point: u32 },
     /// Milliseconds pass, at most 60,000.
     Tick { ms: u32 },
+    /// The application of a scanner runs, or is idle.
+    Mode { run: bool },
+    /// A scanner is to open the connection of a slot, and to keep it open.
+    Start { slot: u32 },
+    /// A scanner is to close the connection of a slot.
+    Stop { slot: u32 },
 }
 
 /// Whom a frame goes to.
@@ -82,13 +88,28 @@ pub enum Verdict {
     Done,
     /// Its bytes are too few to be answered, or it is a message without a reply whose length field is wrong.
     BadFrame,
+    /// It is a message that a scanner does not wait for.
+    Ignored,
     /// The bytes that a point holds.
     Value(Items<u8>),
     /// What became of a datagram.
     Delivered(Delivery),
 }
 
-/// What happened to a connection or a stream.
+/// Why a reply does not open the connection of a scanner's slot: the first that holds.
+#[derive(Clone, Copy, PartialEq, Eq)]
+pub enum Reason {
+    /// The encapsulation message has this status, which is not 0.
+    Encap(u32),
+    /// The message is of another command, or it has no reply to the request in it that can be read.
+    Unreadable,
+    /// The target refused the request.
+    Cip(Fault),
+    /// The reply is not the one that was wanted.
+    Mismatch(Mismatch),
+}
+
+/// What happened to a connection, a stream or a slot.
 #[derive(Clone, Copy, PartialEq, Eq)]
 pub enum Notice {
     /// A connection was opened, with this O->T id.
@@ -103,6 +124,12 @@ pub enum Notice {
     Replaced(Triad),
     /// The stream of this number ended with its session.
     StreamClosed(u16),
+    /// The slot of this number has come into the state of this number.
+    Slot(u32, u8),
+    /// A reply did not open the connection of this slot.
+    Refused(u32, Reason),
+    /// This slot needed a connection id or a request number, and none is left.
+    NoIds(u32),
 }
 
 /// What a device answers to an event: frames, datagrams, what became of the event, and what happened to

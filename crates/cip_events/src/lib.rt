@@ -7,7 +7,7 @@ mod event;
 mod profile_fault;
 
 pub use event::{
-    Answer, Delivery, Event, Frame, NewFault, Notice, Outcome, Recipient, Sending, StepFault,
-    Verdict,
+    Answer, Delivery, Event, Frame, NewFault, Notice, Outcome, Reason, Recipient, Sending,
+    StepFault, Verdict,
 };
 pub use profile_fault::ProfileFault;

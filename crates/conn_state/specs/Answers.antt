@@ -1,6 +1,7 @@
 -- Whether the reply to a Forward_Open opens the connection that waits for it, and what names the connection
 -- then (Volume 1, chapter 3, Forward_Open service, successful and unsuccessful response).
-use Rattle.std.specs.Prelude.{◌==◌, ◌&&◌, not, Bool, true, if◌then◌else◌, List, [], ◌∷◌, Option, Some, None, Result, Ok, Err}
+use Rattle.std.specs.Prelude.{◌==◌, ◌&&◌, not, Bool, true, List, [], ◌∷◌, Option, Some, None, Result, Ok, Err}
+use Rattle.cip_types.specs.Cases.{Case, first_case}
 use Rattle.cip_types.specs.declared.names.ConnId.{ConnId}
 use Rattle.cip_types.specs.declared.names.Mismatch.{Mismatch}
 use Rattle.cip_types.specs.declared.names.Mismatch.TheVariants as mismatch
@@ -25,22 +26,14 @@ is_wanted_id (Some asked) id = asked.0 == id.0
 abbrev pub has_intervals : made.Opened → Bool
 has_intervals opened = is_interval opened.o_t_api && is_interval opened.t_o_api
 
--- a test of a success: whether it fails, and what is then amiss
-abbrev pub AnswerTest : Type 0
-AnswerTest = Bool × Mismatch
-
--- what a success must be: of the connection that waits, with an id that may be used, and with packet intervals
-abbrev pub answer_tests : Wanted → made.Opened → Bool → List AnswerTest
+-- what may be amiss in a success: that it is of another connection than the one that waits, that its id may not
+-- be used, and that it has no packet intervals; the first that holds is told
+abbrev pub answer_tests : Wanted → made.Opened → Bool → List (Case Mismatch)
 answer_tests wanted opened id_free =
     (not (same_triad opened.triad wanted.triad), mismatch.Triad)
     ∷ (not (is_wanted_id wanted.t_o_id opened.t_o_id && id_free), mismatch.Id)
     ∷ (not (has_intervals opened), mismatch.Api)
     ∷ []
-
--- what is amiss by the first test that fails
-abbrev pub first_mismatch : List AnswerTest → Option Mismatch
-first_mismatch [] = None
-first_mismatch (test ∷ rest) = if test.0 then Some test.1 else first_mismatch rest
 
 -- the triad of what was asked for, and the ids of the reply
 abbrev pub link_of : Wanted → made.Opened → Link
@@ -54,4 +47,4 @@ linked wanted opened (Some why) = Err (wanted, why)
 -- what an answer makes of the opening that waits for it
 abbrev pub accepted : Wanted → OpenAnswer → Bool → Result Link (Wanted × Mismatch)
 accepted wanted (Refused refused) id_free = Err (wanted, mismatch.Refused refused.fault)
-accepted wanted (Opened opened) id_free = linked wanted opened (first_mismatch (answer_tests wanted opened id_free))
+accepted wanted (Opened opened) id_free = linked wanted opened (first_case (answer_tests wanted opened id_free))

@@ -1,7 +1,8 @@
 //! The five states, and the moves between them.
 
 ghost use Rattle.std.specs.Prelude.{◌≡◌};
-ghost use Rattle.conn_state.specs.Answers.{answer_tests, is_wanted_id, first_mismatch, accepted};
+ghost use Rattle.cip_types.specs.Cases.{first_case};
+ghost use Rattle.conn_state.specs.Answers.{answer_tests, is_wanted_id, accepted};
 
 use crate::names::{Link, Wanted};
 use cip_fwdopen::{OpenAnswer, OpenReply, Opened};
@@ -116,7 +117,7 @@ fn is_wanted_id(wanted: Option<ConnId>, id: ConnId) -> bool
 
 /// What is amiss with a success first.
 fn mismatch_of(wanted: &Wanted, opened: &Opened, id_free: bool) -> Option<Mismatch>
-    ensures { result ≡ first_mismatch (answer_tests wanted.now opened.now id_free) }
+    ensures { result ≡ first_case (answer_tests wanted.now opened.now id_free) }
 {
     if opened.triad != wanted.triad {
         return Some(Mismatch::Triad);

@@ -599,6 +599,9 @@ impl Device for PlainAdapter {
             Event::Write { point, bytes } => self.write(*point, bytes.as_slice()),
             Event::Read { point } => self.read(*point),
             Event::Tick { ms } => self.tick(*ms),
+            Event::Mode { .. } | Event::Start { .. } | Event::Stop { .. } => {
+                Err(StepFault::NotAllowedNow)
+            }
         }
     }
 

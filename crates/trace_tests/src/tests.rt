@@ -1,4 +1,4 @@
-//! One trace of an owner whose second datagram brings no new data, with its outcomes recorded.
+//! Traces with their outcomes recorded: of an owner whose second datagram brings no new data, and of slots.
 
 use plain_engine::PlainAdapter;
 use std::alloc::Global;
@@ -13,6 +13,10 @@ const TRACE: &str =
 const OLD: &str =
     "adapter 16 192.168.1.10 255.255.255.0 1 12 7 2 3\noutput 150 4 zero zero\ninput 100 4\nheartbeat 152 153\nread 150\n1 value 00000000\nread 150\n2 old\n";
 
+/// What a scanner is told, and what it tells of its slots.
+const SLOTS: &str =
+    "adapter 16 192.168.1.10 255.255.255.0 1 12 7 2 3\ninput 100 4\nheartbeat 152 153\nmode run\n1 done\nmode idle\nstart 0\n3 ignored\n3 note refused 0 encap 4294967295\n3 note refused 1 unreadable\n3 note refused 2 cip 01 0106\n3 note refused 3 cip 1c -\n3 note refused 4 mismatch Triad\n3 note refused 5 mismatch Id\n3 note refused 6 mismatch Api\n3 note no-ids 7\n3 note slot 8 6\nstop 63\n4 fault NoSuchSlot\n";
+
 fn is_written_as(trace: &Trace, alloc: Global, text: &str) -> bool {
     match write_trace(alloc, trace) {
         Ok(written) => written.as_str() == text,
@@ -24,6 +28,13 @@ fn is_written_as(trace: &Trace, alloc: Global, text: &str) -> bool {
 fn what_is_read_is_written_again(rt: HostRuntime) -> Result<(), Fail> {
     let trace = read_trace(rt.alloc(), OLD.as_bytes())?;
     assert!(rt; is_written_as(&trace, rt.alloc(), OLD));
+    Ok(())
+}
+
+#[test]
+fn what_is_told_of_slots_is_written_again(rt: HostRuntime) -> Result<(), Fail> {
+    let trace = read_trace(rt.alloc(), SLOTS.as_bytes())?;
+    assert!(rt; is_written_as(&trace, rt.alloc(), SLOTS));
     Ok(())
 }
 

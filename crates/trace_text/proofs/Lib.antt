@@ -3,4 +3,5 @@ mod LineWords
 mod NodeWords
 mod NumberWords
 mod Pieces
+mod Samples
 mod TextLines

@@ -1,8 +1,10 @@
 -- The lines of a trace: an adapter's profile, what happens at the adapter, and what it made of that.
 -- A line is a keyword or the number of an event, and words behind it.
-use Rattle.std.specs.Prelude.{ℕ, nat_lt, Bool, List, [], ◌∷◌, codes, Option, Some, None, if◌then◌else◌, option_map}
+use Rattle.std.specs.Prelude.{ℕ, nat_lt, Bool, true, false, List, [], ◌∷◌, codes, Option, Some, None, if◌then◌else◌, option_map}
 use Rattle.std.specs.List.{list_all}
 use Rattle.cip_types.specs.declared.names.Identity.{Identity}
+use Rattle.cip_types.specs.declared.names.Mismatch.{Mismatch}
+use Rattle.cip_types.specs.declared.names.Mismatch.TheVariants as mismatch
 use Rattle.cip_types.specs.declared.names.Triad.{Triad}
 use Rattle.adapter_table.specs.declared.profile.OutputPoint.{OutputPoint}
 use Rattle.adapter_table.specs.declared.profile.InputPoint.{InputPoint}
@@ -17,6 +19,8 @@ use Rattle.cip_events.specs.declared.event.Verdict.{Verdict}
 use Rattle.cip_events.specs.declared.event.Verdict.TheVariants as verdict
 use Rattle.cip_events.specs.declared.event.Notice.{Notice}
 use Rattle.cip_events.specs.declared.event.Notice.TheVariants as notice
+use Rattle.cip_events.specs.declared.event.Reason.{Reason}
+use Rattle.cip_events.specs.declared.event.Reason.TheVariants as reason
 use Rattle.cip_events.specs.declared.event.StepFault.{StepFault}
 use Rattle.cip_events.specs.declared.event.StepFault.TheVariants as fault
 use Rattle.trace_text.specs.declared.forms.AdapterLine.{AdapterLine}
@@ -25,7 +29,7 @@ use Rattle.trace_text.specs.declared.forms.Line.{Line}
 use Rattle.trace_text.specs.declared.forms.Line.TheVariants as line
 use Rattle.trace_text.specs.declared.forms.Part.{Part}
 use Rattle.trace_text.specs.declared.forms.Part.TheVariants as part
-use Rattle.trace_text.specs.Words.{words_of, number_of, node_of, nodes_of, action_of, bytes_of, id_of}
+use Rattle.trace_text.specs.Words.{words_of, number_of, node_of, nodes_of, action_of, bytes_of, id_of, general_of, extra_of}
 use Rattle.trace_text.specs.Reader.{Reader, ◌>>=◌, next_word, gives, ends, refuses, Meanings, meaning}
 
 -- THE PROFILE
@@ -119,6 +123,29 @@ tick_reader = do
   ms ← next_word (number_of 32)
   ends (event.Tick ms)
 
+-- the modes of a scanner's application by their words
+abbrev pub mode_meanings : Meanings (Option Bool)
+mode_meanings = (codes "run", Some true) ∷ (codes "idle", Some false) ∷ []
+
+-- whether it runs
+unfoldable pub mode_of : List ℕ → Option Bool
+mode_of word = meaning mode_meanings None word
+
+abbrev pub mode_reader : Reader Event
+mode_reader = do
+  run ← next_word mode_of
+  ends (event.Mode run)
+
+abbrev pub start_reader : Reader Event
+start_reader = do
+  slot ← next_word (number_of 32)
+  ends (event.Start slot)
+
+abbrev pub stop_reader : Reader Event
+stop_reader = do
+  slot ← next_word (number_of 32)
+  ends (event.Stop slot)
+
 -- RECORDED OUTCOMES
 
 -- a connection's serial number, vendor number and originator serial number
@@ -152,6 +179,71 @@ stream_closed_reader = do
   stream ← next_word (number_of 16)
   ends (notice.StreamClosed stream)
 
+-- a slot, and the number of its state
+abbrev pub slot_reader : Reader Notice
+slot_reader = do
+  slot ← next_word (number_of 32)
+  state ← next_word (number_of 8)
+  ends (notice.Slot slot state)
+
+abbrev pub no_ids_reader : Reader Notice
+no_ids_reader = do
+  slot ← next_word (number_of 32)
+  ends (notice.NoIds slot)
+
+-- an encapsulation status
+abbrev pub encap_reader : Reader Reason
+encap_reader = do
+  status ← next_word (number_of 32)
+  ends (reason.Encap status)
+
+-- a general status and an extended one
+abbrev pub cip_reader : Reader Reason
+cip_reader = do
+  general ← next_word general_of
+  extra ← next_word extra_of
+  ends (reason.Cip (record { general = general; extra = extra }))
+
+-- what is amiss in a reply, by its name
+abbrev pub mismatch_meanings : Meanings (Option Mismatch)
+mismatch_meanings =
+    (codes "Triad", Some mismatch.Triad)
+    ∷ (codes "Id", Some mismatch.Id)
+    ∷ (codes "Api", Some mismatch.Api)
+    ∷ []
+
+unfoldable pub mismatch_of : List ℕ → Option Mismatch
+mismatch_of word = meaning mismatch_meanings None word
+
+abbrev pub mismatch_reader : Reader Reason
+mismatch_reader = do
+  why ← next_word mismatch_of
+  ends (reason.Mismatch why)
+
+abbrev pub unreadable_reader : Reader Reason
+unreadable_reader = ends reason.Unreadable
+
+-- the reasons, each by its first word
+abbrev pub reason_meanings : Meanings (Reader Reason)
+reason_meanings =
+    (codes "cip", cip_reader)
+    ∷ (codes "encap", encap_reader)
+    ∷ (codes "mismatch", mismatch_reader)
+    ∷ (codes "unreadable", unreadable_reader)
+    ∷ []
+
+abbrev pub reason_reader : Reader Reason
+reason_reader = do
+  word ← next_word Some
+  meaning reason_meanings refuses word
+
+-- a slot, and why a reply did not open its connection
+abbrev pub refused_reader : Reader Notice
+refused_reader = do
+  slot ← next_word (number_of 32)
+  why ← reason_reader
+  gives (notice.Refused slot why)
+
 -- the notices, each by its first word
 abbrev pub notice_meanings : Meanings (Reader Notice)
 notice_meanings =
@@ -161,6 +253,9 @@ notice_meanings =
     ∷ (codes "dropped", of_triad notice.Dropped)
     ∷ (codes "replaced", of_triad notice.Replaced)
     ∷ (codes "stream-closed", stream_closed_reader)
+    ∷ (codes "slot", slot_reader)
+    ∷ (codes "refused", refused_reader)
+    ∷ (codes "no-ids", no_ids_reader)
     ∷ []
 
 abbrev pub notice_reader : Reader Notice
@@ -212,6 +307,7 @@ abbrev pub verdict_meanings : Meanings (Option Verdict)
 verdict_meanings =
     (codes "done", Some verdict.Done)
     ∷ (codes "bad-frame", Some verdict.BadFrame)
+    ∷ (codes "ignored", Some verdict.Ignored)
     ∷ (codes "applied", Some (verdict.Delivered delivery.Applied))
     ∷ (codes "idle", Some (verdict.Delivered delivery.Idle))
     ∷ (codes "heartbeat", Some (verdict.Delivered delivery.Heartbeat))
@@ -280,6 +376,9 @@ line_meanings =
     ∷ (codes "write", tells line.Event write_reader)
     ∷ (codes "read", tells line.Event read_reader)
     ∷ (codes "tick", tells line.Event tick_reader)
+    ∷ (codes "mode", tells line.Event mode_reader)
+    ∷ (codes "start", tells line.Event start_reader)
+    ∷ (codes "stop", tells line.Event stop_reader)
     ∷ []
 
 -- a part of the outcome of the event of this number

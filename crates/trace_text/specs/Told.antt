@@ -1,6 +1,9 @@
 -- How the outcome of an event is printed: a line for what became of it, and a line each for the frames, the
 -- datagrams and the notices of its answer, in this order. A line begins with the event's number, and LF ends it.
 use Rattle.std.specs.Prelude.{ℕ, ◌+◌, List, [], ◌∷◌, ◌++◌, codes, decimal, flat_map, Ok, Err}
+use Rattle.cip_types.specs.declared.names.Fault.{Fault}
+use Rattle.cip_types.specs.declared.names.Mismatch.{Mismatch}
+use Rattle.cip_types.specs.declared.names.Mismatch.TheVariants as mismatch
 use Rattle.cip_types.specs.declared.names.Triad.{Triad}
 use Rattle.cip_events.specs.declared.event.Answer.{Answer}
 use Rattle.cip_events.specs.declared.event.Frame.{Frame}
@@ -10,13 +13,15 @@ use Rattle.cip_events.specs.declared.event.Sending.{Sending}
 use Rattle.cip_events.specs.declared.event.Delivery.{Delivery}
 use Rattle.cip_events.specs.declared.event.Delivery.TheVariants.{Applied, Idle, Heartbeat, Duplicate, Old, UnknownId, WrongSize, Malformed}
 use Rattle.cip_events.specs.declared.event.Verdict.{Verdict}
-use Rattle.cip_events.specs.declared.event.Verdict.TheVariants.{Done, BadFrame, Value, Delivered}
+use Rattle.cip_events.specs.declared.event.Verdict.TheVariants.{Done, BadFrame, Ignored, Value, Delivered}
 use Rattle.cip_events.specs.declared.event.Notice.{Notice}
-use Rattle.cip_events.specs.declared.event.Notice.TheVariants.{Opened, Closed, Expired, Dropped, Replaced, StreamClosed}
+use Rattle.cip_events.specs.declared.event.Notice.TheVariants.{Opened, Closed, Expired, Dropped, Replaced, StreamClosed, Slot, Refused, NoIds}
+use Rattle.cip_events.specs.declared.event.Reason.{Reason}
+use Rattle.cip_events.specs.declared.event.Reason.TheVariants as reason
 use Rattle.cip_events.specs.declared.event.StepFault.{StepFault}
 use Rattle.cip_events.specs.declared.event.StepFault.TheVariants.{OutOfMemory, TickTooLong, ClockEnd, NoSuchPoint, WrongLength, NoSuchSlot, NotAllowedNow}
 use Rattle.cip_events.specs.Outcomes.{Outcome}
-use Rattle.trace_text.specs.Words.{node_word, nodes_word, bytes_word, id_word}
+use Rattle.trace_text.specs.Words.{node_word, nodes_word, bytes_word, id_word, general_word, extra_word}
 
 -- WORDS
 
@@ -45,12 +50,31 @@ delivery_word Malformed = codes "malformed"
 abbrev pub verdict_words : Verdict → List ℕ
 verdict_words Done = codes "done"
 verdict_words BadFrame = codes "bad-frame"
+verdict_words Ignored = codes "ignored"
 verdict_words (Value bytes) = codes "value " ++ bytes_word bytes
 verdict_words (Delivered delivery) = delivery_word delivery
 
 -- a connection's serial number, vendor number and originator serial number
 abbrev pub triad_words : Triad → List ℕ
 triad_words triad = decimal triad.serial ++ (codes " " ++ (decimal triad.vendor ++ (codes " " ++ decimal triad.originator)))
+
+-- the status of a request that was refused
+abbrev pub refusal_words : Fault → List ℕ
+refusal_words fault = codes "cip " ++ (general_word fault.general ++ (codes " " ++ extra_word fault.extra))
+
+-- what is amiss in a reply
+abbrev pub mismatch_words : Mismatch → List ℕ
+mismatch_words mismatch.Triad = codes "mismatch Triad"
+mismatch_words mismatch.Id = codes "mismatch Id"
+mismatch_words mismatch.Api = codes "mismatch Api"
+mismatch_words (mismatch.Refused fault) = refusal_words fault
+
+-- why a reply did not open a slot's connection
+abbrev pub reason_words : Reason → List ℕ
+reason_words (reason.Encap status) = codes "encap " ++ decimal status
+reason_words reason.Unreadable = codes "unreadable"
+reason_words (reason.Cip fault) = refusal_words fault
+reason_words (reason.Mismatch why) = mismatch_words why
 
 -- LINES
 
@@ -72,6 +96,9 @@ notice_words (Expired triad) = codes "expired " ++ triad_words triad
 notice_words (Dropped triad) = codes "dropped " ++ triad_words triad
 notice_words (Replaced triad) = codes "replaced " ++ triad_words triad
 notice_words (StreamClosed stream) = codes "stream-closed " ++ decimal stream
+notice_words (Slot slot state) = codes "slot " ++ (decimal slot ++ (codes " " ++ decimal state))
+notice_words (Refused slot why) = codes "refused " ++ (decimal slot ++ (codes " " ++ reason_words why))
+notice_words (NoIds slot) = codes "no-ids " ++ decimal slot
 
 abbrev pub notice_line : ℕ → Notice → List ℕ
 notice_line number notice = decimal number ++ (codes " note " ++ (notice_words notice ++ codes "\n"))

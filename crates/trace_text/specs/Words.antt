@@ -2,7 +2,7 @@
 -- Numbers are decimal, an address is four numbers below 256 with dots between them (RFC 1123, 2.1), bytes
 -- are hexadecimal digits, two a byte.
 use Rattle.std.specs.Prelude.{ℕ, ◌^◌, ◌==◌, ◌&&◌, nat_lt, if◌then◌else◌, Bool, true, false, List, [], ◌∷◌, ◌++◌, length, codes, flat_map, bytes_eq, option_map, option_and_then, Option, Some, None}
-use Rattle.std.specs.Int.{w32, to_be_bytes, from_be_bytes}
+use Rattle.std.specs.Int.{w16, w32, to_be_bytes, from_be_bytes}
 use Rattle.std.specs.Str.{all_ascii_digits}
 use Rattle.std.specs.Str.Parse.{digits_value}
 use Rattle.std.specs.Result.{result_ok}
@@ -34,6 +34,15 @@ bytes_word (byte ∷ bytes) = encode_lower (byte ∷ bytes)
 -- a connection id, as eight hexadecimal digits
 abbrev pub id_word : ConnId → List ℕ
 id_word id = encode_lower (to_be_bytes w32 id.0)
+
+-- a general status, as two hexadecimal digits
+abbrev pub general_word : ℕ → List ℕ
+general_word general = encode_lower (general ∷ [])
+
+-- an extended status, as four hexadecimal digits; a dash for none
+abbrev pub extra_word : Option ℕ → List ℕ
+extra_word None = codes "-"
+extra_word (Some extra) = encode_lower (to_be_bytes w16 extra)
 
 -- what happens to an output
 abbrev pub action_word : Action → List ℕ
@@ -93,6 +102,22 @@ id_of_bytes bytes = if length bytes == 4 then Some (record { 0 = from_be_bytes w
 -- the connection id that eight digits of either case spell
 unfoldable pub id_of : List ℕ → Option ConnId
 id_of word = option_and_then id_of_bytes (digits_of word)
+
+abbrev pub general_of_bytes : List ℕ → Option ℕ
+general_of_bytes [] = None
+general_of_bytes (byte ∷ []) = Some byte
+general_of_bytes (byte ∷ next ∷ bytes) = None
+
+-- the general status that two digits of either case spell
+unfoldable pub general_of : List ℕ → Option ℕ
+general_of word = option_and_then general_of_bytes (digits_of word)
+
+abbrev pub extra_of_bytes : List ℕ → Option (Option ℕ)
+extra_of_bytes bytes = if length bytes == 2 then Some (Some (from_be_bytes w16 bytes)) else None
+
+-- the extended status that four digits of either case spell; none by a dash
+unfoldable pub extra_of : List ℕ → Option (Option ℕ)
+extra_of word = if is_dash word then Some None else option_and_then extra_of_bytes (digits_of word)
 
 -- the addresses that words write, each an address
 abbrev pub all_nodes : List (List ℕ) → Option (List Node)

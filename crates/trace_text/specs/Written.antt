@@ -1,6 +1,6 @@
 -- How a trace is written: the lines of its profile, and the line of each event with the outcome that is
 -- recorded of it. One space parts the words of a line, and LF ends it.
-use Rattle.std.specs.Prelude.{ℕ, ◌+◌, List, [], ◌∷◌, ◌++◌, codes, decimal, flat_map, Option, Some, None}
+use Rattle.std.specs.Prelude.{ℕ, ◌+◌, Bool, true, false, List, [], ◌∷◌, ◌++◌, codes, decimal, flat_map, Option, Some, None}
 use Rattle.std.specs.List.{join_with_byte}
 use Rattle.cip_types.specs.declared.names.Identity.{Identity}
 use Rattle.adapter_table.specs.declared.profile.OutputPoint.{OutputPoint}
@@ -9,7 +9,7 @@ use Rattle.adapter_table.specs.declared.profile.Profile.{Profile}
 use Rattle.cip_tables.specs.declared.table.Config.{Config}
 use Rattle.cip_tables.specs.declared.table.Config.TheVariants.{Adapter}
 use Rattle.cip_events.specs.declared.event.Event.{Event}
-use Rattle.cip_events.specs.declared.event.Event.TheVariants.{Request, StreamOpened, Frame, StreamCut, Datagram, Write, Read, Tick}
+use Rattle.cip_events.specs.declared.event.Event.TheVariants.{Request, StreamOpened, Frame, StreamCut, Datagram, Write, Read, Tick, Mode, Start, Stop}
 use Rattle.cip_events.specs.Outcomes.{Outcome}
 use Rattle.trace_text.specs.declared.trace.Trace.{Trace}
 use Rattle.trace_text.specs.Words.{node_word, bytes_word, action_word}
@@ -51,6 +51,11 @@ profile_text profile =
 
 -- EVENTS
 
+-- the application of a scanner runs, or is idle
+abbrev pub mode_word : Bool → List ℕ
+mode_word true = codes "run"
+mode_word false = codes "idle"
+
 abbrev pub event_words : Event → List (List ℕ)
 event_words (Request peer bytes) = codes "request" ∷ node_word peer ∷ bytes_word bytes ∷ []
 event_words (StreamOpened stream peer) = codes "stream" ∷ decimal stream ∷ node_word peer ∷ []
@@ -60,6 +65,9 @@ event_words (Datagram peer bytes) = codes "datagram" ∷ node_word peer ∷ byte
 event_words (Write point bytes) = codes "write" ∷ decimal point ∷ bytes_word bytes ∷ []
 event_words (Read point) = codes "read" ∷ decimal point ∷ []
 event_words (Tick ms) = codes "tick" ∷ decimal ms ∷ []
+event_words (Mode run) = codes "mode" ∷ mode_word run ∷ []
+event_words (Start slot) = codes "start" ∷ decimal slot ∷ []
+event_words (Stop slot) = codes "stop" ∷ decimal slot ∷ []
 
 abbrev pub recorded_text : ℕ → Option Outcome → List ℕ
 recorded_text number None = []

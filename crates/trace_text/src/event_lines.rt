@@ -1,7 +1,8 @@
 //! The lines that tell events.
 
+ghost use Rattle.std.specs.Prelude.{◌≡◌};
 ghost use Rattle.trace_text.specs.Reader.{unread_words, Takes};
-ghost use Rattle.trace_text.specs.Forms.{request_reader, stream_reader, frame_reader, cut_reader, datagram_reader, write_reader, read_reader, tick_reader};
+ghost use Rattle.trace_text.specs.Forms.{request_reader, stream_reader, frame_reader, cut_reader, datagram_reader, write_reader, read_reader, tick_reader, mode_of, mode_reader, start_reader, stop_reader};
 
 use crate::words::{LineFault, Words};
 use cip_tables::Event;
@@ -82,4 +83,43 @@ pub fn read_tick(words: &mut Words<'_>) -> Result<Event, LineFault>
     let ms = words.u32()?;
     words.end()?;
     Ok(Event::Tick { ms })
+}
+
+/// What follows `mode`: `run` or `idle`.
+pub fn read_mode(words: &mut Words<'_>) -> Result<Event, LineFault>
+    ensures { Takes (mode_reader (unread_words words.old)) result (unread_words words.new) }
+{
+    let run = runs(words.word()?).ok_or(LineFault::Bad)?;
+    words.end()?;
+    Ok(Event::Mode { run })
+}
+
+/// Whether the application of a scanner runs, as a word tells it.
+#[tactic(auto, unfolding(crate::specs::Forms::mode_of))]
+fn runs(word: &str) -> Option<bool>
+    ensures { result ≡ mode_of word.now }
+{
+    match word {
+        "run" => Some(true),
+        "idle" => Some(false),
+        _ => None,
+    }
+}
+
+/// What follows `start`: `SLOT`.
+pub fn read_start(words: &mut Words<'_>) -> Result<Event, LineFault>
+    ensures { Takes (start_reader (unread_words words.old)) result (unread_words words.new) }
+{
+    let slot = words.u32()?;
+    words.end()?;
+    Ok(Event::Start { slot })
+}
+
+/// What follows `stop`: `SLOT`.
+pub fn read_stop(words: &mut Words<'_>) -> Result<Event, LineFault>
+    ensures { Takes (stop_reader (unread_words words.old)) result (unread_words words.new) }
+{
+    let slot = words.u32()?;
+    words.end()?;
+    Ok(Event::Stop { slot })
 }

@@ -6,6 +6,7 @@ mod draft;
 mod event_lines;
 mod forms;
 mod lines;
+mod notice_lines;
 mod part_lines;
 mod profile_lines;
 mod told;

@@ -3,11 +3,12 @@
 ghost use Rattle.std.specs.Prelude.{◌≡◌, Some, IfSome, IfNone};
 ghost use Rattle.std.specs.List.{list_all};
 ghost use Rattle.trace_text.specs.Reader.{unread_words, Takes, Finds};
-ghost use Rattle.trace_text.specs.Forms.{is_ascii, line_of, line_reader};
+ghost use Rattle.trace_text.specs.Words.{number_of};
+ghost use Rattle.trace_text.specs.Forms.{is_ascii, line_of, line_reader, numbered};
 
 use crate::event_lines::{
-    read_cut, read_datagram, read_frame, read_read, read_request, read_stream, read_tick,
-    read_write,
+    read_cut, read_datagram, read_frame, read_mode, read_read, read_request, read_start, read_stop,
+    read_stream, read_tick, read_write,
 };
 use crate::forms::Line;
 use crate::part_lines::read_part;
@@ -56,10 +57,18 @@ fn read_words(alloc: Global, words: &mut Words<'_>) -> Result<Line, LineFault>
         "write" => Ok(Line::Event(read_write(alloc, words)?)),
         "read" => Ok(Line::Event(read_read(words)?)),
         "tick" => Ok(Line::Event(read_tick(words)?)),
-        _ => {
-            let number = read_u64(word).ok_or(LineFault::Bad)?;
-            let part = read_part(alloc, words)?;
-            Ok(Line::Recorded(number, part))
-        }
+        "mode" => Ok(Line::Event(read_mode(words)?)),
+        "start" => Ok(Line::Event(read_start(words)?)),
+        "stop" => Ok(Line::Event(read_stop(words)?)),
+        _ => read_recorded(alloc, words, word),
     }
+}
+
+/// What follows the number of an event: a part of its outcome.
+fn read_recorded(alloc: Global, words: &mut Words<'_>, number: &str) -> Result<Line, LineFault>
+    ensures { Takes (numbered (number_of 64 number.now) (unread_words words.old)) result (unread_words words.new) }
+{
+    let number = read_u64(number).ok_or(LineFault::Bad)?;
+    let part = read_part(alloc, words)?;
+    Ok(Line::Recorded(number, part))
 }

@@ -2,12 +2,12 @@
 
 ghost use Rattle.std.specs.Prelude.{◌≡◌};
 ghost use Rattle.trace_text.specs.Reader.{unread_words, Takes};
-ghost use Rattle.trace_text.specs.Forms.{triad_reader, last_triad_reader, opened_reader, stream_closed_reader, notice_reader, bytes_to, reply_reader, frame_out_reader, sending_reader, fault_of, verdict_of, value_reader, fault_reader, part_reader};
+ghost use Rattle.trace_text.specs.Forms.{bytes_to, reply_reader, frame_out_reader, sending_reader, fault_of, verdict_of, value_reader, fault_reader, part_reader};
 
 use crate::forms::Part;
+use crate::notice_lines::read_notice;
 use crate::words::{LineFault, Words};
-use cip_tables::{Delivery, Frame, Notice, Recipient, Sending, StepFault, Verdict};
-use cip_types::Triad;
+use cip_tables::{Delivery, Frame, Recipient, Sending, StepFault, Verdict};
 use std::alloc::Global;
 
 /// What follows the number of an event: a part of its outcome.
@@ -38,6 +38,7 @@ fn read_verdict(word: &str) -> Option<Verdict>
     match word {
         "done" => Some(Verdict::Done),
         "bad-frame" => Some(Verdict::BadFrame),
+        "ignored" => Some(Verdict::Ignored),
         "applied" => Some(Verdict::Delivered(Delivery::Applied)),
         "idle" => Some(Verdict::Delivered(Delivery::Idle)),
         "heartbeat" => Some(Verdict::Delivered(Delivery::Heartbeat)),
@@ -122,58 +123,4 @@ fn read_sending(alloc: Global, words: &mut Words<'_>) -> Result<Sending, LineFau
         nodes,
         bytes,
     })
-}
-
-/// What follows `note`.
-fn read_notice(alloc: Global, words: &mut Words<'_>) -> Result<Notice, LineFault>
-    ensures { Takes (notice_reader (unread_words words.old)) result (unread_words words.new) }
-{
-    match words.word()? {
-        "opened" => read_opened(alloc, words),
-        "closed" => Ok(Notice::Closed(last_triad(words)?)),
-        "expired" => Ok(Notice::Expired(last_triad(words)?)),
-        "dropped" => Ok(Notice::Dropped(last_triad(words)?)),
-        "replaced" => Ok(Notice::Replaced(last_triad(words)?)),
-        "stream-closed" => read_stream_closed(words),
-        _ => Err(LineFault::Bad),
-    }
-}
-
-fn read_opened(alloc: Global, words: &mut Words<'_>) -> Result<Notice, LineFault>
-    ensures { Takes (opened_reader (unread_words words.old)) result (unread_words words.new) }
-{
-    let triad = read_triad(words)?;
-    let id = words.id(alloc)?;
-    words.end()?;
-    Ok(Notice::Opened(triad, id))
-}
-
-fn read_stream_closed(words: &mut Words<'_>) -> Result<Notice, LineFault>
-    ensures { Takes (stream_closed_reader (unread_words words.old)) result (unread_words words.new) }
-{
-    let stream = words.u16()?;
-    words.end()?;
-    Ok(Notice::StreamClosed(stream))
-}
-
-fn read_triad(words: &mut Words<'_>) -> Result<Triad, LineFault>
-    ensures { Takes (triad_reader (unread_words words.old)) result (unread_words words.new) }
-{
-    let serial = words.u16()?;
-    let vendor = words.u16()?;
-    let originator = words.u32()?;
-    Ok(Triad {
-        serial,
-        vendor,
-        originator,
-    })
-}
-
-/// A triad at the end of a line.
-fn last_triad(words: &mut Words<'_>) -> Result<Triad, LineFault>
-    ensures { Takes (last_triad_reader (unread_words words.old)) result (unread_words words.new) }
-{
-    let triad = read_triad(words)?;
-    words.end()?;
-    Ok(triad)
 }

@@ -1,13 +1,13 @@
 //! Outcomes as they are written.
 
 ghost use Rattle.std.specs.Prelude.{◌≡◌, ◌++◌, OnOk, IfOk, string_bytes, flat_map, codes};
-ghost use Rattle.trace_text.specs.Words.{node_word, nodes_word, bytes_word, id_word};
-ghost use Rattle.trace_text.specs.Told.{fault_word, delivery_word, verdict_words, triad_words, recipient_words, frame_line, sending_line, notice_words, notice_line, answer_text, fault_line, outcome_text};
+ghost use Rattle.trace_text.specs.Words.{node_word, nodes_word, bytes_word, id_word, extra_word};
+ghost use Rattle.trace_text.specs.Told.{fault_word, delivery_word, verdict_words, triad_words, refusal_words, mismatch_words, reason_words, recipient_words, frame_line, sending_line, notice_words, notice_line, answer_text, fault_line, outcome_text};
 
 use cip_tables::{
-    Answer, Delivery, Frame, Notice, Outcome, Recipient, Sending, StepFault, Verdict,
+    Answer, Delivery, Frame, Notice, Outcome, Reason, Recipient, Sending, StepFault, Verdict,
 };
-use cip_types::{ConnId, Node, OutOfMemory, Triad};
+use cip_types::{ConnId, Fault, Mismatch, Node, OutOfMemory, Triad};
 use std::alloc::Global;
 use std::net::Ipv4Addr;
 
@@ -81,6 +81,7 @@ fn push_verdict(alloc: Global, out: &mut String, verdict: &Verdict) -> Result<()
     match verdict {
         Verdict::Done => push_text(out, "done"),
         Verdict::BadFrame => push_text(out, "bad-frame"),
+        Verdict::Ignored => push_text(out, "ignored"),
         Verdict::Value(bytes) => push_value(alloc, out, bytes.as_slice()),
         Verdict::Delivered(delivery) => push_text(out, delivery_name(*delivery)),
     }
@@ -222,7 +223,59 @@ fn push_notice_words(alloc: Global, out: &mut String, notice: Notice) -> Result<
         Notice::Dropped(triad) => push_triad(out, "dropped ", triad),
         Notice::Replaced(triad) => push_triad(out, "replaced ", triad),
         Notice::StreamClosed(stream) => Ok(write!(out, "stream-closed {stream}")?),
+        Notice::Slot(slot, state) => Ok(write!(out, "slot {slot} {state}")?),
+        Notice::Refused(slot, why) => push_refused(alloc, out, slot, why),
+        Notice::NoIds(slot) => Ok(write!(out, "no-ids {slot}")?),
     }
+}
+
+fn push_refused(alloc: Global, out: &mut String, slot: u32, why: Reason) -> Result<(), OutOfMemory>
+    ensures { OnOk result (string_bytes out.new ≡ string_bytes out.old ++ notice_words (Notice.Refused slot why)) }
+{
+    write!(out, "refused {slot} ")?;
+    push_reason(alloc, out, why)
+}
+
+fn push_reason(alloc: Global, out: &mut String, why: Reason) -> Result<(), OutOfMemory>
+    ensures { OnOk result (string_bytes out.new ≡ string_bytes out.old ++ reason_words why) }
+{
+    match why {
+        Reason::Encap(status) => Ok(write!(out, "encap {status}")?),
+        Reason::Unreadable => push_text(out, "unreadable"),
+        Reason::Cip(fault) => push_refusal(alloc, out, fault),
+        Reason::Mismatch(why) => push_mismatch(alloc, out, why),
+    }
+}
+
+fn push_mismatch(alloc: Global, out: &mut String, why: Mismatch) -> Result<(), OutOfMemory>
+    ensures { OnOk result (string_bytes out.new ≡ string_bytes out.old ++ mismatch_words why) }
+{
+    match why {
+        Mismatch::Triad => push_text(out, "mismatch Triad"),
+        Mismatch::Id => push_text(out, "mismatch Id"),
+        Mismatch::Api => push_text(out, "mismatch Api"),
+        Mismatch::Refused(fault) => push_refusal(alloc, out, fault),
+    }
+}
+
+fn push_refusal(alloc: Global, out: &mut String, fault: Fault) -> Result<(), OutOfMemory>
+    ensures { OnOk result (string_bytes out.new ≡ string_bytes out.old ++ refusal_words fault) }
+{
+    let general = hex::encode(alloc, &[fault.general])?;
+    let general = general.as_str();
+    write!(out, "cip {general} ")?;
+    push_extra(alloc, out, fault.extra)
+}
+
+/// An extended status as four lower-case hexadecimal digits; `-` for none.
+fn push_extra(alloc: Global, out: &mut String, extra: Option<u16>) -> Result<(), OutOfMemory>
+    ensures { OnOk result (string_bytes out.new ≡ string_bytes out.old ++ extra_word extra) }
+{
+    let Some(extra) = extra else {
+        return push_text(out, "-");
+    };
+    let digits = hex::encode(alloc, extra.to_be_bytes().as_slice())?;
+    push_text(out, digits.as_str())
 }
 
 fn push_opened(alloc: Global, out: &mut String, triad: Triad, id: ConnId) -> Result<(), OutOfMemory>

@@ -2,7 +2,7 @@
 
 ghost use Rattle.std.specs.Prelude.{◌≡◌, ◌↔◌, ◌==◌, [], IsOk, IfErr, length};
 ghost use Rattle.std.specs.List.{slice_split};
-ghost use Rattle.trace_text.specs.Words.{is_short_form, is_dash, number_of, node_of, nodes_of, action_of, bytes_of, digits_of, id_of, all_nodes};
+ghost use Rattle.trace_text.specs.Words.{is_short_form, is_dash, number_of, node_of, nodes_of, action_of, bytes_of, digits_of, id_of, general_of, extra_of, all_nodes};
 ghost use Rattle.trace_text.specs.Reader.{Finds};
 
 use cip_tables::Action;
@@ -143,6 +143,20 @@ impl<'a> Words<'a> {
         read_id(alloc, self.word()?)
     }
 
+    /// The next word as a general status.
+    pub fn general(&mut self, alloc: Global) -> Result<u8, LineFault>
+        ensures { Takes (next_word general_of (unread_words self.old)) result (unread_words self.new) }
+    {
+        read_general(alloc, self.word()?)
+    }
+
+    /// The next word as an extended status, or none.
+    pub fn extra(&mut self, alloc: Global) -> Result<Option<u16>, LineFault>
+        ensures { Takes (next_word extra_of (unread_words self.old)) result (unread_words self.new) }
+    {
+        read_extra(alloc, self.word()?)
+    }
+
     /// The next word as bytes.
     pub fn bytes(&mut self, alloc: Global) -> Result<Items<u8>, LineFault>
         ensures { Takes (next_word bytes_of (unread_words self.old)) result (unread_words self.new) }
@@ -267,6 +281,33 @@ fn read_id(alloc: Global, word: &str) -> Result<ConnId, LineFault>
         return Err(LineFault::Bad);
     };
     Ok(ConnId(u32::from_be_bytes([*a, *b, *c, *d])))
+}
+
+/// A general status as two hexadecimal digits of either case.
+#[tactic(auto, unfolding(crate::specs::Words::general_of))]
+fn read_general(alloc: Global, word: &str) -> Result<u8, LineFault>
+    ensures { Finds (general_of word.now) result }
+{
+    let bytes = read_digits(alloc, word)?;
+    let [general] = bytes.as_slice() else {
+        return Err(LineFault::Bad);
+    };
+    Ok(*general)
+}
+
+/// An extended status as four hexadecimal digits of either case; `-` for none.
+#[tactic(auto, unfolding(crate::specs::Words::extra_of))]
+fn read_extra(alloc: Global, word: &str) -> Result<Option<u16>, LineFault>
+    ensures { Finds (extra_of word.now) result }
+{
+    if is_dash(word) {
+        return Ok(None);
+    }
+    let bytes = read_digits(alloc, word)?;
+    let [high, low] = bytes.as_slice() else {
+        return Err(LineFault::Bad);
+    };
+    Ok(Some(u16::from_be_bytes([*high, *low])))
 }
 
 /// Addresses parted by commas; `-` for none.

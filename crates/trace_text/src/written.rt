@@ -2,7 +2,7 @@
 
 ghost use Rattle.std.specs.Prelude.{◌≡◌, ◌++◌, ◌∷◌, [], OnOk, IfOk, string_bytes, flat_map, codes, decimal};
 ghost use Rattle.trace_text.specs.Words.{action_word, node_word, bytes_word};
-ghost use Rattle.trace_text.specs.Written.{line_text, identity_words, adapter_words, output_words, point_words, heartbeat_words, config_text, profile_text, event_words, recorded_text, entries_text, trace_text};
+ghost use Rattle.trace_text.specs.Written.{mode_word, line_text, identity_words, adapter_words, output_words, point_words, heartbeat_words, config_text, profile_text, event_words, recorded_text, entries_text, trace_text};
 
 use crate::told::{push_last_bytes, push_node, push_outcome};
 use crate::trace::Trace;
@@ -175,7 +175,23 @@ fn push_event(alloc: Global, out: &mut String, event: &Event) -> Result<(), OutO
         }
         Event::Read { point } => Ok(write!(out, "read {point}\n")?),
         Event::Tick { ms } => Ok(write!(out, "tick {ms}\n")?),
+        Event::Mode { run } => push_mode(out, *run),
+        Event::Start { slot } => Ok(write!(out, "start {slot}\n")?),
+        Event::Stop { slot } => Ok(write!(out, "stop {slot}\n")?),
     }
+}
+
+fn push_mode(out: &mut String, run: bool) -> Result<(), OutOfMemory>
+    ensures { OnOk result (string_bytes out.new ≡ string_bytes out.old ++ line_text (event_words (Event.Mode run))) }
+{
+    let mode = mode_name(run);
+    Ok(write!(out, "mode {mode}\n")?)
+}
+
+fn mode_name(run: bool) -> &'static str
+    ensures { result.now ≡ mode_word run }
+{
+    if run { "run" } else { "idle" }
 }
 
 fn push_stream(out: &mut String, stream: u16, peer: Node) -> Result<(), OutOfMemory>

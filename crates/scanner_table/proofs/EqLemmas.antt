@@ -1,0 +1,230 @@
+-- Tables that pass the derived test for equal values are equal, and equal ones pass it.
+use mathlib.Core.HLevel.{is_prop→PathP}
+use Rattle.std.proofs.Common.{◌≡◌, ◌<◌, Option, ℕ, nat_eq, ap, rules}
+use Rattle.std.proofs.Math.Bridge.{le_prop}
+use Rattle.std.specs.Bool.{Decides}
+use Rattle.std.specs.Option.{option_eq}
+use Rattle.std.specs.Cmp.{booleans_Decides}
+use Rattle.std.specs.Cmp.Lexicographic.{pointwise_decides}
+use Rattle.std.proofs.lemmas.Bool.Decides.{Decides-eqb, Decides-and, Decides-like}
+use Rattle.cip_types.specs.declared.names.Ms.{Ms}
+use Rattle.cip_types.specs.declared.names.Triad.{Triad}
+use Rattle.cip_types.specs.declared.names.Node.{Node}
+use Rattle.cip_types.specs.declared.names.ConnId.{ConnId}
+use Rattle.cip_netparams.specs.declared.Trigger.{Trigger}
+use Rattle.cip_epath.specs.declared.key.Key.{Key}
+use Rattle.cip_productions.specs.declared.kind.Kind.{Kind}
+use Rattle.cip_productions.specs.declared.production.Production.{Production}
+use Rattle.cip_productions.specs.declared.acceptance.Accepted.{Accepted}
+use Rattle.conn_state.specs.declared.names.Link.{Link}
+use Rattle.conn_state.specs.declared.names.Wanted.{Wanted}
+use Rattle.scanner_table.specs.declared.profile.SlotConfig.{SlotConfig}
+use Rattle.scanner_table.specs.declared.profile.ScannerProfile.{ScannerProfile}
+use Rattle.scanner_table.specs.declared.slot.Opening.{Opening}
+use Rattle.scanner_table.specs.declared.slot.Connection.{Connection}
+use Rattle.scanner_table.specs.declared.slot.Closing.{Closing}
+use Rattle.scanner_table.specs.declared.slot.SlotState.{SlotState}
+use Rattle.scanner_table.specs.declared.slot.Slot.{Slot}
+use Rattle.scanner_table.specs.declared.table.Stage.{Stage}
+use Rattle.scanner_table.specs.declared.table.TargetStream.{TargetStream}
+use Rattle.scanner_table.specs.declared.table.ScannerTable.{ScannerTable}
+use Rattle.cip_types.specs.contracts.names.MsPartialEq.TheImpl as ms
+use Rattle.cip_types.specs.contracts.names.NodePartialEq.TheImpl as node
+use Rattle.cip_types.specs.contracts.names.ConnIdPartialEq.TheImpl as id
+use Rattle.cip_types.specs.contracts.names.TriadPartialEq.TheImpl as triad
+use Rattle.cip_netparams.specs.contracts.TriggerPartialEq.TheImpl as trigger
+use Rattle.cip_epath.specs.contracts.key.KeyPartialEq.TheImpl as key
+use Rattle.cip_productions.specs.contracts.kind.KindPartialEq.TheImpl as kind
+use Rattle.cip_productions.specs.contracts.production.ProductionPartialEq.TheImpl as production
+use Rattle.cip_productions.specs.contracts.acceptance.AcceptedPartialEq.TheImpl as accepted
+use Rattle.conn_state.specs.contracts.names.LinkPartialEq.TheImpl as link
+use Rattle.conn_state.specs.contracts.names.WantedPartialEq.TheImpl as wanted
+use Rattle.scanner_table.specs.contracts.profile.SlotConfigPartialEq.TheImpl as config
+use Rattle.scanner_table.specs.contracts.profile.ScannerProfilePartialEq.TheImpl as profile
+use Rattle.scanner_table.specs.contracts.slot.OpeningPartialEq.TheImpl as opening
+use Rattle.scanner_table.specs.contracts.slot.ConnectionPartialEq.TheImpl as connection
+use Rattle.scanner_table.specs.contracts.slot.ClosingPartialEq.TheImpl as closing
+use Rattle.scanner_table.specs.contracts.slot.SlotStatePartialEq.TheImpl as state
+use Rattle.scanner_table.specs.contracts.slot.SlotPartialEq.TheImpl as slot
+use Rattle.scanner_table.specs.contracts.table.StagePartialEq.TheImpl as stage
+use Rattle.scanner_table.specs.contracts.table.TargetStreamPartialEq.TheImpl as stream
+use Rattle.scanner_table.specs.contracts.table.ScannerTablePartialEq.TheImpl as table
+
+-- ---- times, addresses, ids
+
+ms_decides : (a b : Ms) → Decides ((ms.ghosts).eq a b) (a ≡ b)
+ms_decides a b = search rules
+
+node_decides : (a b : Node) → Decides ((node.ghosts).eq a b) (a ≡ b)
+node_decides a b = search rules
+
+id_decides : (a b : ConnId) → Decides ((id.ghosts).eq a b) (a ≡ b)
+id_decides a b = search rules
+
+triad_decides : (a b : Triad) → Decides ((triad.ghosts).eq a b) (a ≡ b)
+triad_decides a b = search rules
+
+trigger_decides : (a b : Trigger) → Decides ((trigger.ghosts).eq a b) (a ≡ b)
+trigger_decides a b = search rules
+
+kind_decides : (a b : Kind) → Decides ((kind.ghosts).eq a b) (a ≡ b)
+kind_decides a b = search rules
+
+link_decides : (a b : Link) → Decides ((link.ghosts).eq a b) (a ≡ b)
+link_decides a b = search rules
+
+wanted_decides : (a b : Wanted) → Decides ((wanted.ghosts).eq a b) (a ≡ b)
+wanted_decides a b = search rules
+
+-- ---- profiles
+
+-- the two keys have equal fields
+abbrev SameKey : Key → Key → Type 0
+SameKey a b = (a.vendor ≡ b.vendor) × ((a.device_type ≡ b.device_type) × ((a.product ≡ b.product) × ((a.compatible ≡ b.compatible) × ((a.major ≡ b.major) × (a.minor ≡ b.minor)))))
+
+-- they are then one key: that a major revision has seven bits has one proof
+key_is : (a b : Key) → SameKey a b → a ≡ b
+key_is a b same = λ i. record {
+  vendor = same.0 i;
+  device_type = same.1.0 i;
+  product = same.1.1.0 i;
+  compatible = same.1.1.1.0 i;
+  major = same.1.1.1.1.0 i;
+  minor = same.1.1.1.1.1 i;
+  seven_bits = is_prop→PathP (λ j. same.1.1.1.1.0 j < 128) (λ j. le_prop) a.seven_bits b.seven_bits i;
+}
+
+same_key : (a b : Key) → a ≡ b → SameKey a b
+same_key a b is = (
+  ap (λ (k : Key). k.vendor) is,
+  (
+    ap (λ (k : Key). k.device_type) is,
+    (ap (λ (k : Key). k.product) is, (ap (λ (k : Key). k.compatible) is, (ap (λ (k : Key). k.major) is, ap (λ (k : Key). k.minor) is))),
+  ),
+)
+
+key_decides : (a b : Key) → Decides ((key.ghosts).eq a b) (a ≡ b)
+key_decides a b =
+    Decides-like ((key.ghosts).eq a b) (key_is a b) (same_key a b)
+    (Decides-and _ _ (Decides-eqb a.vendor b.vendor)
+    (Decides-and _ _ (Decides-eqb a.device_type b.device_type)
+    (Decides-and _ _ (Decides-eqb a.product b.product)
+    (Decides-and _ _ (booleans_Decides a.compatible b.compatible)
+    (Decides-and _ _ (Decides-eqb a.major b.major)
+    (Decides-eqb a.minor b.minor))))))
+
+keys_decide : (a b : Option Key) → Decides (option_eq (key.ghosts).eq a b) (a ≡ b)
+keys_decide a b = search (rules, key_decides)
+
+numbers_decide : (a b : Option ℕ) → Decides (option_eq nat_eq a b) (a ≡ b)
+numbers_decide a b = search rules
+
+config_decides : (a b : SlotConfig) → Decides ((config.ghosts).eq a b) (a ≡ b)
+config_decides a b =
+    Decides-like ((config.ghosts).eq a b) (λ p. search rules) (λ e. search rules)
+    (Decides-and _ _ (node_decides a.target b.target)
+    (Decides-and _ _ (kind_decides a.kind b.kind)
+    (Decides-and _ _ (numbers_decide a.config b.config)
+    (Decides-and _ _ (Decides-eqb a.consumed b.consumed)
+    (Decides-and _ _ (Decides-eqb a.produced b.produced)
+    (Decides-and _ _ (Decides-eqb a.out_len b.out_len)
+    (Decides-and _ _ (Decides-eqb a.in_len b.in_len)
+    (Decides-and _ _ (Decides-eqb a.o_t_rpi b.o_t_rpi)
+    (Decides-and _ _ (Decides-eqb a.t_o_rpi b.t_o_rpi)
+    (Decides-and _ _ (Decides-eqb a.mult b.mult)
+    (Decides-and _ _ (booleans_Decides a.multicast b.multicast)
+    (Decides-and _ _ (keys_decide a.key b.key)
+    (Decides-and _ _ (pointwise_decides Decides-eqb a.config_data b.config_data)
+    (Decides-and _ _ (trigger_decides a.trigger b.trigger)
+    (Decides-eqb a.inhibit b.inhibit)))))))))))))))
+
+profile_decides : (a b : ScannerProfile) → Decides ((profile.ghosts).eq a b) (a ≡ b)
+profile_decides a b =
+    Decides-like ((profile.ghosts).eq a b) (λ p. search rules) (λ e. search rules)
+    (Decides-and _ _ (Decides-eqb a.incarnation b.incarnation)
+    (Decides-and _ _ (node_decides a.node b.node)
+    (Decides-and _ _ (Decides-eqb a.vendor b.vendor)
+    (Decides-and _ _ (Decides-eqb a.serial b.serial)
+    (Decides-and _ _ (Decides-eqb a.open_timeout b.open_timeout)
+    (Decides-and _ _ (Decides-eqb a.retry b.retry)
+    (pointwise_decides config_decides a.slots b.slots)))))))
+
+-- ---- slots
+
+accepted_decides : (a b : Accepted) → Decides ((accepted.ghosts).eq a b) (a ≡ b)
+accepted_decides a b = search rules
+
+last_decides : (a b : Option Accepted) → Decides (option_eq (accepted.ghosts).eq a b) (a ≡ b)
+last_decides a b = search rules
+
+time_decides : (a b : Option Ms) → Decides (option_eq (ms.ghosts).eq a b) (a ≡ b)
+time_decides a b = search rules
+
+production_decides : (a b : Production) → Decides ((production.ghosts).eq a b) (a ≡ b)
+production_decides a b =
+    Decides-like ((production.ghosts).eq a b) (λ p. search rules) (λ e. search rules)
+    (Decides-and _ _ (Decides-eqb a.producer b.producer)
+    (Decides-and _ _ (Decides-eqb a.sequence b.sequence)
+    (Decides-and _ _ (Decides-eqb a.count b.count)
+    (Decides-and _ _ (booleans_Decides a.written b.written)
+    (Decides-and _ _ (ms_decides a.due b.due)
+    (Decides-and _ _ (node_decides a.address b.address)
+    (Decides-and _ _ (trigger_decides a.trigger b.trigger)
+    (Decides-and _ _ (Decides-eqb a.inhibit b.inhibit)
+    (time_decides a.last b.last)))))))))
+
+opening_decides : (a b : Opening) → Decides ((opening.ghosts).eq a b) (a ≡ b)
+opening_decides a b =
+    Decides-like ((opening.ghosts).eq a b) (λ p. search rules) (λ e. search rules)
+    (Decides-and _ _ (Decides-eqb a.request b.request) (Decides-and _ _ (wanted_decides a.wanted b.wanted) (ms_decides a.deadline b.deadline)))
+
+connection_decides : (a b : Connection) → Decides ((connection.ghosts).eq a b) (a ≡ b)
+connection_decides a b =
+    Decides-like ((connection.ghosts).eq a b) (λ p. search rules) (λ e. search rules)
+    (Decides-and _ _ (Decides-eqb a.opening b.opening)
+    (Decides-and _ _ (link_decides a.link b.link)
+    (Decides-and _ _ (Decides-eqb a.o_t_api b.o_t_api)
+    (Decides-and _ _ (Decides-eqb a.t_o_api b.t_o_api)
+    (Decides-and _ _ (last_decides a.last b.last)
+    (Decides-and _ _ (ms_decides a.deadline b.deadline)
+    (production_decides a.production b.production)))))))
+
+closing_decides : (a b : Closing) → Decides ((closing.ghosts).eq a b) (a ≡ b)
+closing_decides a b =
+    Decides-like ((closing.ghosts).eq a b) (λ p. search rules) (λ e. search rules)
+    (Decides-and _ _ (Decides-eqb a.request b.request) (Decides-and _ _ (link_decides a.link b.link) (ms_decides a.deadline b.deadline)))
+
+state_decides : (a b : SlotState) → Decides ((state.ghosts).eq a b) (a ≡ b)
+state_decides a b = search (rules, opening_decides, connection_decides, link_decides, closing_decides)
+
+slot_decides : (a b : Slot) → Decides ((slot.ghosts).eq a b) (a ≡ b)
+slot_decides a b =
+    Decides-like ((slot.ghosts).eq a b) (λ p. search rules) (λ e. search rules)
+    (Decides-and _ _ (state_decides a.state b.state)
+    (Decides-and _ _ (booleans_Decides a.wanted b.wanted)
+    (Decides-and _ _ (ms_decides a.retry b.retry)
+    (Decides-and _ _ (pointwise_decides Decides-eqb a.output b.output)
+    (pointwise_decides Decides-eqb a.image b.image)))))
+
+-- ---- tables
+
+stage_decides : (a b : Stage) → Decides ((stage.ghosts).eq a b) (a ≡ b)
+stage_decides a b = search rules
+
+stream_decides : (a b : TargetStream) → Decides ((stream.ghosts).eq a b) (a ≡ b)
+stream_decides a b =
+    Decides-like ((stream.ghosts).eq a b) (λ p. search rules) (λ e. search rules)
+    (Decides-and _ _ (Decides-eqb a.number b.number) (Decides-and _ _ (node_decides a.peer b.peer) (stage_decides a.stage b.stage)))
+
+-- two tables that pass the test are equal, and equal tables pass it
+pub scanner_decides : (a b : ScannerTable) → Decides ((table.ghosts).eq a b) (a ≡ b)
+scanner_decides a b =
+    Decides-like ((table.ghosts).eq a b) (λ p. search rules) (λ e. search rules)
+    (Decides-and _ _ (profile_decides a.profile b.profile)
+    (Decides-and _ _ (pointwise_decides slot_decides a.slots b.slots)
+    (Decides-and _ _ (booleans_Decides a.run b.run)
+    (Decides-and _ _ (ms_decides a.clock b.clock)
+    (Decides-and _ _ (Decides-eqb a.next_id b.next_id)
+    (Decides-and _ _ (Decides-eqb a.next_serial b.next_serial)
+    (Decides-and _ _ (Decides-eqb a.next_request b.next_request)
+    (pointwise_decides stream_decides a.streams b.streams))))))))

@@ -1,0 +1,11 @@
+mod EqLemmas
+mod IdsLemmas
+mod RequestLemmas
+mod SmallScanner
+mod OpeningSamples
+mod ReplySamples
+mod DataSamples
+mod CheckSamples
+mod WholeLemmas
+mod WholeSteps
+mod WholeTicks

@@ -1,0 +1,266 @@
+-- What is whole stays so when one slot is changed, numbers are drawn, and streams open and end.
+use Rattle.std.proofs.Common.{◌≡◌, ◌≤◌, ℕ, zero, suc, ◌+◌, Bool, true, false, cond, ◌||◌, ◌==◌, List, [], ◌∷◌, ◌++◌, length, map, filter, find, slice_get, slice_set, Option, Some, refl, sym, ◌∙◌, ap, subst, arith, length-append}
+use Rattle.std.specs.List.{list_any}
+use Rattle.std.proofs.lemmas.Bool.{or_parts}
+use Rattle.std.proofs.lemmas.Bool.Decides.{nat_tests}
+use Rattle.std.proofs.lemmas.Grind.{common_steps}
+use Rattle.std.proofs.lemmas.List.Folds.{list_any-append}
+use Rattle.scanner_table.specs.declared.profile.SlotConfig.{SlotConfig}
+use Rattle.scanner_table.specs.declared.slot.Slot.{Slot}
+use Rattle.scanner_table.specs.declared.slot.SlotState.{SlotState}
+use Rattle.scanner_table.specs.declared.slot.SlotState.TheVariants.{Idle, Opening, Established, TimedOut, Closing}
+use Rattle.scanner_table.specs.declared.table.ScannerTable.{ScannerTable}
+use Rattle.scanner_table.specs.declared.table.Stage.{Stage}
+use Rattle.scanner_table.specs.declared.table.TargetStream.{TargetStream}
+use Rattle.scanner_table.specs.Slots.{Place, places_from, places, with_slot}
+use Rattle.scanner_table.specs.Sessions.{is_stream, is_to, staged_stream}
+use Rattle.scanner_table.specs.Effects.{Effect, on_each, nothing}
+use Rattle.scanner_table.specs.Whole.{FitsState, FitsSlot, SlotsFit, IdsDiffer, RequestsDiffer, StreamsDiffer, IsWhole}
+
+-- ---- later tables
+
+pub state_later : (r s k l : ℕ) (wanted : Bool) (state : SlotState) → r ≤ s → k ≤ l → FitsState r k wanted state → FitsState s l wanted state
+state_later r s k l wanted Idle up on fits = tt
+state_later r s k l wanted (Opening o) up on fits = (fits.0, omega (arith, fits.1))
+state_later r s k l wanted (Established c) up on fits =
+    (fits.0, record { opening = omega (arith, fits.1.opening); o_t_api = fits.1.o_t_api; t_o_api = fits.1.t_o_api; due = omega (arith, fits.1.due) })
+state_later r s k l wanted (TimedOut link) up on fits = fits
+state_later r s k l wanted (Closing c) up on fits = (fits.0, omega (arith, fits.1))
+
+pub slot_later : (r s k l : ℕ) (config : SlotConfig) (slot : Slot) → r ≤ s → k ≤ l → FitsSlot r k config slot → FitsSlot s l config slot
+slot_later r s k l config slot up on fits = record { output = fits.output; image = fits.image; state = state_later r s k l slot.wanted slot.state up on fits.state }
+
+pub slots_later : (r s k l : ℕ) (configs : List SlotConfig) (slots : List Slot) → r ≤ s → k ≤ l → SlotsFit r k configs slots → SlotsFit s l configs slots
+slots_later r s k l [] [] up on fit = tt
+slots_later r s k l [] (slot ∷ slots) up on fit = absurd fit
+slots_later r s k l (config ∷ configs) [] up on fit = absurd fit
+slots_later r s k l (config ∷ configs) (slot ∷ slots) up on fit = (slot_later r s k l config slot up on fit.0, slots_later r s k l configs slots up on fit.1)
+
+-- a table with the same profile and clock, and no fewer requests
+pub record Later (t u : ScannerTable) : Type 0 where
+  pub profile : u.profile ≡ t.profile
+  pub clock : u.clock ≡ t.clock
+  pub requests : t.next_request ≤ u.next_request
+
+pub same_later : (t : ScannerTable) → Later t t
+same_later t = record { profile = refl; clock = refl; requests = omega arith }
+
+pub later_later : (t u v : ScannerTable) → Later t u → Later u v → Later t v
+later_later t u v first next = record { profile = next.profile ∙ first.profile; clock = next.clock ∙ first.clock; requests = omega (arith, first.requests, next.requests) }
+
+-- ---- places
+
+-- the place is one of the table's, or was
+pub record IsAt (t : ScannerTable) (place : Place) : Type 0 where
+  pub config : slice_get t.profile.slots place.number ≡ Some place.config
+  pub fits : FitsSlot t.next_request t.clock.0 place.config place.slot
+
+pub is_at_later : (t u : ScannerTable) (place : Place) → Later t u → IsAt t place → IsAt u place
+is_at_later t u place later at = record {
+  config = rw later.profile at.config;
+  fits = rw later.clock (slot_later t.next_request u.next_request t.clock.0 t.clock.0 place.config place.slot later.requests (omega arith) at.fits);
+}
+
+-- it holds of each place
+abbrev pub Each : (Place → Type 0) → List Place → Type 0
+Each P [] = Unit {0}
+Each P (place ∷ rest) = P place × Each P rest
+
+pub each_filter : (P : Place → Type 0) (p : Place → Bool) (rest : List Place) → Each P rest → Each P (filter p rest)
+each_filter P p [] all = tt
+each_filter P p (place ∷ rest) all =
+    elim (p place) as (λ b. Each P (cond b (place ∷ filter p rest) (filter p rest))) [
+      | true ↦ (all.0, each_filter P p rest all.1)
+      | false ↦ each_filter P p rest all.1
+    ]
+
+found_step : (b : Bool) (P : Place → Type 0) (first place : Place) (rest : Option Place) → cond b (Some first) rest ≡ Some place → P first → (rest ≡ Some place → P place) → P place
+found_step true P first place rest is here more = let same : first ≡ place = cc in subst P same here
+found_step false P first place rest is here more = more is
+
+pub each_found : (P : Place → Type 0) (p : Place → Bool) (all : List Place) (place : Place) → find p all ≡ Some place → Each P all → P place
+each_found P p [] place is all = absurd cc
+each_found P p (first ∷ rest) place is all = found_step (p first) P first place (find p rest) is all.0 (λ later. each_found P p rest place later all.1)
+
+-- what stands in places from a number on stands so in all places
+abbrev StandsIn : List SlotConfig → ℕ → List SlotConfig → Type 0
+StandsIn all number configs = (k : ℕ) (config : SlotConfig) → slice_get configs k ≡ Some config → slice_get all (number + k) ≡ Some config
+
+head_stands : (all : List SlotConfig) (number : ℕ) (config : SlotConfig) (configs : List SlotConfig) → StandsIn all number (config ∷ configs) → slice_get all number ≡ Some config
+head_stands all number config configs stands = let same : number + 0 ≡ number = omega arith in subst (λ (n : ℕ). slice_get all n ≡ Some config) same (stands 0 config refl)
+
+tail_stands : (all : List SlotConfig) (number : ℕ) (config : SlotConfig) (configs : List SlotConfig) → StandsIn all number (config ∷ configs) → StandsIn all (suc number) configs
+tail_stands all number config configs stands = λ k other is.
+    let same : number + suc k ≡ suc number + k = omega arith in
+    subst (λ (n : ℕ). slice_get all n ≡ Some other) same (stands (suc k) other is)
+
+places_at : (t : ScannerTable) (number : ℕ) (configs : List SlotConfig) (slots : List Slot) → StandsIn t.profile.slots number configs → SlotsFit t.next_request t.clock.0 configs slots → Each (IsAt t) (places_from number configs slots)
+places_at t number [] slots stands fit = tt
+places_at t number (config ∷ configs) [] stands fit = tt
+places_at t number (config ∷ configs) (slot ∷ slots) stands fit =
+    (record { config = head_stands t.profile.slots number config configs stands; fits = fit.0 }, places_at t (suc number) configs slots (tail_stands t.profile.slots number config configs stands) fit.1)
+
+all_stand : (configs : List SlotConfig) → StandsIn configs 0 configs
+all_stand configs = λ k config is. let same : k ≡ 0 + k = omega arith in subst (λ (n : ℕ). slice_get configs n ≡ Some config) same is
+
+pub each_at : (t : ScannerTable) → IsWhole t → Each (IsAt t) (places t)
+each_at t whole = places_at t 0 t.profile.slots t.slots (all_stand t.profile.slots) whole.slots
+
+-- the place is one of the table's now
+abbrev pub IsNow : ScannerTable → Place → Type 0
+IsNow t place = slice_get t.slots place.number ≡ Some place.slot
+
+abbrev SlotStands : List Slot → ℕ → List Slot → Type 0
+SlotStands all number slots = (k : ℕ) (slot : Slot) → slice_get slots k ≡ Some slot → slice_get all (number + k) ≡ Some slot
+
+head_now : (all : List Slot) (number : ℕ) (slot : Slot) (slots : List Slot) → SlotStands all number (slot ∷ slots) → slice_get all number ≡ Some slot
+head_now all number slot slots stands = let same : number + 0 ≡ number = omega arith in subst (λ (n : ℕ). slice_get all n ≡ Some slot) same (stands 0 slot refl)
+
+tail_now : (all : List Slot) (number : ℕ) (slot : Slot) (slots : List Slot) → SlotStands all number (slot ∷ slots) → SlotStands all (suc number) slots
+tail_now all number slot slots stands = λ k other is.
+    let same : number + suc k ≡ suc number + k = omega arith in
+    subst (λ (n : ℕ). slice_get all n ≡ Some other) same (stands (suc k) other is)
+
+places_now : (t : ScannerTable) (number : ℕ) (configs : List SlotConfig) (slots : List Slot) → SlotStands t.slots number slots → Each (IsNow t) (places_from number configs slots)
+places_now t number [] slots stands = tt
+places_now t number (config ∷ configs) [] stands = tt
+places_now t number (config ∷ configs) (slot ∷ slots) stands =
+    (head_now t.slots number slot slots stands, places_now t (suc number) configs slots (tail_now t.slots number slot slots stands))
+
+all_now : (slots : List Slot) → SlotStands slots 0 slots
+all_now slots = λ k slot is. let same : k ≡ 0 + k = omega arith in subst (λ (n : ℕ). slice_get slots n ≡ Some slot) same is
+
+pub each_now : (t : ScannerTable) → Each (IsNow t) (places t)
+each_now t = places_now t 0 t.profile.slots t.slots (all_now t.slots)
+
+-- ---- another slot
+
+set_fits : (r c k : ℕ) (configs : List SlotConfig) (slots : List Slot) (slot : Slot) → SlotsFit r c configs slots → ((config : SlotConfig) → slice_get configs k ≡ Some config → FitsSlot r c config slot) → SlotsFit r c configs (slice_set slots k slot)
+set_fits r c k [] [] slot fit new = tt
+set_fits r c k [] (first ∷ slots) slot fit new = absurd fit
+set_fits r c k (config ∷ configs) [] slot fit new = absurd fit
+set_fits r c zero (config ∷ configs) (first ∷ slots) slot fit new = (new config refl, fit.1)
+set_fits r c (suc k) (config ∷ configs) (first ∷ slots) slot fit new = (fit.0, set_fits r c k configs slots slot fit.1 new)
+
+some_is : (a b : SlotConfig) → Some a ≡ Some b → a ≡ b
+some_is a b is = cc
+
+pub whole_with : (t : ScannerTable) (place : Place) (slot : Slot) → IsWhole t → slice_get t.profile.slots place.number ≡ Some place.config → FitsSlot t.next_request t.clock.0 place.config slot → IdsDiffer (places_from 0 t.profile.slots (slice_set t.slots place.number slot)) → RequestsDiffer (slice_set t.slots place.number slot) → IsWhole (with_slot t place.number slot)
+whole_with t place slot whole at fits differ apart = record {
+  ids_differ = differ;
+  requests_differ = apart;
+  faultless = whole.faultless;
+  slots = set_fits t.next_request t.clock.0 place.number t.profile.slots t.slots slot whole.slots
+      (λ config is. subst (λ (c : SlotConfig). FitsSlot t.next_request t.clock.0 c slot) (some_is place.config config (sym at ∙ is)) fits);
+  clock = whole.clock;
+  ids = whole.ids;
+  serial_begins = whole.serial_begins;
+  serial_ends = whole.serial_ends;
+  requests = whole.requests;
+  few_streams = whole.few_streams;
+  streams_differ = whole.streams_differ;
+}
+
+-- ---- effects
+
+-- the table after an effect is whole, and later than the one before it
+pub record Keeps (t : ScannerTable) (effect : Effect) : Type 0 where
+  pub whole : IsWhole effect.table
+  pub later : Later t effect.table
+
+pub keeps_nothing : (t : ScannerTable) → IsWhole t → Keeps t (nothing t)
+keeps_nothing t whole = record { whole = whole; later = same_later t }
+
+-- an effect on places of which something holds keeps a table whole
+abbrev pub KeepsAt : (Place → Type 0) → (ScannerTable → Place → Effect) → Type 0
+KeepsAt Q effect = (t : ScannerTable) (place : Place) → IsWhole t → IsAt t place → Q place → Keeps t (effect t place)
+
+each_later : (t u : ScannerTable) (rest : List Place) → Later t u → Each (IsAt t) rest → Each (IsAt u) rest
+each_later t u [] later all = tt
+each_later t u (place ∷ rest) later all = (is_at_later t u place later all.0, each_later t u rest later all.1)
+
+pub keeps_each : (Q : Place → Type 0) (effect : ScannerTable → Place → Effect) → KeepsAt Q effect → (rest : List Place) (t : ScannerTable) → IsWhole t → Each (IsAt t) rest → Each Q rest → Keeps t (on_each effect rest t)
+keeps_each Q effect keep [] t whole at holds = keeps_nothing t whole
+keeps_each Q effect keep (place ∷ rest) t whole at holds =
+    let first = keep t place whole at.0 holds.0 in
+    let next = keeps_each Q effect keep rest (effect t place).table first.whole (each_later t (effect t place).table rest first.later at.1) holds.1 in
+    record { whole = next.whole; later = later_later t (effect t place).table (on_each effect rest (effect t place).table).table first.later next.later }
+
+-- nothing more need hold
+abbrev pub Any : Place → Type 0
+Any place = Unit {0}
+
+pub each_any : (rest : List Place) → Each Any rest
+each_any [] = tt
+each_any (place ∷ rest) = (tt, each_any rest)
+
+passes_step : (p : Place → Bool) (b : Bool) (place : Place) (rest : List Place) → p place ≡ b → Each (λ other. p other ≡ true) rest → Each (λ other. p other ≡ true) (cond b (place ∷ rest) rest)
+passes_step p true place rest is all = (is, all)
+passes_step p false place rest is all = all
+
+-- a filter's places pass it
+pub each_passes : (p : Place → Bool) (all : List Place) → Each (λ place. p place ≡ true) (filter p all)
+each_passes p [] = tt
+each_passes p (place ∷ rest) = passes_step p (p place) place (filter p rest) refl (each_passes p rest)
+
+-- ---- streams
+
+pub few_with : (streams : List TargetStream) (stream : TargetStream) → length streams + 1 ≤ 16 → length (streams ++ stream ∷ []) ≤ 16
+few_with streams stream room = simp length-append (omega arith)
+
+other_number : (a b : ℕ) → (a == b) ≡ false → (b == a) ≡ false
+other_number a b h = grind (arith, nat_tests)
+
+pub differ_with : (streams : List TargetStream) (new : TargetStream) → StreamsDiffer streams → list_any (is_stream new.number) streams ≡ false → list_any (is_to new.peer) streams ≡ false → StreamsDiffer (streams ++ new ∷ [])
+differ_with [] new differ none alone = (refl, refl, tt)
+differ_with (stream ∷ streams) new differ none alone =
+    let parts = or_parts (is_stream new.number stream) (list_any (is_stream new.number) streams) none in
+    let apart = or_parts (is_to new.peer stream) (list_any (is_to new.peer) streams) alone in (
+      rw (list_any-append (is_stream stream.number) streams (new ∷ []), differ.0, other_number stream.number new.number parts.0) refl,
+      rw (list_any-append (is_to stream.peer) streams (new ∷ []), differ.1, other_number stream.peer.0 new.peer.0 apart.0) refl,
+      differ_with streams new differ.2 parts.1 apart.1,
+    )
+
+pub few_left : (p : TargetStream → Bool) (streams : List TargetStream) → length (filter p streams) ≤ length streams
+few_left p [] = omega arith
+few_left p (stream ∷ streams) = grind (arith, common_steps, few_left p streams)
+
+any_left : (p q : TargetStream → Bool) (streams : List TargetStream) → list_any q streams ≡ false → list_any q (filter p streams) ≡ false
+any_left p q [] none = refl
+any_left p q (stream ∷ streams) none =
+    let parts = or_parts (q stream) (list_any q streams) none in
+    grind (arith, common_steps, parts, any_left p q streams parts.1)
+
+pub differ_left : (p : TargetStream → Bool) (streams : List TargetStream) → StreamsDiffer streams → StreamsDiffer (filter p streams)
+differ_left p [] differ = tt
+differ_left p (stream ∷ streams) differ =
+    elim (p stream) as (λ b. StreamsDiffer (cond b (stream ∷ filter p streams) (filter p streams))) [
+      | true ↦ (any_left p (is_stream stream.number) streams differ.0, any_left p (is_to stream.peer) streams differ.1, differ_left p streams differ.2)
+      | false ↦ differ_left p streams differ.2
+    ]
+
+same_number : (b : Bool) (stage : Stage) (stream : TargetStream) → (cond b (record stream { stage = stage }) stream).number ≡ stream.number
+same_number true stage stream = refl
+same_number false stage stream = refl
+
+same_peer : (b : Bool) (stage : Stage) (stream : TargetStream) → (cond b (record stream { stage = stage }) stream).peer ≡ stream.peer
+same_peer true stage stream = refl
+same_peer false stage stream = refl
+
+any_staged : (number other : ℕ) (stage : Stage) (streams : List TargetStream) → list_any (is_stream other) (map (staged_stream number stage) streams) ≡ list_any (is_stream other) streams
+any_staged number other stage [] = refl
+any_staged number other stage (stream ∷ streams) =
+    rw (same_number (is_stream number stream) stage stream) (ap (λ b. is_stream other stream || b) (any_staged number other stage streams))
+
+any_to_staged : (number : ℕ) (stage : Stage) (one : TargetStream) (streams : List TargetStream) → list_any (is_to one.peer) (map (staged_stream number stage) streams) ≡ list_any (is_to one.peer) streams
+any_to_staged number stage one [] = refl
+any_to_staged number stage one (stream ∷ streams) =
+    rw (same_peer (is_stream number stream) stage stream) (ap (λ b. is_to one.peer stream || b) (any_to_staged number stage one streams))
+
+pub differ_staged : (number : ℕ) (stage : Stage) (streams : List TargetStream) → StreamsDiffer streams → StreamsDiffer (map (staged_stream number stage) streams)
+differ_staged number stage [] differ = tt
+differ_staged number stage (stream ∷ streams) differ = (
+  rw (same_number (is_stream number stream) stage stream, any_staged number stream.number stage streams) differ.0,
+  rw (same_peer (is_stream number stream) stage stream, any_to_staged number stage stream streams) differ.1,
+  differ_staged number stage streams differ.2,
+)

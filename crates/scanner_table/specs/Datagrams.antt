@@ -1,0 +1,74 @@
+-- Class 1 datagrams that come to a scanner: which slot they are for, whether they are accepted, and what they
+-- do to its image (Volume 1, chapter 3, class 1 transport, connection timeouts; Volume 2, chapter 2, sequenced
+-- address item).
+use Rattle.std.specs.Prelude.{ℕ, ◌==◌, ◌&&◌, Bool, if◌then◌else◌, List, length, find, Option, Some, None, Result, Ok, Err}
+use Rattle.cip_types.specs.declared.names.Node.{Node}
+use Rattle.cip_types.specs.declared.names.Ms.{Ms}
+use Rattle.cip_netparams.specs.Rate.{timeout}
+use Rattle.cip_datagram.specs.declared.datagram.DatagramFault.{DatagramFault}
+use Rattle.cip_datagram.specs.Datagram.{DatagramFields}
+use Rattle.cip_datagram.specs.Reading.{datagram_reading}
+use Rattle.cip_events.specs.declared.event.Delivery.{Delivery}
+use Rattle.cip_events.specs.declared.event.Delivery.TheVariants.{Applied, Duplicate, Old, UnknownId, WrongSize, Malformed}
+use Rattle.cip_events.specs.declared.event.Verdict.TheVariants.{Delivered}
+use Rattle.cip_events.specs.Answers.{plain_answer}
+use Rattle.cip_productions.specs.Acceptance.{is_news, is_repeated}
+use Rattle.scanner_table.specs.declared.slot.Connection.{Connection}
+use Rattle.scanner_table.specs.declared.slot.SlotState.{SlotState}
+use Rattle.scanner_table.specs.declared.slot.SlotState.TheVariants.{Idle, Opening, Established, TimedOut, Closing}
+use Rattle.scanner_table.specs.declared.table.ScannerTable.{ScannerTable}
+use Rattle.scanner_table.specs.Slots.{Place, places, is_with, with_slot}
+use Rattle.scanner_table.specs.Effects.{Next}
+use Rattle.scanner_table.specs.Opening.{later}
+use Rattle.scanner_table.specs.Replies.{state_consumes}
+
+-- the slot's connection is established with the peer, and has this T->O id
+abbrev pub is_for : Node → ℕ → Place → Bool
+is_for peer id place = is_with peer place && state_consumes (record { 0 = id }) place.slot.state
+
+-- the datagram is the last that the connection accepted, and the next one is waited for from now on
+abbrev pub accepted_connection : Ms → ℕ → DatagramFields → Connection → Connection
+accepted_connection clock mult d c = record c {
+  last = Some (record { number = d.sequence; count = d.count });
+  deadline = later clock (timeout mult c.t_o_api);
+}
+
+-- the image of the slot becomes these bytes, at an accepted datagram
+abbrev pub accepted_table : ScannerTable → Place → DatagramFields → Connection → List ℕ → ScannerTable
+accepted_table t place d c bytes =
+    with_slot t place.number (record place.slot { state = Established (accepted_connection t.clock place.config.mult d c); image = bytes })
+
+abbrev pub delivered : Delivery → ScannerTable → Next
+delivered delivery t = (plain_answer (Delivered delivery), t)
+
+-- the count of the last accepted datagram again brings no new data
+abbrev pub accepted : ScannerTable → Place → DatagramFields → Connection → Next
+accepted t place d c =
+    if is_repeated c.last d.count then delivered Duplicate (accepted_table t place d c place.slot.image)
+    else delivered Applied (accepted_table t place d c d.payload)
+
+abbrev pub sized : ScannerTable → Place → DatagramFields → Connection → Next
+sized t place d c = if is_news c.last d.sequence then accepted t place d c else delivered Old t
+
+abbrev pub connected : ScannerTable → Place → DatagramFields → Connection → Next
+connected t place d c = if length d.payload == place.config.in_len then sized t place d c else delivered WrongSize t
+
+abbrev pub state_received : ScannerTable → Place → DatagramFields → SlotState → Next
+state_received t place d Idle = delivered UnknownId t
+state_received t place d (Opening o) = delivered UnknownId t
+state_received t place d (Established c) = connected t place d c
+state_received t place d (TimedOut link) = delivered UnknownId t
+state_received t place d (Closing c) = delivered UnknownId t
+
+-- the same of the slot that it is for, if there is one
+abbrev pub received_at : ScannerTable → DatagramFields → Option Place → Next
+received_at t d None = delivered UnknownId t
+received_at t d (Some place) = state_received t place d place.slot.state
+
+abbrev pub received_as : ScannerTable → Node → Result DatagramFields DatagramFault → Next
+received_as t peer (Err fault) = delivered Malformed t
+received_as t peer (Ok d) = received_at t d (find (is_for peer d.connection) (places t))
+
+-- a datagram of a peer
+unfoldable pub received : ScannerTable → Node → List ℕ → Next
+received t peer bytes = received_as t peer (datagram_reading bytes)

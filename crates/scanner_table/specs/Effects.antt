@@ -1,0 +1,68 @@
+-- What the effects of an event add up to: requests that are sent, what is told of slots, and the table.
+use Rattle.std.specs.Prelude.{ℕ, ◌+◌, ◌==◌, if◌then◌else◌, List, [], ◌∷◌, ◌++◌, map}
+use Rattle.cip_events.specs.declared.event.Answer.{Answer}
+use Rattle.cip_events.specs.declared.event.Notice.{Notice}
+use Rattle.cip_events.specs.declared.event.Notice.TheVariants as notice
+use Rattle.cip_events.specs.declared.event.Sending.{Sending}
+use Rattle.cip_events.specs.declared.event.Verdict.TheVariants.{Done}
+use Rattle.scanner_table.specs.declared.slot.Slot.{Slot}
+use Rattle.scanner_table.specs.declared.slot.SlotState.{SlotState}
+use Rattle.scanner_table.specs.declared.table.ScannerTable.{ScannerTable}
+use Rattle.scanner_table.specs.Slots.{Place, with_slot, number_of}
+use Rattle.scanner_table.specs.Sessions.{Session}
+use Rattle.scanner_table.specs.Asking.{Request, Sent, numbered, sent_frame}
+
+-- an answer, and the table after it
+abbrev pub Next : Type 0
+Next = Answer × ScannerTable
+
+-- what is sent, what is told, and the table after it
+pub record Effect : Type 0 where
+  pub sent : List Sent
+  pub notices : List Notice
+  pub table : ScannerTable
+
+abbrev pub nothing : ScannerTable → Effect
+nothing t = record { sent = []; notices = []; table = t }
+
+-- one effect after another
+abbrev pub after : Effect → Effect → Effect
+after first next = record { sent = first.sent ++ next.sent; notices = first.notices ++ next.notices; table = next.table }
+
+-- an effect, and the next one on the table that it leaves
+abbrev pub and_then : Effect → (ScannerTable → Effect) → Effect
+and_then first next = after first (next first.table)
+
+-- the effects on places, one after another
+abbrev pub on_each : (ScannerTable → Place → Effect) → List Place → ScannerTable → Effect
+on_each effect [] t = nothing t
+on_each effect (place ∷ rest) t = and_then (effect t place) (on_each effect rest)
+
+-- a state is told where its number is another than before
+abbrev pub state_notices : ℕ → SlotState → SlotState → List Notice
+state_notices number old new = if number_of old == number_of new then [] else notice.Slot number (number_of new) ∷ []
+
+-- another slot stands in a place; what is told of it goes before its new state
+abbrev pub changed : ScannerTable → Place → Slot → List Notice → Effect
+changed t place slot told = record {
+  sent = [];
+  notices = told ++ state_notices place.number place.slot.state slot.state;
+  table = with_slot t place.number slot;
+}
+
+-- the next request is numbered
+abbrev pub counted : ScannerTable → ScannerTable
+counted t = record t { next_request = t.next_request + 1 }
+
+-- the next request is sent, and another slot stands in the place
+abbrev pub asked : ScannerTable → Place → Session → Request → Slot → Effect
+asked t place session request slot = record (changed (counted t) place slot []) { sent = numbered session t.next_request request ∷ [] }
+
+-- THE ANSWER
+
+-- an answer that is done, with datagrams
+abbrev pub sent_answer : Effect → List Sending → Answer
+sent_answer effect datagrams = record { frames = map sent_frame effect.sent; datagrams = datagrams; verdict = Done; notices = effect.notices }
+
+abbrev pub done : Effect → Next
+done effect = (sent_answer effect [], effect.table)

@@ -1,0 +1,110 @@
+-- Streams to targets, and the messages that come over them (Volume 2, chapter 2, encapsulation messages,
+-- RegisterSession and SendRRData).
+use Rattle.std.specs.Prelude.{ℕ, ◌==◌, ◌&&◌, Bool, false, if◌then◌else◌, List, [], ◌∷◌, length, find, Option, Some, None, Result, Ok, Err}
+use Rattle.cip_types.specs.declared.names.Node.{Node}
+use Rattle.cip_encap.specs.declared.message.EncapFault.{EncapFault}
+use Rattle.cip_encap.specs.Message.{MessageFields}
+use Rattle.cip_encap.specs.Reading.{message_reading}
+use Rattle.cip_events.specs.declared.event.StepFault.{StepFault}
+use Rattle.cip_events.specs.declared.event.StepFault.TheVariants.{NotAllowedNow}
+use Rattle.cip_events.specs.declared.event.Verdict.TheVariants.{BadFrame, Ignored}
+use Rattle.cip_events.specs.Answers.{plain_answer}
+use Rattle.scanner_table.specs.declared.slot.SlotState.{SlotState}
+use Rattle.scanner_table.specs.declared.slot.SlotState.TheVariants.{Idle, Opening, Established, TimedOut, Closing}
+use Rattle.scanner_table.specs.declared.table.ScannerTable.{ScannerTable}
+use Rattle.scanner_table.specs.declared.table.Stage.{Stage}
+use Rattle.scanner_table.specs.declared.table.Stage.TheVariants.{Waiting, Up, Unused}
+use Rattle.scanner_table.specs.declared.table.TargetStream.{TargetStream}
+use Rattle.scanner_table.specs.Slots.{Place, places, is_with}
+use Rattle.scanner_table.specs.Sessions.{is_stream, is_taken, with_stream, without_stream, with_stage}
+use Rattle.scanner_table.specs.Asking.{is_large, registration}
+use Rattle.scanner_table.specs.Effects.{Next, Effect, nothing, changed, done}
+use Rattle.scanner_table.specs.Opening.{target_opened}
+use Rattle.scanner_table.specs.Replies.{open_told, answered}
+use Rattle.scanner_table.specs.Closing.{idle_slot, target_lost}
+
+-- STREAMS THAT OPEN AND BREAK
+
+-- a session is asked for on a stream that opens
+abbrev pub registering_on : ScannerTable → ℕ → Node → Effect
+registering_on t number target = record { sent = registration number ∷ []; notices = []; table = with_stream t number target }
+
+-- a stream to a target opens
+unfoldable pub stream_opened : ScannerTable → ℕ → Node → Result Next StepFault
+stream_opened t number target = if is_taken t.streams number target then Err NotAllowedNow else Ok (done (registering_on t number target))
+
+-- the same of the stream that is found, if one is
+abbrev pub cut_of : ScannerTable → Option TargetStream → Result Next StepFault
+cut_of t None = Err NotAllowedNow
+cut_of t (Some stream) = Ok (done (target_lost stream.peer (without_stream t stream.number)))
+
+-- a stream breaks, or its target ends it
+unfoldable pub stream_cut : ScannerTable → ℕ → Result Next StepFault
+stream_cut t number = cut_of t (find (is_stream number) t.streams)
+
+-- REGISTRATION
+
+-- the message is RegisterSession's, a success, and has its four bytes
+abbrev pub is_registered : MessageFields → Bool
+is_registered m = m.command == 0x0065 && (m.status == 0 && length m.payload == 4)
+
+-- the session is registered, and the slots of its target that may try now open
+abbrev pub session_begun : ScannerTable → TargetStream → ℕ → Effect
+session_begun t stream handle = target_opened stream.peer (with_stage t stream.number (Up handle))
+
+-- the registration failed
+abbrev pub session_failed : ScannerTable → TargetStream → Effect
+session_failed t stream = nothing (with_stage t stream.number Unused)
+
+abbrev pub registered : ScannerTable → TargetStream → MessageFields → Effect
+registered t stream m = if is_registered m then session_begun t stream m.session else session_failed t stream
+
+-- MESSAGES
+
+-- a message that nothing waits for
+abbrev pub ignored : ScannerTable → Next
+ignored t = (plain_answer Ignored, t)
+
+abbrev pub waits_for : ℕ → SlotState → Bool
+waits_for number Idle = false
+waits_for number (Opening o) = o.request == number
+waits_for number (Established c) = false
+waits_for number (TimedOut link) = false
+waits_for number (Closing c) = c.request == number
+
+-- the slot waits for the reply to the request of this number, from this target
+abbrev pub is_awaiting : Node → ℕ → Place → Bool
+is_awaiting target number place = is_with target place && waits_for number place.slot.state
+
+-- a reply to a request to close ends the connection, whatever it says
+abbrev pub replied : ScannerTable → Place → MessageFields → SlotState → Next
+replied t place m Idle = ignored t
+replied t place m (Opening o) = done (answered t place o (open_told (is_large place.config) m))
+replied t place m (Established c) = ignored t
+replied t place m (TimedOut link) = ignored t
+replied t place m (Closing c) = done (changed t place (idle_slot place.slot) [])
+
+-- the same of the slot that waits for it, if one does
+abbrev pub replied_to : ScannerTable → MessageFields → Option Place → Next
+replied_to t m None = ignored t
+replied_to t m (Some place) = replied t place m place.slot.state
+
+-- what becomes of a message: the reply to the registration has sender context 0, and that to a request its number
+abbrev pub told : ScannerTable → TargetStream → MessageFields → Stage → Next
+told t stream m Waiting = if m.context == 0 then done (registered t stream m) else ignored t
+told t stream m (Up handle) = replied_to t m (find (is_awaiting stream.peer m.context) (places t))
+told t stream m Unused = ignored t
+
+-- what becomes of a frame of an open stream
+abbrev pub frame_answer : ScannerTable → TargetStream → Result MessageFields EncapFault → Next
+frame_answer t stream (Err fault) = (plain_answer BadFrame, t)
+frame_answer t stream (Ok m) = told t stream m stream.stage
+
+-- the same of the stream that is found, if one is
+abbrev pub frame_of : ScannerTable → List ℕ → Option TargetStream → Result Next StepFault
+frame_of t bytes None = Err NotAllowedNow
+frame_of t bytes (Some stream) = Ok (frame_answer t stream (message_reading bytes))
+
+-- a frame on a stream
+unfoldable pub frame : ScannerTable → ℕ → List ℕ → Result Next StepFault
+frame t number bytes = frame_of t bytes (find (is_stream number) t.streams)

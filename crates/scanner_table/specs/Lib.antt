@@ -1,0 +1,15 @@
+pub mod Profiles
+pub mod Slots
+pub mod Sessions
+pub mod Asking
+pub mod Effects
+pub mod Opening
+pub mod Replies
+pub mod Closing
+pub mod Encapsulation
+pub mod Datagrams
+pub mod Productions
+pub mod Ticks
+pub mod Points
+pub mod Step
+pub mod Whole

@@ -1,0 +1,88 @@
+-- Openings: a slot whose connection is to be open asks its target for it (Volume 1, chapter 3, Forward_Open
+-- service).
+use Rattle.std.specs.Prelude.{ℕ, ◌+◌, ◌^◌, ◌==◌, ◌&&◌, ◌||◌, nat_le, Bool, false, if◌then◌else◌, List, [], ◌∷◌, filter, Option, Some, None}
+use Rattle.cip_types.specs.declared.names.Node.{Node}
+use Rattle.cip_types.specs.declared.names.Ms.{Ms}
+use Rattle.cip_events.specs.declared.event.Notice.TheVariants as notice
+use Rattle.scanner_table.specs.declared.profile.SlotConfig.{SlotConfig}
+use Rattle.scanner_table.specs.declared.slot.Slot.{Slot}
+use Rattle.scanner_table.specs.declared.slot.SlotState.TheVariants.{Idle, Opening}
+use Rattle.scanner_table.specs.declared.table.ScannerTable.{ScannerTable}
+use Rattle.scanner_table.specs.Slots.{Place, places, is_with, is_ready}
+use Rattle.scanner_table.specs.Sessions.{Session, session_with}
+use Rattle.scanner_table.specs.Asking.{opening, is_large, next_wanted, open_fields}
+use Rattle.scanner_table.specs.Effects.{Effect, nothing, on_each, changed, asked}
+
+-- NUMBERS THAT ARE DRAWN
+
+-- a request number is left
+abbrev pub has_request : ScannerTable → Bool
+has_request t = nat_le t.next_request (2 ^ 48)
+
+-- a connection id is left, or none is drawn
+abbrev pub has_id : ScannerTable → SlotConfig → Bool
+has_id t config = config.multicast || nat_le t.next_id 16777215
+
+abbrev pub can_open : ScannerTable → SlotConfig → Bool
+can_open t config = has_request t && has_id t config
+
+-- the serial number of an opening is never 0
+abbrev pub serial_after : ℕ → ℕ
+serial_after serial = if serial == 65535 then 1 else serial + 1
+
+abbrev pub id_after : SlotConfig → ℕ → ℕ
+id_after config counter = if config.multicast then counter else counter + 1
+
+-- the serial number of an opening of the slot is drawn, and its id where it has one
+abbrev pub drawn : ScannerTable → SlotConfig → ScannerTable
+drawn t config = record t { next_id = id_after config t.next_id; next_serial = serial_after t.next_serial }
+
+-- OPENING ONE
+
+abbrev pub later : Ms → ℕ → Ms
+later clock ms = record { 0 = clock.0 + ms }
+
+-- the slot waits for the answer to its next opening
+abbrev pub opening_slot : ScannerTable → Place → Slot
+opening_slot t place = record place.slot {
+  state = Opening (record { request = t.next_request; wanted = next_wanted t place.config; deadline = later t.clock t.profile.open_timeout });
+}
+
+-- the slot is not to be open
+abbrev pub resigned : Slot → Slot
+resigned slot = record slot { state = Idle; wanted = false }
+
+-- no number is left for what the slot was to ask
+abbrev pub exhausted : ScannerTable → Place → Effect
+exhausted t place = changed t place (resigned place.slot) (notice.NoIds place.number ∷ [])
+
+-- a Forward_Open is sent
+abbrev pub open_asked : ScannerTable → Place → Session → Effect
+open_asked t place session =
+    asked (drawn t place.config) place session (opening (is_large place.config) (open_fields place.config (next_wanted t place.config))) (opening_slot t place)
+
+-- the same, where numbers are left for it, within a session
+abbrev pub opened_within : ScannerTable → Place → Option Session → Effect
+opened_within t place None = nothing t
+opened_within t place (Some session) = if can_open t place.config then open_asked t place session else exhausted t place
+
+-- a slot opens, where the session with its target is registered
+unfoldable pub opened : ScannerTable → Place → Effect
+opened t place = opened_within t place (session_with t place.config.target)
+
+-- OPENING ALL THAT MAY
+
+abbrev pub is_ready_place : Ms → Place → Bool
+is_ready_place clock place = is_ready clock place.slot
+
+-- the slots that may try now, in their order
+abbrev pub ready_places : ScannerTable → List Place
+ready_places t = filter (is_ready_place t.clock) (places t)
+
+-- all slots that may try now
+unfoldable pub ready_opened : ScannerTable → Effect
+ready_opened t = on_each opened (ready_places t) t
+
+-- those among them with the target
+unfoldable pub target_opened : Node → ScannerTable → Effect
+target_opened target t = on_each opened (filter (is_with target) (ready_places t)) t

@@ -1,0 +1,104 @@
+-- What the slots send: when each is due, and what it produces (Volume 1, chapter 3, class 1 transport and real
+-- time formats; Volume 2, chapter 2, sequenced address item).
+use Rattle.std.specs.Prelude.{ℕ, ◌==◌, ◌&&◌, ◌||◌, nat_lt, Bool, true, false, if◌then◌else◌, List, [], ◌∷◌, ◌++◌, map, filter, Option, Some, None}
+use Rattle.std.specs.Int.{w32, to_le_bytes}
+use Rattle.std.specs.List.{filter_map}
+use Rattle.cip_types.specs.declared.names.Ms.{Ms}
+use Rattle.cip_types.specs.Order.{in_order}
+use Rattle.cip_datagram.specs.Header.{mode_header}
+use Rattle.cip_productions.specs.Kinds.{is_owner}
+use Rattle.cip_productions.specs.declared.production.Producer.{Producer}
+use Rattle.cip_productions.specs.Productions.{is_production_due, produced, Produced, produced_by}
+use Rattle.scanner_table.specs.declared.slot.Connection.{Connection}
+use Rattle.scanner_table.specs.declared.slot.Slot.{Slot}
+use Rattle.scanner_table.specs.declared.slot.SlotState.{SlotState}
+use Rattle.scanner_table.specs.declared.slot.SlotState.TheVariants.{Idle, Opening, Established, TimedOut, Closing}
+use Rattle.scanner_table.specs.declared.table.ScannerTable.{ScannerTable}
+use Rattle.scanner_table.specs.Slots.{Place, places}
+
+-- NEW DATA
+
+abbrev pub written_connection : Connection → Connection
+written_connection c = record c { production = record c.production { written = true } }
+
+-- an established connection's producer has new data
+abbrev pub written_state : SlotState → SlotState
+written_state Idle = Idle
+written_state (Opening o) = Opening o
+written_state (Established c) = Established (written_connection c)
+written_state (TimedOut link) = TimedOut link
+written_state (Closing c) = Closing c
+
+-- WHAT A SLOT PRODUCES
+
+-- what a slot sends: an owner the mode of the application and its output, another kind nothing
+abbrev pub slot_data : Bool → Place → List ℕ
+slot_data run place = if is_owner place.config.kind then to_le_bytes w32 (mode_header run) ++ place.slot.output else []
+
+-- the producer of a slot's connection
+abbrev pub connection_producer : Place → Connection → Producer
+connection_producer place c = record { point = place.number; id = c.link.o_t_id; production = c.production }
+
+-- what a connection produces next, for its target alone
+abbrev pub connection_production : Bool → Place → Connection → Produced
+connection_production run place c = produced_by (place.config.target ∷ []) (slot_data run place) (connection_producer place c)
+
+abbrev pub state_production : Bool → Place → SlotState → Option Produced
+state_production run place Idle = None
+state_production run place (Opening o) = None
+state_production run place (Established c) = Some (connection_production run place c)
+state_production run place (TimedOut link) = None
+state_production run place (Closing c) = None
+
+-- what a slot produces next, which one with an established connection does
+abbrev pub slot_production : Bool → Place → Option Produced
+slot_production run place = state_production run place place.slot.state
+
+-- SLOTS THAT ARE DUE
+
+abbrev pub state_is_due : Ms → SlotState → Bool
+state_is_due clock Idle = false
+state_is_due clock (Opening o) = false
+state_is_due clock (Established c) = is_production_due clock c.production
+state_is_due clock (TimedOut link) = false
+state_is_due clock (Closing c) = false
+
+abbrev pub is_due : Ms → Place → Bool
+is_due clock place = state_is_due clock place.slot.state
+
+abbrev pub due_of : SlotState → ℕ
+due_of Idle = 0
+due_of (Opening o) = 0
+due_of (Established c) = c.production.due.0
+due_of (TimedOut link) = 0
+due_of (Closing c) = 0
+
+-- by when they are due, and then by their numbers
+abbrev pub by_due : Place → Place → Bool
+by_due place other =
+    nat_lt (due_of place.slot.state) (due_of other.slot.state) || (due_of place.slot.state == due_of other.slot.state && nat_lt place.number other.number)
+
+abbrev pub due_places : ScannerTable → List Place
+due_places t = in_order by_due (filter (is_due t.clock) (places t))
+
+-- what the slots that are due produce
+abbrev pub due_productions : ScannerTable → List Produced
+due_productions t = filter_map (slot_production t.run) (due_places t)
+
+abbrev pub produced_connection : Ms → Connection → Connection
+produced_connection clock c = record c { production = produced clock c.o_t_api c.production }
+
+abbrev pub produced_state : Ms → SlotState → SlotState
+produced_state clock Idle = Idle
+produced_state clock (Opening o) = Opening o
+produced_state clock (Established c) = Established (produced_connection clock c)
+produced_state clock (TimedOut link) = TimedOut link
+produced_state clock (Closing c) = Closing c
+
+-- a slot has produced, where it was due
+abbrev pub produced_slot : Ms → Slot → Slot
+produced_slot clock slot = if state_is_due clock slot.state then record slot { state = produced_state clock slot.state } else slot
+
+-- the table after the productions that are due
+unfoldable pub produced_table : ScannerTable → ScannerTable
+produced_table t = record t { slots = map (produced_slot t.clock) t.slots }

@@ -1,0 +1,89 @@
+-- What a scanner is made of, and the first thing that is wrong with it (Volume 1, chapter 3, application
+-- connection types, requested packet interval, connection timeout multiplier, production inhibit time).
+use Rattle.std.specs.Prelude.{ℕ, ◌%◌, ◌==◌, ◌&&◌, ◌||◌, not, nat_le, Bool, true, if◌then◌else◌, List, [], ◌∷◌, length, Option, Some, None}
+use Rattle.std.specs.List.{list_any, list_all}
+use Rattle.cip_types.specs.Cases.{Case, first_case}
+use Rattle.cip_netparams.specs.declared.Trigger.{Trigger}
+use Rattle.cip_netparams.specs.declared.Trigger.TheVariants.{Cyclic, ChangeOfState}
+use Rattle.cip_netparams.specs.Rate.{is_interval, interval_ms}
+use Rattle.cip_events.specs.declared.profile_fault.ProfileFault.{ProfileFault}
+use Rattle.cip_events.specs.declared.profile_fault.ProfileFault.TheVariants.{Incarnation, Points, SameInstance, Length, Timing}
+use Rattle.cip_productions.specs.declared.kind.Kind.{Kind}
+use Rattle.cip_productions.specs.Kinds.{is_owner, is_listener}
+use Rattle.scanner_table.specs.declared.profile.SlotConfig.{SlotConfig}
+use Rattle.scanner_table.specs.declared.profile.ScannerProfile.{ScannerProfile}
+
+-- SLOTS
+
+-- at least one slot, and at most 64
+abbrev pub are_few : List SlotConfig → Bool
+are_few slots = nat_le 1 (length slots) && nat_le (length slots) 64
+
+-- a listener listens to a group
+abbrev pub hears_group : SlotConfig → Bool
+hears_group slot = not (is_listener slot.kind) || slot.multicast
+
+abbrev pub are_served : ScannerProfile → Bool
+are_served profile = are_few profile.slots && list_all hears_group profile.slots
+
+-- two slots are multicast, for one produced point of one target
+abbrev pub shares_group : SlotConfig → SlotConfig → Bool
+shares_group slot other = (slot.multicast && other.multicast) && (slot.target.0 == other.target.0 && slot.produced == other.produced)
+
+-- no two slots are
+abbrev pub are_apart : List SlotConfig → Bool
+are_apart [] = true
+are_apart (slot ∷ slots) = not (list_any (shares_group slot) slots) && are_apart slots
+
+-- LENGTHS
+
+-- 1 to 1,400 bytes
+abbrev pub is_point_len : ℕ → Bool
+is_point_len len = nat_le 1 len && nat_le len 1400
+
+-- an owner sends an output, and a connection of another kind sends nothing
+abbrev pub is_out_len : Kind → ℕ → Bool
+is_out_len kind len = if is_owner kind then is_point_len len else len == 0
+
+-- 0 to 400 bytes in whole words of two bytes, and none where no configuration is named
+abbrev pub is_config : Option ℕ → List ℕ → Bool
+is_config None bytes = length bytes == 0
+is_config (Some instance) bytes = nat_le (length bytes) 400 && length bytes % 2 == 0
+
+abbrev pub has_lengths : SlotConfig → Bool
+has_lengths slot = is_point_len slot.in_len && (is_out_len slot.kind slot.out_len && is_config slot.config slot.config_data)
+
+-- TIMES
+
+-- only a producer of changes is held back, for no longer than its packet interval
+abbrev pub is_inhibit : Trigger → ℕ → ℕ → Bool
+is_inhibit Cyclic inhibit api = inhibit == 0
+is_inhibit ChangeOfState inhibit api = nat_le inhibit api
+
+abbrev pub has_times : SlotConfig → Bool
+has_times slot =
+    is_interval slot.o_t_rpi
+    && (is_interval slot.t_o_rpi && (nat_le slot.mult 7 && is_inhibit slot.trigger slot.inhibit (interval_ms slot.t_o_rpi)))
+
+-- 1 to 60,000 milliseconds
+abbrev pub is_wait : ℕ → Bool
+is_wait ms = nat_le 1 ms && nat_le ms 60000
+
+abbrev pub keeps_time : ScannerProfile → Bool
+keeps_time profile = list_all has_times profile.slots && (is_wait profile.open_timeout && is_wait profile.retry)
+
+-- THE FIRST FAULT
+
+-- each test of a profile that may fail, and what is wrong where it does
+abbrev pub profile_tests : ScannerProfile → List (Case ProfileFault)
+profile_tests profile =
+    (profile.incarnation == 0, Incarnation)
+    ∷ (not (are_served profile), Points)
+    ∷ (not (are_apart profile.slots), SameInstance)
+    ∷ (not (list_all has_lengths profile.slots), Length)
+    ∷ (not (keeps_time profile), Timing)
+    ∷ []
+
+-- what is wrong by the first test that fails
+unfoldable pub profile_fault : ScannerProfile → Option ProfileFault
+profile_fault profile = first_case (profile_tests profile)

@@ -1,0 +1,53 @@
+-- One event at a scanner's table.
+use Rattle.std.specs.Prelude.{false, [], map, replicate, Result, Ok, Err}
+use Rattle.cip_events.specs.declared.event.Event.{Event}
+use Rattle.cip_events.specs.declared.event.Event.TheVariants.{Request, StreamOpened, Frame, StreamCut, Datagram, Write, Read, Tick, Mode, Start, Stop}
+use Rattle.cip_events.specs.declared.event.StepFault.{StepFault}
+use Rattle.cip_events.specs.declared.event.StepFault.TheVariants.{NotAllowedNow}
+use Rattle.scanner_table.specs.declared.profile.SlotConfig.{SlotConfig}
+use Rattle.scanner_table.specs.declared.profile.ScannerProfile.{ScannerProfile}
+use Rattle.scanner_table.specs.declared.slot.Slot.{Slot}
+use Rattle.scanner_table.specs.declared.slot.SlotState.TheVariants.{Idle}
+use Rattle.scanner_table.specs.declared.table.ScannerTable.{ScannerTable}
+use Rattle.scanner_table.specs.Effects.{Next}
+use Rattle.scanner_table.specs.Encapsulation.{stream_opened, frame, stream_cut}
+use Rattle.scanner_table.specs.Datagrams.{received}
+use Rattle.scanner_table.specs.Points.{write, read, mode, start, stop}
+use Rattle.scanner_table.specs.Ticks.{tick}
+
+-- Either the first fault, the table staying, or an answer and the next table. Want of memory is never named.
+abbrev pub scanner_step : ScannerTable → Event → Result Next StepFault
+scanner_step t (Request peer bytes) = Err NotAllowedNow
+scanner_step t (StreamOpened stream peer) = stream_opened t stream peer
+scanner_step t (Frame stream bytes) = frame t stream bytes
+scanner_step t (StreamCut stream) = stream_cut t stream
+scanner_step t (Datagram peer bytes) = Ok (received t peer bytes)
+scanner_step t (Write point bytes) = write t point bytes
+scanner_step t (Read point) = read t point
+scanner_step t (Tick ms) = tick t ms
+scanner_step t (Mode run) = Ok (mode t run)
+scanner_step t (Start slot) = start t slot
+scanner_step t (Stop slot) = stop t slot
+
+-- a slot that was never started: nothing is to be open, and there are zeros on both sides
+abbrev pub fresh_slot : SlotConfig → Slot
+fresh_slot config = record {
+  state = Idle;
+  wanted = false;
+  retry = record { 0 = 0 };
+  output = replicate config.out_len 0;
+  image = replicate config.in_len 0;
+}
+
+-- the table of a fresh scanner: it is idle, its clock 0, its numbers the first ones, and no stream is open
+abbrev pub scanner_table : ScannerProfile → ScannerTable
+scanner_table profile = record {
+  profile = profile;
+  slots = map fresh_slot profile.slots;
+  run = false;
+  clock = record { 0 = 0 };
+  next_id = 1;
+  next_serial = 1;
+  next_request = 1;
+  streams = [];
+}

@@ -1,0 +1,99 @@
+-- Time at a scanner. A tick moves the clock, then connections whose deadline has come time out, then slots give
+-- up answers that did not come, then slots that may try open, and then the slots that are due produce (Volume 1,
+-- chapter 3, connection timeouts, inactivity watchdog).
+use Rattle.std.specs.Prelude.{ℕ, ◌+◌, ◌==◌, ◌&&◌, ◌||◌, nat_lt, nat_le, Bool, false, List, [], ◌∷◌, map, filter, Result, Ok, Err}
+use Rattle.cip_types.specs.Cases.{first_case_or}
+use Rattle.cip_types.specs.declared.names.Ms.{Ms}
+use Rattle.cip_types.specs.Order.{in_order}
+use Rattle.cip_events.specs.declared.event.StepFault.{StepFault}
+use Rattle.cip_events.specs.declared.event.StepFault.TheVariants as fault
+use Rattle.cip_events.specs.Clock.{longest_tick, clock_end}
+use Rattle.cip_productions.specs.Productions.{sent}
+use Rattle.scanner_table.specs.declared.slot.SlotState.{SlotState}
+use Rattle.scanner_table.specs.declared.slot.SlotState.TheVariants.{Idle, Opening, Established, TimedOut, Closing}
+use Rattle.scanner_table.specs.declared.table.ScannerTable.{ScannerTable}
+use Rattle.scanner_table.specs.Slots.{Place, places}
+use Rattle.scanner_table.specs.Effects.{Next, Effect, nothing, and_then, on_each, changed, sent_answer}
+use Rattle.scanner_table.specs.Opening.{ready_opened}
+use Rattle.scanner_table.specs.Replies.{failed_slot}
+use Rattle.scanner_table.specs.Closing.{given_up}
+use Rattle.scanner_table.specs.Productions.{due_productions, produced_table}
+
+-- CONNECTIONS THAT TIME OUT
+
+abbrev pub state_has_expired : Ms → SlotState → Bool
+state_has_expired clock Idle = false
+state_has_expired clock (Opening o) = false
+state_has_expired clock (Established c) = nat_le c.deadline.0 clock.0
+state_has_expired clock (TimedOut link) = false
+state_has_expired clock (Closing c) = false
+
+-- the slot's connection is established, and its deadline has come
+abbrev pub has_expired : Ms → Place → Bool
+has_expired clock place = state_has_expired clock place.slot.state
+
+abbrev pub deadline_of : SlotState → ℕ
+deadline_of Idle = 0
+deadline_of (Opening o) = o.deadline.0
+deadline_of (Established c) = c.deadline.0
+deadline_of (TimedOut link) = 0
+deadline_of (Closing c) = c.deadline.0
+
+-- by deadlines, and then by their numbers
+abbrev pub by_deadline : Place → Place → Bool
+by_deadline place other =
+    nat_lt (deadline_of place.slot.state) (deadline_of other.slot.state) || (deadline_of place.slot.state == deadline_of other.slot.state && nat_lt place.number other.number)
+
+abbrev pub expired_places : ScannerTable → List Place
+expired_places t = in_order by_deadline (filter (has_expired t.clock) (places t))
+
+-- a connection times out: its image stays, and it may be tried again after a while
+abbrev pub expired_state : ScannerTable → Place → SlotState → Effect
+expired_state t place Idle = nothing t
+expired_state t place (Opening o) = nothing t
+expired_state t place (Established c) = changed t place (failed_slot t (TimedOut c.link) place.slot) []
+expired_state t place (TimedOut link) = nothing t
+expired_state t place (Closing c) = nothing t
+
+abbrev pub expired : ScannerTable → Place → Effect
+expired t place = expired_state t place place.slot.state
+
+unfoldable pub all_expired : ScannerTable → Effect
+all_expired t = on_each expired (expired_places t) t
+
+-- ANSWERS THAT DO NOT COME
+
+abbrev pub state_is_overdue : Ms → SlotState → Bool
+state_is_overdue clock Idle = false
+state_is_overdue clock (Opening o) = nat_le o.deadline.0 clock.0
+state_is_overdue clock (Established c) = false
+state_is_overdue clock (TimedOut link) = false
+state_is_overdue clock (Closing c) = nat_le c.deadline.0 clock.0
+
+-- the slot has waited for an answer long enough
+abbrev pub is_overdue : Ms → Place → Bool
+is_overdue clock place = state_is_overdue clock place.slot.state
+
+unfoldable pub all_given_up : ScannerTable → Effect
+all_given_up t = on_each given_up (filter (is_overdue t.clock) (places t)) t
+
+-- A TICK
+
+abbrev pub clocked_table : ScannerTable → ℕ → ScannerTable
+clocked_table t ms = record t { clock = record { 0 = t.clock.0 + ms } }
+
+-- what becomes of connections, before productions
+abbrev pub elapsed : ScannerTable → Effect
+elapsed t = and_then (and_then (all_expired t) all_given_up) ready_opened
+
+-- what is sent and told, and the table after the productions
+abbrev pub ticked : Effect → Next
+ticked effect = (sent_answer effect (map sent (due_productions effect.table)), produced_table effect.table)
+
+-- some milliseconds pass; not too many, and the clock does not pass its end
+unfoldable pub tick : ScannerTable → ℕ → Result Next StepFault
+tick t ms = first_case_or (Ok (ticked (elapsed (clocked_table t ms)))) (
+    (nat_lt longest_tick ms, Err fault.TickTooLong)
+    ∷ (nat_lt clock_end (t.clock.0 + ms), Err fault.ClockEnd)
+    ∷ []
+    )

@@ -1,0 +1,107 @@
+-- What every table of a scanner keeps that was made from a faultless profile, whatever happens to it: slots
+-- with their bytes, requests that were numbered, and numbers that have not passed their limits.
+use Rattle.std.specs.Prelude.{◌≡◌, ℕ, ◌&&◌, ◌+◌, ◌<◌, ◌≤◌, ◌^◌, Bool, true, false, List, [], ◌∷◌, length, None}
+use Rattle.std.specs.List.{list_any}
+use Rattle.scanner_table.specs.declared.profile.SlotConfig.{SlotConfig}
+use Rattle.scanner_table.specs.declared.slot.Connection.{Connection}
+use Rattle.scanner_table.specs.declared.slot.Slot.{Slot}
+use Rattle.scanner_table.specs.declared.slot.SlotState.{SlotState}
+use Rattle.scanner_table.specs.declared.slot.SlotState.TheVariants.{Idle, Opening, Established, TimedOut, Closing}
+use Rattle.scanner_table.specs.declared.table.ScannerTable.{ScannerTable}
+use Rattle.scanner_table.specs.declared.table.TargetStream.{TargetStream}
+use Rattle.scanner_table.specs.Profiles.{profile_fault}
+use Rattle.scanner_table.specs.Slots.{Place, places, is_with}
+use Rattle.scanner_table.specs.Replies.{state_consumes}
+use Rattle.scanner_table.specs.Encapsulation.{waits_for}
+use Rattle.scanner_table.specs.Sessions.{is_stream, is_to}
+
+-- SLOTS
+
+-- an open connection came from a numbered opening, has packet intervals of at most 10 seconds in milliseconds,
+-- and is due within one of them
+pub record FitsConnection (next_request clock : ℕ) (c : Connection) : Type 0 where
+  pub opening : c.opening < next_request
+  pub o_t_api : c.o_t_api ≤ 10000
+  pub t_o_api : c.t_o_api ≤ 10000
+  pub due : c.production.due.0 ≤ clock + 10000
+
+-- A slot that is not to be open does not open: only one that is to be is opening, open or timed out, and only
+-- one that is not closes. Requests that are not answered were numbered.
+abbrev pub FitsState : ℕ → ℕ → Bool → SlotState → Type 0
+FitsState next_request clock wanted Idle = Unit {0}
+FitsState next_request clock wanted (Opening o) = (wanted ≡ true) × (o.request < next_request)
+FitsState next_request clock wanted (Established c) = (wanted ≡ true) × FitsConnection next_request clock c
+FitsState next_request clock wanted (TimedOut link) = wanted ≡ true
+FitsState next_request clock wanted (Closing c) = (wanted ≡ false) × (c.request < next_request)
+
+-- a slot has as many bytes as its points
+pub record FitsSlot (next_request clock : ℕ) (config : SlotConfig) (slot : Slot) : Type 0 where
+  pub output : length slot.output ≡ config.out_len
+  pub image : length slot.image ≡ config.in_len
+  pub state : FitsState next_request clock slot.wanted slot.state
+
+-- each slot of the profile stands in its place
+abbrev pub SlotsFit : ℕ → ℕ → List SlotConfig → List Slot → Type 0
+SlotsFit next_request clock [] [] = Unit {0}
+SlotsFit next_request clock [] (slot ∷ slots) = ⊥
+SlotsFit next_request clock (config ∷ configs) [] = ⊥
+SlotsFit next_request clock (config ∷ configs) (slot ∷ slots) = FitsSlot next_request clock config slot × SlotsFit next_request clock configs slots
+
+-- CONNECTION IDS
+
+-- the first is established with the id that the second is established with
+abbrev pub states_clash : SlotState → SlotState → Bool
+states_clash Idle other = false
+states_clash (Opening o) other = false
+states_clash (Established c) other = state_consumes c.link.t_o_id other
+states_clash (TimedOut link) other = false
+states_clash (Closing c) other = false
+
+-- two slots are established with one target, and have one T->O id
+abbrev pub clashes : Place → Place → Bool
+clashes place other = is_with place.config.target other && states_clash place.slot.state other.slot.state
+
+-- no two slots are
+abbrev pub IdsDiffer : List Place → Type 0
+IdsDiffer [] = Unit {0}
+IdsDiffer (place ∷ rest) = (list_any (clashes place) rest ≡ false) × IdsDiffer rest
+
+-- REQUESTS
+
+-- the second waits for the reply to the request that the first waits for
+abbrev pub states_share : SlotState → SlotState → Bool
+states_share Idle other = false
+states_share (Opening o) other = waits_for o.request other
+states_share (Established c) other = false
+states_share (TimedOut link) other = false
+states_share (Closing c) other = waits_for c.request other
+
+abbrev pub shares_request : Slot → Slot → Bool
+shares_request slot other = states_share slot.state other.state
+
+-- no two slots wait for the reply to one request
+abbrev pub RequestsDiffer : List Slot → Type 0
+RequestsDiffer [] = Unit {0}
+RequestsDiffer (slot ∷ slots) = (list_any (shares_request slot) slots ≡ false) × RequestsDiffer slots
+
+-- STREAMS
+
+-- no two streams have one number, or one target
+abbrev pub StreamsDiffer : List TargetStream → Type 0
+StreamsDiffer [] = Unit {0}
+StreamsDiffer (stream ∷ streams) = (list_any (is_stream stream.number) streams ≡ false) × (list_any (is_to stream.peer) streams ≡ false) × StreamsDiffer streams
+
+-- THE TABLE
+
+pub record IsWhole (t : ScannerTable) : Type 0 where
+  pub faultless : profile_fault t.profile ≡ None
+  pub slots : SlotsFit t.next_request t.clock.0 t.profile.slots t.slots
+  pub ids_differ : IdsDiffer (places t)
+  pub requests_differ : RequestsDiffer t.slots
+  pub clock : t.clock.0 ≤ 2 ^ 48
+  pub ids : t.next_id ≤ 16777216
+  pub serial_begins : 1 ≤ t.next_serial
+  pub serial_ends : t.next_serial ≤ 65535
+  pub requests : t.next_request ≤ 2 ^ 48 + 1
+  pub few_streams : length t.streams ≤ 16
+  pub streams_differ : StreamsDiffer t.streams

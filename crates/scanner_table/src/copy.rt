@@ -1,0 +1,89 @@
+//! Copies of profiles, and tables with a later counter.
+
+ghost use Rattle.std.specs.Prelude.{◌≡◌, ◌≤◌, ◌↔◌, IfOk, IsTrue};
+ghost use Rattle.scanner_table.specs.Whole.{IsWhole};
+
+use crate::profile::{ScannerProfile, SlotConfig};
+use crate::table::ScannerTable;
+use cip_types::{Items, OutOfMemory};
+use std::alloc::Global;
+
+impl SlotConfig {
+    /// A copy of what is to be known of a slot.
+    pub fn copy(&self, alloc: Global) -> Result<SlotConfig, OutOfMemory>
+        ensures { IfOk result (λ copy. copy ≡ self.now) }
+    {
+        let config_data = Items::copy_of(alloc, self.config_data.as_slice())?;
+        Ok(SlotConfig {
+            target: self.target,
+            kind: self.kind,
+            config: self.config,
+            consumed: self.consumed,
+            produced: self.produced,
+            out_len: self.out_len,
+            in_len: self.in_len,
+            o_t_rpi: self.o_t_rpi,
+            t_o_rpi: self.t_o_rpi,
+            mult: self.mult,
+            multicast: self.multicast,
+            key: self.key,
+            config_data,
+            trigger: self.trigger,
+            inhibit: self.inhibit,
+        })
+    }
+}
+
+/// Copies of slots.
+fn copy_slots(alloc: Global, slots: &[SlotConfig]) -> Result<Items<SlotConfig>, OutOfMemory>
+    ensures { IfOk result (λ copies. copies ≡ slots.now) }
+{
+    let mut copies = Vec::new(alloc);
+    for slot in slots {
+        copies.push(slot.copy(alloc)?)?;
+    }
+    Ok(Items::from_vec(copies))
+}
+
+impl ScannerProfile {
+    /// A copy of the profile.
+    pub fn copy(&self, alloc: Global) -> Result<ScannerProfile, OutOfMemory>
+        ensures { IfOk result (λ copy. copy ≡ self.now) }
+    {
+        let slots = copy_slots(alloc, self.slots.as_slice())?;
+        Ok(ScannerProfile {
+            incarnation: self.incarnation,
+            node: self.node,
+            vendor: self.vendor,
+            serial: self.serial,
+            open_timeout: self.open_timeout,
+            retry: self.retry,
+            slots,
+        })
+    }
+}
+
+impl ScannerTable {
+    /// Whether two tables are equal. Takes no memory.
+    pub fn same(&self, other: &ScannerTable) -> bool
+        ensures { IsTrue result ↔ (self.now ≡ other.now) }
+    {
+        self == other
+    }
+
+    /// The table with a later counter for the next connection id. Takes no memory.
+    ///
+    /// The counter is no less than the present one, and at most 16,777,216, where no id is left.
+    pub fn with_next_id(self, counter: u32) -> ScannerTable
+        requires whole { IsWhole self }
+        requires later { self.next_id ≤ counter }
+        requires last { counter ≤ 16777216 }
+        ensures value { result ≡ record self { next_id = counter } }
+        ensures whole { IsWhole result }
+    {
+        ScannerTable {
+            next_id: counter,
+            ..self
+        }
+    }
+}

@@ -1,0 +1,18 @@
+//! The table of a scanner: its profile and the check of it, its slots, its streams, one definition for each
+//! effect of an event, and the step.
+#![tactic(auto)]
+
+mod copy;
+mod laws;
+mod profile;
+mod profile_check;
+mod slot;
+mod table;
+
+pub use laws::{fresh_tables_are_whole, steps_keep_tables_whole};
+pub use profile::{ScannerProfile, SlotConfig};
+pub use slot::{Closing, Connection, Opening, Slot, SlotState};
+pub use table::{ScannerTable, Stage, TargetStream};
+
+#[cfg(test)]
+mod tests;

@@ -1,0 +1,178 @@
+//! The check of a profile.
+
+ghost use Rattle.std.specs.Prelude.{◌≡◌, ◌↔◌, None, Some, IsOk, IfErr};
+ghost use Rattle.std.specs.List.{list_any, list_all};
+ghost use Rattle.cip_netparams.specs.Rate.{is_interval, interval_ms};
+ghost use Rattle.scanner_table.specs.Profiles.{are_few, hears_group, are_served, shares_group, are_apart, is_point_len, is_out_len, is_config, has_lengths, is_inhibit, has_times, is_wait, keeps_time, profile_fault};
+
+use crate::profile::{
+    LONGEST_CONFIG, LONGEST_POINT, LONGEST_WAIT, MOST_SLOTS, ScannerProfile, SlotConfig,
+};
+use cip_events::ProfileFault;
+use cip_netparams::{Trigger, api_of};
+use cip_productions::Kind;
+
+fn are_few(slots: &[SlotConfig]) -> bool
+    ensures { result ≡ are_few slots.now }
+{
+    !slots.is_empty() && slots.len() <= MOST_SLOTS
+}
+
+fn hears_group(slot: &SlotConfig) -> bool
+    ensures { result ≡ hears_group slot.now }
+{
+    slot.kind != Kind::ListenOnly || slot.multicast
+}
+
+fn hear_groups(slots: &[SlotConfig]) -> bool
+    ensures { result ≡ list_all hears_group slots.now }
+{
+    slots.iter().all(|slot| hears_group(slot))
+}
+
+fn are_served(profile: &ScannerProfile) -> bool
+    ensures { result ≡ are_served profile.now }
+{
+    are_few(profile.slots.as_slice()) && hear_groups(profile.slots.as_slice())
+}
+
+fn shares_group(slot: &SlotConfig, other: &SlotConfig) -> bool
+    ensures { result ≡ shares_group slot.now other.now }
+{
+    slot.multicast
+        && other.multicast
+        && slot.target == other.target
+        && slot.produced == other.produced
+}
+
+fn shares_any(slot: &SlotConfig, others: &[SlotConfig]) -> bool
+    ensures { result ≡ list_any (shares_group slot.now) others.now }
+{
+    others.iter().any(|other| shares_group(slot, other))
+}
+
+fn are_apart(slots: &[SlotConfig]) -> bool
+    ensures { result ≡ are_apart slots.now }
+{
+    match slots {
+        [] => true,
+        [slot, rest @ ..] => !shares_any(slot, rest) && are_apart(rest),
+    }
+}
+
+fn is_point_len(len: u64) -> bool
+    ensures { result ≡ is_point_len len }
+{
+    (1..=LONGEST_POINT).contains(&len)
+}
+
+fn is_out_len(kind: Kind, len: u64) -> bool
+    ensures { result ≡ is_out_len kind len }
+{
+    match kind {
+        Kind::ExclusiveOwner => is_point_len(len),
+        Kind::InputOnly | Kind::ListenOnly => len == 0,
+    }
+}
+
+fn is_config(config: Option<u32>, bytes: &[u8]) -> bool
+    ensures { result ≡ is_config config bytes.now }
+{
+    match config {
+        Some(_) => bytes.len() <= LONGEST_CONFIG && bytes.len() % 2 == 0,
+        None => bytes.is_empty(),
+    }
+}
+
+fn has_lengths(slot: &SlotConfig) -> bool
+    ensures { result ≡ has_lengths slot.now }
+{
+    is_point_len(slot.in_len)
+        && is_out_len(slot.kind, slot.out_len)
+        && is_config(slot.config, slot.config_data.as_slice())
+}
+
+fn is_inhibit(trigger: Trigger, inhibit: u8, api: u32) -> bool
+    ensures { result ≡ is_inhibit trigger inhibit api }
+{
+    match trigger {
+        Trigger::Cyclic => inhibit == 0,
+        Trigger::ChangeOfState => u32::from(inhibit) <= api,
+    }
+}
+
+fn has_times(slot: &SlotConfig) -> bool
+    ensures { result ≡ has_times slot.now }
+{
+    let Some(_) = api_of(slot.o_t_rpi) else {
+        return false;
+    };
+    let Some(api) = api_of(slot.t_o_rpi) else {
+        return false;
+    };
+    slot.mult <= 7 && is_inhibit(slot.trigger, slot.inhibit, api)
+}
+
+fn is_wait(ms: u64) -> bool
+    ensures { result ≡ is_wait ms }
+{
+    (1..=LONGEST_WAIT).contains(&ms)
+}
+
+fn have_times(slots: &[SlotConfig]) -> bool
+    ensures { result ≡ list_all has_times slots.now }
+{
+    slots.iter().all(|slot| has_times(slot))
+}
+
+fn keeps_time(profile: &ScannerProfile) -> bool
+    ensures { result ≡ keeps_time profile.now }
+{
+    have_times(profile.slots.as_slice()) && is_wait(profile.open_timeout) && is_wait(profile.retry)
+}
+
+fn are_long_enough(slots: &[SlotConfig]) -> bool
+    ensures { result ≡ list_all has_lengths slots.now }
+{
+    slots.iter().all(|slot| has_lengths(slot))
+}
+
+/// What is wrong with a profile first.
+#[tactic(auto, unfolding(crate::specs::Profiles::profile_fault))]
+fn fault_of(profile: &ScannerProfile) -> Option<ProfileFault>
+    ensures { result ≡ profile_fault profile.now }
+{
+    if profile.incarnation == 0 {
+        return Some(ProfileFault::Incarnation);
+    }
+    if !are_served(profile) {
+        return Some(ProfileFault::Points);
+    }
+    if !are_apart(profile.slots.as_slice()) {
+        return Some(ProfileFault::SameInstance);
+    }
+    if !are_long_enough(profile.slots.as_slice()) {
+        return Some(ProfileFault::Length);
+    }
+    if !keeps_time(profile) {
+        return Some(ProfileFault::Timing);
+    }
+    None
+}
+
+impl ScannerProfile {
+    /// Checks the profile: its incarnation; how many slots it has, and that listeners listen to a group; that
+    /// no two slots share a group; lengths; packet intervals, multipliers, inhibit times and waits, in this
+    /// order. Takes no memory.
+    ///
+    /// Answers the first thing that is wrong.
+    pub fn check(&self) -> Result<(), ProfileFault>
+        ensures ok { IsOk result ↔ (profile_fault self.now ≡ None) }
+        ensures fault { IfErr result (λ f. profile_fault self.now ≡ Some f) }
+    {
+        match fault_of(self) {
+            Some(fault) => Err(fault),
+            None => Ok(()),
+        }
+    }
+}
