@@ -38,7 +38,8 @@ use Rattle.scanner_table.specs.declared.table.Stage.{Stage}
 use Rattle.scanner_table.specs.declared.table.Stage.TheVariants.{Waiting, Up, Unused}
 use Rattle.scanner_table.specs.declared.table.TargetStream.{TargetStream}
 use Rattle.scanner_table.specs.Slots.{places_from, Place, places, place_at, is_numbered, is_with}
-use Rattle.scanner_table.specs.Sessions.{Session, session_with, is_stream, is_other_stream, is_to, is_taken, with_stream, without_stream, with_stage}
+use Rattle.scanner_table.specs.declared.table.Session.{Session}
+use Rattle.scanner_table.specs.Sessions.{session_with, is_stream, is_other_stream, is_to, is_taken, with_stream, without_stream, with_stage}
 use Rattle.scanner_table.specs.Asking.{is_large}
 use Rattle.scanner_table.specs.Effects.{Next, changed, counted, done}
 use Rattle.scanner_table.specs.Opening.{has_request, has_id, can_open, drawn, opening_slot, resigned, exhausted, open_asked, opened_within, opened, is_ready_place, ready_places, ready_opened, target_opened}

@@ -25,7 +25,7 @@ use Rattle.conn_state.specs.declared.names.Wanted.{Wanted}
 use Rattle.scanner_table.specs.declared.profile.SlotConfig.{SlotConfig}
 use Rattle.scanner_table.specs.declared.profile.ScannerProfile.{ScannerProfile}
 use Rattle.scanner_table.specs.declared.table.ScannerTable.{ScannerTable}
-use Rattle.scanner_table.specs.Sessions.{Session}
+use Rattle.scanner_table.specs.declared.table.Session.{Session}
 
 -- CONNECTIONS
 

@@ -10,7 +10,8 @@ use Rattle.scanner_table.specs.declared.slot.SlotState.{SlotState}
 use Rattle.scanner_table.specs.declared.slot.SlotState.TheVariants.{Idle, Opening, Established, TimedOut, Closing}
 use Rattle.scanner_table.specs.declared.table.ScannerTable.{ScannerTable}
 use Rattle.scanner_table.specs.Slots.{Place, places, is_with}
-use Rattle.scanner_table.specs.Sessions.{Session, session_with}
+use Rattle.scanner_table.specs.declared.table.Session.{Session}
+use Rattle.scanner_table.specs.Sessions.{session_with}
 use Rattle.scanner_table.specs.Asking.{closing, close_fields}
 use Rattle.scanner_table.specs.Effects.{Effect, nothing, on_each, changed, asked}
 use Rattle.scanner_table.specs.Opening.{has_request, later, resigned, exhausted}

@@ -9,7 +9,7 @@ use Rattle.scanner_table.specs.declared.slot.Slot.{Slot}
 use Rattle.scanner_table.specs.declared.slot.SlotState.{SlotState}
 use Rattle.scanner_table.specs.declared.table.ScannerTable.{ScannerTable}
 use Rattle.scanner_table.specs.Slots.{Place, with_slot, number_of}
-use Rattle.scanner_table.specs.Sessions.{Session}
+use Rattle.scanner_table.specs.declared.table.Session.{Session}
 use Rattle.scanner_table.specs.Asking.{Request, Sent, numbered, sent_frame}
 
 -- an answer, and the table after it

@@ -9,7 +9,8 @@ use Rattle.scanner_table.specs.declared.slot.Slot.{Slot}
 use Rattle.scanner_table.specs.declared.slot.SlotState.TheVariants.{Idle, Opening}
 use Rattle.scanner_table.specs.declared.table.ScannerTable.{ScannerTable}
 use Rattle.scanner_table.specs.Slots.{Place, places, is_with, is_ready}
-use Rattle.scanner_table.specs.Sessions.{Session, session_with}
+use Rattle.scanner_table.specs.declared.table.Session.{Session}
+use Rattle.scanner_table.specs.Sessions.{session_with}
 use Rattle.scanner_table.specs.Asking.{opening, is_large, next_wanted, open_fields}
 use Rattle.scanner_table.specs.Effects.{Effect, nothing, on_each, changed, asked}
 

@@ -4,6 +4,7 @@ use Rattle.std.specs.Prelude.{ℕ, ◌==◌, ◌||◌, not, nat_le, Bool, if◌t
 use Rattle.std.specs.List.{list_any}
 use Rattle.cip_types.specs.declared.names.Node.{Node}
 use Rattle.scanner_table.specs.declared.table.ScannerTable.{ScannerTable}
+use Rattle.scanner_table.specs.declared.table.Session.{Session}
 use Rattle.scanner_table.specs.declared.table.Stage.{Stage}
 use Rattle.scanner_table.specs.declared.table.Stage.TheVariants.{Waiting, Up, Unused}
 use Rattle.scanner_table.specs.declared.table.TargetStream.{TargetStream}
@@ -42,11 +43,6 @@ abbrev pub with_stage : ScannerTable → ℕ → Stage → ScannerTable
 with_stage t number stage = record t { streams = map (staged_stream number stage) t.streams }
 
 -- SESSIONS
-
--- a session that is registered: the number of its stream, and its handle
-pub record Session : Type 0 where
-  pub stream : ℕ
-  pub handle : ℕ
 
 abbrev pub session_at : ℕ → Stage → Option Session
 session_at number Waiting = None

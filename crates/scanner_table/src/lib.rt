@@ -12,7 +12,7 @@ mod table;
 pub use laws::{fresh_tables_are_whole, steps_keep_tables_whole};
 pub use profile::{ScannerProfile, SlotConfig};
 pub use slot::{Closing, Connection, Opening, Slot, SlotState};
-pub use table::{ScannerTable, Stage, TargetStream};
+pub use table::{ScannerTable, Session, Stage, TargetStream};
 
 #[cfg(test)]
 mod tests;

@@ -25,6 +25,15 @@ pub struct TargetStream {
     pub stage: Stage,
 }
 
+/// A session that is registered: the number of its stream, and its handle.
+///
+/// Volume 2, chapter 2, RegisterSession.
+#[derive(Clone, Copy, PartialEq, Eq)]
+pub struct Session {
+    pub stream: u16,
+    pub handle: u32,
+}
+
 /// A scanner: its profile, its slots in the profile's order, whether its application runs, its clock, the
 /// counter part of the next connection id, the serial number of the next opening, the number of the next
 /// request, and the streams that are open, in the order in which they were opened.
