@@ -17,7 +17,7 @@ use Rattle.adapter_table.specs.Checks.{heartbeat_kind, heartbeat_consumer, consu
 use Rattle.adapter_table.specs.Ticks.{has_expired, expired_row, expired_rows}
 use Rattle.adapter_table.specs.Whole.{ConsumesOutput, OwnersConsume}
 use Rattle.adapter_table.proofs.CheckLemmas.{IsAdmitted}
-use Rattle.adapter_table.proofs.EachLemmas.{each_map}
+use Rattle.adapter_table.specs.EachLemmas.{each_map}
 use Rattle.adapter_table.proofs.LikeLemmas.{Keeps}
 
 -- ---- the connections change

@@ -9,7 +9,8 @@ use Rattle.adapter_table.specs.Datagrams.{accepted_table}
 use Rattle.adapter_table.specs.Ticks.{clocked_table, expired_table, produced_table}
 use Rattle.adapter_table.specs.Step.{written_table, changed_table}
 use Rattle.adapter_table.specs.Laws.{StepsKeep}
-use Rattle.adapter_table.proofs.EffectLemmas.{EffectsKeep, adapter_keeps}
+use Rattle.adapter_table.specs.Laws.{EffectsKeep}
+use Rattle.adapter_table.proofs.EffectLemmas.{adapter_keeps}
 
 -- the counter is no less than this
 abbrev Counts : ℕ → AdapterTable → Type 0

@@ -16,7 +16,7 @@ use Rattle.adapter_table.specs.Scratch.{is_lost}
 use Rattle.adapter_table.specs.Opening.{makes_room_by}
 use Rattle.adapter_table.specs.Sound.{TriadsDiffer, OpeningsRise}
 use Rattle.adapter_table.proofs.SoundLemmas.{count_filter}
-use Rattle.adapter_table.proofs.EachLemmas.{each_weak, two_found}
+use Rattle.adapter_table.specs.EachLemmas.{each_weak, two_found}
 use Rattle.adapter_table.proofs.SupportLemmas.{gone_room, any_kept}
 
 -- ---- an owner that stays

@@ -28,6 +28,7 @@ use Rattle.cip_events.specs.Answers.{is_accepted}
 use Rattle.cip_events.specs.Clock.{longest_tick, clock_end}
 use Rattle.adapter_table.specs.Ticks.{clocked_table, expired_table, produced_table, elapsed, tick}
 use Rattle.adapter_table.specs.Step.{adapter_step, read, read_of, write, write_of, written_table, changed_table, written}
+use Rattle.adapter_table.specs.Laws.{EffectsKeep}
 use Rattle.adapter_table.proofs.RequestLemmas.{RequestsDo, answered_does, frame_does, next_is, IsStreamed, streamed_is, cut_does}
 
 -- ---- a step that gives an answer
@@ -68,16 +69,6 @@ unfolding tick
 tick_is t ms next is = tick_step (nat_lt longest_tick ms) (nat_lt clock_end (t.clock.0 + ms)) t ms next refl is
 
 -- ---- what each effect keeps
-
-pub record EffectsKeep (P : AdapterTable → Type 0) : Type 0 where
-  pub opened : (t : AdapterTable) (peer : Node) (request : OpenFields) (admitted : Admitted) → admission t request ≡ Ok admitted → P t → P (opened_table t (opened_row t peer request admitted) admitted)
-  pub closed : (t : AdapterTable) (row : Row) → P t → P (closed_table t row)
-  pub written : (t : AdapterTable) (point : ℕ) (bytes : List ℕ) (input : InputPoint) → find (is_at point) t.profile.inputs ≡ Some input → length bytes ≡ input.len → P t → P (changed_table (written_table t point bytes) point)
-  pub fed : (t : AdapterTable) (peer : Node) (d : DatagramFields) (row : Row) (delivery : Delivery) → row_delivery t.profile row d ≡ delivery → find (is_for peer d.connection) t.rows ≡ Some row → P t → P (accepted_table t peer d row delivery)
-  pub elapsed : (t : AdapterTable) (ms : ℕ) → t.clock.0 + ms ≤ 2 ^ 48 → P t → P (produced_table (expired_table (clocked_table t ms)))
-  pub streamed : (t : AdapterTable) (number : ℕ) (peer : Node) → is_taken t.streams number ≡ false → P t → P (with_stream t number peer)
-  pub unstreamed : (t : AdapterTable) (number : ℕ) → P t → P (without_stream t number)
-  pub registered : (t : AdapterTable) (number : ℕ) → P t → P (registered_table t number)
 
 requests_keep : (P : AdapterTable → Type 0) → EffectsKeep P → RequestsDo (λ t next. P t → P next)
 requests_keep P keep = record {

@@ -20,7 +20,7 @@ use Rattle.adapter_table.proofs.OrderLemmas.{count_in_order}
 use Rattle.adapter_table.proofs.LikeLemmas.{any_driver_kept, due_keeps}
 use Rattle.adapter_table.proofs.FadeLemmas.{count_expired}
 use Rattle.adapter_table.proofs.DriverLemmas.{any_counted, none_counted, any_staying}
-use Rattle.adapter_table.proofs.Fitting.{shaped_closed}
+use Rattle.adapter_table.specs.Fitting.{shaped_closed}
 use Rattle.adapter_table.proofs.ServedLemmas.{closed_here, closed_beside}
 
 -- ---- whose owner times out

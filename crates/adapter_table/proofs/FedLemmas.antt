@@ -21,7 +21,7 @@ use Rattle.cip_productions.specs.Acceptance.{is_news, is_repeated}
 use Rattle.adapter_table.specs.Shapes.{IsShaped, len_of}
 use Rattle.adapter_table.specs.Whole.{ConsumesOutput}
 use Rattle.adapter_table.specs.Scratch.{left_accepted}
-use Rattle.adapter_table.proofs.Fitting.{output_fits, output_length, shaped_put, shaped_idle}
+use Rattle.adapter_table.specs.Fitting.{output_fits, output_length, shaped_put, shaped_idle}
 use Rattle.adapter_table.proofs.ValueLemmas.{put_at, put_beside, idle_at, idle_beside}
 
 -- ---- data that are applied are as long as the output

@@ -9,15 +9,11 @@ pub mod ProducerLemmas
 pub mod StreamLemmas
 pub mod FrameSamples
 pub mod OrderLemmas
-pub mod EachLemmas
 pub mod RequestLemmas
 pub mod EffectLemmas
 pub mod StepLemmas
 pub mod WholeLemmas
 pub mod WholeSteps
-pub mod Shaping
-pub mod Fitting
-pub mod Limits
 pub mod ReplyLemmas
 pub mod ValueLemmas
 pub mod DriverLemmas

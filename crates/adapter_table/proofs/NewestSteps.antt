@@ -38,7 +38,7 @@ use Rattle.adapter_table.specs.Step.{read, read_of, written_table, changed_table
 use Rattle.adapter_table.specs.Sound.{IdsAreDrawn, IsSound, OpensBefore}
 use Rattle.adapter_table.specs.Newest.{Acceptance, is_applied, acceptance_of, accepted_found, accepted_read, EachAfter, last_accepted, HasNewerNumber, HasOtherCount, IsAppliedNew, IsNotAgain, RemembersLast, TableRemembers}
 use Rattle.adapter_table.specs.Laws.{StepsAcceptAfter, RefusalsAcceptNothing}
-use Rattle.adapter_table.proofs.EachLemmas.{each_filter, each_append, each_map, each_found, each_both, each_changed, two_weak, two_found}
+use Rattle.adapter_table.specs.EachLemmas.{each_filter, each_append, each_map, each_found, each_both, each_changed, two_weak, two_found}
 use Rattle.adapter_table.proofs.ProducerLemmas.{found_passes}
 use Rattle.adapter_table.proofs.RequestLemmas.{RequestsDo, answered_does, frame_does, next_is, IsStreamed, streamed_is, cut_does}
 use Rattle.adapter_table.proofs.EffectLemmas.{IsWrite, write_is, IsTick, tick_is}

@@ -9,7 +9,7 @@ use Rattle.adapter_table.specs.Productions.{producer_of}
 use Rattle.adapter_table.specs.Opening.{connection_id}
 use Rattle.adapter_table.specs.Ticks.{has_expired, expired_row, expired_rows}
 use Rattle.adapter_table.specs.Sound.{IdsAreDrawn, SharesProducer, OpensBefore, ProducerIsDrawn, SingleHasItsOwn, MulticastIdIsDrawn, ShareInGroup, ProducersAreSound}
-use Rattle.adapter_table.proofs.EachLemmas.{each_filter, each_append, each_map, each_found, each_weak, two_filter, two_append, two_map, two_found}
+use Rattle.adapter_table.specs.EachLemmas.{each_filter, each_append, each_map, each_found, each_weak, two_filter, two_append, two_map, two_found}
 use Rattle.adapter_table.proofs.GroupLemmas.{produced_is, member_parts}
 use Rattle.adapter_table.proofs.LikeLemmas.{IsLike, Keeps}
 

@@ -29,71 +29,13 @@ use Rattle.adapter_table.specs.Shapes.{IsShaped}
 use Rattle.adapter_table.specs.Checks.{Admitted, admission}
 use Rattle.cip_router.specs.Asking.{AskedFields, nothing, refused, closing, assembly, opening, asked_reading}
 use Rattle.cip_router.specs.Replies.{ReplyFields, opened, closed, got, reply_text, GetsFew}
-use Rattle.cip_router.specs.Replies as replies
+use Rattle.cip_router.specs.ReplyLaws.{items_length, reply_is_short}
 use Rattle.adapter_table.specs.Requests.{Served, served_open, judged_open, admitted_open, served_close, close_of, served_assembly, assembly_of, is_value_attribute, router_refusal, served}
 use Rattle.adapter_table.specs.Streams.{has_session}
 use Rattle.cip_router.specs.Frames.{Echo, FrameReply, services, registered, other_version, router_reply, protocol_text, socket_of, reply_message}
 use Rattle.adapter_table.specs.Encapsulation.{Handled, refusal, session_begun, register_session, request_replied, packet_replied, handled}
 use Rattle.cip_router.specs.Frames as frames
-use Rattle.adapter_table.proofs.Limits.{held_short}
-
--- ---- a reply and its items
-
--- a text of a reply: some bytes, and few
-pub record IsShort (text : List ℕ) : Type 0 where
-  pub some : 1 ≤ length text
-  pub few : length text ≤ 1404
-
-short_opened : (large : Bool) (o : Opened) → IsShort (opened_text large o)
-unfolding opened_text
-short_opened large o = record { some = omega arith; few = omega arith }
-
-short_closed : (triad : Triad) → IsShort (closed_text triad)
-unfolding closed_text
-short_closed triad = record { some = omega arith; few = omega arith }
-
-short_got : (value : List ℕ) → length value ≤ 1400 → IsShort (got_text value)
-unfolding got_text
-short_got value few = record { some = omega arith; few = omega (arith, few) }
-
-refusal_short : (service general : ℕ) (extra : Option ℕ) (triad : Option Triad) → IsShort (reply_service service ∷ 0 ∷ general ∷ extra_text extra ++ failure_text triad)
-refusal_short service general None None = record { some = omega arith; few = omega arith }
-refusal_short service general None (Some triad) = record { some = omega arith; few = omega arith }
-refusal_short service general (Some code) None = record { some = omega arith; few = omega arith }
-refusal_short service general (Some code) (Some triad) = record { some = omega arith; few = omega arith }
-
-short_refused : (service : ℕ) (fault : Fault) (triad : Option Triad) → IsShort (refused_text service fault triad)
-unfolding refused_text
-short_refused service fault triad = refusal_short service fault.general fault.extra triad
-
-pub reply_is_short : (reply : ReplyFields) → GetsFew reply → IsShort (reply_text reply)
-reply_is_short (opened large o) few = short_opened large o
-reply_is_short (closed triad) few = short_closed triad
-reply_is_short (got value) few = short_got value few
-reply_is_short (replies.refused service fault triad) few = short_refused service fault triad
-
--- a reply has bytes for an item
-pub reply_some : (reply : ReplyFields) → GetsFew reply → 1 ≤ length (reply_text reply)
-reply_some reply few = (reply_is_short reply few).some
-
--- and is within its length field
-pub reply_fits : (reply : ReplyFields) → GetsFew reply → length (reply_text reply) ≤ 65535
-reply_fits reply few = omega (arith, (reply_is_short reply few).few)
-
--- an item around a reply, and one for its socket address
-socket_length : (socket : Option SocketAddress) → length (socket_items socket) ≤ 20
-socket_length None = omega arith
-socket_length (Some s) = omega arith
-
-pub items_length : (payload : List ℕ) (socket : Option SocketAddress) → length (packet_text payload socket) ≤ length payload + 36
-items_length payload socket =
-    let front = fields_text packet_widths (packet_numbers (record { timeout = 0; payload = payload }) (socket_count socket)) in
-    let sixteen : length front ≡ 16 = refl in
-    omega (arith, length-append front (payload ++ socket_items socket), length-append payload (socket_items socket), sixteen, socket_length socket)
-
--- the items are within the length field of their message
-pub items_fit : (reply : ReplyFields) (socket : Option SocketAddress) → GetsFew reply → length (packet_text (reply_text reply) socket) ≤ 65535
-items_fit reply socket few = omega (arith, items_length (reply_text reply) socket, (reply_is_short reply few).few)
+use Rattle.adapter_table.specs.Limits.{held_short}
 
 -- ---- the reply to a frame
 

@@ -27,8 +27,8 @@ use Rattle.adapter_table.specs.Shapes.{IsShaped}
 use Rattle.adapter_table.specs.Whole.{IsWhole}
 use Rattle.adapter_table.specs.Scratch.{or_else, left_lost, left_accepted, accepted_by, read_accepted, is_lost, lost, left_at}
 use Rattle.adapter_table.specs.Laws.{StepsLeave, RefusalsTouchNothing, FreshOutputsAreZeros}
-use Rattle.adapter_table.proofs.Shaping.{input_no_output, output_found}
-use Rattle.adapter_table.proofs.Fitting.{output_fits, length_is}
+use Rattle.adapter_table.specs.Shaping.{input_no_output, output_found}
+use Rattle.adapter_table.specs.Fitting.{output_fits, length_is}
 use Rattle.adapter_table.proofs.ValueLemmas.{put_beside, zeros_at}
 use Rattle.adapter_table.proofs.DriverLemmas.{same_owner}
 use Rattle.adapter_table.proofs.LikeLemmas.{any_driver_kept, written_keeps, changed_keeps, fed_keeps}

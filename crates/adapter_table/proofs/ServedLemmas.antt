@@ -24,8 +24,8 @@ use Rattle.adapter_table.specs.Shapes.{IsShaped}
 use Rattle.adapter_table.specs.Whole.{IsWhole}
 use Rattle.adapter_table.specs.Scratch.{left_lost, is_lost, lost}
 use Rattle.adapter_table.proofs.CheckLemmas.{admitted_is}
-use Rattle.adapter_table.proofs.Shaping.{configuration_no_output}
-use Rattle.adapter_table.proofs.Fitting.{output_length}
+use Rattle.adapter_table.specs.Shaping.{configuration_no_output}
+use Rattle.adapter_table.specs.Fitting.{output_length}
 use Rattle.adapter_table.proofs.ValueLemmas.{put_beside, lost_at, lost_beside}
 use Rattle.adapter_table.proofs.DriverLemmas.{same_owner, owner_opened, owner_stays, owner_closed}
 use Rattle.adapter_table.proofs.RequestLemmas.{RequestsDo}

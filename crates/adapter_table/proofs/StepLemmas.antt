@@ -28,7 +28,7 @@ use Rattle.adapter_table.specs.Ticks.{clocked_table, expired_row, expired_rows, 
 use Rattle.adapter_table.specs.Step.{adapter_table, written_table, changed_table}
 use Rattle.adapter_table.specs.Sound.{IsSound, StreamsDiffer}
 use Rattle.adapter_table.proofs.CheckLemmas.{HasSameApi, IsAdmitted, admitted_is, draws_some}
-use Rattle.adapter_table.proofs.EffectLemmas.{EffectsKeep}
+use Rattle.adapter_table.specs.Laws.{EffectsKeep}
 use Rattle.adapter_table.proofs.GroupLemmas.{Joins, is_single, is_first, is_joiner, groups_opened, groups_filter}
 use Rattle.adapter_table.proofs.SupportLemmas.{listeners_opened, listeners_staying}
 use Rattle.adapter_table.proofs.LikeLemmas.{Keeps, count_kept, triads_kept, ids_kept, drawn_kept, listeners_kept, groups_kept, written_keeps, fed_keeps, due_keeps, changed_keeps}

@@ -14,7 +14,7 @@ use Rattle.adapter_table.specs.Closing.{stays, staying}
 use Rattle.adapter_table.specs.Sound.{ListenersAreSupported, OpensBefore, OpeningsRise}
 use Rattle.adapter_table.specs.Opening.{is_opened_as, makes_room_by}
 use Rattle.adapter_table.proofs.SoundLemmas.{or_false, any_filter}
-use Rattle.adapter_table.proofs.EachLemmas.{each_found}
+use Rattle.adapter_table.specs.EachLemmas.{each_found}
 
 and_parts : (a b : Bool) → (a && b) ≡ true → (a ≡ true) × (b ≡ true)
 and_parts true b h = (refl, h)

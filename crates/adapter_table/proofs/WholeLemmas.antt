@@ -1,7 +1,8 @@
 -- Connections stay within the limits of their adapter.
-use Rattle.std.proofs.Common.{◌≡◌, ◌≤◌, ◌<◌, ℕ, ◌+◌, ◌*◌, ◌^◌, ◌==◌, nat_lt, nat_le, Bool, true, false, cond, List, [], ◌∷◌, Option, Some, None, Ok, refl, sym, arith, lit<, le_trans}
+use Rattle.std.proofs.Common.{◌≡◌, ◌≤◌, ◌<◌, ℕ, ◌+◌, ◌*◌, ◌^◌, ◌==◌, nat_lt, nat_le, Bool, true, false, cond, not, List, [], ◌∷◌, length, map, Option, Some, None, Ok, refl, sym, ap, ◌∙◌, arith, lit<, le_trans}
 use Rattle.std.proofs.Math.Nat.{pow-le-pow_right, mul-le-mul_left, mul-le-mul_right}
 use Rattle.std.specs.Prelude.{IsTrue}
+use Rattle.std.specs.Option.{option_map}
 use Rattle.std.proofs.lemmas.Bool.{not-false, and_parts, or_parts}
 use Rattle.std.proofs.lemmas.Bool.Decides.{nat_tests}
 use Rattle.cip_types.specs.declared.names.Node.{Node}
@@ -11,44 +12,29 @@ use Rattle.cip_netparams.specs.declared.Trigger.TheVariants.{Cyclic, ChangeOfSta
 use Rattle.cip_netparams.specs.Rate.{is_interval, interval_ms, timeout}
 use Rattle.cip_datagram.specs.Datagram.{DatagramFields}
 use Rattle.cip_fwdopen.specs.Open.{OpenFields}
+use Rattle.adapter_table.specs.declared.profile.InputPoint.{InputPoint}
 use Rattle.adapter_table.specs.declared.profile.Profile.{Profile}
 use Rattle.cip_productions.specs.declared.production.Production.{Production}
 use Rattle.adapter_table.specs.declared.row.Row.{Row}
 use Rattle.adapter_table.specs.declared.row.State.{State}
 use Rattle.adapter_table.specs.declared.row.State.TheVariants.{Established, TimedOut}
 use Rattle.adapter_table.specs.declared.table.AdapterTable.{AdapterTable}
-use Rattle.adapter_table.specs.Rows.{is_member, written_state, written_row}
-use Rattle.adapter_table.specs.Checks.{Admitted, admission, group_of, joined, drawn_ids}
+use Rattle.adapter_table.specs.Rows.{is_member}
+use Rattle.adapter_table.specs.Checks.{Admitted, admission, stored, is_known_config, named_len, has_other_length, group_of, joined, drawn_ids}
 use Rattle.adapter_table.specs.Opening.{opened_row, opened_state}
 use Rattle.adapter_table.specs.Datagrams.{is_for, accepted_row, accepted_if_for}
 use Rattle.adapter_table.specs.Productions.{due_of, produced_state, produced_row, changed_state, changed_row}
 use Rattle.cip_productions.specs.Productions.{due_again, produced, is_free, sooner_due, held, changed_by}
-use Rattle.adapter_table.specs.Ticks.{has_expired, expired_row}
+use Rattle.adapter_table.specs.Shapes.{len_in}
 use Rattle.adapter_table.specs.Sound.{IdsAreDrawn}
 use Rattle.adapter_table.specs.Whole.{FitsRow, RowsFit, IsWhole}
+use Rattle.adapter_table.specs.Laws.{IsTimed}
 use Rattle.adapter_table.proofs.CheckLemmas.{admitted_is, draws_some}
 use Rattle.adapter_table.proofs.ProducerLemmas.{producers_later}
-use Rattle.adapter_table.proofs.EachLemmas.{each_found}
+use Rattle.adapter_table.specs.RowLimits.{fits_stated, fits_chosen}
+use Rattle.adapter_table.specs.EachLemmas.{each_found}
 
--- ---- the state alone is changed
-
-fits_stated : (row : Row) (state : State) → due_of state ≤ 2 ^ 48 + 10000 → FitsRow row → FitsRow (record row { state = state })
-fits_stated row state due fits = record { multiplier = fits.multiplier; o_t_api = fits.o_t_api; t_o_api = fits.t_o_api; due = due }
-
-fits_chosen : (b : Bool) (row : Row) (state : State) → due_of state ≤ 2 ^ 48 + 10000 → FitsRow row → FitsRow (cond b (record row { state = state }) row)
-fits_chosen true row state due fits = fits_stated row state due fits
-fits_chosen false row state due fits = fits
-
-due_written : (state : State) → due_of (written_state state) ≡ due_of state
-due_written (Established production) = refl
-due_written TimedOut = refl
-
-pub fits_written : (point : ℕ) (row : Row) → FitsRow row → FitsRow (written_row point row)
-fits_written point row fits =
-    fits_chosen (row.produced == point) row (written_state row.state) (rw due_written fits.due) fits
-
-pub fits_expired : (clock : Ms) (row : Row) → FitsRow row → FitsRow (expired_row clock row)
-fits_expired clock row fits = fits_chosen (has_expired clock row) row TimedOut (omega arith) fits
+-- ---- a production goes on
 
 -- a production is due again within its packet interval
 again_step : (b : Bool) (clock due api : ℕ) → nat_lt clock (due + api) ≡ b → clock ≤ 2 ^ 48 → due ≤ clock → api ≤ 10000 → cond b (due + api) (clock + api) ≤ 2 ^ 48 + 10000
@@ -104,15 +90,6 @@ fits_fed clock peer d row fits = fed_step (is_for peer d.connection row) clock d
 
 -- ---- a connection is opened
 
--- what the times and the id of an admitted request are
-pub record IsTimed (t : AdapterTable) (request : OpenFields) (admitted : Admitted) : Type 0 where
-  pub multiplier : request.multiplier ≤ 7
-  pub o_t_api : admitted.o_t_api ≤ 10000
-  pub t_o_api : admitted.t_o_api ≤ 10000
-  pub watchdog : admitted.watchdog.0 ≤ 5120000
-  pub left : t.next_id + drawn_ids admitted.multicast admitted.group ≤ 16777216
-  pub draws : 1 ≤ drawn_ids admitted.multicast admitted.group
-
 multiplier_fits : (m : ℕ) → nat_lt 7 m ≡ false → m ≤ 7
 multiplier_fits m h = grind (arith, nat_tests)
 
@@ -160,6 +137,23 @@ fits_opened t peer request admitted e fit time =
       t_o_api = timed.t_o_api;
       due = due_opened t peer admitted admitted.group is.group_is fit time;
     }
+
+segment_len : (len : ℕ) (segment : List ℕ) → not (length segment == len) ≡ false → length segment ≡ len
+segment_len len segment h = grind (arith, nat_tests)
+
+fits_config : (config : Option InputPoint) (named : Option ℕ) (segment : Option (List ℕ)) (bytes : List ℕ) → not (is_known_config config named) ≡ false → has_other_length (named_len config named) segment ≡ false → stored named segment ≡ Some bytes → option_map len_in config ≡ Some (length bytes)
+fits_config config None segment bytes known fits is = absurd cc
+fits_config None (Some named) segment bytes known fits is = absurd cc
+fits_config (Some config) (Some named) None bytes known fits is = absurd cc
+fits_config (Some config) (Some named) (Some segment) bytes known fits is =
+    let same : segment ≡ bytes = cc in
+    ap Some (sym (segment_len config.len segment fits) ∙ ap (length {A = ℕ}) same)
+
+-- a segment that is stored is as long as the configuration
+pub stored_fits : (t : AdapterTable) (request : OpenFields) (admitted : Admitted) → admission t request ≡ Ok admitted → (bytes : List ℕ) → admitted.segment ≡ Some bytes → option_map len_in t.profile.config ≡ Some (length bytes)
+stored_fits t request admitted e bytes is =
+    let passed = admitted_is t request admitted e in
+    fits_config t.profile.config passed.config passed.segment bytes passed.config_is_known passed.segment_fits (sym passed.segment_is ∙ is)
 
 -- ---- ids are passed over
 

@@ -17,3 +17,8 @@ pub mod Scratch
 pub mod Step
 pub mod Newest
 pub mod Laws
+pub mod EachLemmas
+pub mod Shaping
+pub mod Fitting
+pub mod Limits
+pub mod RowLimits

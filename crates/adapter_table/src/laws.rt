@@ -7,7 +7,7 @@ ghost use Rattle.adapter_table.specs.Step.{adapter_table};
 ghost use Rattle.adapter_table.specs.Sound.{IsSound};
 ghost use Rattle.adapter_table.specs.Whole.{IsWhole};
 ghost use Rattle.adapter_table.specs.Newest.{HasNewerNumber, IsAppliedNew, IsNotAgain};
-ghost use Rattle.adapter_table.specs.Laws.{StepsKeep, StepsLeave, RefusalsTouchNothing, FreshOutputsAreZeros, StepsAcceptAfter, RefusalsAcceptNothing};
+ghost use Rattle.adapter_table.specs.Laws.{EffectsKeep, AdmittedAreTimed, StoredSegmentsFit, AppliedDataHaveOutputs, AppliedDataFit, StepsKeep, StepsLeave, RefusalsTouchNothing, FreshOutputsAreZeros, StepsAcceptAfter, RefusalsAcceptNothing};
 
 /// The table of a fresh adapter is sound, and a step from a sound table leads to a sound one.
 pub fn tables_are_sound()
@@ -15,11 +15,25 @@ pub fn tables_are_sound()
     ensures steps { StepsKeep IsSound }
 {}
 
-/// The table of a fresh adapter is whole, where nothing is wrong with its profile, and a step from a whole
-/// table leads to a whole one.
+/// The table of a fresh adapter is whole, where nothing is wrong with its profile; each effect, and so each
+/// step, leads from a whole table to a whole one.
 pub fn tables_are_whole()
     ensures fresh { (profile : Profile) → profile_fault profile ≡ None → IsWhole (adapter_table profile) }
+    ensures effects { EffectsKeep IsWhole }
     ensures steps { StepsKeep IsWhole }
+{}
+
+/// An admitted request has times within their limits and an id that is left; a data segment that is to be stored
+/// is as long as the configuration.
+pub fn admitted_requests_fit()
+    ensures times { AdmittedAreTimed }
+    ensures segments { StoredSegmentsFit }
+{}
+
+/// Data that are applied have an output, and as many bytes.
+pub fn applied_data_fit()
+    ensures outputs { AppliedDataHaveOutputs }
+    ensures lengths { AppliedDataFit }
 {}
 
 /// The profile of an adapter stays.

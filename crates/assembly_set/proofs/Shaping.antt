@@ -2,7 +2,7 @@
 use Rattle.std.proofs.Common.{◌≡◌, ◌<◌, ◌≤◌, ℕ, zero, suc, List, [], ◌∷◌, ◌++◌, length, map, find, take, drop, get_or, Option, Some, None, Bor, refl, sym, ◌∙◌, ap, arith}
 use Rattle.std.specs.Prelude.{Result, IfOk, IfSome}
 use Rattle.std.specs.Option.{option_map, ok_or}
-use Rattle.cip_types.proofs.Places.{written_back}
+use Rattle.cip_types.specs.Places.{written_back}
 use Rattle.adapter_table.specs.Profiles.{profile_fault}
 use Rattle.assembly_set.specs.declared.fault.PointFault.{PointFault}
 use Rattle.adapter_table.specs.declared.profile.Profile.{Profile}
@@ -12,8 +12,8 @@ use Rattle.adapter_table.specs.declared.table.PointValue.{PointValue}
 use Rattle.adapter_table.specs.Profiles.{is_at, is_output_at}
 use Rattle.adapter_table.specs.Points.{bytes_at}
 use Rattle.adapter_table.specs.Shapes.{shape_of, IsShaped, FitPoint, len_in, len_of}
-use Rattle.adapter_table.proofs.Fitting.{input_fits, configuration_fits, fit_of}
-use Rattle.adapter_table.proofs.Limits.{output_len_short, input_len_short, held_short}
+use Rattle.adapter_table.specs.Fitting.{input_fits, configuration_fits, fit_of}
+use Rattle.adapter_table.specs.Limits.{output_len_short, input_len_short, held_short}
 use Rattle.assembly_set.specs.Assemblies.{Assemblies, config_len}
 
 config_is : (config : Option InputPoint) (point : InputPoint) (len : ℕ) → config ≡ Some point → option_map len_in config ≡ Some len → point.len ≡ len

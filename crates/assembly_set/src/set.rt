@@ -114,28 +114,6 @@ impl AssemblySet {
         find_input(self.profile.inputs.as_slice(), point)
     }
 
-    /// Whether the point is an output.
-    pub fn is_output(&self, point: u32) -> bool
-        ensures { result ≡ is_output self.now.profile point }
-    {
-        self.output(point).is_some()
-    }
-
-    /// How many bytes an output, an input or the configuration has.
-    pub fn len_of(&self, point: u32) -> Option<u64>
-        ensures { result ≡ len_of self.now.profile point }
-    {
-        self.read(point).ok().map(|bytes| bytes.len() as u64)
-    }
-
-    /// How many bytes the configuration has.
-    pub fn config_len(&self) -> Option<u64>
-        ensures { result ≡ config_len self.now.profile }
-    {
-        let config = self.profile.config?;
-        Some(config.len)
-    }
-
     /// What an output, an input or the configuration holds, at most 1,400 bytes.
     ///
     /// Refuses any other point (`NoSuchPoint`).

@@ -59,7 +59,7 @@ fn zero_point(values: &mut [PointValue], point: u32)
 }
 
 /// Does an action on what a point holds. Takes no memory.
-#[tactic(auto, using(adapter_table::proofs::Fitting::zeroed_shapes))]
+#[tactic(auto, using(adapter_table::specs::Fitting::zeroed_shapes))]
 pub fn act(values: &mut [PointValue], action: Action, point: u32)
     ensures values { values.new ≡ acted_values action point values.old }
     ensures shapes { map shape_of values.new ≡ map shape_of values.old }

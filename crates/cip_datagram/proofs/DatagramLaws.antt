@@ -6,8 +6,8 @@ use Rattle.std.proofs.lemmas.Bool.{cases_Bool, eqb-true, ltb-true, ltb-false, le
 use Rattle.std.proofs.lemmas.List.{take_at, take-append-drop, take-append-le, length-append, length-take, length-drop, append-nil, length-replicate}
 use Rattle.cip_types.specs.Fields.{fields_text, AreFields, fields_at}
 use Rattle.cip_types.specs.Texts.{Lacks, Exceeds, IsPrefixFree, Tailed, IsTailedText}
-use Rattle.cip_types.proofs.FieldLaws.{IsBytes, IsWide, wide16, wide32, fields_taken, fields_again, fields_lack, fields_tabulated, inside}
-use Rattle.cip_types.proofs.TextLaws.{tailed_free, whole_lacks, whole_exceeds, lacks_exceeds}
+use Rattle.cip_types.specs.FieldLaws.{IsBytes, IsWide, wide16, wide32, fields_taken, fields_again, fields_lack, fields_tabulated, inside}
+use Rattle.cip_types.specs.TextLaws.{tailed_free, whole_lacks, whole_exceeds, lacks_exceeds}
 use Rattle.cip_datagram.specs.declared.datagram.DatagramFault.{DatagramFault}
 use Rattle.cip_datagram.specs.declared.datagram.DatagramFault.TheVariants as fault
 use Rattle.cip_datagram.specs.Datagram.{DatagramFields, datagram_widths, datagram_numbers, datagram_text, DatagramFits, IsDatagramText, BeginsNone, IsTruncated, HasOtherItems, IsDatagramReading}

@@ -2,7 +2,7 @@
 use Rattle.std.proofs.Common.{◌≡◌, ℕ, Bool, true, false, List, ◌++◌, Some, ap, arith}
 use Rattle.std.specs.Option.{option_map}
 use Rattle.std.specs.Int.{w32, to_le_bytes}
-use Rattle.cip_types.proofs.FieldLaws.{wide32, field_again}
+use Rattle.cip_types.specs.FieldLaws.{wide32, field_again}
 use Rattle.cip_datagram.specs.Header.{mode_header, is_run, header_at}
 
 -- the mode that the header at the front says is the one that it was written for

@@ -9,8 +9,8 @@ use Rattle.std.proofs.lemmas.Nat.{le_bytes_8, from_le_bytes-to_le_bytes_8}
 use Rattle.std.specs.Option.{option_map}
 use Rattle.cip_types.specs.Fields.{Finds, fields_text, AreFields, fields_at}
 use Rattle.cip_types.specs.Texts.{Lacks, Exceeds, IsPrefixFree, Tailed, IsTailedText}
-use Rattle.cip_types.proofs.FieldLaws.{IsBytes, IsWide, wide16, wide32, fields_taken, fields_again, fields_lack, fields_tabulated}
-use Rattle.cip_types.proofs.TextLaws.{tailed_free, whole_lacks, whole_exceeds, lacks_exceeds}
+use Rattle.cip_types.specs.FieldLaws.{IsBytes, IsWide, wide16, wide32, fields_taken, fields_again, fields_lack, fields_tabulated}
+use Rattle.cip_types.specs.TextLaws.{tailed_free, whole_lacks, whole_exceeds, lacks_exceeds}
 use Rattle.cip_encap.specs.declared.message.EncapFault.{EncapFault}
 use Rattle.cip_encap.specs.declared.message.EncapFault.TheVariants as fault
 use Rattle.cip_encap.specs.Message.{MessageFields, header_widths, header_numbers, message_text, MessageFits, IsMessageText, IsMessageReading, IsHeaderReading}

@@ -7,7 +7,7 @@ use Rattle.std.proofs.lemmas.Bool.{eqb-true, eq-eqb, leb-true, le-leb, and_parts
 use Rattle.std.proofs.lemmas.List.{take_at, drop_at, take-append-drop, length-append, length-take, append-nil}
 use Rattle.cip_types.specs.Fields.{fields_text, AreFields, fields_at}
 use Rattle.cip_types.specs.Texts.{Tailed}
-use Rattle.cip_types.proofs.FieldLaws.{IsBytes, IsBytes-drop, IsWide, wide16, wide32, fields_taken, fields_again, fields_tabulated, inside}
+use Rattle.cip_types.specs.FieldLaws.{IsBytes, IsBytes-drop, IsWide, wide16, wide32, fields_taken, fields_again, fields_tabulated, inside}
 use Rattle.cip_encap.specs.declared.packet.ItemFault.{ItemFault}
 use Rattle.cip_encap.specs.declared.packet.ItemFault.TheVariants.{Bad}
 use Rattle.cip_encap.specs.declared.packet.SocketAddress.{SocketAddress}

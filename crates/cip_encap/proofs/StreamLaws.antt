@@ -3,7 +3,7 @@ use Rattle.std.proofs.Common.{◌≡◌, ℕ, zero, suc, ◌+◌, ◌<◌, ◌�
 use Rattle.std.specs.List.{AllByRecursion, concat}
 use Rattle.std.proofs.lemmas.Bool.{cases_lt}
 use Rattle.std.proofs.lemmas.List.{get_or_append_left, get_or-append-add, get_or-take, take-append-drop, drop-drop, length-append, length-take, append_cancel_left}
-use Rattle.cip_types.proofs.FieldLaws.{IsBytes, IsBytes-drop, IsBytes-take}
+use Rattle.cip_types.specs.FieldLaws.{IsBytes, IsBytes-drop, IsBytes-take}
 use Rattle.cip_encap.specs.declared.message.EncapFault.{EncapFault}
 use Rattle.cip_encap.specs.declared.message.EncapFault.TheVariants as fault
 use Rattle.cip_encap.specs.Message.{MessageFields, IsMessageText, IsMessageReading}

@@ -1,7 +1,7 @@
 -- The segments of a text: what is read from the front on is how the text is cut, and where that stops.
 use Rattle.std.proofs.Common.{◌≡◌, ℕ, zero, suc, ◌<◌, ◌≤◌, List, [], ◌∷◌, ◌++◌, length, Result, Ok, Err, refl, sym, ap, subst, ◌∙◌, append_assoc, arith, inl, inr}
 use Rattle.std.proofs.lemmas.List.{length-append}
-use Rattle.cip_types.proofs.FieldLaws.{IsBytes}
+use Rattle.cip_types.specs.FieldLaws.{IsBytes}
 use Rattle.cip_epath.specs.declared.fault.PathFault.{PathFault}
 use Rattle.cip_epath.specs.declared.fault.PathFault.TheVariants as fault
 use Rattle.cip_epath.specs.Segment.{SegmentValue, IsSegmentText}

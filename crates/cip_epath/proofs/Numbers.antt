@@ -4,7 +4,7 @@ use Rattle.std.specs.Option.{ok_or}
 use Rattle.std.specs.Int.{Width, w8, byte_len, to_le_bytes}
 use Rattle.std.proofs.lemmas.Bool.{le-ltb}
 use Rattle.cip_types.specs.Fields.{field_at}
-use Rattle.cip_types.proofs.FieldLaws.{IsBytes, IsWide, Takes, field_taken, field_again}
+use Rattle.cip_types.specs.FieldLaws.{IsBytes, IsWide, Takes, field_taken, field_again}
 use Rattle.cip_epath.specs.declared.fault.PathFault.{PathFault}
 use Rattle.cip_epath.specs.declared.fault.PathFault.TheVariants as fault
 use Rattle.cip_epath.specs.Reading.{◌>>=◌, number_at}

@@ -1,7 +1,7 @@
 -- What crates above rest on: the reading of a text as a function is the one that the relations allow,
 -- and what is written is read as it was.
 use Rattle.std.proofs.Common.{◌≡◌, ℕ, List, Result, Ok}
-use Rattle.cip_types.proofs.FieldLaws.{IsBytes}
+use Rattle.cip_types.specs.FieldLaws.{IsBytes}
 use Rattle.cip_epath.specs.declared.fault.PathFault.{PathFault}
 use Rattle.cip_epath.specs.declared.path.Target.{Target}
 use Rattle.cip_epath.specs.Path.{PathFields, IsPath, IsTarget, IsTextOf, IsReading}

@@ -187,6 +187,9 @@ pub enum NewFault {
     /// The profile is wrong, and this is first of what is wrong with it.
     #[error("bad profile: {0}")]
     Profile(ProfileFault),
+    /// What the device was to be made of is for a device of another kind.
+    #[error("wrong kind of device")]
+    WrongKind,
     /// A growth of memory was refused.
     #[error("no memory")]
     OutOfMemory,

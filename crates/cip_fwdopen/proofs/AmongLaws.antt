@@ -5,8 +5,8 @@ use Rattle.std.specs.List.{AllByRecursion}
 use Rattle.std.proofs.lemmas.List.{length-append, append-nil}
 use Rattle.cip_types.specs.Fields.{fields_text, fields_at}
 use Rattle.cip_types.specs.Texts.{Lacks, Exceeds, Found, whole, short, long, IsFound, IsImage, found_image, Tailed, IsTailedText, tailed_found}
-use Rattle.cip_types.proofs.FieldLaws.{IsBytes, IsWide, fields_again}
-use Rattle.cip_types.proofs.TextLaws.{image_found, tailed_is_found}
+use Rattle.cip_types.specs.FieldLaws.{IsBytes, IsWide, fields_again}
+use Rattle.cip_types.specs.TextLaws.{image_found, tailed_is_found}
 use Rattle.cip_fwdopen.specs.declared.fault.ReadFault.{ReadFault}
 use Rattle.cip_fwdopen.specs.declared.fault.ReadFault.TheVariants.{NotEnough, TooMuch, Path}
 use Rattle.cip_fwdopen.specs.Readings.{seen, answer_of, IsNoText, IsReadingAmong}

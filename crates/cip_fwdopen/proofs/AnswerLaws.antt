@@ -7,7 +7,7 @@ use Rattle.cip_types.specs.declared.Fault.{Fault}
 use Rattle.cip_types.specs.declared.Triad.{Triad}
 use Rattle.cip_types.specs.Fields.{fields_text, AreFields, fields_at}
 use Rattle.cip_types.specs.Texts.{Lacks, Tailed}
-use Rattle.cip_types.proofs.FieldLaws.{IsBytes, IsWide, wide8, wide16, wide32, fields_taken, fields_again, fields_lack, zeros, fields_tabulated}
+use Rattle.cip_types.specs.FieldLaws.{IsBytes, IsWide, wide8, wide16, wide32, fields_taken, fields_again, fields_lack, zeros, fields_tabulated}
 use Rattle.cip_fwdopen.specs.declared.fault.ReadFault.TheVariants.{TooMuch}
 use Rattle.cip_fwdopen.specs.declared.reply.Opened as made
 use Rattle.cip_fwdopen.specs.declared.reply.OpenAnswer.{OpenAnswer}

@@ -6,7 +6,7 @@ use Rattle.std.proofs.lemmas.List.{append-nil}
 use Rattle.cip_types.specs.declared.Fault.{Fault}
 use Rattle.cip_types.specs.declared.Triad.{Triad}
 use Rattle.cip_types.specs.Fields.{fields_text, AreFields}
-use Rattle.cip_types.proofs.FieldLaws.{IsBytes, IsWide, wide8, wide16, wide32, zeros}
+use Rattle.cip_types.specs.FieldLaws.{IsBytes, IsWide, wide8, wide16, wide32, zeros}
 use Rattle.cip_fwdopen.specs.declared.fault.ReadFault.{ReadFault}
 use Rattle.cip_fwdopen.specs.declared.fault.ReadFault.TheVariants.{NotEnough}
 use Rattle.cip_fwdopen.specs.declared.close.CloseAnswer.{CloseAnswer}

@@ -6,8 +6,8 @@ use Rattle.std.proofs.lemmas.Bool.{ltb-true, ltb-false, le-ltb}
 use Rattle.std.proofs.lemmas.List.{take_at, drop_at, take-append-drop, length-append, length-take, append-nil}
 use Rattle.cip_types.specs.Fields.{fields_text, fields_at}
 use Rattle.cip_types.specs.Texts.{Lacks, Tailed, IsTailedText, tailed_found}
-use Rattle.cip_types.proofs.FieldLaws.{IsBytes, IsWide, IsBytes-take, IsBytes-drop, fields_taken, fields_again, inside}
-use Rattle.cip_types.proofs.TextLaws.{tailed_is_found}
+use Rattle.cip_types.specs.FieldLaws.{IsBytes, IsWide, IsBytes-take, IsBytes-drop, fields_taken, fields_again, inside}
+use Rattle.cip_types.specs.TextLaws.{tailed_is_found}
 use Rattle.cip_fwdopen.specs.Front.{Begins, parted, front_at}
 use Rattle.cip_fwdopen.proofs.ReadingLaws.{tailed_none, tailed_short}
 

@@ -3,8 +3,8 @@ use Rattle.std.proofs.Common.{◌≡◌, ℕ, ◌<◌, Bool, List, ◌++◌, len
 use Rattle.std.specs.List.{AllByRecursion}
 use Rattle.cip_types.specs.Fields.{fields_text, fields_at}
 use Rattle.cip_types.specs.Texts.{IsPrefixFree, Found, found_image, Tailed, IsTailedText, tailed_found}
-use Rattle.cip_types.proofs.FieldLaws.{IsBytes, IsWide, wide8, wide16, wide32, fields_again}
-use Rattle.cip_types.proofs.TextLaws.{image_free, image_found, tailed_free, tailed_is_found}
+use Rattle.cip_types.specs.FieldLaws.{IsBytes, IsWide, wide8, wide16, wide32, fields_again}
+use Rattle.cip_types.specs.TextLaws.{image_free, image_found, tailed_free, tailed_is_found}
 use Rattle.cip_fwdopen.specs.declared.fault.ReadFault.{ReadFault}
 use Rattle.cip_fwdopen.specs.declared.fault.ReadFault.TheVariants.{NotEnough, TooMuch}
 use Rattle.cip_fwdopen.specs.Readings.{answer_of}

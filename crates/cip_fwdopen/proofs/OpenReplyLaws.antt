@@ -1,6 +1,6 @@
 -- A reply to a request to open is read one way.
 use Rattle.std.proofs.Common.{◌≡◌, ℕ, List, Some, None, Result, Ok, Err, refl, sym, ap}
-use Rattle.cip_types.proofs.FieldLaws.{IsBytes}
+use Rattle.cip_types.specs.FieldLaws.{IsBytes}
 use Rattle.cip_fwdopen.specs.declared.fault.ReadFault.{ReadFault}
 use Rattle.cip_fwdopen.specs.declared.fault.ReadFault.TheVariants.{NotEnough}
 use Rattle.cip_fwdopen.specs.declared.reply.OpenAnswer.{OpenAnswer}

@@ -2,7 +2,7 @@
 use Rattle.std.proofs.Common.{◌≡◌, ℕ, ◌%◌, ◌/◌, ◌<◌, ◌≤◌, ◌^◌, Bool, true, false, bit_and, refl, arith}
 use Rattle.std.specs.Int.{byte_len}
 use Rattle.std.proofs.lemmas.Nat.{and_mask}
-use Rattle.cip_types.proofs.FieldLaws.{IsWide, wide16, wide32}
+use Rattle.cip_types.specs.FieldLaws.{IsWide, wide16, wide32}
 use Rattle.cip_netparams.specs.declared.NetParams.{NetParams}
 use Rattle.cip_netparams.specs.Word.{params16}
 use Rattle.cip_netparams.proofs.Bits.{flag_below}

@@ -4,7 +4,7 @@ use Rattle.std.specs.Int.{Width}
 use Rattle.std.proofs.lemmas.Bool.{lt-ltb, le-ltb}
 use Rattle.cip_types.specs.Fields.{fields_at}
 use Rattle.cip_types.specs.Texts.{IsPrefixFree, Found, whole, short, long, IsFound, Tailed, tailed_found}
-use Rattle.cip_types.proofs.TextLaws.{one_found}
+use Rattle.cip_types.specs.TextLaws.{one_found}
 use Rattle.cip_fwdopen.specs.declared.fault.ReadFault.{ReadFault}
 use Rattle.cip_fwdopen.specs.declared.fault.ReadFault.TheVariants.{NotEnough, TooMuch, Path}
 use Rattle.cip_fwdopen.specs.Readings.{IsReadingOf, answer_of}

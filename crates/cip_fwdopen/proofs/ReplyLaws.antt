@@ -8,7 +8,7 @@ use Rattle.std.proofs.lemmas.Bool.{lt-ltb, le-ltb}
 use Rattle.cip_types.specs.declared.Fault.{Fault}
 use Rattle.cip_types.specs.Fields.{field_at, fields_at}
 use Rattle.cip_types.specs.Texts.{Lacks, Tailed}
-use Rattle.cip_types.proofs.FieldLaws.{IsBytes, IsWide, wide8}
+use Rattle.cip_types.specs.FieldLaws.{IsBytes, IsWide, wide8}
 use Rattle.cip_fwdopen.specs.declared.fault.ReadFault.{ReadFault}
 use Rattle.cip_fwdopen.specs.declared.fault.ReadFault.TheVariants.{NotEnough, TooMuch, Path}
 use Rattle.cip_fwdopen.specs.Readings.{seen, number, IsReadingAmong}

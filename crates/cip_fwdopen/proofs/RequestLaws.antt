@@ -5,7 +5,7 @@ use Rattle.std.specs.List.{AllByRecursion}
 use Rattle.std.proofs.lemmas.Bool.{lt-ltb, le-ltb}
 use Rattle.cip_types.specs.Fields.{field_at, then_at, fields_at}
 use Rattle.cip_types.specs.Texts.{Lacks, Tailed}
-use Rattle.cip_types.proofs.FieldLaws.{IsBytes, IsWide, wide8}
+use Rattle.cip_types.specs.FieldLaws.{IsBytes, IsWide, wide8}
 use Rattle.cip_epath.specs.declared.fault.PathFault.{PathFault}
 use Rattle.cip_epath.specs.declared.path.Target.{Target}
 use Rattle.cip_epath.specs.Path.{IsTarget, IsReading}

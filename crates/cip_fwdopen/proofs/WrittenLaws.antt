@@ -7,7 +7,7 @@ use Rattle.std.proofs.lemmas.List.{append-nil}
 use Rattle.cip_types.specs.declared.Fault.{Fault}
 use Rattle.cip_types.specs.declared.Triad.{Triad}
 use Rattle.cip_types.specs.Fields.{fields_text, field_at}
-use Rattle.cip_types.proofs.FieldLaws.{wide16, field_again}
+use Rattle.cip_types.specs.FieldLaws.{wide16, field_again}
 use Rattle.cip_fwdopen.specs.declared.reply.Opened as made
 use Rattle.cip_fwdopen.specs.Front.{Begins}
 use Rattle.cip_fwdopen.specs.Reply.{reply_service, opened_widths, opened_numbers, opened_service, opened_text, opened_reply, refused_text, refused_reply, failure_text, reply_widths, IsReplyFront, IsOpenedText, IsFailureText, IsAnswerText, refused_by, IsReplyText, IsOpenReplyText, open_reply_reading, OpenedFits, TriadFits, RefusedFits}

@@ -3,3 +3,5 @@ pub mod Refusals
 pub mod Replies
 pub mod Commands
 pub mod Frames
+pub mod FrameLaws
+pub mod ReplyLaws

@@ -1,5 +1,1 @@
-pub mod FieldLaws
-pub mod TextLaws
-pub mod Places
-pub mod Orders
 pub mod Samples

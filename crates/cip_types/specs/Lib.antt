@@ -3,3 +3,7 @@ pub mod Fields
 pub mod Texts
 pub mod Order
 pub mod Cases
+pub mod FieldLaws
+pub mod TextLaws
+pub mod Places
+pub mod Firsts

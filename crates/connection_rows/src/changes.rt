@@ -7,13 +7,14 @@ ghost use Rattle.adapter_table.specs.Productions.{produces_on_change, producers_
 ghost use Rattle.adapter_table.specs.Rows.{written_row};
 ghost use Rattle.adapter_table.specs.Whole.{RowsFit};
 
-use crate::order::{By, sorted};
+use crate::order::By;
 use crate::producers::{producers, sending};
 use crate::rows::{copied, write_rows};
 use adapter_table::{Row, changed_row, produces_on_change};
 use cip_events::Sending;
 use cip_productions::Producer;
 use cip_types::{Ms, OutOfMemory};
+use list_order::sorted;
 use std::alloc::Global;
 
 /// Whether a write of the input makes a producer produce at once. Takes no memory.

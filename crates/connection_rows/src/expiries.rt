@@ -4,11 +4,12 @@ ghost use Rattle.std.specs.Prelude.{◌≡◌, ◌++◌, map, filter, IfOk};
 ghost use Rattle.adapter_table.specs.Closing.{unsupported, dropped_notice};
 ghost use Rattle.adapter_table.specs.Ticks.{has_expired, expired, expired_row, expired_rows, expired_notice};
 
-use crate::order::{Deadlines, sorted};
+use crate::order::Deadlines;
 use crate::rows::{copied, is_unsupported};
 use adapter_table::{Row, expired_row, has_expired};
 use cip_events::Notice;
 use cip_types::{Ms, OutOfMemory};
+use list_order::sorted;
 use std::alloc::Global;
 
 /// The connections whose deadline has come, by their deadlines and then in the order of openings.

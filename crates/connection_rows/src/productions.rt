@@ -5,13 +5,14 @@ ghost use Rattle.cip_productions.specs.Productions.{sent};
 ghost use Rattle.adapter_table.specs.Productions.{is_due, due_producers, input_of, due_production, due_productions, produced_row};
 ghost use Rattle.adapter_table.specs.Whole.{RowsFit};
 
-use crate::order::{By, sorted};
+use crate::order::By;
 use crate::producers::{producers, sending};
 use adapter_table::{Row, is_due, produced_row};
 use assembly_set::AssemblySet;
 use cip_events::Sending;
 use cip_productions::Producer;
 use cip_types::{Ms, OutOfMemory};
+use list_order::sorted;
 use std::alloc::Global;
 
 fn due_only(alloc: Global, rows: &[Row], clock: Ms) -> Result<Vec<Row>, OutOfMemory>

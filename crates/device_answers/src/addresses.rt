@@ -17,7 +17,7 @@ fn input_position(inputs: &[InputPoint], point: u32) -> Option<usize>
     inputs.iter().position(|input| input.instance == point)
 }
 
-#[tactic(auto, using(cip_types::proofs::Places::position_or, cip_types::proofs::Places::place_bound))]
+#[tactic(auto, using(cip_types::specs::Places::position_or, cip_types::specs::Places::place_bound))]
 fn place_of_input(inputs: &[InputPoint], point: u32) -> usize
     ensures value { result ≡ position_or_len (is_at point) inputs.now }
     ensures bound { result ≤ length inputs.now }

@@ -1,8 +1,8 @@
 use Rattle.std.proofs.Common.{◌≡◌, ◌∙◌, ap, arith, length, map}
 use Rattle.adapter_table.specs.Points.{changed_value, put_value}
 use Rattle.adapter_table.specs.Shapes.{shape_of}
-use Rattle.cip_types.proofs.Places.{map_done, map_more, mapped_at}
-use Rattle.adapter_table.proofs.Fitting.{put_shapes}
+use Rattle.cip_types.specs.Places.{map_done, map_more, mapped_at}
+use Rattle.adapter_table.specs.Fitting.{put_shapes}
 use Rattle.assembly_set.proofs.Shaping.{fit_at}
 use Rattle.assembly_set.proofs.values.put_value.Goals as goal
 

@@ -1,7 +1,7 @@
 use Rattle.std.proofs.Common.{arith}
 use Rattle.adapter_table.specs.Datagrams.{accepted_if_for}
 use Rattle.cip_datagram.specs.Datagram.{view_datagram}
-use Rattle.cip_types.proofs.Places.{map_more}
+use Rattle.cip_types.specs.Places.{map_more}
 use Rattle.connection_rows.proofs.Orders.{fits_at}
 use Rattle.connection_rows.proofs.deliveries.accept_rows.Goals as goal
 

@@ -1,6 +1,6 @@
 use Rattle.adapter_table.specs.Datagrams.{accepted_if_for}
 use Rattle.cip_datagram.specs.Datagram.{view_datagram}
-use Rattle.cip_types.proofs.Places.{Mapped}
+use Rattle.cip_types.specs.Places.{Mapped}
 use Rattle.connection_rows.proofs.deliveries.accept_rows.Given as goal
 
 abbrev pub invariant-loop-row : goal.invariant-loop-row

@@ -1,6 +1,6 @@
 use Rattle.std.proofs.Common.{arith}
 use Rattle.adapter_table.specs.Ticks.{expired_row}
-use Rattle.cip_types.proofs.Places.{map_more}
+use Rattle.cip_types.specs.Places.{map_more}
 use Rattle.connection_rows.proofs.expiries.expire_rows.Goals as goal
 
 pub loop-row-preserved : goal.loop-row-preserved

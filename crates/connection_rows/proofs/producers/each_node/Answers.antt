@@ -1,5 +1,5 @@
 use Rattle.std.proofs.Common.{arith}
-use Rattle.cip_types.proofs.Orders.{first_taken}
+use Rattle.cip_types.specs.Firsts.{first_taken}
 use Rattle.adapter_table.specs.Productions.{same_node}
 use Rattle.connection_rows.proofs.Orders.{nodes_transitive}
 use Rattle.connection_rows.proofs.producers.each_node.Goals as goal

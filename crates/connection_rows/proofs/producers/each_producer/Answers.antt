@@ -1,5 +1,5 @@
 use Rattle.std.proofs.Common.{arith}
-use Rattle.cip_types.proofs.Orders.{first_taken}
+use Rattle.cip_types.specs.Firsts.{first_taken}
 use Rattle.cip_productions.specs.Productions.{same_producer}
 use Rattle.connection_rows.proofs.Orders.{producers_transitive}
 use Rattle.connection_rows.proofs.producers.each_producer.Goals as goal

@@ -1,6 +1,6 @@
 use Rattle.std.proofs.Common.{arith}
 use Rattle.adapter_table.specs.Productions.{produced_row}
-use Rattle.cip_types.proofs.Places.{map_more}
+use Rattle.cip_types.specs.Places.{map_more}
 use Rattle.connection_rows.proofs.Orders.{fits_at}
 use Rattle.connection_rows.proofs.productions.produce_rows.Goals as goal
 

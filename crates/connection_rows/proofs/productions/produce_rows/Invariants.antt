@@ -1,5 +1,5 @@
 use Rattle.adapter_table.specs.Productions.{produced_row}
-use Rattle.cip_types.proofs.Places.{Mapped}
+use Rattle.cip_types.specs.Places.{Mapped}
 use Rattle.connection_rows.proofs.productions.produce_rows.Given as goal
 
 abbrev pub invariant-loop-row : goal.invariant-loop-row

@@ -1,5 +1,5 @@
 use Rattle.std.proofs.Common.{arith}
-use Rattle.cip_types.proofs.Places.{made_more}
+use Rattle.cip_types.specs.Places.{made_more}
 use Rattle.cip_productions.specs.Productions.{sent}
 use Rattle.adapter_table.specs.Productions.{due_production}
 use Rattle.connection_rows.proofs.productions.sendings.Goals as goal

@@ -1,6 +1,6 @@
 use Rattle.std.proofs.Common.{arith}
 use Rattle.adapter_table.specs.Rows.{written_row}
-use Rattle.cip_types.proofs.Places.{map_more}
+use Rattle.cip_types.specs.Places.{map_more}
 use Rattle.connection_rows.proofs.rows.write_rows.Goals as goal
 
 pub loop-row-preserved : goal.loop-row-preserved

@@ -1,5 +1,5 @@
 use Rattle.cip_router.specs.Replies.{view_reply}
-use Rattle.adapter_table.proofs.ReplyLemmas.{reply_some, reply_fits, items_fit}
+use Rattle.cip_router.specs.ReplyLaws.{reply_some, reply_fits, items_fit}
 use Rattle.device_answers.proofs.replies.write_router.Goals as goal
 
 pub write_items-requires-clause-some : goal.write_items-requires-clause-some

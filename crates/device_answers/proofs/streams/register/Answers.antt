@@ -1,6 +1,6 @@
 use Rattle.std.proofs.Common.{arith}
 use Rattle.adapter_table.specs.Streams.{registered_stream}
-use Rattle.cip_types.proofs.Places.{map_more}
+use Rattle.cip_types.specs.Places.{map_more}
 use Rattle.device_answers.proofs.streams.register.Goals as goal
 
 pub loop-stream-preserved : goal.loop-stream-preserved

@@ -1,5 +1,5 @@
 use Rattle.adapter_table.specs.Streams.{registered_stream}
-use Rattle.cip_types.proofs.Places.{Mapped}
+use Rattle.cip_types.specs.Places.{Mapped}
 use Rattle.device_answers.proofs.streams.register.Given as goal
 
 abbrev pub invariant-loop-stream : goal.invariant-loop-stream

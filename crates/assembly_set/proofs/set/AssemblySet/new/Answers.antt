@@ -1,4 +1,4 @@
-use Rattle.adapter_table.proofs.Fitting.{shaped_opening}
+use Rattle.adapter_table.specs.Fitting.{shaped_opening}
 use Rattle.assembly_set.proofs.set.AssemblySet.new.Goals as goal
 
 pub invariant_of-result : goal.invariant_of-result

@@ -4,7 +4,7 @@ use Rattle.adapter_table.specs.declared.table.PointValue.{PointValue}
 use Rattle.adapter_table.specs.Points.{bytes_at}
 use Rattle.assembly_set.specs.Assemblies.{Assemblies}
 use Rattle.adapter_table.specs.Shapes.{len_of}
-use Rattle.adapter_table.proofs.Fitting.{length_is}
+use Rattle.adapter_table.specs.Fitting.{length_is}
 use Rattle.assembly_set.proofs.Shaping.{lent_length, lent_short}
 use Rattle.assembly_set.specs.declared.fault.PointFault.TheVariants.{NoSuchPoint}
 use Rattle.assembly_set.proofs.set.AssemblySet.read.Goals as goal

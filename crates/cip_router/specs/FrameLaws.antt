@@ -1,11 +1,10 @@
--- What a frame says, by what the readers of its bytes give; a written message is read as it was.
+-- What a frame says, by what the readers of its bytes give.
 use Rattle.std.proofs.Common.{◌≡◌, ℕ, List, Some, None, Ok, Err, refl, ap}
 use Rattle.cip_types.specs.Fields.{fields_at}
 use Rattle.cip_encap.specs.declared.header.MessageHeader.{MessageHeader}
 use Rattle.cip_encap.specs.declared.message.EncapFault.{EncapFault}
-use Rattle.cip_encap.specs.Message.{MessageFields, MessageFits, header_widths, headed, message_text}
+use Rattle.cip_encap.specs.Message.{MessageFields, header_widths, headed}
 use Rattle.cip_encap.specs.Reading.{message_reading}
-use Rattle.cip_encap.proofs.MessageLaws.{message_text_reads}
 use Rattle.cip_router.specs.Frames.{whole, misfit, headless, echo_of, frame_fields, frame_reading}
 
 -- a whole message
@@ -22,7 +21,3 @@ misfit_reads bytes fault h rest wrong found = rw (wrong, found) refl
 pub headless_reads : (bytes : List ℕ) (fault : EncapFault) → message_reading bytes ≡ Err fault → fields_at header_widths bytes ≡ None → frame_reading bytes ≡ headless
 unfolding frame_reading
 headless_reads bytes fault wrong none = rw (wrong, none) refl
-
--- a whole message is read as what it says
-pub frame_again : (m : MessageFields) → MessageFits m → frame_reading (message_text m) ≡ whole (echo_of m) m.payload
-frame_again m fits = whole_reads (message_text m) m (message_text_reads m fits)

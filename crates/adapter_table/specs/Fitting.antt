@@ -20,7 +20,7 @@ use Rattle.adapter_table.specs.Opening.{configured}
 use Rattle.adapter_table.specs.Closing.{closed_values}
 use Rattle.adapter_table.specs.Ticks.{expired_values}
 use Rattle.adapter_table.specs.Shapes.{shape_of, IsShaped, FitPoint, len_in, len_of}
-use Rattle.adapter_table.proofs.Shaping.{points_differ, output_found, input_found, configuration_found}
+use Rattle.adapter_table.specs.Shaping.{points_differ, output_found, input_found, configuration_found}
 
 -- ---- a point's length by its profile
 

@@ -11,8 +11,8 @@ use Rattle.adapter_table.specs.declared.table.PointValue.{PointValue}
 use Rattle.adapter_table.specs.Profiles.{is_at, is_output_at, as_point, profile_fault, profile_tests, are_few, are_long_enough, has_output_len, has_input_len, has_config_len}
 use Rattle.adapter_table.specs.Points.{data_points, bytes_at}
 use Rattle.adapter_table.specs.Shapes.{IsShaped, len_in}
-use Rattle.adapter_table.proofs.Shaping.{all_pass}
-use Rattle.adapter_table.proofs.Fitting.{length_is}
+use Rattle.adapter_table.specs.Shaping.{all_pass}
+use Rattle.adapter_table.specs.Fitting.{length_is}
 
 few_by : (profile : Profile) → are_few profile ≡ true → length profile.inputs ≤ 8
 few_by profile few = grind (arith, nat_tests)

@@ -7,7 +7,7 @@ use Rattle.std.proofs.lemmas.Bool.{cases_Bool, ltb-true, ltb-false}
 use Rattle.std.proofs.lemmas.List.{take_at, take-append-drop, length-append, length-take, length-drop, append-nil, length-replicate}
 use Rattle.cip_types.specs.Fields.{fields_text, fields_at}
 use Rattle.cip_types.specs.Texts.{Lacks, Exceeds, IsPrefixFree, Found, whole, short, long, IsFound, IsImage, found_image, Tailed, IsTailedText, fixed_found, tailed_found}
-use Rattle.cip_types.proofs.FieldLaws.{IsBytes, IsWide, fields_taken, fields_again, fields_lack, inside}
+use Rattle.cip_types.specs.FieldLaws.{IsBytes, IsWide, fields_taken, fields_again, fields_lack, inside}
 
 -- ---- formats that no text begins another of
 

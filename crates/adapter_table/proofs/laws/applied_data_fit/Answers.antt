@@ -1,0 +1,5 @@
+use Rattle.adapter_table.proofs.FedLemmas.{applied_fits, applied_output}
+use Rattle.adapter_table.proofs.laws.applied_data_fit.Goals as goal
+
+pub returns : goal.returns
+returns c = record { outputs = applied_output; lengths = applied_fits }
