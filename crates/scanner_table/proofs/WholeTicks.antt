@@ -347,6 +347,9 @@ start_whole t number whole = start_at_whole t number (place_at t number) refl wh
 
 -- ---- a step, and a fresh table
 
+pub elapsing_whole : (t : ScannerTable) (ms : ℕ) → t.clock.0 + ms ≤ 2 ^ 48 → IsWhole t → IsWhole (elapsed (clocked_table t ms)).table
+elapsing_whole t ms in_time whole = (keeps_elapsed (clocked_table t ms) (clocked_whole t ms in_time whole)).whole
+
 pub step_whole : (t : ScannerTable) (event : Event) → IsWhole t → LeavesWhole (scanner_step t event)
 step_whole t (Request peer bytes) whole = tt
 step_whole t (StreamOpened stream peer) whole = streamed_whole t stream peer whole

@@ -1,9 +1,10 @@
-//! Copies of profiles, and tables with a later counter.
+//! Copies of profiles and of tables, and tables with a later counter.
 
 ghost use Rattle.std.specs.Prelude.{◌≡◌, ◌≤◌, ◌↔◌, IfOk, IsTrue};
 ghost use Rattle.scanner_table.specs.Whole.{IsWhole};
 
 use crate::profile::{ScannerProfile, SlotConfig};
+use crate::slot::Slot;
 use crate::table::ScannerTable;
 use cip_types::{Items, OutOfMemory};
 use std::alloc::Global;
@@ -63,7 +64,54 @@ impl ScannerProfile {
     }
 }
 
+impl Slot {
+    /// A copy of the slot.
+    pub fn copy(&self, alloc: Global) -> Result<Slot, OutOfMemory>
+        ensures { IfOk result (λ copy. copy ≡ self.now) }
+    {
+        let output = Items::copy_of(alloc, self.output.as_slice())?;
+        let image = Items::copy_of(alloc, self.image.as_slice())?;
+        Ok(Slot {
+            state: self.state,
+            wanted: self.wanted,
+            retry: self.retry,
+            output,
+            image,
+        })
+    }
+}
+
+/// Copies of slots with what they hold.
+pub fn copy_of_slots(alloc: Global, slots: &[Slot]) -> Result<Vec<Slot>, OutOfMemory>
+    ensures { IfOk result (λ copies. copies.items ≡ slots.now) }
+{
+    let mut copies = Vec::new(alloc);
+    for slot in slots {
+        copies.push(slot.copy(alloc)?)?;
+    }
+    Ok(copies)
+}
+
 impl ScannerTable {
+    /// A copy of the table.
+    pub fn copy(&self, alloc: Global) -> Result<ScannerTable, OutOfMemory>
+        ensures { IfOk result (λ copy. copy ≡ self.now) }
+    {
+        let profile = self.profile.copy(alloc)?;
+        let slots = Items::from_vec(copy_of_slots(alloc, self.slots.as_slice())?);
+        let streams = Items::copy_of(alloc, self.streams.as_slice())?;
+        Ok(ScannerTable {
+            profile,
+            slots,
+            run: self.run,
+            clock: self.clock,
+            next_id: self.next_id,
+            next_serial: self.next_serial,
+            next_request: self.next_request,
+            streams,
+        })
+    }
+
     /// Whether two tables are equal. Takes no memory.
     pub fn same(&self, other: &ScannerTable) -> bool
         ensures { IsTrue result ↔ (self.now ≡ other.now) }

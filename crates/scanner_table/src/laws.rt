@@ -1,12 +1,13 @@
 //! What holds of every table that a run of a scanner reaches, from a fresh device on. Each call does
 //! nothing: its contract is the law.
 
-ghost use Rattle.std.specs.Prelude.{◌≡◌, None, IfOk};
+ghost use Rattle.std.specs.Prelude.{◌≡◌, ◌≤◌, ◌+◌, ◌^◌, ℕ, None, IfOk};
 ghost use Rattle.cip_events.specs.declared.event.Event.{Event};
 ghost use Rattle.scanner_table.specs.declared.profile.ScannerProfile.{ScannerProfile};
 ghost use Rattle.scanner_table.specs.declared.table.ScannerTable.{ScannerTable};
 ghost use Rattle.scanner_table.specs.Profiles.{profile_fault};
 ghost use Rattle.scanner_table.specs.Step.{scanner_step, scanner_table};
+ghost use Rattle.scanner_table.specs.Ticks.{clocked_table, elapsed};
 ghost use Rattle.scanner_table.specs.Whole.{IsWhole};
 
 /// A fresh scanner of a faultless profile has a whole table.
@@ -17,4 +18,9 @@ pub fn fresh_tables_are_whole()
 /// Each step keeps a table whole.
 pub fn steps_keep_tables_whole()
     ensures { (t : ScannerTable) (event : Event) → IsWhole t → IfOk (scanner_step t event) (λ next. IsWhole next.1) }
+{}
+
+/// What becomes of connections within a tick, before the productions, keeps a table whole.
+pub fn elapsing_keeps_tables_whole()
+    ensures { (t : ScannerTable) (ms : ℕ) → t.clock.0 + ms ≤ 2 ^ 48 → IsWhole t → IsWhole (elapsed (clocked_table t ms)).table }
 {}

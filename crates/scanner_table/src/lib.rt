@@ -9,7 +9,8 @@ mod profile_check;
 mod slot;
 mod table;
 
-pub use laws::{fresh_tables_are_whole, steps_keep_tables_whole};
+pub use copy::copy_of_slots;
+pub use laws::{elapsing_keeps_tables_whole, fresh_tables_are_whole, steps_keep_tables_whole};
 pub use profile::{ScannerProfile, SlotConfig};
 pub use slot::{Closing, Connection, Opening, Slot, SlotState};
 pub use table::{ScannerTable, Session, Stage, TargetStream};

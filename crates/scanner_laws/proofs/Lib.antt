@@ -1,0 +1,13 @@
+mod Places
+mod Moves
+mod Events
+mod CounterSteps
+mod Slotwise
+mod DrawnSteps
+mod OwnSteps
+mod ProducerSteps
+mod ScratchSteps
+mod NewestSteps
+mod DeadlineSteps
+mod SmallTables
+mod LawSamples

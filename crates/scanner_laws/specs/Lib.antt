@@ -1,0 +1,9 @@
+pub mod Runs
+pub mod Counters
+pub mod Drawn
+pub mod Producers
+pub mod Deadlines
+pub mod Deliveries
+pub mod Scratch
+pub mod Newest
+pub mod Whole

@@ -1,0 +1,24 @@
+-- Whose producer a slot's is.
+use Rattle.std.specs.Prelude.{ℕ, ◌≡◌}
+use Rattle.cip_types.specs.declared.names.Node.{Node}
+use Rattle.scanner_table.specs.declared.slot.SlotState.{SlotState}
+use Rattle.scanner_table.specs.declared.slot.SlotState.TheVariants.{Idle, Opening, Established, TimedOut, Closing}
+use Rattle.scanner_table.specs.declared.table.ScannerTable.{ScannerTable}
+use Rattle.scanner_table.specs.Slots.{Place}
+use Rattle.scanner_laws.specs.Runs.{OfEachPlace}
+
+-- a connection's producer has this number, and sends to this node
+abbrev pub StateProducesAs : ℕ → Node → SlotState → Type 0
+StateProducesAs number target Idle = Unit {0}
+StateProducesAs number target (Opening o) = Unit {0}
+StateProducesAs number target (Established c) = (c.production.producer ≡ number) × (c.production.address ≡ target)
+StateProducesAs number target (TimedOut link) = Unit {0}
+StateProducesAs number target (Closing c) = Unit {0}
+
+-- the number is the slot's, and the node its target
+abbrev pub ProducesAsItself : Place → Type 0
+ProducesAsItself place = StateProducesAs place.number place.config.target place.slot.state
+
+-- each slot produces by its own number, for its own target
+abbrev pub SlotsProduceAsThemselves : ScannerTable → Type 0
+SlotsProduceAsThemselves t = OfEachPlace ProducesAsItself t
