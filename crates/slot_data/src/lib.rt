@@ -1,0 +1,16 @@
+//! Class 1 data at a scanner: datagrams that its slots gather, the outputs and the mode that its application
+//! sets, and what its slots send. Nothing but what is sent takes memory.
+//!
+//! Volume 1, chapter 3, class 1 transport, real time formats and run/idle; Volume 2, chapter 2, sequenced
+//! address item.
+#![tactic(auto)]
+
+mod deliveries;
+mod outputs;
+mod productions;
+mod quiet;
+
+pub use deliveries::receive;
+pub use outputs::{set_mode, write};
+pub use productions::{produce, sendings};
+pub use quiet::is_quiet;

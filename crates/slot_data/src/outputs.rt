@@ -1,0 +1,127 @@
+//! What the application sets: outputs, and whether it runs.
+
+ghost use Rattle.std.specs.Prelude.{◌≡◌, ◌≤◌, IfErr, map, length, if◌then◌else◌};
+ghost use Rattle.cip_events.specs.Answers.{plain_answer};
+ghost use Rattle.cip_events.specs.declared.event.Verdict.TheVariants.{Done};
+ghost use Rattle.cip_productions.specs.Kinds.{is_owner};
+ghost use Rattle.scanner_table.specs.declared.profile.ScannerProfile.{ScannerProfile};
+ghost use Rattle.scanner_table.specs.Slots.{places_from};
+ghost use Rattle.scanner_table.specs.Productions.{written_state};
+ghost use Rattle.scanner_table.specs.Points.{output_slot, moded_slot, write, mode};
+ghost use Rattle.scanner_table.specs.Whole.{IsWhole};
+ghost use Rattle.slot_places.specs.Places.{table_of};
+ghost use Rattle.slot_data.specs.Told.{done_or};
+
+use cip_events::StepFault;
+use cip_productions::{Kind, Production};
+use scanner_table::{Connection, ScannerProfile, Slot, SlotConfig, SlotState};
+use slot_places::{Present, place_at};
+
+/// A state whose established connection's producer has new data.
+fn written_state(state: SlotState) -> SlotState
+    ensures { result ≡ written_state state }
+{
+    match state {
+        SlotState::Established(connection) => SlotState::Established(Connection {
+            production: Production {
+                written: true,
+                ..connection.production
+            },
+            ..connection
+        }),
+        other => other,
+    }
+}
+
+fn is_owner(kind: Kind) -> bool
+    ensures { result ≡ is_owner kind }
+{
+    match kind {
+        Kind::ExclusiveOwner => true,
+        Kind::InputOnly | Kind::ListenOnly => false,
+    }
+}
+
+/// The slot's output are other bytes, which are new data.
+fn set_output(slot: &mut Slot, bytes: &[u8])
+    requires { length slot.old.output ≡ length bytes.now }
+    ensures { slot.new ≡ output_slot bytes.now slot.old }
+{
+    slot.output.overwrite(bytes);
+    slot.state = written_state(slot.state);
+}
+
+/// Writes other bytes for an owner's output, which are new data. Takes no memory.
+///
+/// The faults, in this order: `NoSuchSlot` where there is none of this number; `NotAllowedNow` where it is no
+/// owner's, and so has no output; `WrongLength` where the output has another number of bytes. The table is
+/// then as it was.
+///
+/// Volume 1, chapter 3, class 1 transport.
+#[tactic(auto, unfolding(scanner_table::specs::Points::write))]
+pub fn write(
+    profile: &ScannerProfile,
+    present: &mut Present,
+    number: u32,
+    bytes: &[u8],
+) -> Result<(), StepFault>
+    requires whole { IsWhole (table_of profile.now present.old) }
+    ensures said { done_or result (table_of profile.now present.new) ≡ write (table_of profile.now present.old) number bytes.now }
+    ensures same { IfErr result (λ _. present.new ≡ present.old) }
+{
+    let Some(place) = place_at(profile.slots.as_slice(), &present.slots, number) else {
+        return Err(StepFault::NoSuchSlot);
+    };
+    if !is_owner(place.config.kind) {
+        return Err(StepFault::NotAllowedNow);
+    }
+    if bytes.len() as u64 != place.config.out_len {
+        return Err(StepFault::WrongLength);
+    }
+    set_output(&mut present.slots[number as usize], bytes);
+    Ok(())
+}
+
+/// The state after a change of mode, which is new data for an owner's producer.
+fn moded_state(kind: Kind, state: SlotState) -> SlotState
+    ensures { result ≡ (if is_owner kind then written_state state else state) }
+{
+    if is_owner(kind) {
+        written_state(state)
+    } else {
+        state
+    }
+}
+
+fn renew(configs: &[SlotConfig], slots: &mut [Slot])
+    requires { length slots.old ≤ length configs.now }
+    ensures { slots.new ≡ map moded_slot (places_from 0 configs.now slots.old) }
+{
+    for index in 0..slots.len() {
+        slots[index].state = moded_state(configs[index].kind, slots[index].state);
+    }
+}
+
+/// Each owner's producer has new data.
+fn renew_all(configs: &[SlotConfig], slots: &mut Vec<Slot>)
+    requires { length slots.old.items ≤ length configs.now }
+    ensures { slots.new.items ≡ map moded_slot (places_from 0 configs.now slots.old.items) }
+{
+    renew(configs, slots);
+}
+
+/// The application runs or is idle. A change of mode is new data for each owner's producer, since the mode
+/// goes with them. Takes no memory.
+///
+/// Volume 1, chapter 3, real time formats and run/idle.
+#[tactic(auto, unfolding(scanner_table::specs::Points::mode))]
+pub fn set_mode(profile: &ScannerProfile, present: &mut Present, run: bool)
+    requires whole { IsWhole (table_of profile.now present.old) }
+    ensures { (plain_answer Done, table_of profile.now present.new) ≡ mode (table_of profile.now present.old) run }
+{
+    if run == present.run {
+        return;
+    }
+    present.run = run;
+    renew_all(profile.slots.as_slice(), &mut present.slots);
+}

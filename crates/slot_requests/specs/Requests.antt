@@ -1,0 +1,22 @@
+-- The frames of requests to a Connection Manager (Volume 1, chapter 3, Connection Manager services).
+use Rattle.std.specs.Prelude.{ℕ, List, None}
+use Rattle.cip_encap.specs.Message.{message_text}
+use Rattle.cip_encap.specs.Packet.{packet_text}
+use Rattle.cip_events.specs.declared.event.Frame.{Frame}
+use Rattle.cip_events.specs.declared.event.Recipient.TheVariants as recipient
+use Rattle.scanner_table.specs.declared.table.Session.{Session}
+use Rattle.scanner_table.specs.Asking.{manager_text}
+
+-- a request with a service and its data, within a session
+abbrev pub manager_frame : Session → ℕ → ℕ → List ℕ → Frame
+manager_frame session number service body = record {
+  to = recipient.Stream session.stream;
+  bytes = message_text (record {
+    command = 0x006F;
+    session = session.handle;
+    status = 0;
+    context = number;
+    options = 0;
+    payload = packet_text (manager_text service body) None;
+  });
+}

@@ -1,0 +1,207 @@
+//! The frames of requests.
+
+ghost use Rattle.std.specs.Prelude.{◌≡◌, ◌≤◌, IfOk, IsTrue, None, length};
+ghost use Rattle.cip_encap.specs.Message.{MessageFields, view_message, message_text};
+ghost use Rattle.cip_encap.specs.Packet.{packet_text};
+ghost use Rattle.cip_events.specs.declared.event.Frame.{Frame};
+ghost use Rattle.cip_events.specs.declared.event.Recipient.TheVariants as recipient;
+ghost use Rattle.cip_fwdopen.specs.Open.{view_open, open_text};
+ghost use Rattle.cip_fwdopen.specs.Close.{close_text};
+ghost use Rattle.scanner_table.specs.Asking.{id_or_zero, is_large, open_fields, close_fields, manager_text, open_service, opening, closing, registration, numbered, sent_frame};
+ghost use Rattle.scanner_table.specs.Profiles.{has_lengths};
+ghost use Rattle.slot_requests.specs.Requests.{manager_frame};
+
+use crate::paths::write_slot_path;
+use crate::sizes::{is_large, o_t_params, t_o_params};
+use cip_encap::{MessageView, write_items, write_message};
+use cip_events::{Frame, Recipient};
+use cip_fwdopen::{CloseRequest, OpenRequest, write_close, write_open};
+use cip_types::fields::put_bytes;
+use cip_types::{ConnId, Items, OutOfMemory, Triad};
+use conn_state::Wanted;
+use scanner_table::{Session, SlotConfig};
+use std::alloc::Global;
+
+/// The command that registers a session.
+///
+/// Volume 2, chapter 2, RegisterSession.
+pub const REGISTER_SESSION: u16 = 0x0065;
+
+/// The command that carries a request outside connections, and its reply.
+///
+/// Volume 2, chapter 2, SendRRData.
+pub const SEND_RR_DATA: u16 = 0x006F;
+
+/// Protocol version 1, without option flags.
+const PROTOCOL: [u8; 4] = [1, 0, 0, 0];
+
+/// Priority and time tick of requests, and their time-out in ticks.
+const PRIORITY_TICK: u8 = 0x0A;
+
+const TICKS: u8 = 0x0E;
+
+/// The service of a Forward_Close.
+const CLOSE: u8 = 0x4E;
+
+/// The frame with a message on a stream.
+fn message_frame(
+    alloc: Global,
+    stream: u16,
+    message: &MessageView<'_>,
+) -> Result<Frame, OutOfMemory>
+    requires { length message.now.«data».now ≤ 65535 }
+    ensures { IfOk result (λ frame. frame ≡ record { to = recipient.Stream stream; bytes = message_text (view_message message.now) }) }
+{
+    Ok(Frame {
+        to: Recipient::Stream(stream),
+        bytes: Items::from_vec(write_message(alloc, message)?),
+    })
+}
+
+/// RegisterSession, on a stream that opened. Want of memory is the only fault, as of the other frames.
+///
+/// Volume 2, chapter 2, RegisterSession.
+pub fn registration_frame(alloc: Global, stream: u16) -> Result<Frame, OutOfMemory>
+    ensures { IfOk result (λ frame. frame ≡ sent_frame (registration stream)) }
+{
+    let message = MessageView {
+        command: REGISTER_SESSION,
+        session: 0,
+        status: 0,
+        context: 0,
+        options: 0,
+        data: &PROTOCOL,
+    };
+    message_frame(alloc, stream, &message)
+}
+
+/// A request to the Connection Manager.
+fn write_manager(alloc: Global, service: u8, body: &[u8]) -> Result<Vec<u8>, OutOfMemory>
+    ensures { IfOk result (λ v. v.items ≡ manager_text service body.now) }
+{
+    let mut out = Vec::new(alloc);
+    put_bytes(&mut out, &[service, 2, 0x20, 6, 0x24, 1])?;
+    put_bytes(&mut out, body)?;
+    Ok(out)
+}
+
+/// The frame of a request to the Connection Manager, within a session.
+fn manager_frame(
+    alloc: Global,
+    session: Session,
+    number: u64,
+    service: u8,
+    body: &[u8],
+) -> Result<Frame, OutOfMemory>
+    requires { length body.now ≤ 1000 }
+    ensures { IfOk result (λ frame. frame ≡ manager_frame session number service body.now) }
+{
+    let request = write_manager(alloc, service, body)?;
+    let items = write_items(alloc, &request, None)?;
+    let message = MessageView {
+        command: SEND_RR_DATA,
+        session: session.handle,
+        status: 0,
+        context: number,
+        options: 0,
+        data: &items,
+    };
+    message_frame(alloc, session.stream, &message)
+}
+
+fn open_service(large: bool) -> u8
+    ensures { result ≡ open_service large }
+{
+    if large { 0x5B } else { 0x54 }
+}
+
+fn id_or_zero(id: Option<ConnId>) -> ConnId
+    ensures { result ≡ id_or_zero id }
+{
+    id.unwrap_or(ConnId(0))
+}
+
+/// What a slot asks for.
+fn open_request<'a>(config: &SlotConfig, wanted: &Wanted, path: &'a [u8]) -> OpenRequest<'a>
+    requires { IsTrue (has_lengths config.now) }
+    ensures { view_open result ≡ record (open_fields config.now wanted.now) { path = path.now } }
+{
+    OpenRequest {
+        priority_tick: PRIORITY_TICK,
+        ticks: TICKS,
+        o_t_id: ConnId(0),
+        t_o_id: id_or_zero(wanted.t_o_id),
+        triad: wanted.triad,
+        multiplier: config.mult,
+        o_t_rpi: config.o_t_rpi,
+        o_t_params: o_t_params(config),
+        t_o_rpi: config.t_o_rpi,
+        t_o_params: t_o_params(config),
+        trigger: config.trigger.byte(),
+        path,
+    }
+}
+
+/// The data of the request that asks for a slot's connection.
+fn open_body(alloc: Global, config: &SlotConfig, wanted: &Wanted) -> Result<Vec<u8>, OutOfMemory>
+    requires { IsTrue (has_lengths config.now) }
+    ensures text { IfOk result (λ v. v.items ≡ open_text (is_large config.now) (open_fields config.now wanted.now)) }
+    ensures short { IfOk result (λ v. length v.items ≤ 1000) }
+{
+    let path = write_slot_path(alloc, config)?;
+    let request = open_request(config, wanted, &path);
+    write_open(alloc, is_large(config), &request)
+}
+
+/// A Forward_Open, or a Large_Forward_Open where a size needs it, which asks for a slot's connection within
+/// a session. The request's number is the sender context.
+///
+/// Volume 1, chapter 3, Forward_Open and Large_Forward_Open services.
+pub fn open_frame(
+    alloc: Global,
+    config: &SlotConfig,
+    wanted: &Wanted,
+    session: Session,
+    number: u64,
+) -> Result<Frame, OutOfMemory>
+    requires { IsTrue (has_lengths config.now) }
+    ensures { IfOk result (λ frame. frame ≡ sent_frame (numbered session number (opening (is_large config.now) (open_fields config.now wanted.now)))) }
+{
+    let body = open_body(alloc, config, wanted)?;
+    let service = open_service(is_large(config));
+    manager_frame(alloc, session, number, service, &body)
+}
+
+/// The data of the request that ends a slot's connection.
+fn close_body(alloc: Global, config: &SlotConfig, triad: Triad) -> Result<Vec<u8>, OutOfMemory>
+    requires { IsTrue (has_lengths config.now) }
+    ensures text { IfOk result (λ v. v.items ≡ close_text (close_fields config.now triad)) }
+    ensures short { IfOk result (λ v. length v.items ≤ 1000) }
+{
+    let path = write_slot_path(alloc, config)?;
+    let request = CloseRequest {
+        priority_tick: PRIORITY_TICK,
+        ticks: TICKS,
+        triad,
+        path: &path,
+    };
+    write_close(alloc, &request)
+}
+
+/// A Forward_Close, which ends a slot's connection within a session. The request's number is the sender
+/// context.
+///
+/// Volume 1, chapter 3, Forward_Close service.
+pub fn close_frame(
+    alloc: Global,
+    config: &SlotConfig,
+    triad: Triad,
+    session: Session,
+    number: u64,
+) -> Result<Frame, OutOfMemory>
+    requires { IsTrue (has_lengths config.now) }
+    ensures { IfOk result (λ frame. frame ≡ sent_frame (numbered session number (closing (close_fields config.now triad)))) }
+{
+    let body = close_body(alloc, config, triad)?;
+    manager_frame(alloc, session, number, CLOSE, &body)
+}

@@ -1,0 +1,57 @@
+//! What replies tell.
+
+ghost use Rattle.std.specs.Prelude.{◌≡◌};
+ghost use Rattle.cip_encap.specs.Message.{view_message};
+ghost use Rattle.cip_fwdopen.specs.Reply.{opened_service};
+ghost use Rattle.scanner_table.specs.Encapsulation.{is_registered};
+ghost use Rattle.scanner_table.specs.Replies.{open_told};
+
+use crate::frames::{REGISTER_SESSION, SEND_RR_DATA};
+use cip_encap::{MessageView, read_items};
+use cip_events::Reason;
+use cip_fwdopen::{OpenAnswer, read_open_reply};
+
+/// The service byte of a success.
+fn opened_service(large: bool) -> u8
+    ensures { result ≡ opened_service large }
+{
+    if large { 0xDB } else { 0xD4 }
+}
+
+/// What a message answers to a Forward_Open, or to a Large_Forward_Open.
+///
+/// `Encap` where the message has a status, which goes first; `Unreadable` where it is no message of
+/// SendRRData, or no reply of the service that was asked for is in it.
+///
+/// Volume 1, chapter 3, Forward_Open service, successful and unsuccessful response; Volume 2, chapter 2,
+/// SendRRData.
+#[tactic(auto, unfolding(scanner_table::specs::Replies::open_told))]
+pub fn open_told(large: bool, message: &MessageView<'_>) -> Result<OpenAnswer, Reason>
+    ensures { result ≡ open_told large (view_message message.now) }
+{
+    if message.status != 0 {
+        return Err(Reason::Encap(message.status));
+    }
+    if message.command != SEND_RR_DATA {
+        return Err(Reason::Unreadable);
+    }
+    let Ok(packet) = read_items(message.data) else {
+        return Err(Reason::Unreadable);
+    };
+    let Ok(reply) = read_open_reply(packet.data) else {
+        return Err(Reason::Unreadable);
+    };
+    if reply.service != opened_service(large) {
+        return Err(Reason::Unreadable);
+    }
+    Ok(reply.answer)
+}
+
+/// Whether a message says that a session is registered.
+///
+/// Volume 2, chapter 2, RegisterSession.
+pub fn is_registered(message: &MessageView<'_>) -> bool
+    ensures { result ≡ is_registered (view_message message.now) }
+{
+    message.command == REGISTER_SESSION && message.status == 0 && message.data.len() == 4
+}

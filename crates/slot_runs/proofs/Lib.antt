@@ -1,0 +1,7 @@
+mod Tame
+pub mod Few
+pub mod Chosen
+pub mod Remaining
+pub mod Standing
+pub mod Ordered
+pub mod Answering

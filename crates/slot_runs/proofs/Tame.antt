@@ -1,0 +1,77 @@
+-- An effect on a place changes the slot of its number alone, and no profile.
+use Rattle.std.proofs.Common.{◌≡◌, ◌<◌, ℕ, zero, suc, ◌==◌, Bool, true, false, cond, List, [], ◌∷◌, drop, slice_get, slice_set, Option, Some, None, refl, ◌∙◌, ap, arith}
+use Rattle.std.proofs.lemmas.Bool.Decides.{nat_tests}
+use Rattle.std.proofs.lemmas.List.{drop-set-lt}
+use Rattle.scanner_table.specs.declared.slot.Slot.{Slot}
+use Rattle.scanner_table.specs.declared.slot.SlotState.{SlotState}
+use Rattle.scanner_table.specs.declared.slot.SlotState.TheVariants.{Idle, Opening, Established, TimedOut, Closing}
+use Rattle.scanner_table.specs.declared.table.ScannerTable.{ScannerTable}
+use Rattle.scanner_table.specs.declared.table.Session.{Session}
+use Rattle.scanner_table.specs.Slots.{Place, with_slot}
+use Rattle.scanner_table.specs.Sessions.{session_with}
+use Rattle.scanner_table.specs.Effects.{Effect}
+use Rattle.scanner_table.specs.Opening.{can_open, open_asked, exhausted, opened_within, opened}
+use Rattle.scanner_table.specs.Closing.{given_up_state}
+use Rattle.scanner_table.specs.Ticks.{expired_state}
+use Rattle.slot_runs.specs.declared.choice.Move.{Move}
+use Rattle.slot_runs.specs.declared.choice.Move.TheVariants as move
+use Rattle.slot_runs.specs.Runs.{effect_of}
+
+-- the table has the profile, and but for the slot of a number the slots, of another
+pub record Changes (number : ℕ) (old new : ScannerTable) : Type 0 where
+  pub profile : new.profile ≡ old.profile
+  pub others : (n : ℕ) → (n == number) ≡ false → slice_get new.slots n ≡ slice_get old.slots n
+  pub later : (n : ℕ) → number < n → drop n new.slots ≡ drop n old.slots
+
+abbrev pub IsTame : (ScannerTable → Place → Effect) → Type 0
+IsTame effect = (t : ScannerTable) (place : Place) → Changes place.number t (effect t place).table
+
+nothing_changes : (number : ℕ) (t : ScannerTable) → Changes number t t
+nothing_changes number t = record { profile = refl; others = λ n other. refl; later = λ n less. refl }
+
+get_other : (slots : List Slot) (number n : ℕ) (slot : Slot) → (n == number) ≡ false → slice_get (slice_set slots number slot) n ≡ slice_get slots n
+get_other [] number n slot other = refl
+get_other (first ∷ slots) zero zero slot other = absurd (let e : true ≡ false = other in cc)
+get_other (first ∷ slots) zero (suc n) slot other = refl
+get_other (first ∷ slots) (suc number) zero slot other = refl
+get_other (first ∷ slots) (suc number) (suc n) slot other = get_other slots number n slot (grind (arith, nat_tests))
+
+set_changes : (number : ℕ) (t u : ScannerTable) (slot : Slot) → u.profile ≡ t.profile → u.slots ≡ t.slots → Changes number t (with_slot u number slot)
+set_changes number t u slot profile slots = record {
+  profile = profile;
+  others = λ n other. get_other u.slots number n slot other ∙ ap (λ (s : List Slot). slice_get s n) slots;
+  later = λ n less. drop-set-lt n u.slots number slot less ∙ ap (drop n) slots;
+}
+
+either_changes : (b : Bool) (number : ℕ) (t : ScannerTable) (x y : Effect) → Changes number t x.table → Changes number t y.table → Changes number t (cond b x y).table
+either_changes true number t x y first second = first
+either_changes false number t x y first second = second
+
+tame_within : (t : ScannerTable) (place : Place) (session : Option Session) → Changes place.number t (opened_within t place session).table
+tame_within t place None = nothing_changes place.number t
+tame_within t place (Some session) =
+    either_changes (can_open t place.config) place.number t (open_asked t place session) (exhausted t place) (set_changes place.number t _ _ refl refl) (set_changes place.number t _ _ refl refl)
+
+tame_opened : IsTame opened
+unfolding opened
+tame_opened t place = tame_within t place (session_with t place.config.target)
+
+tame_given : (t : ScannerTable) (place : Place) (state : SlotState) → Changes place.number t (given_up_state t place state).table
+tame_given t place Idle = nothing_changes place.number t
+tame_given t place (Opening o) = set_changes place.number t _ _ refl refl
+tame_given t place (Established c) = nothing_changes place.number t
+tame_given t place (TimedOut link) = nothing_changes place.number t
+tame_given t place (Closing c) = set_changes place.number t _ _ refl refl
+
+tame_expired : (t : ScannerTable) (place : Place) (state : SlotState) → Changes place.number t (expired_state t place state).table
+tame_expired t place Idle = nothing_changes place.number t
+tame_expired t place (Opening o) = nothing_changes place.number t
+tame_expired t place (Established c) = set_changes place.number t _ _ refl refl
+tame_expired t place (TimedOut link) = nothing_changes place.number t
+tame_expired t place (Closing c) = nothing_changes place.number t
+
+-- each move changes one slot
+pub moves_are_tame : (moved : Move) → IsTame (effect_of moved)
+moves_are_tame move.Open t place = tame_opened t place
+moves_are_tame move.GiveUp t place = tame_given t place place.slot.state
+moves_are_tame move.Expire t place = tame_expired t place place.slot.state

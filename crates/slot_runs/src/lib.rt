@@ -1,0 +1,16 @@
+//! Effects on a scanner's slots, one slot after another, and what the frames of its targets bring: what each
+//! adds to a draft of the table.
+//!
+//! Volume 1, chapter 3, connection timeouts and Forward_Open service; Volume 2, chapter 2, encapsulation messages.
+#![tactic(auto)]
+
+mod choice;
+mod expiries;
+mod messages;
+mod running;
+mod sessions;
+
+pub use expiries::{elapse, expire_all};
+pub use messages::{Heard, hear};
+pub use running::{give_up_overdue, lose_target, open_ready, open_target};
+pub use sessions::{cut_stream, register};

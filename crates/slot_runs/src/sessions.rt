@@ -1,0 +1,79 @@
+//! What becomes of slots as the session with their target begins or ends.
+
+ghost use Rattle.std.specs.Prelude.{◌≡◌, ◌≤◌, ◌^◌, None, IfOk};
+ghost use Rattle.scanner_table.specs.Profiles.{profile_fault};
+ghost use Rattle.scanner_table.specs.Sessions.{without_stream};
+ghost use Rattle.scanner_table.specs.Encapsulation.{registered, session_begun, session_failed};
+ghost use Rattle.scanner_table.specs.Closing.{target_lost};
+ghost use Rattle.cip_encap.specs.Message.{view_message};
+ghost use Rattle.slot_drafts.specs.Drafts.{view_draft, followed};
+
+use crate::running::{lose_target, open_target};
+use cip_encap::MessageView;
+use cip_types::OutOfMemory;
+use scanner_table::{ScannerProfile, Stage, TargetStream};
+use slot_drafts::Draft;
+use slot_requests::is_registered;
+
+/// A session is registered on a stream, and the slots of its target that may try now open.
+fn begin_session(
+    draft: &mut Draft,
+    profile: &ScannerProfile,
+    stream: TargetStream,
+    handle: u32,
+) -> Result<(), OutOfMemory>
+    requires faultless { profile_fault profile.now ≡ None }
+    requires time { draft.old.present.clock.0 ≤ 2 ^ 48 }
+    ensures effect { let d = view_draft profile.now draft.old in IfOk result (λ _. view_draft profile.now draft.new ≡ followed d (session_begun d.table stream handle)) }
+    ensures clock { draft.new.present.clock ≡ draft.old.present.clock }
+{
+    draft.set_stage(stream.number, Stage::Up(handle));
+    open_target(draft, profile, stream.peer)
+}
+
+/// The registration on a stream failed.
+#[tactic(auto, using(crate::proofs::Remaining::adds_nothing))]
+fn fail_session(draft: &mut Draft, profile: &ScannerProfile, stream: TargetStream)
+    ensures effect { let d = view_draft profile.now draft.old in view_draft profile.now draft.new ≡ followed d (session_failed d.table stream) }
+    ensures clock { draft.new.present.clock ≡ draft.old.present.clock }
+{
+    draft.set_stage(stream.number, Stage::Unused);
+}
+
+/// The reply to a registration says whether the session is registered. Want of memory is the only fault, and
+/// the draft is then to be thrown away.
+///
+/// Volume 2, chapter 2, RegisterSession.
+pub fn register(
+    draft: &mut Draft,
+    profile: &ScannerProfile,
+    stream: TargetStream,
+    message: &MessageView<'_>,
+) -> Result<(), OutOfMemory>
+    requires faultless { profile_fault profile.now ≡ None }
+    requires time { draft.old.present.clock.0 ≤ 2 ^ 48 }
+    ensures effect { let d = view_draft profile.now draft.old in IfOk result (λ _. view_draft profile.now draft.new ≡ followed d (registered d.table stream (view_message message.now))) }
+    ensures clock { draft.new.present.clock ≡ draft.old.present.clock }
+{
+    if is_registered(message) {
+        return begin_session(draft, profile, stream, message.session);
+    }
+    fail_session(draft, profile, stream);
+    Ok(())
+}
+
+/// A stream is not open any more, and the slots of its target wait for no answer. Want of memory is the only
+/// fault, and the draft is then to be thrown away.
+pub fn cut_stream(
+    draft: &mut Draft,
+    profile: &ScannerProfile,
+    stream: TargetStream,
+) -> Result<(), OutOfMemory>
+    requires faultless { profile_fault profile.now ≡ None }
+    requires time { draft.old.present.clock.0 ≤ 2 ^ 48 }
+    ensures effect { let d = view_draft profile.now draft.old in IfOk result (λ _. view_draft profile.now draft.new ≡ followed d (target_lost stream.peer (without_stream d.table stream.number))) }
+    ensures clock { draft.new.present.clock ≡ draft.old.present.clock }
+{
+    draft.cut_stream(stream.number);
+    lose_target(draft, profile, stream.peer)
+}
