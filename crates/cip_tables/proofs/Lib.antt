@@ -1,5 +1,6 @@
 pub mod RunKeeps
 pub mod RunLemmas
-pub mod FollowLemmas
 pub mod ScratchLemmas
 mod NewestLemmas
+mod PlaceLemmas
+mod ScannerRunLemmas

@@ -1,5 +1,5 @@
 -- What each step keeps, a run keeps.
-use Rattle.std.proofs.Common.{◌≡◌, ◌≤◌, ℕ, List, [], ◌∷◌, None, Result, Ok, Err, refl, sym, subst, arith}
+use Rattle.std.proofs.Common.{◌≡◌, ◌≤◌, ℕ, List, [], ◌∷◌, None, Result, Ok, Err, IfOk, refl, sym, subst, arith}
 use Rattle.cip_events.specs.declared.event.Event.{Event}
 use Rattle.cip_events.specs.declared.event.StepFault.{StepFault}
 use Rattle.cip_events.specs.declared.event.StepFault.TheVariants.{OutOfMemory, TickTooLong, ClockEnd, NoSuchPoint, WrongLength, NoSuchSlot, NotAllowedNow}
@@ -12,65 +12,109 @@ use Rattle.adapter_table.specs.Step.{adapter_step, adapter_table}
 use Rattle.adapter_table.specs.Sound.{IsSound}
 use Rattle.adapter_table.specs.Whole.{IsWhole}
 use Rattle.adapter_table.specs.Laws.{StepsKeep}
+use Rattle.scanner_table.specs.declared.profile.ScannerProfile.{ScannerProfile}
+use Rattle.scanner_table.specs.declared.table.ScannerTable.{ScannerTable}
+use Rattle.scanner_table.specs.Effects.{Next as ScannerNext}
+use Rattle.scanner_table.specs.Profiles.{profile_fault as scanner_profile_fault}
+use Rattle.scanner_table.specs.Step.{scanner_step, scanner_table}
+use Rattle.scanner_laws.specs.Whole.{IsWholeScanner}
+use Rattle.scanner_laws.specs.Counters.{CountsOn}
+use Rattle.scanner_laws.specs.Runs.{StepsLead as ScannersLead}
 use Rattle.cip_tables.specs.declared.table.Config.{Config}
 use Rattle.cip_tables.specs.declared.table.Config.TheVariants as config
 use Rattle.cip_tables.specs.declared.table.DeviceTable.{DeviceTable}
-use Rattle.cip_tables.specs.declared.table.DeviceTable.TheVariants.{Adapter}
-use Rattle.cip_tables.specs.Step.{DeviceNext, as_adapter, step, opening_table}
+use Rattle.cip_tables.specs.declared.table.DeviceTable.TheVariants.{Adapter, Scanner}
+use Rattle.cip_tables.specs.Step.{DeviceNext, as_adapter, as_scanner, step, opening_table, config_fault}
 use Rattle.cip_tables.specs.Run.{Runs}
+use Rattle.cip_tables.specs.Scanners.{OverEveryScanner}
 use Rattle.cip_tables.specs.Sound.{IsSoundDevice, OverEveryRun, StepsCountOn, RunsCountOn}
 use Rattle.cip_tables.specs.Whole.{IsWholeDevice, next_id_of, RunsKeepWhole, FreshDevicesAreWhole, TablesAreWhole}
 
-abbrev pub InDevice : (AdapterTable → Type 0) → DeviceTable → Type 0
-InDevice P (Adapter t) = P t
+-- one thing holds of an adapter, another of a scanner
+abbrev pub InDevice : (AdapterTable → Type 0) → (ScannerTable → Type 0) → DeviceTable → Type 0
+InDevice P Q (Adapter t) = P t
+InDevice P Q (Scanner t) = Q t
+
+-- a scanner's step keeps it
+abbrev pub ScannersKeep : (ScannerTable → Type 0) → Type 0
+ScannersKeep Q = (t : ScannerTable) (event : Event) → Q t → IfOk (scanner_step t event) (λ next. Q next.1)
+
+-- the device is an adapter, of which this holds
+abbrev pub InAdapter : (AdapterTable → Type 0) → DeviceTable → Type 0
+InAdapter P = InDevice P (λ t. ⊥)
+
+-- this holds of the device where it is an adapter
+abbrev pub IfAdapter : (AdapterTable → Type 0) → DeviceTable → Type 0
+IfAdapter P = InDevice P (λ t. Unit {0})
+
+pub none_keep : ScannersKeep (λ t. ⊥)
+none_keep t event never = absurd never
+
+pub any_ok : (said : Result ScannerNext StepFault) → IfOk said (λ next. Unit {0})
+any_ok (Ok next) = tt
+any_ok (Err fault) = tt
+
+pub all_keep : ScannersKeep (λ t. Unit {0})
+all_keep t event holds = any_ok (scanner_step t event)
 
 pub ok_is : (x y : DeviceNext) → ◌≡◌ {A = Result DeviceNext StepFault} (Ok x) (Ok y) → x ≡ y
 ok_is x y h = cc
 
-device_keeps : (P : AdapterTable → Type 0) (said : Result Next StepFault) (next : DeviceNext) → as_adapter said ≡ Ok next → ((n : Next) → said ≡ Ok n → P n.1) → InDevice P next.1
-device_keeps P (Ok n) next is holds = subst (λ (d : DeviceNext). InDevice P d.1) (ok_is _ _ is) (holds n refl)
-device_keeps P (Err fault) next is holds = absurd cc
+adapter_keeps : (P : AdapterTable → Type 0) (Q : ScannerTable → Type 0) (said : Result Next StepFault) (next : DeviceNext) → as_adapter said ≡ Ok next → ((n : Next) → said ≡ Ok n → P n.1) → InDevice P Q next.1
+adapter_keeps P Q (Ok n) next is holds = subst (λ (d : DeviceNext). InDevice P Q d.1) (ok_is _ _ is) (holds n refl)
+adapter_keeps P Q (Err fault) next is holds = absurd cc
 
-pub step_keeps : (P : AdapterTable → Type 0) → StepsKeep P → (t : DeviceTable) (event : Event) (next : DeviceNext) → step t event ≡ Ok next → InDevice P t → InDevice P next.1
+pub scanner_keeps : (P : AdapterTable → Type 0) (Q : ScannerTable → Type 0) (said : Result ScannerNext StepFault) (next : DeviceNext) → as_scanner said ≡ Ok next → IfOk said (λ n. Q n.1) → InDevice P Q next.1
+scanner_keeps P Q (Ok n) next is holds = subst (λ (d : DeviceNext). InDevice P Q d.1) (ok_is _ _ is) holds
+scanner_keeps P Q (Err fault) next is holds = absurd cc
+
+pub step_keeps : (P : AdapterTable → Type 0) (Q : ScannerTable → Type 0) → StepsKeep P → ScannersKeep Q → (t : DeviceTable) (event : Event) (next : DeviceNext) → step t event ≡ Ok next → InDevice P Q t → InDevice P Q next.1
 unfolding step
-step_keeps P keep (Adapter t) event next is holds = device_keeps P (adapter_step t event) next is (λ n said. keep t event n said holds)
+step_keeps P Q keep keep' (Adapter t) event next is holds = adapter_keeps P Q (adapter_step t event) next is (λ n said. keep t event n said holds)
+step_keeps P Q keep keep' (Scanner t) event next is holds = scanner_keeps P Q (scanner_step t event) next is (keep' t event holds)
 
-stays_so : (P : AdapterTable → Type 0) (old new : DeviceTable) → new ≡ old → InDevice P old → InDevice P new
-stays_so P old new stays holds = subst (InDevice P) (sym stays) holds
+stays_so : (P : AdapterTable → Type 0) (Q : ScannerTable → Type 0) (old new : DeviceTable) → new ≡ old → InDevice P Q old → InDevice P Q new
+stays_so P Q old new stays holds = subst (InDevice P Q) (sym stays) holds
 
-pub follows_keeps : (P : AdapterTable → Type 0) → StepsKeep P → (t : DeviceTable) (event : Event) (outcome : Outcome) (new : DeviceTable) → Follows (step t event) t outcome new → InDevice P t → InDevice P new
-follows_keeps P keep t event (Ok answer) new follows holds = step_keeps P keep t event (answer, new) follows holds
-follows_keeps P keep t event (Err OutOfMemory) new follows holds = stays_so P t new follows.1 holds
-follows_keeps P keep t event (Err TickTooLong) new follows holds = stays_so P t new follows.1 holds
-follows_keeps P keep t event (Err ClockEnd) new follows holds = stays_so P t new follows.1 holds
-follows_keeps P keep t event (Err NoSuchPoint) new follows holds = stays_so P t new follows.1 holds
-follows_keeps P keep t event (Err WrongLength) new follows holds = stays_so P t new follows.1 holds
-follows_keeps P keep t event (Err NoSuchSlot) new follows holds = stays_so P t new follows.1 holds
-follows_keeps P keep t event (Err NotAllowedNow) new follows holds = stays_so P t new follows.1 holds
+pub follows_keeps : (P : AdapterTable → Type 0) (Q : ScannerTable → Type 0) → StepsKeep P → ScannersKeep Q → (t : DeviceTable) (event : Event) (outcome : Outcome) (new : DeviceTable) → Follows (step t event) t outcome new → InDevice P Q t → InDevice P Q new
+follows_keeps P Q keep keep' t event (Ok answer) new follows holds = step_keeps P Q keep keep' t event (answer, new) follows holds
+follows_keeps P Q keep keep' t event (Err OutOfMemory) new follows holds = stays_so P Q t new follows.1 holds
+follows_keeps P Q keep keep' t event (Err TickTooLong) new follows holds = stays_so P Q t new follows.1 holds
+follows_keeps P Q keep keep' t event (Err ClockEnd) new follows holds = stays_so P Q t new follows.1 holds
+follows_keeps P Q keep keep' t event (Err NoSuchPoint) new follows holds = stays_so P Q t new follows.1 holds
+follows_keeps P Q keep keep' t event (Err WrongLength) new follows holds = stays_so P Q t new follows.1 holds
+follows_keeps P Q keep keep' t event (Err NoSuchSlot) new follows holds = stays_so P Q t new follows.1 holds
+follows_keeps P Q keep keep' t event (Err NotAllowedNow) new follows holds = stays_so P Q t new follows.1 holds
 
-pub run_keeps : (P : AdapterTable → Type 0) → StepsKeep P → (old : DeviceTable) (events : List Event) (outcomes : List Outcome) (new : DeviceTable) → Runs old events outcomes new → InDevice P old → InDevice P new
-run_keeps P keep old [] [] new ran holds = stays_so P old new ran holds
-run_keeps P keep old [] (outcome ∷ outcomes) new ran holds = absurd ran
-run_keeps P keep old (event ∷ events) [] new ran holds = absurd ran
-run_keeps P keep old (event ∷ events) (outcome ∷ outcomes) new ran holds =
-    run_keeps P keep ran.0 events outcomes new ran.2 (follows_keeps P keep old event outcome ran.0 ran.1 holds)
+pub run_keeps : (P : AdapterTable → Type 0) (Q : ScannerTable → Type 0) → StepsKeep P → ScannersKeep Q → (old : DeviceTable) (events : List Event) (outcomes : List Outcome) (new : DeviceTable) → Runs old events outcomes new → InDevice P Q old → InDevice P Q new
+run_keeps P Q keep keep' old [] [] new ran holds = stays_so P Q old new ran holds
+run_keeps P Q keep keep' old [] (outcome ∷ outcomes) new ran holds = absurd ran
+run_keeps P Q keep keep' old (event ∷ events) [] new ran holds = absurd ran
+run_keeps P Q keep keep' old (event ∷ events) (outcome ∷ outcomes) new ran holds =
+    run_keeps P Q keep keep' ran.0 events outcomes new ran.2 (follows_keeps P Q keep keep' old event outcome ran.0 ran.1 holds)
 
 -- ---- sound tables
 
-pub run_sound : StepsKeep IsSound → (old : DeviceTable) (events : List Event) (outcomes : List Outcome) (new : DeviceTable) → Runs old events outcomes new → IsSoundDevice old → IsSoundDevice new
-run_sound steps old events outcomes new ran sound = run_keeps IsSound steps old events outcomes new ran sound
+pub run_sound : StepsKeep IsSound → ScannersKeep IsWholeScanner → (old : DeviceTable) (events : List Event) (outcomes : List Outcome) (new : DeviceTable) → Runs old events outcomes new → IsSoundDevice old → IsSoundDevice new
+run_sound steps steps' old events outcomes new ran sound = run_keeps IsSound IsWholeScanner steps steps' old events outcomes new ran sound
 
 pub whole_is_sound : (t : DeviceTable) → IsWholeDevice t → IsSoundDevice t
 whole_is_sound (Adapter t) whole = whole.sound
+whole_is_sound (Scanner t) whole = whole
 
-fresh_sound : ((profile : Profile) → IsSound (adapter_table profile)) → (made : Config) → IsSoundDevice (opening_table made)
-fresh_sound fresh (config.Adapter profile) = fresh profile
+pub whole_adapter : (t : DeviceTable) → IsWholeDevice t → IfAdapter IsSound t
+whole_adapter (Adapter t) whole = whole.sound
+whole_adapter (Scanner t) whole = tt
 
--- every table that a run reaches is sound
+fresh_adapter : ((profile : Profile) → IsSound (adapter_table profile)) → (made : Config) → IfAdapter IsSound (opening_table made)
+fresh_adapter fresh (config.Adapter profile) = fresh profile
+fresh_adapter fresh (config.Scanner profile) = tt
+
+-- every adapter's table that a run reaches is sound
 pub reached_sound : StepsKeep IsSound → ((profile : Profile) → IsSound (adapter_table profile)) → OverEveryRun IsSound
 reached_sound steps fresh = record {
-  whole = λ old events outcomes t whole ran. run_sound steps old events outcomes (Adapter t) ran (whole_is_sound old whole);
-  fresh = λ made events outcomes t ran. run_sound steps (opening_table made) events outcomes (Adapter t) ran (fresh_sound fresh made);
+  whole = λ old events outcomes t whole ran. run_keeps IsSound (λ t. Unit {0}) steps all_keep old events outcomes (Adapter t) ran (whole_adapter old whole);
+  fresh = λ made events outcomes t ran. run_keeps IsSound (λ t. Unit {0}) steps all_keep (opening_table made) events outcomes (Adapter t) ran (fresh_adapter fresh made);
 }
 
 -- what follows from one thing that holds over every run does so too
@@ -82,27 +126,81 @@ over_every P Q follows over = record {
 
 -- ---- whole tables
 
-pub run_whole : StepsKeep IsWhole → RunsKeepWhole
-run_whole steps old new events outcomes whole ran = run_keeps IsWhole steps old events outcomes new ran whole
+-- a fresh adapter of a faultless profile is whole, and a fresh scanner
+abbrev pub FreshAdapters : Type 0
+FreshAdapters = (profile : Profile) → profile_fault profile ≡ None → IsWhole (adapter_table profile)
 
-pub opening_whole : ((profile : Profile) → profile_fault profile ≡ None → IsWhole (adapter_table profile)) → FreshDevicesAreWhole
-opening_whole fresh (config.Adapter profile) none = fresh profile none
+abbrev pub FreshScanners : Type 0
+FreshScanners = (profile : ScannerProfile) → scanner_profile_fault profile ≡ None → IsWholeScanner (scanner_table profile)
 
-pub reached_whole : StepsKeep IsWhole → ((profile : Profile) → profile_fault profile ≡ None → IsWhole (adapter_table profile)) → TablesAreWhole
-reached_whole steps fresh made events outcomes t none ran = run_whole steps (opening_table made) (Adapter t) events outcomes (opening_whole fresh made none) ran
+pub run_whole : StepsKeep IsWhole → ScannersKeep IsWholeScanner → RunsKeepWhole
+run_whole steps steps' old new events outcomes whole ran = run_keeps IsWhole IsWholeScanner steps steps' old events outcomes new ran whole
+
+pub opening_whole : FreshAdapters → FreshScanners → FreshDevicesAreWhole
+opening_whole fresh fresh' (config.Adapter profile) none = fresh profile none
+opening_whole fresh fresh' (config.Scanner profile) none = fresh' profile none
+
+pub reached_whole : StepsKeep IsWhole → ScannersKeep IsWholeScanner → FreshAdapters → FreshScanners → TablesAreWhole
+reached_whole steps steps' fresh fresh' made events outcomes t none ran =
+    run_whole steps steps' (opening_table made) (Adapter t) events outcomes (opening_whole fresh fresh' made none) ran
+
+-- ---- whole scanners
+
+whole_scanner : (t : DeviceTable) → IsWholeDevice t → InDevice (λ t. Unit {0}) IsWholeScanner t
+whole_scanner (Adapter t) whole = tt
+whole_scanner (Scanner t) whole = whole
+
+fresh_scanner : FreshScanners → (made : Config) → config_fault made ≡ None → InDevice (λ t. Unit {0}) IsWholeScanner (opening_table made)
+fresh_scanner fresh (config.Adapter profile) none = tt
+fresh_scanner fresh (config.Scanner profile) none = fresh profile none
+
+run_scanner : ScannersKeep IsWholeScanner → (old : DeviceTable) (events : List Event) (outcomes : List Outcome) (t : ScannerTable) → Runs old events outcomes (Scanner t) → InDevice (λ t. Unit {0}) IsWholeScanner old → IsWholeScanner t
+run_scanner steps old events outcomes t ran whole = run_keeps (λ t. Unit {0}) IsWholeScanner (λ t event next is holds. tt) steps old events outcomes (Scanner t) ran whole
+
+-- every scanner's table that a run reaches is whole
+pub reached_scanners : ScannersKeep IsWholeScanner → FreshScanners → OverEveryScanner IsWholeScanner
+reached_scanners steps fresh = record {
+  whole = λ old events outcomes t whole ran. run_scanner steps old events outcomes t ran (whole_scanner old whole);
+  fresh = λ made events outcomes t none ran. run_scanner steps (opening_table made) events outcomes t ran (fresh_scanner fresh made none);
+}
+
+-- what a whole scanner has holds over every run
+pub over_scanners : (P : ScannerTable → Type 0) → ((t : ScannerTable) → IsWholeScanner t → P t) → OverEveryScanner IsWholeScanner → OverEveryScanner P
+over_scanners P has over = record {
+  whole = λ old events outcomes t whole ran. has t (over.whole old events outcomes t whole ran);
+  fresh = λ made events outcomes t none ran. has t (over.fresh made events outcomes t none ran);
+}
 
 -- ---- the counter of the ids
 
-counts_at : (counter : ℕ) (t : DeviceTable) → counter ≤ next_id_of t → InDevice (λ t. counter ≤ t.next_id) t
-counts_at counter (Adapter t) le = le
-
-counts_in : (counter : ℕ) (t : DeviceTable) → InDevice (λ t. counter ≤ t.next_id) t → counter ≤ next_id_of t
+counts_in : (counter : ℕ) (t : DeviceTable) → InDevice (λ t. counter ≤ t.next_id) (λ t. counter ≤ t.next_id) t → counter ≤ next_id_of t
 counts_in counter (Adapter t) le = le
+counts_in counter (Scanner t) le = le
 
-pub step_counts : ((counter : ℕ) → StepsKeep (λ t. counter ≤ t.next_id)) → StepsCountOn
-step_counts steps old event next is =
-    counts_in (next_id_of old) next.1 (step_keeps (λ t. next_id_of old ≤ t.next_id) (steps (next_id_of old)) old event next is (counts_at (next_id_of old) old (omega arith)))
+counts_from : (t : DeviceTable) → InDevice (λ a. next_id_of t ≤ a.next_id) (λ s. next_id_of t ≤ s.next_id) t
+counts_from (Adapter t) = omega arith
+counts_from (Scanner t) = omega arith
 
-pub run_counts : ((counter : ℕ) → StepsKeep (λ t. counter ≤ t.next_id)) → RunsCountOn
-run_counts steps old new events outcomes ran =
-    counts_in (next_id_of old) new (run_keeps (λ t. next_id_of old ≤ t.next_id) (steps (next_id_of old)) old events outcomes new ran (counts_at (next_id_of old) old (omega arith)))
+scanner_said : (t : ScannerTable) (counter : ℕ) (said : Result ScannerNext StepFault) → ((next : ScannerNext) → said ≡ Ok next → CountsOn t next.1) → counter ≤ t.next_id → IfOk said (λ next. counter ≤ next.1.next_id)
+scanner_said t counter (Ok next) counts le = let on = (counts next refl).ids in omega arith
+scanner_said t counter (Err fault) counts le = tt
+
+pub scanners_count : ScannersLead CountsOn → (counter : ℕ) → ScannersKeep (λ t. counter ≤ t.next_id)
+scanners_count counts counter t event le = scanner_said t counter (scanner_step t event) (counts t event) le
+
+pub step_counts : ((counter : ℕ) → StepsKeep (λ t. counter ≤ t.next_id)) → ScannersLead CountsOn → StepsCountOn
+step_counts steps counts old event next is =
+    counts_in (next_id_of old) next.1 (step_keeps (λ t. next_id_of old ≤ t.next_id) (λ t. next_id_of old ≤ t.next_id) (steps (next_id_of old)) (scanners_count counts (next_id_of old)) old event next is (counts_from old))
+
+pub run_counts : ((counter : ℕ) → StepsKeep (λ t. counter ≤ t.next_id)) → ScannersLead CountsOn → RunsCountOn
+run_counts steps counts old new events outcomes ran =
+    counts_in (next_id_of old) new (run_keeps (λ t. next_id_of old ≤ t.next_id) (λ t. next_id_of old ≤ t.next_id) (steps (next_id_of old)) (scanners_count counts (next_id_of old)) old events outcomes new ran (counts_from old))
+
+-- ---- later counters
+
+abbrev pub LaterScanners : Type 0
+LaterScanners = (t : ScannerTable) (counter : ℕ) → t.next_id ≤ counter → counter ≤ 16777216 → IsWholeScanner t → IsWholeScanner (record t { next_id = counter })
+
+pub later_scanner : LaterScanners → (d : DeviceTable) (t : ScannerTable) (counter : ℕ) → d ≡ Scanner t → next_id_of d ≤ counter → counter ≤ 16777216 → IsWholeDevice d → IsWholeScanner (record t { next_id = counter })
+later_scanner law d t counter is later last whole =
+    law t counter (subst (λ d. next_id_of d ≤ counter) is later) last (subst IsWholeDevice is whole)

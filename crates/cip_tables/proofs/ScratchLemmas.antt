@@ -16,12 +16,14 @@ use Rattle.adapter_table.specs.Scratch.{or_else, Leaves}
 use Rattle.adapter_table.specs.Laws.{StepsKeep, StepsLeave, RefusalsTouchNothing, FreshOutputsAreZeros}
 use Rattle.cip_tables.specs.declared.table.Config.TheVariants as config
 use Rattle.cip_tables.specs.declared.table.DeviceTable.{DeviceTable}
-use Rattle.cip_tables.specs.declared.table.DeviceTable.TheVariants.{Adapter}
+use Rattle.cip_tables.specs.declared.table.DeviceTable.TheVariants.{Adapter, Scanner}
 use Rattle.cip_tables.specs.Step.{DeviceNext, as_adapter, step, bytes_in}
 use Rattle.cip_tables.specs.Run.{Runs, table_of, performed}
 use Rattle.cip_tables.specs.Whole.{IsWholeDevice}
 use Rattle.cip_tables.specs.Scratch.{touched, last_touched, outputs_of, OutputsAreFromScratch, FreshOutputsAreFromScratch}
-use Rattle.cip_tables.proofs.RunKeeps.{InDevice, ok_is, follows_keeps, run_keeps}
+use Rattle.scanner_table.specs.Step.{scanner_table}
+use Rattle.scanner_laws.specs.Whole.{IsWholeScanner}
+use Rattle.cip_tables.proofs.RunKeeps.{InAdapter, InDevice, ScannersKeep, none_keep, all_keep, ok_is, follows_keeps, run_keeps}
 
 -- what is known of an adapter's steps
 pub record KnowsSteps : Type 0 where
@@ -30,6 +32,7 @@ pub record KnowsSteps : Type 0 where
   pub fresh : FreshOutputsAreZeros
   pub profile : (profile : Profile) → StepsKeep (λ t. t.profile ≡ profile)
   pub whole : StepsKeep IsWhole
+  pub scanners : ScannersKeep IsWholeScanner
   pub opening : (profile : Profile) → profile_fault profile ≡ None → IsWhole (adapter_table profile)
 
 -- ---- a device's step
@@ -49,9 +52,10 @@ device_moves : (profile : Profile) (t : AdapterTable) (event : Event) (said : Re
 device_moves profile t event (Ok n) next is same leaves = subst (λ (d : DeviceNext). Moves profile (Adapter t) event d.1) (ok_is _ _ is) (moves_by profile t n.1 event same (leaves n refl))
 device_moves profile t event (Err fault) next is same leaves = absurd cc
 
-step_moves : KnowsSteps → (profile : Profile) (old : DeviceTable) (event : Event) (next : DeviceNext) → step old event ≡ Ok next → InDevice (HasProfile profile) old → IsWholeDevice old → Moves profile old event next.1
+step_moves : KnowsSteps → (profile : Profile) (old : DeviceTable) (event : Event) (next : DeviceNext) → step old event ≡ Ok next → InAdapter (HasProfile profile) old → IsWholeDevice old → Moves profile old event next.1
 unfolding step
 step_moves knows profile (Adapter t) event next is same whole = device_moves profile t event (adapter_step t event) next is same (λ n said. knows.leave t event n said whole)
+step_moves knows profile (Scanner t) event next is same whole = absurd same
 
 pub fault_is : (said : Result Next StepFault) (fault : StepFault) → as_adapter said ≡ Err fault → said ≡ Err fault
 fault_is (Ok next) fault is = absurd cc
@@ -60,6 +64,7 @@ fault_is (Err other) fault is = let same : other ≡ fault = cc in ap (λ (f : S
 fault_moves : KnowsSteps → (profile : Profile) (old : DeviceTable) (event : Event) (fault : StepFault) → step old event ≡ Err fault → Moves profile old event old
 unfolding step
 fault_moves knows profile (Adapter t) event fault is = λ point output found. rw (knows.refuse point t event fault (fault_is (adapter_step t event) fault is)) refl
+fault_moves knows profile (Scanner t) event fault is = λ point output found. refl
 
 -- ---- a run
 
@@ -85,7 +90,7 @@ ends_by_fault : KnowsSteps → (profile : Profile) (old mid new : DeviceTable) (
 ends_by_fault knows profile old mid new event events fault follows rest =
     ends_more profile old old new event events (ap (table_of old) follows.0) (fault_moves knows profile old event fault follows.0) (ends_refused profile old mid new events follows.1 rest)
 
-ends_by : KnowsSteps → (profile : Profile) (old mid new : DeviceTable) (event : Event) (events : List Event) (outcome : Outcome) (outcomes : List Outcome) → Follows (step old event) old outcome mid → InDevice (HasProfile profile) old → IsWholeDevice old → EndsAt profile mid (performed events outcomes) new → EndsAt profile old (performed (event ∷ events) (outcome ∷ outcomes)) new
+ends_by : KnowsSteps → (profile : Profile) (old mid new : DeviceTable) (event : Event) (events : List Event) (outcome : Outcome) (outcomes : List Outcome) → Follows (step old event) old outcome mid → InAdapter (HasProfile profile) old → IsWholeDevice old → EndsAt profile mid (performed events outcomes) new → EndsAt profile old (performed (event ∷ events) (outcome ∷ outcomes)) new
 ends_by knows profile old mid new event events (Ok answer) outcomes follows same whole rest =
     ends_more profile old mid new event (performed events outcomes) (ap (table_of old) follows) (step_moves knows profile old event (answer, mid) follows same whole) rest
 ends_by knows profile old mid new event events (Err OutOfMemory) outcomes follows same whole rest = ends_refused profile old mid new (performed events outcomes) follows.1 rest
@@ -96,22 +101,34 @@ ends_by knows profile old mid new event events (Err WrongLength) outcomes follow
 ends_by knows profile old mid new event events (Err NoSuchSlot) outcomes follows same whole rest = ends_by_fault knows profile old mid new event (performed events outcomes) NoSuchSlot follows rest
 ends_by knows profile old mid new event events (Err NotAllowedNow) outcomes follows same whole rest = ends_by_fault knows profile old mid new event (performed events outcomes) NotAllowedNow follows rest
 
-run_ends : KnowsSteps → (profile : Profile) (old : DeviceTable) (events : List Event) (outcomes : List Outcome) (new : DeviceTable) → Runs old events outcomes new → InDevice (HasProfile profile) old → IsWholeDevice old → EndsAt profile old (performed events outcomes) new
+run_ends : KnowsSteps → (profile : Profile) (old : DeviceTable) (events : List Event) (outcomes : List Outcome) (new : DeviceTable) → Runs old events outcomes new → InAdapter (HasProfile profile) old → IsWholeDevice old → EndsAt profile old (performed events outcomes) new
 run_ends knows profile old [] [] new ran same whole = subst (λ (t : DeviceTable). EndsAt profile old [] t) (sym ran) (λ point output found. refl)
 run_ends knows profile old [] (outcome ∷ outcomes) new ran same whole = absurd ran
 run_ends knows profile old (event ∷ events) [] new ran same whole = absurd ran
 run_ends knows profile old (event ∷ events) (outcome ∷ outcomes) new ran same whole =
-    let same' = follows_keeps (HasProfile profile) (knows.profile profile) old event outcome ran.0 ran.1 same in
-    let whole' = follows_keeps IsWhole knows.whole old event outcome ran.0 ran.1 whole in
+    let same' = follows_keeps (HasProfile profile) (λ t. ⊥) (knows.profile profile) none_keep old event outcome ran.0 ran.1 same in
+    let whole' = follows_keeps IsWhole IsWholeScanner knows.whole knows.scanners old event outcome ran.0 ran.1 whole in
     ends_by knows profile old ran.0 new event events outcome outcomes ran.1 same whole (run_ends knows profile ran.0 events outcomes new ran.2 same' whole')
 
-outputs_are : (profile : Profile) (t : DeviceTable) → InDevice (HasProfile profile) t → outputs_of t ≡ profile.outputs
+outputs_are : (profile : Profile) (t : DeviceTable) → InAdapter (HasProfile profile) t → outputs_of t ≡ profile.outputs
 outputs_are profile (Adapter t) same = ap (λ (p : Profile). p.outputs) same
+outputs_are profile (Scanner t) same = absurd same
+
+-- a scanner stays one, and has no output
+no_outputs : (t : DeviceTable) → InDevice (λ t. ⊥) (λ t. Unit {0}) t → outputs_of t ≡ []
+no_outputs (Adapter t) scanner = absurd scanner
+no_outputs (Scanner t) scanner = refl
+
+none_there : (point : ℕ) (outputs : List OutputPoint) (output : OutputPoint) → outputs ≡ [] → find (is_output_at point) outputs ≡ Some output → ⊥
+none_there point [] output none is = absurd cc
+none_there point (first ∷ rest) output none is = absurd cc
 
 pub from_scratch : KnowsSteps → OutputsAreFromScratch
 from_scratch knows (Adapter t) new events outcomes point output whole ran is =
-    let same = run_keeps (HasProfile t.profile) (knows.profile t.profile) (Adapter t) events outcomes new ran refl in
+    let same = run_keeps (HasProfile t.profile) (λ t. ⊥) (knows.profile t.profile) none_keep (Adapter t) events outcomes new ran refl in
     run_ends knows t.profile (Adapter t) events outcomes new ran refl whole point output (ap (find (is_output_at point)) (sym (outputs_are t.profile new same)) ∙ is)
+from_scratch knows (Scanner t) new events outcomes point output whole ran is =
+    absurd (none_there point (outputs_of new) output (no_outputs new (run_keeps (λ t. ⊥) (λ t. Unit {0}) (λ t event next said never. absurd never) all_keep (Scanner t) events outcomes new ran tt)) is)
 
 -- ---- from a fresh device on
 
@@ -122,7 +139,9 @@ or_zeros (Some first) held zeros is = refl
 pub fresh_from_scratch : KnowsSteps → FreshOutputsAreFromScratch
 fresh_from_scratch knows (config.Adapter profile) events outcomes t output none ran is =
     let old = Adapter (adapter_table profile) in
-    let same : t.profile ≡ profile = run_keeps (HasProfile profile) (knows.profile profile) old events outcomes (Adapter t) ran refl in
+    let same : t.profile ≡ profile = run_keeps (HasProfile profile) (λ t. ⊥) (knows.profile profile) none_keep old events outcomes (Adapter t) ran refl in
     let found : find (is_output_at output.instance) profile.outputs ≡ Some output = ap (λ (p : Profile). find (is_output_at output.instance) p.outputs) (sym same) ∙ is in
     from_scratch knows old (Adapter t) events outcomes output.instance output (knows.opening profile none) ran is
     ∙ or_zeros (last_touched output.instance old (performed events outcomes)) _ (replicate output.len 0) (knows.fresh profile output.instance output found)
+fresh_from_scratch knows (config.Scanner profile) events outcomes t output none ran is =
+    absurd (run_keeps (λ t. ⊥) (λ t. Unit {0}) (λ t event next said never. absurd never) all_keep (Scanner (scanner_table profile)) events outcomes (Adapter t) ran tt)

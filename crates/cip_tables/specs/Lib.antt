@@ -4,3 +4,6 @@ pub mod Scratch
 pub mod Step
 pub mod Run
 pub mod Newest
+pub mod Scanners
+pub mod FollowLaws
+pub mod ScannerRuns

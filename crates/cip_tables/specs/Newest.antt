@@ -6,14 +6,15 @@ use Rattle.cip_productions.specs.declared.acceptance.Accepted.{Accepted}
 use Rattle.adapter_table.specs.declared.row.Row.{Row}
 use Rattle.adapter_table.specs.Newest.{Acceptance, EachAfter, accepted_at, was_opened_as}
 use Rattle.cip_tables.specs.declared.table.DeviceTable.{DeviceTable}
-use Rattle.cip_tables.specs.declared.table.DeviceTable.TheVariants.{Adapter}
+use Rattle.cip_tables.specs.declared.table.DeviceTable.TheVariants.{Adapter, Scanner}
 use Rattle.cip_tables.specs.Step.{step}
 use Rattle.cip_tables.specs.Run.{Runs, table_of, performed}
 use Rattle.cip_tables.specs.Whole.{IsWholeDevice}
 
--- what the connection of an opening number accepts at an event
+-- what the connection of an opening number accepts at an event of an adapter
 abbrev pub accepted_in : ℕ → DeviceTable → Event → List Acceptance
 accepted_in opening (Adapter t) event = accepted_at opening t event
+accepted_in opening (Scanner t) event = []
 
 -- what it accepts over the events, in order
 abbrev pub acceptances : ℕ → DeviceTable → List Event → List Acceptance
@@ -27,6 +28,7 @@ last_of (Some row) = row.last
 -- what it had accepted last, as the opening table remembers
 abbrev pub last_in : ℕ → DeviceTable → Option Accepted
 last_in opening (Adapter t) = last_of (find (was_opened_as opening) t.rows)
+last_in opening (Scanner t) = None
 
 -- so related are each two datagrams that a connection accepts one after the other, over every run from a whole table
 abbrev pub OverEveryConnection : (Option Accepted → Acceptance → Type 0) → Type 0

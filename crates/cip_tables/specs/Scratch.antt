@@ -5,7 +5,7 @@ use Rattle.adapter_table.specs.declared.profile.OutputPoint.{OutputPoint}
 use Rattle.adapter_table.specs.declared.table.AdapterTable.{AdapterTable}
 use Rattle.cip_tables.specs.declared.table.Config.{Config}
 use Rattle.cip_tables.specs.declared.table.DeviceTable.{DeviceTable}
-use Rattle.cip_tables.specs.declared.table.DeviceTable.TheVariants.{Adapter}
+use Rattle.cip_tables.specs.declared.table.DeviceTable.TheVariants.{Adapter, Scanner}
 use Rattle.adapter_table.specs.Profiles.{is_output_at}
 use Rattle.adapter_table.specs.Points.{bytes_at}
 use Rattle.cip_tables.specs.Step.{step, opening_table, config_fault, bytes_in}
@@ -17,6 +17,8 @@ use Rattle.adapter_table.specs.Scratch.{or_else, left_at}
 -- what an event that leads from one table to another leaves at an output, where it touches it
 abbrev pub touched : ℕ → DeviceTable → Event → DeviceTable → Option (List ℕ)
 touched point (Adapter old) event (Adapter new) = left_at point old event new
+touched point (Adapter old) event (Scanner new) = None
+touched point (Scanner old) event new = None
 
 -- what the last of the events that touches an output leaves there; none where no event touches it
 abbrev pub last_touched : ℕ → DeviceTable → List Event → Option (List ℕ)
@@ -25,9 +27,10 @@ last_touched point t (event ∷ events) =
     let next = table_of t (step t event) in
     or_else (last_touched point next events) (touched point t event next)
 
--- the outputs of a device
+-- the outputs of a device; a scanner consumes none
 abbrev pub outputs_of : DeviceTable → List OutputPoint
 outputs_of (Adapter t) = t.profile.outputs
+outputs_of (Scanner t) = []
 
 -- the value of an output after the events: what touched it last, or what it held in the opening table
 abbrev pub value_from_scratch : DeviceTable → List Event → ℕ → Option (List ℕ)

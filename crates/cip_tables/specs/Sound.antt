@@ -4,15 +4,18 @@ use Rattle.cip_events.specs.declared.event.Event.{Event}
 use Rattle.cip_events.specs.Outcomes.{Outcome}
 use Rattle.adapter_table.specs.declared.table.AdapterTable.{AdapterTable}
 use Rattle.adapter_table.specs.Sound.{IsSound}
+use Rattle.scanner_laws.specs.Whole.{IsWholeScanner}
 use Rattle.cip_tables.specs.declared.table.Config.{Config}
 use Rattle.cip_tables.specs.declared.table.DeviceTable.{DeviceTable}
-use Rattle.cip_tables.specs.declared.table.DeviceTable.TheVariants.{Adapter}
+use Rattle.cip_tables.specs.declared.table.DeviceTable.TheVariants.{Adapter, Scanner}
 use Rattle.cip_tables.specs.Step.{DeviceNext, step, opening_table}
 use Rattle.cip_tables.specs.Run.{Runs}
 use Rattle.cip_tables.specs.Whole.{IsWholeDevice, next_id_of}
 
+-- the laws of its kind hold of a device; those of a scanner are part of what a whole one is
 abbrev pub IsSoundDevice : DeviceTable → Type 0
 IsSoundDevice (Adapter t) = IsSound t
+IsSoundDevice (Scanner t) = IsWholeScanner t
 
 -- in every adapter's table that a run reaches this holds: a run from a whole table, and one from a fresh device
 pub record OverEveryRun (Holds : AdapterTable → Type 0) : Type 0 where

@@ -4,22 +4,26 @@ use Rattle.cip_events.specs.declared.event.Event.{Event}
 use Rattle.adapter_table.specs.declared.table.AdapterTable.{AdapterTable}
 use Rattle.cip_tables.specs.declared.table.Config.{Config}
 use Rattle.cip_tables.specs.declared.table.DeviceTable.{DeviceTable}
-use Rattle.cip_tables.specs.declared.table.DeviceTable.TheVariants.{Adapter}
+use Rattle.cip_tables.specs.declared.table.DeviceTable.TheVariants.{Adapter, Scanner}
 use Rattle.cip_tables.specs.Step.{opening_table, config_fault}
 use Rattle.cip_events.specs.Outcomes.{Outcome}
 use Rattle.cip_tables.specs.Run.{Runs}
 use Rattle.adapter_table.specs.Whole.{IsWhole}
+use Rattle.scanner_laws.specs.Whole.{IsWholeScanner}
 
 abbrev pub IsWholeDevice : DeviceTable → Type 0
 IsWholeDevice (Adapter t) = IsWhole t
+IsWholeDevice (Scanner t) = IsWholeScanner t
 
 -- the counter of the next connection id
 abbrev pub next_id_of : DeviceTable → ℕ
 next_id_of (Adapter t) = t.next_id
+next_id_of (Scanner t) = t.next_id
 
 -- the table with another counter
 abbrev pub with_next_id : DeviceTable → ℕ → DeviceTable
 with_next_id (Adapter t) counter = Adapter (record t { next_id = counter })
+with_next_id (Scanner t) counter = Scanner (record t { next_id = counter })
 
 -- each table that a run from a whole one reaches is whole
 abbrev pub RunsKeepWhole : Type 0
@@ -29,6 +33,6 @@ RunsKeepWhole = (old new : DeviceTable) (events : List Event) (outcomes : List O
 abbrev pub FreshDevicesAreWhole : Type 0
 FreshDevicesAreWhole = (made : Config) → config_fault made ≡ None → IsWholeDevice (opening_table made)
 
--- each table that a run from such a device reaches is whole
+-- each adapter's table that a run from such a device reaches is whole
 abbrev pub TablesAreWhole : Type 0
 TablesAreWhole = (made : Config) (events : List Event) (outcomes : List Outcome) (t : AdapterTable) → config_fault made ≡ None → Runs (opening_table made) events outcomes (Adapter t) → IsWhole t

@@ -2,13 +2,16 @@
 
 ghost use Rattle.std.specs.Prelude.{◌≡◌, ◌≤◌, ◌↔◌, IfOk, IsTrue};
 ghost use Rattle.cip_tables.specs.declared.table.DeviceTable.{DeviceTable};
-ghost use Rattle.cip_tables.specs.declared.table.DeviceTable.TheVariants.{Adapter};
+ghost use Rattle.cip_tables.specs.declared.table.DeviceTable.TheVariants.{Adapter, Scanner};
 ghost use Rattle.adapter_table.specs.Whole.{IsWhole};
+ghost use Rattle.scanner_laws.specs.Whole.{IsWholeScanner};
 ghost use Rattle.cip_tables.specs.Whole.{IsWholeDevice, next_id_of, with_next_id};
 
 use crate::table::{Config, DeviceTable};
 use adapter_table::AdapterTable;
 use cip_types::OutOfMemory;
+use scanner_laws::later_counters_keep_tables_whole;
+use scanner_table::ScannerTable;
 use std::alloc::Global;
 use std::marker::Model;
 
@@ -38,6 +41,16 @@ impl TableCopy {
         }
     }
 
+    /// The copy that is this table of a scanner. Takes no memory.
+    pub fn scanner(table: ScannerTable) -> TableCopy
+        requires { IsWholeScanner table }
+        ensures { result ≡ Scanner table }
+    {
+        TableCopy {
+            table: DeviceTable::Scanner(table),
+        }
+    }
+
     /// The table.
     pub fn table(&self) -> &DeviceTable
         ensures value { result.now ≡ self.now }
@@ -46,12 +59,15 @@ impl TableCopy {
         &self.table
     }
 
-    /// Whether two copies are of equal tables. Takes no memory.
+    /// Whether two copies are of equal tables; those of two kinds are not. Takes no memory.
     pub fn same(&self, other: &TableCopy) -> bool
         ensures { IsTrue result ↔ (self.now ≡ other.now) }
     {
         match (&self.table, &other.table) {
             (DeviceTable::Adapter(table), DeviceTable::Adapter(other)) => table.same(other),
+            (DeviceTable::Scanner(table), DeviceTable::Scanner(other)) => table.same(other),
+            (DeviceTable::Adapter(_), DeviceTable::Scanner(_)) => false,
+            (DeviceTable::Scanner(_), DeviceTable::Adapter(_)) => false,
         }
     }
 
@@ -65,6 +81,10 @@ impl TableCopy {
     {
         match self.table {
             DeviceTable::Adapter(table) => TableCopy::adapter(table.with_next_id(counter)),
+            DeviceTable::Scanner(table) => {
+                later_counters_keep_tables_whole();
+                TableCopy::scanner(table.with_next_id(counter))
+            }
         }
     }
 }
@@ -76,6 +96,7 @@ impl Config {
     {
         match self {
             Config::Adapter(profile) => Ok(Config::Adapter(profile.copy(alloc)?)),
+            Config::Scanner(profile) => Ok(Config::Scanner(profile.copy(alloc)?)),
         }
     }
 }

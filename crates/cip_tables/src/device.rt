@@ -2,7 +2,7 @@
 
 ghost use Rattle.std.specs.Prelude.{◌≡◌, ◌≢◌, ◌↔◌, Bool, false, true, Ok, Err, None, Some, Result, filter, IfOk, IfErr, OnErr, IsErr};
 ghost use Rattle.cip_tables.specs.declared.table.DeviceTable.{DeviceTable};
-ghost use Rattle.cip_tables.specs.Step.{step, opening_table, config_fault, bytes_in, produces_at_once, is_datagram, is_adapter};
+ghost use Rattle.cip_tables.specs.Step.{step, opening_table, config_fault, bytes_in, produces_at_once, no_such, is_datagram, is_adapter, makes_adapter, same_kind};
 ghost use Rattle.cip_events.specs.Answers.{plain_answer, value_answer};
 ghost use Rattle.cip_events.specs.Outcomes.{Follows, found_memory};
 ghost use Rattle.cip_tables.specs.Run.{Runs, outcomes_of, performed, table_after};
@@ -15,6 +15,7 @@ use crate::table::Config;
 use adapter_table::laws;
 use cip_events::{Delivery, Event, NewFault, Outcome, StepFault, Verdict};
 use cip_types::{Node, OutOfMemory};
+use scanner_laws::steps_keep_tables_whole;
 use std::alloc::Global;
 
 /// A device, which contracts see as the table of its connections.
@@ -28,12 +29,13 @@ pub trait Device {
 
     /// A fresh device. Its configuration is taken, and dropped where it is refused.
     ///
-    /// The faults, in order: `Profile` with the first thing that is wrong, `OutOfMemory`.
+    /// The faults, in order: `Profile` with the first thing that is wrong, `WrongKind` where the configuration is
+    /// for a device of the other kind, `OutOfMemory`.
     fn new(alloc: Global, config: Config) -> Result<Self, NewFault>
         ensures table { IfOk result (λ device. table device ≡ opening_table config) }
         ensures kind { IfOk result (λ device. is_adapter (table device) ≡ ADAPTER) }
         ensures valid { IfOk result (λ _. config_fault config ≡ None) }
-        ensures fault { IfErr result (λ fault. IsRefusedAs (config_fault config) fault) };
+        ensures fault { IfErr result (λ fault. IsRefusedAs (config_fault config) (same_kind ADAPTER (makes_adapter config)) fault) };
 
     /// One event. The outcome and the next table are those of the table's step. After a fault, want of
     /// memory included, the device is as it was; want of memory is answered only where the step has an
@@ -46,19 +48,20 @@ pub trait Device {
     fn deliver(&mut self, peer: Node, bytes: &[u8]) -> Delivery
         ensures { step (table self.old) (Event.Datagram peer bytes.now) ≡ Ok (plain_answer (Verdict.Delivered result), table self.new) };
 
-    /// Sets what an input holds, as the event Write does, and gives the same answer. Takes memory only
-    /// where a change-of-state producer of the input produces at once.
+    /// Sets what an input of an adapter holds, or the output of a scanner's slot, as the event Write does, and
+    /// gives the same answer. Takes memory only where a change-of-state producer of the input produces at once.
     fn write_point(&mut self, point: u32, bytes: &[u8]) -> Outcome
         ensures step { Follows (step (table self.old) (Event.Write point bytes.now)) (table self.old) result (table self.new) }
         ensures no_memory { produces_at_once (table self.old) point ≡ false → result ≢ Err StepFault.OutOfMemory };
 
-    /// What an output, an input or the configuration holds, as the event Read answers it. Takes no memory.
-    /// The one fault is `NoSuchPoint`.
+    /// What an output, an input or the configuration of an adapter holds, or what a scanner's slot gathered, as
+    /// the event Read answers it. Takes no memory. The one fault is `NoSuchPoint` at an adapter, and `NoSuchSlot`
+    /// at a scanner.
     fn read_point(&self, point: u32) -> Result<&[u8], StepFault>
         ensures step { IfOk result (λ bytes. step (table self.now) (Event.Read point) ≡ Ok (value_answer bytes.now, table self.now)) }
         ensures refused { IfErr result (λ fault. step (table self.now) (Event.Read point) ≡ Err fault) }
         ensures found { IfOk result (λ bytes. bytes_in (table self.now) point ≡ Some bytes.now) }
-        ensures none { IfErr result (λ fault. (fault ≡ StepFault.NoSuchPoint) × (bytes_in (table self.now) point ≡ None)) };
+        ensures none { IfErr result (λ fault. (fault ≡ no_such (table self.now)) × (bytes_in (table self.now) point ≡ None)) };
 
     /// The present table. Want of memory is the only fault.
     fn copy(&self) -> Result<TableCopy, OutOfMemory>
@@ -86,6 +89,7 @@ pub fn run<D: Device>(
 {
     laws::tables_are_sound();
     laws::tables_are_whole();
+    steps_keep_tables_whole();
     let mut outcomes = Vec::with_capacity(alloc, events.len())?;
     for event in events {
         let outcome = device.step(event);

@@ -1,5 +1,8 @@
 //! What holds of every table that a run of a device reaches, from any whole table on, and so from a fresh
-//! device on. Each call does nothing: its contract is the law.
+//! device on. Each call does nothing: its contract is the law. Those of adapters stand here, those of scanners in a
+//! room of their own.
+
+pub mod scanners;
 
 ghost use Rattle.std.specs.Prelude.{◌≤◌, length};
 ghost use Rattle.cip_tables.specs.Newest.{OverEveryConnection};
@@ -12,6 +15,7 @@ ghost use Rattle.adapter_table.specs.Streams.{most_streams};
 ghost use Rattle.adapter_table.specs.Sound.{IsSound, HasOneOwner, TriadsDiffer, IdsDiffer, IdsAreDrawn, ListenersAreSupported, GroupsAgree, StreamsDiffer, OpeningsRise, ProducersAreDrawn, SinglesHaveTheirOwn, GroupsAloneShare, MulticastIdsAreDrawn};
 
 use adapter_table::laws;
+use scanner_laws::{fresh_tables_are_whole, steps_keep_tables_whole};
 
 /// Every table is sound: each of the laws below holds of it.
 pub fn tables_are_sound()
@@ -114,6 +118,7 @@ pub fn next_id_never_falls()
     ensures run { RunsCountOn }
 {
     laws::counters_never_fall();
+    scanner_laws::counters_never_fall();
 }
 
 /// There are at most 16 open streams.
@@ -131,15 +136,17 @@ pub fn streams_are_distinct()
 }
 
 /// Every table that a run from a whole table reaches is whole, and so is that of a fresh device of a faultless
-/// profile: each of these laws holds of it, each point holds as many bytes as the profile says, each exclusive
-/// owner consumes an output, and packet intervals, multipliers, productions and the clock are within their
-/// limits.
+/// profile: each law of its kind holds of it. Of an adapter each point holds as many bytes as the profile says,
+/// each exclusive owner consumes an output, and packet intervals, multipliers, productions and the clock are within
+/// their limits.
 pub fn tables_are_whole()
     ensures run { RunsKeepWhole }
     ensures opening { FreshDevicesAreWhole }
     ensures fresh { TablesAreWhole }
 {
     laws::tables_are_whole();
+    steps_keep_tables_whole();
+    fresh_tables_are_whole();
 }
 
 /// What each output holds is what the last event that touched it left there: an owner's newest accepted
@@ -151,6 +158,7 @@ pub fn outputs_are_from_scratch()
 {
     laws::outputs_hold_what_is_left();
     laws::profiles_stay();
+    steps_keep_tables_whole();
     laws::tables_are_whole();
 }
 

@@ -19,4 +19,8 @@ pub use cip_productions::{Accepted, Kind, Production};
 pub use cip_router::{Asked, Command, EncapStatus, Refusal, Reply, Status, read_asked};
 pub use copy::TableCopy;
 pub use device::{Device, run};
+pub use scanner_table::{
+    Closing, Connection, Opening, ScannerProfile, ScannerTable, Session, Slot, SlotConfig,
+    SlotState, Stage, TargetStream,
+};
 pub use table::{Config, DeviceTable};

@@ -22,7 +22,7 @@ returns g c =
       run = ran;
       outcomes = folds.told;
       table = folds.table;
-      sound = run_sound c.tables_are_sound.ensures.steps _ c.args.events.now c.loop-event.outcomes.items _ ran;
-      whole = λ whole. run_whole c.tables_are_whole.ensures.steps _ _ c.args.events.now c.loop-event.outcomes.items whole ran;
+      sound = run_sound c.tables_are_sound.ensures.steps c.steps_keep_tables_whole.ensures _ c.args.events.now c.loop-event.outcomes.items _ ran;
+      whole = λ whole. run_whole c.tables_are_whole.ensures.steps c.steps_keep_tables_whole.ensures _ _ c.args.events.now c.loop-event.outcomes.items whole ran;
       err = tt;
     }

@@ -5,5 +5,5 @@ pub returns : goal.returns
 returns c =
     let left = c.outputs_hold_what_is_left.ensures in
     let whole = c.tables_are_whole.ensures in
-    let knows : KnowsSteps = record { leave = left.steps; refuse = left.refusals; fresh = left.fresh; profile = c.profiles_stay.ensures; whole = whole.steps; opening = whole.fresh } in
+    let knows : KnowsSteps = record { leave = left.steps; refuse = left.refusals; fresh = left.fresh; profile = c.profiles_stay.ensures; whole = whole.steps; scanners = c.steps_keep_tables_whole.ensures; opening = whole.fresh } in
     record { whole = from_scratch knows; fresh = fresh_from_scratch knows }

@@ -4,4 +4,6 @@ use Rattle.cip_tables.proofs.laws.tables_are_whole.Goals as goal
 pub returns : goal.returns
 returns c =
     let whole = c.tables_are_whole.ensures in
-    record { run = run_whole whole.steps; opening = opening_whole whole.fresh; fresh = reached_whole whole.steps whole.fresh }
+    let keep = c.steps_keep_tables_whole.ensures in
+    let begin = c.fresh_tables_are_whole.ensures in
+    record { run = run_whole whole.steps keep; opening = opening_whole whole.fresh begin; fresh = reached_whole whole.steps keep whole.fresh begin }

@@ -1,0 +1,13 @@
+use Rattle.scanner_table.specs.declared.table.ScannerTable.{ScannerTable}
+use Rattle.scanner_laws.specs.Whole.{IsWholeScanner}
+use Rattle.cip_tables.specs.Whole.{next_id_of}
+use Rattle.std.proofs.Common.{◌≤◌, subst, sym}
+use Rattle.cip_tables.proofs.RunKeeps.{later_scanner}
+use Rattle.cip_tables.proofs.copy.TableCopy.with_next_id.Goals as goal
+
+pub scanner-requires : goal.scanner-requires
+scanner-requires c =
+    let later = subst (λ d. next_id_of d ≤ c.args.counter) (sym c.self.view_is) c.requires.later in
+    let whole = later_scanner c.later_counters_keep_tables_whole.ensures c.self.inside.table c.in-Scanner.table c.args.counter c.in-Scanner.is later c.requires.last c.self.invariant in
+    let moved = subst (λ (t : ScannerTable). IsWholeScanner (record t { next_id = c.args.counter })) (sym c.in-Scanner.table-is) whole in
+    subst IsWholeScanner (sym c.with_next_id-in-Scanner.ensures.value) moved
