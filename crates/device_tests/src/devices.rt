@@ -1,139 +1,112 @@
-//! Worked trials at a plain adapter, its calls beside `step`, and copies of it.
+//! A plain adapter's calls beside `step`, and copies of it. What its steps answer is shown by the traces of the
+//! scenarios.
 
+use crate::fixtures::{PEER, SENSOR};
 use cip_tables::{
-    Config, Delivery, Device, DeviceTable, Event, Notice, Outcome, StepFault, TableCopy, run,
+    Action, Config, Delivery, Device, DeviceTable, Event, InputPoint, Outcome, OutputPoint,
+    Profile, StepFault, TableCopy, run,
 };
-use cip_types::{ConnId, Triad};
-use device_trials::{Deed, Said, Trial, Turn, common_profile, play};
+use cip_types::{Identity, Items, Node, OutOfMemory};
 use plain_engine::PlainAdapter;
 use std::alloc::Global;
-use std::process::Abort;
 use std::test::Fail;
-use worked_trials::bytes::{DATA, FIRST, HELD, OPEN, OPENED, OUTPUT, OWNER, PEER, ZEROS};
-use worked_trials::sessions::REGISTER;
-use worked_trials::{copies, deliveries, groups, opens, points, sessions, times};
 
-fn passes(alloc: Global, trial: &Trial<'_>) -> bool {
-    trial.play::<PlainAdapter>(alloc) == Ok(None)
-}
+/// An exclusive owner's Forward_Open of output 150 for input 100, at 10 ms.
+const OPEN: [u8; 50] = [
+    0x54, 2, 0x20, 6, 0x24, 1, 0x0A, 0x0E, 0, 0, 0, 0, 1, 0, 0, 0x20, 1, 0, 0x34, 0x12, 0x78, 0x56,
+    0x34, 0x12, 2, 0, 0, 0, 0x10, 0x27, 0, 0, 0x0A, 0x48, 0x10, 0x27, 0, 0, 6, 0x48, 1, 4, 0x20, 4,
+    0x24, 0x97, 0x2C, 0x96, 0x2C, 0x64,
+];
 
-/// Every trial goes as told.
-fn all_pass<R>(rt: &R, trials: &[Trial<'_>])
-where
-    R: AllocGlobal + Abort,
-{
-    for trial in trials {
-        assert!(rt; passes(rt.alloc(), trial), "{}", trial.name);
-    }
-}
+/// Input only, multicast, of input 100 at 10 ms.
+const GATHER: [u8; 50] = [
+    0x54, 2, 0x20, 6, 0x24, 1, 0x0A, 0x0E, 0, 0, 0, 0, 0, 0, 0, 0, 5, 0, 0x34, 0x12, 0x78, 0x56,
+    0x34, 0x12, 2, 0, 0, 0, 0x10, 0x27, 0, 0, 2, 0x48, 0x10, 0x27, 0, 0, 6, 0x28, 1, 4, 0x20, 4,
+    0x24, 0x97, 0x2C, 0x98, 0x2C, 0x64,
+];
 
-#[test]
-fn opens_go_as_told(rt: HostRuntime) {
-    all_pass(&rt, &opens::TRIALS);
-}
+/// The owner's first datagram.
+const FIRST: [u8; 28] = [
+    2, 0, 2, 0x80, 8, 0, 1, 0, 0, 0x10, 1, 0, 0, 0, 0xB1, 0, 0x0A, 0, 1, 0, 1, 0, 0, 0, 0x11, 0x22,
+    0x33, 0x44,
+];
 
-#[test]
-fn groups_go_as_told(rt: HostRuntime) {
-    all_pass(&rt, &groups::TRIALS);
-}
+/// What it puts at the output.
+const HELD: [u8; 4] = [0x11, 0x22, 0x33, 0x44];
 
-#[test]
-fn deliveries_go_as_told(rt: HostRuntime) {
-    all_pass(&rt, &deliveries::TRIALS);
-}
+/// What the application puts at the input.
+const DATA: [u8; 4] = [5, 6, 7, 8];
 
-#[test]
-fn points_go_as_told(rt: HostRuntime) {
-    all_pass(&rt, &points::TRIALS);
-}
+/// The reply to the owner's open with the last id.
+const LAST_OPENED: [u8; 30] = [
+    0xD4, 0, 0, 0, 0xFF, 0xFF, 0xFF, 0x10, 1, 0, 0, 0x20, 1, 0, 0x34, 0x12, 0x78, 0x56, 0x34, 0x12,
+    0x10, 0x27, 0, 0, 0x10, 0x27, 0, 0, 0, 0,
+];
 
-#[test]
-fn times_go_as_told(rt: HostRuntime) {
-    all_pass(&rt, &times::TRIALS);
-}
+/// The refusal of the connection of serial number 5 for want of ids.
+const USED_UP: [u8; 16] = [
+    0xD4, 0, 1, 1, 0x13, 1, 5, 0, 0x34, 0x12, 0x78, 0x56, 0x34, 0x12, 0, 0,
+];
 
-#[test]
-fn sessions_go_as_told(rt: HostRuntime) {
-    all_pass(&rt, &sessions::TRIALS);
+/// One output, one input, a configuration without bytes, and two heartbeats.
+fn profile(alloc: Global) -> Result<Profile, OutOfMemory> {
+    let output = OutputPoint {
+        instance: 150,
+        len: 4,
+        idle: Action::Zero,
+        fault: Action::Zero,
+    };
+    Ok(Profile {
+        incarnation: 0x10,
+        node: Node(0xC0A8_010A),
+        mask: 0xFFFF_FF00,
+        identity: Identity {
+            vendor: 1,
+            device_type: 12,
+            product: 7,
+            major: 2,
+            minor: 3,
+        },
+        outputs: Items::one(alloc, output)?,
+        inputs: Items::one(alloc, SENSOR)?,
+        config: Some(InputPoint {
+            instance: 151,
+            len: 0,
+        }),
+        input_only: 152,
+        listen_only: 153,
+    })
 }
 
 fn adapter(alloc: Global) -> Result<PlainAdapter, Fail> {
-    let profile = common_profile(alloc, OUTPUT, 0)?;
+    let profile = profile(alloc)?;
     Ok(PlainAdapter::new(alloc, Config::Adapter(profile))?)
 }
 
-/// Whether the turns go as told.
-fn goes(alloc: Global, device: &mut PlainAdapter, turns: &[Turn<'_>]) -> bool {
-    play(alloc, device, turns) == Ok(None)
+fn request(alloc: Global, bytes: &[u8]) -> Result<Event, OutOfMemory> {
+    Ok(Event::Request {
+        peer: PEER,
+        bytes: Items::copy_of(alloc, bytes)?,
+    })
 }
 
-/// Whether one turn goes as told.
-fn answers(alloc: Global, device: &mut PlainAdapter, deed: Deed<'_>, said: Said<'_>) -> bool {
-    goes(alloc, device, &[(deed, said)])
-}
-
-// BYTES THAT ARE TOO FEW
-
-/// The reply to a RegisterSession whose length field is wrong.
-const MISFIT: [u8; 24] = [
-    0x65, 0, 0, 0, 0, 0, 0, 0, 0x65, 0, 0, 0, 1, 2, 3, 4, 5, 6, 7, 8, 0, 0, 0, 0,
-];
-
-fn refuses_shorter(alloc: Global, device: &mut PlainAdapter, len: usize) -> bool {
-    let refused = Said::Reply(PEER, &[0xD4, 0, 0x13, 0], &[]);
-    match OPEN.get(..len) {
-        Some(short) => answers(alloc, device, Deed::Request(PEER, short), refused),
-        None => false,
+/// Whether an outcome is one frame of these bytes.
+fn is_reply(outcome: &Outcome, bytes: &[u8]) -> bool {
+    match outcome {
+        Ok(answer) => match answer.frames.as_slice() {
+            [frame] => frame.bytes.as_slice() == bytes,
+            _ => false,
+        },
+        Err(_) => false,
     }
 }
 
-#[test]
-fn every_shorter_request_is_refused(rt: HostRuntime) -> Result<(), Fail> {
-    let mut device = adapter(rt.alloc())?;
-    for len in 1..OPEN.len() {
-        assert!(rt; refuses_shorter(rt.alloc(), &mut device, len), "at {len}");
+/// Whether a request is answered by these bytes.
+fn replies(alloc: Global, device: &mut PlainAdapter, asked: &[u8], bytes: &[u8]) -> bool {
+    match request(alloc, asked) {
+        Ok(event) => is_reply(&device.step(&event), bytes),
+        Err(_) => false,
     }
-    Ok(())
-}
-
-fn refuses_frame(alloc: Global, device: &mut PlainAdapter, len: usize) -> bool {
-    let said = if len < 24 {
-        Said::BadFrame
-    } else {
-        Said::Frame(0, &MISFIT, &[])
-    };
-    match REGISTER.get(..len) {
-        Some(short) => answers(alloc, device, Deed::Frame(0, short), said),
-        None => false,
-    }
-}
-
-#[test]
-fn every_shorter_frame_is_refused(rt: HostRuntime) -> Result<(), Fail> {
-    let mut device = adapter(rt.alloc())?;
-    let opened = Deed::StreamOpened(0, PEER);
-    assert!(rt; answers(rt.alloc(), &mut device, opened, Said::Sends(&[], &[])));
-    for len in 0..REGISTER.len() {
-        assert!(rt; refuses_frame(rt.alloc(), &mut device, len), "at {len}");
-    }
-    Ok(())
-}
-
-fn ignores_shorter(device: &mut PlainAdapter, len: usize) -> bool {
-    match FIRST.get(..len) {
-        Some(short) => device.deliver(PEER, short) == Delivery::Malformed,
-        None => false,
-    }
-}
-
-#[test]
-fn every_shorter_datagram_is_malformed(rt: HostRuntime) -> Result<(), Fail> {
-    let mut device = adapter(rt.alloc())?;
-    for len in 0..FIRST.len() {
-        assert!(rt; ignores_shorter(&mut device, len), "at {len}");
-    }
-    assert!(rt; holds(&device, 150, &ZEROS));
-    Ok(())
 }
 
 // CALLS
@@ -156,20 +129,18 @@ fn runs(alloc: Global, device: &mut PlainAdapter, events: &[Event]) -> bool {
 #[test]
 fn a_run_has_an_outcome_for_each_event(rt: HostRuntime) -> Result<(), Fail> {
     let mut device = adapter(rt.alloc())?;
-    let open = Deed::Request(PEER, &OPEN).event(rt.alloc())?;
+    let open = request(rt.alloc(), &OPEN)?;
     assert!(rt; runs(rt.alloc(), &mut device, &[open, Event::Tick { ms: 60_001 }]));
     Ok(())
 }
 
-fn takes_data(alloc: Global, device: &mut PlainAdapter) -> bool {
-    goes(alloc, device, &copies::BEFORE)
-        && device.deliver(PEER, &FIRST) == Delivery::Applied
-        && holds(device, 150, &HELD)
+fn takes_data(device: &mut PlainAdapter) -> bool {
+    device.deliver(PEER, &FIRST) == Delivery::Applied && holds(device, 150, &HELD)
 }
 
 #[test]
 fn a_datagram_needs_no_event(rt: HostRuntime) -> Result<(), Fail> {
-    assert!(rt; takes_data(rt.alloc(), &mut adapter(rt.alloc())?));
+    assert!(rt; takes_data(&mut begun(rt.alloc())?));
     Ok(())
 }
 
@@ -196,7 +167,8 @@ fn reads_and_writes_need_no_event(rt: HostRuntime) -> Result<(), Fail> {
 /// An adapter with an owner, some time after that.
 fn begun(alloc: Global) -> Result<PlainAdapter, Fail> {
     let mut device = adapter(alloc)?;
-    if !goes(alloc, &mut device, &copies::BEFORE) {
+    let open = request(alloc, &OPEN)?;
+    if device.step(&open).is_err() || device.step(&Event::Tick { ms: 1 }).is_err() {
         return Err("not as told".into());
     }
     Ok(device)
@@ -222,23 +194,27 @@ fn are_same(first: &PlainAdapter, second: &PlainAdapter) -> bool {
     }
 }
 
-fn stays_at_a_long_tick(alloc: Global, device: &mut PlainAdapter, before: &PlainAdapter) -> bool {
-    let refused = Said::Refused(StepFault::TickTooLong);
-    answers(alloc, device, Deed::Tick(60_001), refused) && are_same(device, before)
+fn stays_at_a_long_tick(device: &mut PlainAdapter, before: &PlainAdapter) -> bool {
+    fails(
+        device.step(&Event::Tick { ms: 60_001 }),
+        StepFault::TickTooLong,
+    ) && are_same(device, before)
 }
 
 #[test]
 fn a_tick_too_long_changes_nothing(rt: HostRuntime) -> Result<(), Fail> {
     let mut device = begun(rt.alloc())?;
     let before = twin(rt.alloc(), &device)?;
-    assert!(rt; stays_at_a_long_tick(rt.alloc(), &mut device, &before));
+    assert!(rt; stays_at_a_long_tick(&mut device, &before));
     Ok(())
 }
 
-fn goes_on_alike(alloc: Global, device: &mut PlainAdapter, second: &mut PlainAdapter) -> bool {
-    goes(alloc, second, &copies::AFTER)
+/// Whether the same happens at both, and both then have the same table.
+fn goes_on_alike(device: &mut PlainAdapter, second: &mut PlainAdapter) -> bool {
+    second.write_point(100, &DATA).is_ok()
         && !are_same(device, second)
-        && goes(alloc, device, &copies::AFTER)
+        && device.write_point(100, &DATA).is_ok()
+        && device.step(&Event::Tick { ms: 9 }) == second.step(&Event::Tick { ms: 9 })
         && are_same(device, second)
 }
 
@@ -246,117 +222,31 @@ fn goes_on_alike(alloc: Global, device: &mut PlainAdapter, second: &mut PlainAda
 fn a_copy_is_a_device_of_its_own_that_goes_on_alike(rt: HostRuntime) -> Result<(), Fail> {
     let mut device = begun(rt.alloc())?;
     let mut second = twin(rt.alloc(), &device)?;
-    assert!(rt; goes_on_alike(rt.alloc(), &mut device, &mut second));
+    assert!(rt; goes_on_alike(&mut device, &mut second));
     Ok(())
 }
 
 /// A fresh adapter that has drawn all ids but the last.
 fn nearly_used(alloc: Global) -> Result<PlainAdapter, Fail> {
     let copy = adapter(alloc)?.copy()?;
-    let DeviceTable::Adapter(table) = copy.table();
+    let DeviceTable::Adapter(table) = copy.table() else {
+        return Err("no adapter".into());
+    };
     if table.next_id > 16_777_215 {
         return Err("used up".into());
     }
     Ok(PlainAdapter::from_copy(alloc, &copy.with_next_id(16_777_215))?)
 }
 
+/// Whether a new group, which needs two ids, is refused before an owner takes the last one and after it.
+fn uses_the_last(alloc: Global, device: &mut PlainAdapter) -> bool {
+    replies(alloc, device, &GATHER, &USED_UP)
+        && replies(alloc, device, &OPEN, &LAST_OPENED)
+        && replies(alloc, device, &GATHER, &USED_UP)
+}
+
 #[test]
 fn the_last_id_is_not_enough_for_a_new_group(rt: HostRuntime) -> Result<(), Fail> {
-    assert!(rt; goes(rt.alloc(), &mut nearly_used(rt.alloc())?, &copies::LAST_ID));
-    Ok(())
-}
-
-// AS MANY CONNECTIONS AS AN ADAPTER HAS
-
-/// Input only, point to point, of this serial number, which is the T->O id too.
-const fn single(serial: u8) -> [u8; 50] {
-    let mut bytes = OPEN;
-    bytes[12] = serial;
-    bytes[15] = 0;
-    bytes[16] = serial;
-    bytes[32] = 2;
-    bytes[47] = 0x98;
-    bytes
-}
-
-/// The reply to it, with the counter of the O->T id.
-const fn single_opened(serial: u8, counter: u8) -> [u8; 30] {
-    let mut bytes = OPENED;
-    bytes[4] = counter;
-    bytes[8] = serial;
-    bytes[11] = 0;
-    bytes[12] = serial;
-    bytes
-}
-
-/// The connection of this serial number.
-const fn single_triad(serial: u8) -> Triad {
-    Triad {
-        serial: serial as u16,
-        ..OWNER
-    }
-}
-
-/// That it was opened, with this counter of its id.
-const fn told_opened(serial: u8, counter: u8) -> Notice {
-    Notice::Opened(single_triad(serial), ConnId(0x1000_0000 + counter as u32))
-}
-
-/// Whether the connection is opened.
-fn joins(alloc: Global, device: &mut PlainAdapter, serial: u8) -> bool {
-    let counter = serial.saturating_sub(99);
-    let told = [told_opened(serial, counter)];
-    let asked = single(serial);
-    let replied = single_opened(serial, counter);
-    let said = Said::Reply(PEER, &replied, &told);
-    answers(alloc, device, Deed::Request(PEER, &asked), said)
-}
-
-/// Whether so many connections send at a tick, with these notices.
-fn ticks(device: &mut PlainAdapter, ms: u32, sent: usize, told: &[Notice]) -> bool {
-    match device.step(&Event::Tick { ms }) {
-        Ok(answer) => {
-            answer.datagrams.as_slice().len() == sent && answer.notices.as_slice() == told
-        }
-        Err(_) => false,
-    }
-}
-
-/// Whether 64 connections are opened, of serial numbers 100 to 163, the first of which is a millisecond
-/// older.
-fn fills(alloc: Global, device: &mut PlainAdapter) -> bool {
-    let mut opened = joins(alloc, device, 100) && ticks(device, 1, 1, &[]);
-    for serial in 101..164 {
-        opened = opened && joins(alloc, device, serial);
-    }
-    opened
-}
-
-/// Whether the request of serial number 164 is answered so.
-fn answers_one_more(alloc: Global, device: &mut PlainAdapter, said: Said<'_>) -> bool {
-    let asked = single(164);
-    answers(alloc, device, Deed::Request(PEER, &asked), said)
-}
-
-/// The refusal of one connection more.
-const FULL: [u8; 16] = [
-    0xD4, 0, 1, 1, 0x13, 1, 164, 0, 0x34, 0x12, 0x78, 0x56, 0x34, 0x12, 0, 0,
-];
-
-fn replaces(alloc: Global, device: &mut PlainAdapter) -> bool {
-    let expired = [Notice::Expired(single_triad(100))];
-    let told = [Notice::Replaced(single_triad(100)), told_opened(164, 65)];
-    let opened = single_opened(164, 65);
-    ticks(device, 9_999, 63, &expired)
-        && answers_one_more(alloc, device, Said::Reply(PEER, &opened, &told))
-}
-
-#[test]
-fn a_65th_connection_waits_for_a_timed_out_one(rt: HostRuntime) -> Result<(), Fail> {
-    let alloc = rt.alloc();
-    let mut device = adapter(alloc)?;
-    assert!(rt; fills(alloc, &mut device));
-    assert!(rt; answers_one_more(alloc, &mut device, Said::Reply(PEER, &FULL, &[])));
-    assert!(rt; replaces(alloc, &mut device));
+    assert!(rt; uses_the_last(rt.alloc(), &mut nearly_used(rt.alloc())?));
     Ok(())
 }

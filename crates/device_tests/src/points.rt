@@ -1,5 +1,9 @@
 //! What the points of an adapter hold.
 
+ghost use Rattle.std.specs.Prelude.{◌≡◌, IsTrue, Some, true};
+ghost use Rattle.assembly_set.specs.Assemblies.{is_output};
+ghost use Rattle.adapter_table.specs.Shapes.{len_of};
+
 use crate::fixtures::{GRIPPER, SENSOR, VALVE, points};
 use assembly_set::{AssemblySet, PointFault};
 use cip_tables::StepFault;
@@ -11,9 +15,20 @@ fn reads(set: &AssemblySet, point: u32, wanted: &[u8]) -> bool {
     set.read(point) == Ok(wanted)
 }
 
+/// Whether the point is an output of so many bytes.
+fn fits(set: &AssemblySet, point: u32, len: usize) -> bool
+    ensures output { result ≡ true → IsTrue (is_output set.now.profile point) }
+    ensures length { result ≡ true → len_of set.now.profile point ≡ Some len }
+{
+    let Ok(bytes) = set.read(point) else {
+        return false;
+    };
+    set.output(point).is_some() && bytes.len() == len
+}
+
 /// Puts run-mode data at an output that they fit, and tells whether there was one.
 fn puts(set: &mut AssemblySet, point: u32, data: &[u8]) -> bool {
-    let fits = set.is_output(point) && set.len_of(point) == Some(data.len() as u64);
+    let fits = fits(set, point, data.len());
     if fits {
         set.apply(point, data);
     }
@@ -45,9 +60,8 @@ fn knows_its_points(set: &AssemblySet) -> bool {
         && set.output(100).is_none()
         && set.input(100) == Some(SENSOR)
         && set.input(151).is_none()
-        && set.len_of(151) == Some(2)
-        && set.len_of(153).is_none()
-        && set.config_len() == Some(2)
+        && reads(set, 151, &[0, 0])
+        && set.read(153) == Err(PointFault::NoSuchPoint)
 }
 
 #[test]
@@ -117,7 +131,10 @@ fn only_inputs_are_written(rt: HostRuntime) -> Result<(), Fail> {
 }
 
 fn stores(set: &mut AssemblySet) -> bool {
-    if set.config_len() != Some(2) {
+    let Some(config) = set.profile().config else {
+        return false;
+    };
+    if config.len != 2 {
         return false;
     }
     set.configure(&[0xAB, 0xCD]);

@@ -185,7 +185,9 @@ fn fresh(alloc: Global) -> Result<TableCopy, Fail>
 }
 
 fn has_counter(copy: &TableCopy, counter: u32) -> bool {
-    let DeviceTable::Adapter(table) = copy.table();
+    let DeviceTable::Adapter(table) = copy.table() else {
+        return false;
+    };
     table.next_id == counter
 }
 

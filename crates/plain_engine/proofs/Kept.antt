@@ -19,17 +19,13 @@ use Rattle.adapter_table.specs.declared.table.AdapterTable.{AdapterTable}
 use Rattle.adapter_table.specs.Profiles.{is_at}
 use Rattle.adapter_table.specs.Shapes.{len_of}
 use Rattle.adapter_table.specs.Rows.{written_state, written_row}
-use Rattle.adapter_table.specs.Closing.{stays, staying}
 use Rattle.adapter_table.specs.Datagrams.{is_for, row_delivery, run_data}
 use Rattle.cip_productions.specs.Productions.{sent}
 use Rattle.adapter_table.specs.Productions.{state_produces_on_change, produces_on_change, productions_on_change, changed_row}
-use Rattle.adapter_table.specs.Ticks.{expired_row, expired_rows}
-use Rattle.adapter_table.specs.Whole.{FitsRow, RowsFit, IsWhole}
-use Rattle.adapter_table.specs.Whole.{ConsumesOutput}
-use Rattle.adapter_table.proofs.EachLemmas.{each_filter, each_map, each_found}
-use Rattle.adapter_table.proofs.FedLemmas.{applied_fits, applied_output}
-use Rattle.adapter_table.proofs.WholeLemmas.{fits_expired, fits_written}
-use Rattle.cip_types.proofs.Places.{written_back}
+use Rattle.adapter_table.specs.Whole.{ConsumesOutput, IsWhole}
+use Rattle.adapter_table.specs.Laws.{AppliedDataHaveOutputs, AppliedDataFit}
+use Rattle.adapter_table.specs.EachLemmas.{each_found}
+use Rattle.cip_types.specs.Places.{written_back}
 use Rattle.std.proofs.lemmas.List.{length-map}
 use Rattle.assembly_set.specs.declared.fault.PointFault.TheVariants.{WrongLength}
 use Rattle.assembly_set.specs.Assemblies.{is_output, input_fault, write_fault}
@@ -53,24 +49,14 @@ written_back_rows n rows lent new clock point same long is =
 -- ---- a datagram is applied
 
 -- an output is there for the data
-pub feeds_output : (t : AdapterTable) (peer : Node) (d : DatagramFields) (row : Row) (delivery : Delivery) → find (is_for peer d.connection) t.rows ≡ Some row → row_delivery t.profile row d ≡ delivery → IsWhole t → delivery ≡ Applied → IsTrue (is_output t.profile row.consumed)
-feeds_output t peer d row delivery found is whole applied =
-    applied_output t.profile row d (each_found (ConsumesOutput t.profile) (is_for peer d.connection) t.rows row found whole.consume) (is ∙ applied)
+pub feeds_output : AppliedDataHaveOutputs → (t : AdapterTable) (peer : Node) (d : DatagramFields) (row : Row) (delivery : Delivery) → find (is_for peer d.connection) t.rows ≡ Some row → row_delivery t.profile row d ≡ delivery → IsWhole t → delivery ≡ Applied → IsTrue (is_output t.profile row.consumed)
+feeds_output have t peer d row delivery found is whole applied =
+    have t.profile row d (each_found (ConsumesOutput t.profile) (is_for peer d.connection) t.rows row found whole.consume) (is ∙ applied)
 
 -- and is as long as they are
-pub feeds_len : (t : AdapterTable) (peer : Node) (d : DatagramFields) (row : Row) (delivery : Delivery) → find (is_for peer d.connection) t.rows ≡ Some row → row_delivery t.profile row d ≡ delivery → IsWhole t → delivery ≡ Applied → len_of t.profile row.consumed ≡ Some (length (run_data (header_at d.payload)))
-feeds_len t peer d row delivery found is whole applied =
-    applied_fits t.profile row d (each_found (ConsumesOutput t.profile) (is_for peer d.connection) t.rows row found whole.consume) (is ∙ applied)
-
--- ---- rows within their limits
-
-pub fits_left : (clock : Ms) (rows : List Row) → RowsFit rows → RowsFit (staying (expired_rows clock rows))
-fits_left clock rows fit =
-    let after = expired_rows clock rows in
-    each_filter FitsRow (stays (expired_rows clock rows)) after (each_map FitsRow (expired_row clock) (fits_expired clock) rows fit)
-
-pub fits_flagged : (point : ℕ) (rows : List Row) → RowsFit rows → RowsFit (map (written_row point) rows)
-fits_flagged point rows fit = each_map FitsRow (written_row point) (fits_written point) rows fit
+pub feeds_len : AppliedDataFit → (t : AdapterTable) (peer : Node) (d : DatagramFields) (row : Row) (delivery : Delivery) → find (is_for peer d.connection) t.rows ≡ Some row → row_delivery t.profile row d ≡ delivery → IsWhole t → delivery ≡ Applied → len_of t.profile row.consumed ≡ Some (length (run_data (header_at d.payload)))
+feeds_len fit t peer d row delivery found is whole applied =
+    fit t.profile row d (each_found (ConsumesOutput t.profile) (is_for peer d.connection) t.rows row found whole.consume) (is ∙ applied)
 
 -- ---- a write that makes no producer produce
 

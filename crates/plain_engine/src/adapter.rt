@@ -27,6 +27,7 @@ ghost use Rattle.cip_events.specs.Outcomes.{Follows};
 ghost use Rattle.assembly_set.specs.Assemblies.{config_len, is_output, write_fault};
 ghost use Rattle.std.specs.List.{list_any};
 
+use adapter_table::laws::{admitted_requests_fit, applied_data_fit, tables_are_whole};
 use adapter_table::{drives, row_delivery};
 use app_rules::{Listed, View, admit, drawn_ids};
 use assembly_set::AssemblySet;
@@ -209,6 +210,8 @@ impl PlainAdapter {
         requires { admission self.old (view_open request.now) ≡ Ok (view_admission admitted.now) }
         ensures { Follows (Ok (routed self.old route (Some (admitted_open self.old (peer_of route) large (view_open request.now) (view_admission admitted.now))))) self.old result self.new }
     {
+        tables_are_whole();
+        admitted_requests_fit();
         let row = self.opened_row(route.peer(), request, admitted);
         let notices = opening_notices(self.alloc, replaced(&self.rows, row.triad), &row)?;
         let reply = Reply::Opened(large, opened_reply(&row));
@@ -258,6 +261,7 @@ impl PlainAdapter {
     fn close(&mut self, route: Route, row: &Row) -> Outcome
         ensures { Follows (Ok (routed self.old route (Some (known_close self.old row.now)))) self.old result self.new }
     {
+        tables_are_whole();
         let left = others(self.alloc, &self.rows, row.triad)?;
         let notices = closed_notices(self.alloc, &left, row.triad)?;
         let staying = staying(self.alloc, &left)?;
@@ -326,7 +330,7 @@ impl PlainAdapter {
     }
 
     /// A request of a peer.
-    #[tactic(auto, unfolding(adapter_table::specs::Requests::requested), using(device_answers::proofs::RouteLemmas::routed_to_peer))]
+    #[tactic(auto, unfolding(adapter_table::specs::Requests::requested), using(device_answers::specs::RouteLaws::routed_to_peer))]
     fn request(&mut self, peer: Node, bytes: &[u8]) -> Outcome
         ensures { Follows (Ok (requested self.old peer bytes.now)) self.old result self.new }
     {
@@ -345,6 +349,8 @@ impl PlainAdapter {
         requires judged { row_delivery self.old.profile row.now (view_datagram datagram.now) ≡ delivery }
         ensures { self.new ≡ accepted_table self.old peer (view_datagram datagram.now) row.now delivery }
     {
+        tables_are_whole();
+        applied_data_fit();
         accept_values(&mut self.assemblies, row.consumed, datagram, delivery);
         accept_rows(&mut self.rows, self.clock, peer, datagram);
     }
@@ -432,6 +438,7 @@ impl PlainAdapter {
         requires { self.old.clock.0 + ms ≤ 2 ^ 48 }
         ensures { Follows (Ok (elapsed (clocked_table self.old ms))) self.old result self.new }
     {
+        tables_are_whole();
         let clock = Ms(self.clock.0 + u64::from(ms));
         let gone = expired(self.alloc, &self.rows, clock)?;
         let after = expired_rows(self.alloc, &self.rows, clock)?;
@@ -477,6 +484,7 @@ impl PlainAdapter {
         ensures answer { result ≡ Ok (write_answer (written_table self.old point bytes.now) point bytes.now) }
         ensures table { self.new ≡ changed_table (written_table self.old point bytes.now) point }
     {
+        tables_are_whole();
         let _written = self.assemblies.write(point, bytes);
         write_and_change_rows(&mut self.rows, self.clock, point);
         Ok(plain_answer(self.alloc, Verdict::Done))
@@ -499,6 +507,7 @@ impl PlainAdapter {
         requires short { length bytes.now ≤ 1400 }
         ensures { Follows (Ok (written (written_table self.old point bytes.now) point bytes.now)) self.old result self.new }
     {
+        tables_are_whole();
         let rows = written_rows(self.alloc, &self.rows, point)?;
         let datagrams = sent_on_change(self.alloc, &rows, self.clock, point, bytes)?;
         self.put(point, bytes, changed_rows(rows, self.clock, point));
@@ -572,7 +581,13 @@ impl Device for PlainAdapter {
     const ADAPTER: bool = true;
 
     fn new(alloc: Global, config: Config) -> Result<Self, NewFault> {
-        let Config::Adapter(profile) = config;
+        let profile = match config {
+            Config::Adapter(profile) => profile,
+            Config::Scanner(scanner) => {
+                scanner.check()?;
+                return Err(NewFault::WrongKind);
+            }
+        };
         profile.check()?;
         let assemblies = AssemblySet::new(alloc, &profile)?;
         Ok(PlainAdapter {
@@ -585,7 +600,7 @@ impl Device for PlainAdapter {
         })
     }
 
-    #[tactic(auto, unfolding(cip_tables::specs::Step::step), using(cip_tables::proofs::FollowLemmas::adapter_follows))]
+    #[tactic(auto, unfolding(cip_tables::specs::Step::step), using(cip_tables::specs::FollowLaws::adapter_follows))]
     fn step(&mut self, event: &Event) -> Outcome {
         match event {
             Event::Request { peer, bytes } => self.request(*peer, bytes.as_slice()),
@@ -610,7 +625,7 @@ impl Device for PlainAdapter {
         self.receive(peer, bytes)
     }
 
-    #[tactic(auto, unfolding(cip_tables::specs::Step::step), using(cip_tables::proofs::FollowLemmas::adapter_follows))]
+    #[tactic(auto, unfolding(cip_tables::specs::Step::step), using(cip_tables::specs::FollowLaws::adapter_follows))]
     fn write_point(&mut self, point: u32, bytes: &[u8]) -> Outcome {
         self.write(point, bytes)
     }
@@ -637,14 +652,20 @@ impl Device for PlainAdapter {
 }
 
 impl PlainAdapter {
+    ghost use Rattle.cip_events.specs.Faults.{IsRefusedAs};
     ghost use Rattle.cip_tables.specs.declared.table.DeviceTable.TheVariants.{Adapter};
+    ghost use Rattle.cip_tables.specs.Step.{is_adapter};
 
-    /// The adapter whose table is the copied one. Want of memory is the only fault.
+    /// The adapter whose table is the copied one.
+    ///
+    /// The faults, in order: `WrongKind` where the copy is of a scanner's table, `OutOfMemory`.
     pub fn from_copy(alloc: Global, copy: &TableCopy) -> Result<Self, NewFault>
         ensures table { IfOk result (λ adapter. Adapter adapter ≡ copy.now) }
-        ensures fault { IfErr result (λ fault. fault ≡ NewFault.OutOfMemory) }
+        ensures fault { IfErr result (λ fault. IsRefusedAs None (is_adapter copy.now) fault) }
     {
-        let DeviceTable::Adapter(table) = copy.table();
+        let DeviceTable::Adapter(table) = copy.table() else {
+            return Err(NewFault::WrongKind);
+        };
         let assemblies = AssemblySet::holding(alloc, &table.profile, table.values.as_slice())?;
         Ok(PlainAdapter {
             alloc,

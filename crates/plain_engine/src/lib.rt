@@ -4,3 +4,4 @@
 mod adapter;
 
 pub use adapter::PlainAdapter;
+pub use plain_scanner::PlainScanner;

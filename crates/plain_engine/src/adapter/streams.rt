@@ -10,6 +10,7 @@ ghost use Rattle.cip_events.specs.Outcomes.{Follows};
 ghost use Rattle.device_answers.specs.Routes.{view_echo, view_frame_reply, IsWritableFrame, framed_answer};
 
 use super::PlainAdapter;
+use adapter_table::laws::tables_are_whole;
 use cip_encap::read_items;
 use cip_tables::{Answer, Command, EncapStatus, Outcome, StepFault, Stream, Verdict};
 use cip_types::{Node, OutOfMemory};
@@ -30,6 +31,7 @@ impl PlainAdapter {
         if is_taken(&self.streams, number) {
             return Err(StepFault::NotAllowedNow);
         }
+        tables_are_whole();
         let stream = Stream {
             number,
             peer,
@@ -60,6 +62,7 @@ impl PlainAdapter {
     fn drop_stream(&mut self, number: u16)
         ensures { self.new ≡ without_stream self.old number }
     {
+        tables_are_whole();
         drop_stream(&mut self.streams, number);
     }
 
@@ -68,6 +71,7 @@ impl PlainAdapter {
     fn register_stream(&mut self, number: u16)
         ensures { self.new ≡ registered_table self.old number }
     {
+        tables_are_whole();
         register_stream(&mut self.streams, number);
     }
 
@@ -135,7 +139,7 @@ impl PlainAdapter {
 
 impl PlainAdapter {
     /// SendRRData.
-    #[tactic(auto, using(device_answers::proofs::RouteLemmas::routed_over_stream))]
+    #[tactic(auto, using(device_answers::specs::RouteLaws::routed_over_stream))]
     fn send_rr_data(&mut self, stream: &Stream, echo: Echo, body: &[u8]) -> Outcome
         ensures { Follows (Ok (framed stream.now.number (view_echo echo) (send_rr_data self.old stream.now echo.session body.now))) self.old result self.new }
     {

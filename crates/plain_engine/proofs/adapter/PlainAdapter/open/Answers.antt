@@ -3,43 +3,40 @@ use Rattle.adapter_table.specs.declared.row.Row.{Row}
 use Rattle.adapter_table.specs.declared.table.AdapterTable.{AdapterTable}
 use Rattle.cip_fwdopen.specs.Open.{view_open}
 use Rattle.adapter_table.specs.Checks.{view_admission}
-use Rattle.adapter_table.proofs.WholeSteps.{whole_opened}
 use Rattle.adapter_table.specs.Opening.{opened_row, opened_table}
-use Rattle.adapter_table.proofs.WholeLemmas.{is_timed}
 use Rattle.device_answers.specs.Routes.{peer_of}
-use Rattle.plain_engine.proofs.Admitted.{stored_fits}
 use Rattle.plain_engine.proofs.adapter.PlainAdapter.open.Goals as goal
 
 pub opened_row-row-requires-clause-waits : goal.opened_row-row-requires-clause-waits
-opened_row-row-requires-clause-waits c = (is_timed c.args.self.now _ _ c.requires).watchdog
+opened_row-row-requires-clause-waits c = (c.admitted_requests_fit.ensures.times c.args.self.now _ _ c.requires).watchdog
 
 pub opened_row-row-requires-clause-left : goal.opened_row-row-requires-clause-left
-opened_row-row-requires-clause-left c = (is_timed c.args.self.now _ _ c.requires).left
+opened_row-row-requires-clause-left c = (c.admitted_requests_fit.ensures.times c.args.self.now _ _ c.requires).left
 
 pub opened_row-row-requires-clause-draws : goal.opened_row-row-requires-clause-draws
-opened_row-row-requires-clause-draws c = (is_timed c.args.self.now _ _ c.requires).draws
+opened_row-row-requires-clause-draws c = (c.admitted_requests_fit.ensures.times c.args.self.now _ _ c.requires).draws
 
 pub opened_reply-requires-clause-o_t : goal.opened_reply-requires-clause-o_t
 unfolding opened_row
-opened_reply-requires-clause-o_t c = let e = ap (λ (row : Row). row.o_t_api) c.opened_row-row.ensures in rw e (is_timed c.args.self.now _ _ c.requires).o_t_api
+opened_reply-requires-clause-o_t c = let e = ap (λ (row : Row). row.o_t_api) c.opened_row-row.ensures in rw e (c.admitted_requests_fit.ensures.times c.args.self.now _ _ c.requires).o_t_api
 
 pub opened_reply-requires-clause-t_o : goal.opened_reply-requires-clause-t_o
 unfolding opened_row
-opened_reply-requires-clause-t_o c = let e = ap (λ (row : Row). row.t_o_api) c.opened_row-row.ensures in rw e (is_timed c.args.self.now _ _ c.requires).t_o_api
+opened_reply-requires-clause-t_o c = let e = ap (λ (row : Row). row.t_o_api) c.opened_row-row.ensures in rw e (c.admitted_requests_fit.ensures.times c.args.self.now _ _ c.requires).t_o_api
 
 pub configure-requires : goal.configure-requires
 configure-requires c =
     let own = c.self.inside in
     let t : AdapterTable = record { profile = own.assemblies.profile; rows = own.rows.items; values = own.assemblies.values; clock = own.clock; next_id = own.next_id; streams = own.streams.items } in
     let admitted = rw (← c.self.view_is) at c.requires in
-    stored_fits t (view_open c.args.request.now) (view_admission c.args.admitted.now) admitted
+    c.admitted_requests_fit.ensures.segments t (view_open c.args.request.now) (view_admission c.args.admitted.now) admitted
 
 pub overflow_add-self : goal.overflow_add-self
 overflow_add-self c =
     let admitted = rw (← c.self.view_is) at c.requires in
     let own = c.self.inside in
     let t : AdapterTable = record { profile = own.assemblies.profile; rows = own.rows.items; values = own.assemblies.values; clock = own.clock; next_id = own.next_id; streams = own.streams.items } in
-    let sum : c.self.inside.next_id + c.drawn_ids.result ≤ 16777216 = rw c.drawn_ids.ensures.value (is_timed t _ _ admitted).left in
+    let sum : c.self.inside.next_id + c.drawn_ids.result ≤ 16777216 = rw c.drawn_ids.ensures.value (c.admitted_requests_fit.ensures.times t _ _ admitted).left in
     search rules
 
 pub invariant_of-self-2 : goal.invariant_of-self-2
@@ -48,5 +45,5 @@ invariant_of-self-2 c =
     let own = c.self.inside in
     let t : AdapterTable = record { profile = own.assemblies.profile; rows = own.rows.items; values = own.assemblies.values; clock = own.clock; next_id = own.next_id; streams = own.streams.items } in
     let admitted = rw (← c.self.view_is) at c.requires in
-    let opened = whole_opened t (peer_of c.args.route) (view_open c.args.request.now) (view_admission c.args.admitted.now) admitted c.self.invariant in
+    let opened = c.tables_are_whole.ensures.effects.opened t (peer_of c.args.route) (view_open c.args.request.now) (view_admission c.args.admitted.now) admitted c.self.invariant in
     rw (c.configure.ensures, c.append_row.ensures, c.make_room.ensures.same, c.opened_row-row.ensures, c.peer.ensures, ← c.self.view_is, c.drawn_ids.ensures.value) opened

@@ -1,4 +1,4 @@
-use Rattle.adapter_table.proofs.Limits.{few_inputs}
+use Rattle.adapter_table.specs.Limits.{few_inputs}
 use Rattle.plain_engine.proofs.adapter.PlainAdapter.production.Goals as goal
 
 pub address_of-requires : goal.address_of-requires

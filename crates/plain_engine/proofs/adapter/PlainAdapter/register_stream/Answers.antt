@@ -1,6 +1,5 @@
 use Rattle.adapter_table.specs.declared.table.AdapterTable.{AdapterTable}
 use Rattle.adapter_table.specs.Streams.{registered_table}
-use Rattle.adapter_table.proofs.WholeSteps.{whole_registered}
 use Rattle.plain_engine.proofs.adapter.PlainAdapter.register_stream.Goals as goal
 
 pub invariant_of-self : goal.invariant_of-self
@@ -8,4 +7,4 @@ unfolding registered_table
 invariant_of-self c =
     let own = c.self.inside in
     let t : AdapterTable = record { profile = own.assemblies.profile; rows = own.rows.items; values = own.assemblies.values; clock = own.clock; next_id = own.next_id; streams = own.streams.items } in
-    rw c.register_stream.ensures (whole_registered t c.args.number c.self.invariant)
+    rw c.register_stream.ensures (c.tables_are_whole.ensures.effects.registered t c.args.number c.self.invariant)

@@ -1,0 +1,100 @@
+//! Events at a scanner.
+
+ghost use Rattle.std.specs.Prelude.{◌≡◌, ◌≢◌, Ok, Err, Some, None, IfOk, IfErr, true};
+ghost use Rattle.cip_events.specs.Outcomes.{Follows};
+ghost use Rattle.cip_tables.specs.Step.{image_of, is_datagram};
+ghost use Rattle.scanner_table.specs.Datagrams.{delivered, received};
+ghost use Rattle.scanner_table.specs.Points.{read, write, mode};
+ghost use Rattle.scanner_table.specs.Slots.{place_at};
+ghost use Rattle.scanner_table.specs.Step.{scanner_step};
+ghost use Rattle.scanner_table.specs.Whole.{IsWhole};
+ghost use Rattle.slot_places.specs.Places.{table_of};
+
+use crate::answers::plain_answer;
+use crate::slots::{start, stop};
+use crate::streams::{cut, frame, open_stream};
+use crate::ticks::tick;
+use cip_events::{Event, Outcome, StepFault, Verdict};
+use cip_types::Items;
+use scanner_table::ScannerProfile;
+use slot_data::{receive, set_mode, write};
+use slot_places::{Present, place_at};
+use std::alloc::Global;
+
+/// What the slot of a number gathered. Takes no memory.
+pub fn image_at<'a>(
+    profile: &'a ScannerProfile,
+    present: &'a Present,
+    number: u32,
+) -> Result<&'a [u8], StepFault>
+    ensures found { IfOk result (λ bytes. image_of (place_at (table_of profile.now present.now) number) ≡ Some bytes.now) }
+    ensures none { IfErr result (λ fault. (fault ≡ StepFault.NoSuchSlot) × (place_at (table_of profile.now present.now) number ≡ None)) }
+{
+    match place_at(profile.slots.as_slice(), &present.slots, number) {
+        Some(place) => Ok(place.slot.image.as_slice()),
+        None => Err(StepFault::NoSuchSlot),
+    }
+}
+
+/// What the slot of a number gathered, as an answer.
+#[tactic(auto, unfolding(scanner_table::specs::Points::read))]
+fn read(alloc: Global, profile: &ScannerProfile, present: &mut Present, number: u32) -> Outcome
+    ensures { Follows (read (table_of profile.now present.old) number) (table_of profile.now present.old) result (table_of profile.now present.new) }
+{
+    let value = Items::copy_of(alloc, image_at(profile, present, number)?)?;
+    Ok(plain_answer(alloc, Verdict::Value(value)))
+}
+
+/// Other bytes for the output of a slot. Takes no memory.
+pub fn written(
+    alloc: Global,
+    profile: &ScannerProfile,
+    present: &mut Present,
+    number: u32,
+    bytes: &[u8],
+) -> Outcome
+    requires { IsWhole (table_of profile.now present.old) }
+    ensures step { Follows (write (table_of profile.now present.old) number bytes.now) (table_of profile.now present.old) result (table_of profile.now present.new) }
+    ensures no_memory { result ≢ Err StepFault.OutOfMemory }
+{
+    match write(profile, present, number, bytes) {
+        Ok(()) => Ok(plain_answer(alloc, Verdict::Done)),
+        Err(why) => Err(why),
+    }
+}
+
+/// An event.
+pub fn happened(
+    alloc: Global,
+    profile: &ScannerProfile,
+    present: &mut Present,
+    event: &Event,
+) -> Outcome
+    requires { IsWhole (table_of profile.now present.old) }
+    ensures step { Follows (scanner_step (table_of profile.now present.old) event.now) (table_of profile.now present.old) result (table_of profile.now present.new) }
+    ensures no_memory { is_datagram event.now ≡ true → result ≢ Err StepFault.OutOfMemory }
+{
+    match event {
+        Event::Request { .. } => Err(StepFault::NotAllowedNow),
+        Event::StreamOpened { stream, peer } => {
+            open_stream(alloc, profile, present, *stream, *peer)
+        }
+        Event::Frame { stream, bytes } => {
+            frame(alloc, profile, present, *stream, bytes.as_slice())
+        }
+        Event::StreamCut { stream } => cut(alloc, profile, present, *stream),
+        Event::Datagram { peer, bytes } => {
+            let delivery = receive(profile, present, *peer, bytes.as_slice());
+            Ok(plain_answer(alloc, Verdict::Delivered(delivery)))
+        }
+        Event::Write { point, bytes } => written(alloc, profile, present, *point, bytes.as_slice()),
+        Event::Read { point } => read(alloc, profile, present, *point),
+        Event::Tick { ms } => tick(alloc, profile, present, *ms),
+        Event::Mode { run } => {
+            set_mode(profile, present, *run);
+            Ok(plain_answer(alloc, Verdict::Done))
+        }
+        Event::Start { slot } => start(alloc, profile, present, *slot),
+        Event::Stop { slot } => stop(alloc, profile, present, *slot),
+    }
+}

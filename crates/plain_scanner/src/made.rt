@@ -1,0 +1,74 @@
+//! What a scanner begins with.
+
+ghost use Rattle.std.specs.Prelude.{◌≡◌, map, replicate, IfOk};
+ghost use Rattle.scanner_table.specs.Step.{fresh_slot, scanner_table};
+ghost use Rattle.slot_places.specs.Places.{table_of};
+
+use cip_types::{Items, Ms, OutOfMemory};
+use scanner_table::{ScannerProfile, ScannerTable, Slot, SlotConfig, SlotState, copy_of_slots};
+use slot_places::Present;
+use std::alloc::Global;
+
+fn zeros(alloc: Global, len: u64) -> Result<Items<u8>, OutOfMemory>
+    ensures { IfOk result (λ bytes. bytes ≡ replicate len 0) }
+{
+    Ok(Items::from_vec(vec![in alloc; 0; len as usize]?))
+}
+
+/// A slot that was never started.
+fn fresh_slot(alloc: Global, config: &SlotConfig) -> Result<Slot, OutOfMemory>
+    ensures { IfOk result (λ slot. slot ≡ fresh_slot config.now) }
+{
+    let output = zeros(alloc, config.out_len)?;
+    let image = zeros(alloc, config.in_len)?;
+    Ok(Slot {
+        state: SlotState::Idle,
+        wanted: false,
+        retry: Ms(0),
+        output,
+        image,
+    })
+}
+
+fn fresh_slots(alloc: Global, configs: &[SlotConfig]) -> Result<Vec<Slot>, OutOfMemory>
+    ensures { IfOk result (λ slots. slots.items ≡ map fresh_slot configs.now) }
+{
+    let mut slots = Vec::new(alloc);
+    for config in configs {
+        slots.push(fresh_slot(alloc, config)?)?;
+    }
+    Ok(slots)
+}
+
+/// What a fresh scanner has beside its profile.
+pub fn fresh_present(alloc: Global, profile: &ScannerProfile) -> Result<Present, OutOfMemory>
+    ensures { IfOk result (λ present. table_of profile.now present ≡ scanner_table profile.now) }
+{
+    let slots = fresh_slots(alloc, profile.slots.as_slice())?;
+    Ok(Present {
+        slots,
+        run: false,
+        clock: Ms(0),
+        next_id: 1,
+        next_serial: 1,
+        next_request: 1,
+        streams: Vec::new(alloc),
+    })
+}
+
+/// What a scanner of this table has beside its profile.
+pub fn present_of(alloc: Global, table: &ScannerTable) -> Result<Present, OutOfMemory>
+    ensures { IfOk result (λ present. table_of table.now.profile present ≡ table.now) }
+{
+    let slots = copy_of_slots(alloc, table.slots.as_slice())?;
+    let streams = Vec::from_slice(alloc, table.streams.as_slice())?;
+    Ok(Present {
+        slots,
+        run: table.run,
+        clock: table.clock,
+        next_id: table.next_id,
+        next_serial: table.next_serial,
+        next_request: table.next_request,
+        streams,
+    })
+}

@@ -1,0 +1,131 @@
+//! A scanner over plain lists.
+
+use crate::events::{happened, image_at, written};
+use crate::made::{fresh_present, present_of};
+use cip_tables::{
+    Config, Delivery, Device, DeviceTable, Event, NewFault, Outcome, StepFault, TableCopy,
+};
+use cip_types::{Items, Node, OutOfMemory};
+use scanner_laws::{fresh_tables_are_whole, steps_keep_tables_whole};
+use scanner_table::{ScannerProfile, ScannerTable, copy_of_slots};
+use slot_data::receive;
+use slot_places::Present;
+use std::alloc::Global;
+use std::marker::Model;
+
+/// A scanner over plain lists, which contracts see as its table.
+///
+/// It keeps the allocator that it was made with.
+#[derive(Drop)]
+pub struct PlainScanner {
+    alloc: Global,
+    profile: ScannerProfile,
+    present: Present,
+}
+
+impl Model for PlainScanner {
+    ghost use Rattle.scanner_table.specs.declared.table.ScannerTable.{ScannerTable};
+    ghost use Rattle.scanner_laws.specs.Whole.{IsWholeScanner};
+    ghost use Rattle.slot_places.specs.Places.{table_of};
+
+    ghost Value = { ScannerTable };
+
+    ghost view = { λ s. table_of s.profile s.present };
+
+    ghost invariant = { λ s. IsWholeScanner (table_of s.profile s.present) };
+}
+
+impl Device for PlainScanner {
+    ghost use Rattle.std.specs.Prelude.{false};
+    ghost use Rattle.cip_tables.specs.declared.table.DeviceTable.TheVariants.{Scanner};
+
+    ghost table = { λ scanner. Scanner scanner };
+
+    ghost ADAPTER = { false };
+
+    const ADAPTER: bool = false;
+
+    fn new(alloc: Global, config: Config) -> Result<Self, NewFault> {
+        let profile = match config {
+            Config::Scanner(profile) => profile,
+            Config::Adapter(profile) => {
+                profile.check()?;
+                return Err(NewFault::WrongKind);
+            }
+        };
+        profile.check()?;
+        fresh_tables_are_whole();
+        let present = fresh_present(alloc, &profile)?;
+        Ok(PlainScanner {
+            alloc,
+            profile,
+            present,
+        })
+    }
+
+    #[tactic(auto, unfolding(cip_tables::specs::Step::step), using(cip_tables::specs::FollowLaws::scanner_follows, crate::proofs::Kept::follows_kept))]
+    fn step(&mut self, event: &Event) -> Outcome {
+        steps_keep_tables_whole();
+        happened(self.alloc, &self.profile, &mut self.present, event)
+    }
+
+    #[tactic(auto, unfolding(cip_tables::specs::Step::step), using(crate::proofs::Kept::received_kept))]
+    fn deliver(&mut self, peer: Node, bytes: &[u8]) -> Delivery {
+        steps_keep_tables_whole();
+        receive(&self.profile, &mut self.present, peer, bytes)
+    }
+
+    #[tactic(auto, unfolding(cip_tables::specs::Step::step), using(cip_tables::specs::FollowLaws::scanner_follows, crate::proofs::Kept::written_kept))]
+    fn write_point(&mut self, point: u32, bytes: &[u8]) -> Outcome {
+        steps_keep_tables_whole();
+        written(self.alloc, &self.profile, &mut self.present, point, bytes)
+    }
+
+    #[tactic(auto, unfolding(cip_tables::specs::Step::step, scanner_table::specs::Points::read))]
+    fn read_point(&self, point: u32) -> Result<&[u8], StepFault> {
+        image_at(&self.profile, &self.present, point)
+    }
+
+    fn copy(&self) -> Result<TableCopy, OutOfMemory> {
+        Ok(TableCopy::scanner(ScannerTable {
+            profile: self.profile.copy(self.alloc)?,
+            slots: Items::from_vec(copy_of_slots(self.alloc, &self.present.slots)?),
+            run: self.present.run,
+            clock: self.present.clock,
+            next_id: self.present.next_id,
+            next_serial: self.present.next_serial,
+            next_request: self.present.next_request,
+            streams: Items::copy_of(self.alloc, &self.present.streams)?,
+        }))
+    }
+
+    fn is_whole(&self) {
+        let _clock = self.present.clock;
+    }
+}
+
+impl PlainScanner {
+    ghost use Rattle.std.specs.Prelude.{◌≡◌, not, None, IfOk, IfErr};
+    ghost use Rattle.cip_events.specs.Faults.{IsRefusedAs};
+    ghost use Rattle.cip_tables.specs.declared.table.DeviceTable.TheVariants.{Scanner};
+    ghost use Rattle.cip_tables.specs.Step.{is_adapter};
+
+    /// The scanner whose table is the copied one.
+    ///
+    /// The faults, in order: `WrongKind` where the copy is of an adapter's table, `OutOfMemory`.
+    pub fn from_copy(alloc: Global, copy: &TableCopy) -> Result<Self, NewFault>
+        ensures table { IfOk result (λ scanner. Scanner scanner ≡ copy.now) }
+        ensures fault { IfErr result (λ fault. IsRefusedAs None (not (is_adapter copy.now)) fault) }
+    {
+        let DeviceTable::Scanner(table) = copy.table() else {
+            return Err(NewFault::WrongKind);
+        };
+        let profile = table.profile.copy(alloc)?;
+        let present = present_of(alloc, table)?;
+        Ok(PlainScanner {
+            alloc,
+            profile,
+            present,
+        })
+    }
+}

@@ -1,0 +1,124 @@
+//! Streams to targets, and the frames that come over them.
+
+ghost use Rattle.std.specs.Prelude.{◌≡◌, ◌∷◌, ◌++◌, [], OnOk, OnErr, find};
+ghost use Rattle.std.specs.List.{list_any};
+ghost use Rattle.cip_events.specs.Outcomes.{Follows};
+ghost use Rattle.scanner_table.specs.Encapsulation.{stream_opened, stream_cut, frame};
+ghost use Rattle.scanner_table.specs.Sessions.{is_stream, is_to, is_taken};
+ghost use Rattle.scanner_table.specs.Whole.{IsWhole};
+ghost use Rattle.slot_places.specs.Places.{table_of};
+
+use crate::answers::{plain_answer, taken};
+use cip_events::{Answer, Outcome, StepFault, Verdict};
+use cip_types::{Items, Node, OutOfMemory};
+use scanner_table::{ScannerProfile, Stage, TargetStream};
+use slot_drafts::Draft;
+use slot_places::Present;
+use slot_requests::registration_frame;
+use slot_runs::{Heard, cut_stream, hear};
+use std::alloc::Global;
+
+/// The most streams that are open.
+const MOST_STREAMS: usize = 16;
+
+fn has_number(streams: &[TargetStream], number: u16) -> bool
+    ensures { result ≡ list_any (is_stream number) streams.now }
+{
+    streams.iter().any(|stream| stream.number == number)
+}
+
+fn goes_to(streams: &[TargetStream], target: Node) -> bool
+    ensures { result ≡ list_any (is_to target) streams.now }
+{
+    streams.iter().any(|stream| stream.peer.0 == target.0)
+}
+
+/// Whether a stream of this number is open, or one to this target, or as many as can be.
+fn is_taken(streams: &[TargetStream], number: u16, target: Node) -> bool
+    ensures { result ≡ is_taken streams.now number target }
+{
+    has_number(streams, number) || goes_to(streams, target) || streams.len() >= MOST_STREAMS
+}
+
+/// One stream more is open.
+fn add_stream(streams: &mut Vec<TargetStream>, stream: TargetStream) -> Result<(), OutOfMemory>
+    ensures added { OnOk result (streams.new.items ≡ streams.old.items ++ stream ∷ []) }
+    ensures kept { OnErr result (streams.new.items ≡ streams.old.items) }
+{
+    Ok(streams.push(stream)?)
+}
+
+/// A stream to a target opens, and a session is asked for on it.
+#[tactic(auto, unfolding(scanner_table::specs::Encapsulation::stream_opened))]
+pub fn open_stream(
+    alloc: Global,
+    profile: &ScannerProfile,
+    present: &mut Present,
+    number: u16,
+    target: Node,
+) -> Outcome
+    ensures { Follows (stream_opened (table_of profile.now present.old) number target) (table_of profile.now present.old) result (table_of profile.now present.new) }
+{
+    if is_taken(&present.streams, number, target) {
+        return Err(StepFault::NotAllowedNow);
+    }
+    let frame = registration_frame(alloc, number)?;
+    let frames = Items::one(alloc, frame)?;
+    let stream = TargetStream {
+        number,
+        peer: target,
+        stage: Stage::Waiting,
+    };
+    add_stream(&mut present.streams, stream)?;
+    Ok(Answer {
+        frames,
+        datagrams: Items::new(alloc),
+        verdict: Verdict::Done,
+        notices: Items::new(alloc),
+    })
+}
+
+fn find_stream(streams: &[TargetStream], number: u16) -> Option<TargetStream>
+    ensures { result ≡ find (is_stream number) streams.now }
+{
+    streams
+        .iter()
+        .copied()
+        .find(|stream| stream.number == number)
+}
+
+/// A stream breaks, or its target ends it.
+#[tactic(auto, unfolding(scanner_table::specs::Encapsulation::stream_cut))]
+pub fn cut(alloc: Global, profile: &ScannerProfile, present: &mut Present, number: u16) -> Outcome
+    requires { IsWhole (table_of profile.now present.old) }
+    ensures { Follows (stream_cut (table_of profile.now present.old) number) (table_of profile.now present.old) result (table_of profile.now present.new) }
+{
+    let Some(stream) = find_stream(&present.streams, number) else {
+        return Err(StepFault::NotAllowedNow);
+    };
+    let mut draft = Draft::begin(alloc, present)?;
+    cut_stream(&mut draft, profile, stream)?;
+    Ok(taken(draft, present, Vec::new(alloc)))
+}
+
+/// A frame on a stream.
+#[tactic(auto, unfolding(scanner_table::specs::Encapsulation::frame))]
+pub fn frame(
+    alloc: Global,
+    profile: &ScannerProfile,
+    present: &mut Present,
+    number: u16,
+    bytes: &[u8],
+) -> Outcome
+    requires { IsWhole (table_of profile.now present.old) }
+    ensures { Follows (frame (table_of profile.now present.old) number bytes.now) (table_of profile.now present.old) result (table_of profile.now present.new) }
+{
+    let Some(stream) = find_stream(&present.streams, number) else {
+        return Err(StepFault::NotAllowedNow);
+    };
+    match hear(alloc, profile, present, stream, bytes)? {
+        Heard::BadFrame => Ok(plain_answer(alloc, Verdict::BadFrame)),
+        Heard::Ignored => Ok(plain_answer(alloc, Verdict::Ignored)),
+        Heard::Answered(draft) => Ok(taken(draft, present, Vec::new(alloc))),
+    }
+}
