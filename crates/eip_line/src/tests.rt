@@ -1,5 +1,6 @@
 use crate::program;
 use std::alloc::{AllocError, Global};
+use std::cmp::min;
 use std::io::{self, ErrorKind, Read, Write};
 use std::test::Fail;
 
@@ -40,6 +41,48 @@ impl Read for Endless {
     }
 }
 
+/// A reader for whose reads there is no memory.
+#[derive(Drop)]
+struct Unheld;
+
+impl Read for Unheld {
+    fn read(&mut self, _buf: &mut [u8]) -> io::Result<usize> {
+        Err(io::Error::from(ErrorKind::OutOfMemory))
+    }
+}
+
+/// A reader of one comment of so many bytes, the LF at its end among them.
+#[derive(Drop)]
+struct Comment {
+    left: usize,
+}
+
+impl Read for Comment {
+    fn read(&mut self, buf: &mut [u8]) -> io::Result<usize> {
+        let count = min(self.left, buf.len());
+        buf[..count].fill(b'#');
+        self.left -= count;
+        if self.left == 0 && count > 0 {
+            buf[count - 1] = b'\n';
+        }
+        Ok(count)
+    }
+}
+
+/// A writer that takes all and cannot hand it on.
+#[derive(Drop)]
+struct Unflushed;
+
+impl Write for Unflushed {
+    fn write(&mut self, buf: &[u8]) -> io::Result<usize> {
+        Ok(buf.len())
+    }
+
+    fn flush(&mut self) -> io::Result<()> {
+        Err(io::Error::from(ErrorKind::BrokenPipe))
+    }
+}
+
 /// A writer whose every write fails.
 #[derive(Drop)]
 struct Unwritable;
@@ -54,15 +97,27 @@ impl Write for Unwritable {
     }
 }
 
-/// What `eip_line step` on this input tells on standard error, if its status is 1 and it prints nothing.
-fn complaint<R: AllocGlobal>(rt: &R, input: &[u8]) -> Result<Vec<u8>, Fail> {
+/// What `eip_line step` tells of this reader on standard error, if its status is 1 and it prints nothing.
+fn complaint<R: AllocGlobal, I: Read>(rt: &R, reader: &mut I) -> Result<Vec<u8>, Fail> {
     let mut out = Vec::new(rt.alloc());
     let mut err = Vec::new(rt.alloc());
-    let mut reader = input;
     let words = ["eip_line", "step"];
-    let status = program(rt, words.as_slice(), &mut reader, &mut out, &mut err);
+    let status = program(rt, words.as_slice(), reader, &mut out, &mut err);
     if status != 1 || !out.is_empty() {
         Err("another status, or an output")?;
+    }
+    Ok(err)
+}
+
+/// What it tells on standard error of this writer, after the common profile and an open.
+fn complaint_of_output<R: AllocGlobal, O: Write>(rt: &R, out: &mut O) -> Result<Vec<u8>, Fail> {
+    let mut err = Vec::new(rt.alloc());
+    let words = ["eip_line", "step"];
+    let input = after_profile(rt.alloc(), OPEN)?;
+    let mut reader = input.as_bytes();
+    let status = program(rt, words.as_slice(), &mut reader, out, &mut err);
+    if status != 1 {
+        Err("another status")?;
     }
     Ok(err)
 }
@@ -203,43 +258,30 @@ fn other_words_print_nothing(rt: HostRuntime) -> Result<(), Fail> {
 }
 
 #[test]
-fn failed_read_is_told(rt: HostRuntime) -> Result<(), Fail> {
-    let mut out = Vec::new(rt.alloc());
-    let mut err = Vec::new(rt.alloc());
-    let words = ["eip_line", "step"];
-    let status = program(&rt, words.as_slice(), &mut Unreadable, &mut out, &mut err);
-    assert_eq!(rt; status, 1);
-    assert!(rt; out.is_empty());
+fn failed_reads_are_told(rt: HostRuntime) -> Result<(), Fail> {
+    let err = complaint(&rt, &mut Unreadable)?;
     assert!(rt; err.as_slice() == b"fault Read\n".as_slice());
+    let err = complaint(&rt, &mut Unheld)?;
+    assert!(rt; err.as_slice() == b"no memory\n".as_slice());
     Ok(())
 }
 
 #[test]
-fn endless_trace_is_too_long(rt: HostRuntime) -> Result<(), Fail> {
-    let mut out = Vec::new(rt.alloc());
-    let mut err = Vec::new(rt.alloc());
-    let words = ["eip_line", "step"];
-    let status = program(&rt, words.as_slice(), &mut Endless, &mut out, &mut err);
-    assert_eq!(rt; status, 1);
-    assert!(rt; out.is_empty());
+fn a_trace_has_so_many_bytes_and_no_more(rt: HostRuntime) -> Result<(), Fail> {
+    let err = complaint(&rt, &mut Comment { left: 16_777_216 })?;
+    assert!(rt; err.as_slice() == b"bad line 2\n".as_slice());
+    let err = complaint(&rt, &mut Comment { left: 16_777_217 })?;
+    assert!(rt; err.as_slice() == b"too long\n".as_slice());
+    let err = complaint(&rt, &mut Endless)?;
     assert!(rt; err.as_slice() == b"too long\n".as_slice());
     Ok(())
 }
 
 #[test]
-fn failed_write_is_told(rt: HostRuntime) -> Result<(), Fail> {
-    let mut err = Vec::new(rt.alloc());
-    let words = ["eip_line", "step"];
-    let input = after_profile(rt.alloc(), OPEN)?;
-    let mut reader = input.as_bytes();
-    let status = program(
-        &rt,
-        words.as_slice(),
-        &mut reader,
-        &mut Unwritable,
-        &mut err,
-    );
-    assert_eq!(rt; status, 1);
+fn failed_writes_are_told(rt: HostRuntime) -> Result<(), Fail> {
+    let err = complaint_of_output(&rt, &mut Unwritable)?;
+    assert!(rt; err.as_slice() == b"fault Write\n".as_slice());
+    let err = complaint_of_output(&rt, &mut Unflushed)?;
     assert!(rt; err.as_slice() == b"fault Write\n".as_slice());
     Ok(())
 }
@@ -247,12 +289,11 @@ fn failed_write_is_told(rt: HostRuntime) -> Result<(), Fail> {
 #[test]
 fn bad_lines_are_told_by_number_and_before_a_bad_profile(rt: HostRuntime) -> Result<(), Fail> {
     let input = after_profile(rt.alloc(), "\n# note\nrequest 192.168.1.20 0\n")?;
-    let err = complaint(&rt, input.as_bytes())?;
+    let err = complaint(&rt, &mut input.as_bytes())?;
     assert!(rt; err.as_slice() == b"bad line 8\n".as_slice());
-    let err = complaint(
-        &rt,
-        b"adapter 0 192.168.1.10 255.255.255.0 1 12 7 2 3\nheartbeat 152 153\nstep\n",
-    )?;
+    let mut text: &[u8] =
+        b"adapter 0 192.168.1.10 255.255.255.0 1 12 7 2 3\nheartbeat 152 153\nstep\n";
+    let err = complaint(&rt, &mut text)?;
     assert!(rt; err.as_slice() == b"bad line 3\n".as_slice());
     Ok(())
 }
@@ -270,7 +311,7 @@ fn bad_profiles_are_told_by_number(rt: HostRuntime) -> Result<(), Fail> {
         ),
     ];
     for (lines, told) in cases {
-        let err = complaint(&rt, lines.as_bytes())?;
+        let err = complaint(&rt, &mut lines.as_bytes())?;
         assert!(rt; err.as_slice() == told.as_bytes(), "at {lines}");
     }
     Ok(())

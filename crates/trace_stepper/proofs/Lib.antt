@@ -1,3 +1,4 @@
 mod OutcomesEqual
 mod Plays
 mod Steps
+mod Writes

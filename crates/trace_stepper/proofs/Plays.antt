@@ -10,21 +10,13 @@ use Rattle.cip_events.specs.Outcomes.{Outcome}
 use Rattle.cip_tables.specs.Run.{outcomes_of}
 use Rattle.trace_text.specs.declared.trace.Trace.{Trace}
 use Rattle.trace_text.specs.Reading.{Entry}
-use Rattle.trace_text.specs.Told.{outcome_text, outcomes_text}
+use Rattle.trace_outcomes.specs.Told.{outcome_text, outcomes_text}
 use Rattle.trace_stepper.specs.Compared.{AgreesWith, AgreeAt, AgreeBefore, recorded_at, IsJudged, JudgesOn}
 use Rattle.trace_stepper.specs.Playing.{WritesFirst}
 use Rattle.trace_stepper.specs.Stepping.{events_of, outcomes_told, MovesOn}
+use Rattle.trace_stepper.specs.Written.{BeginsToWrite}
 use Rattle.trace_stepper.proofs.Steps.{begun, gone_on, gone_through}
-
-chained : (old mid new : Option (List ℕ)) (a b : List ℕ) → Appends old mid a → Appends mid new b → Appends old new (a ++ b)
-chained None mid new a b one two = tt
-chained (Some xs) None new a b one two = absurd one
-chained (Some xs) (Some ys) None a b one two = absurd two
-chained (Some xs) (Some ys) (Some zs) a b one two = two ∙ ap (λ f. f ++ b) one ∙ append_assoc xs a b
-
-nothing : (old : Option (List ℕ)) → Appends old old []
-nothing None = tt
-nothing (Some xs) = sym (append-nil xs)
+use Rattle.trace_stepper.proofs.Writes.{chained, nothing}
 
 text_pushed : (number : ℕ) (outcomes : List Outcome) (last : Outcome) → outcomes_text number (outcomes ++ last ∷ []) ≡ outcomes_text number outcomes ++ outcome_text (number + length outcomes) last
 text_pushed number [] last = let here : number ≡ number + 0 = omega arith in append-nil _ ∙ ap (λ n. outcome_text n last) here
@@ -32,6 +24,13 @@ text_pushed number (outcome ∷ outcomes) last =
     let place : number + 1 + length outcomes ≡ number + length (outcome ∷ outcomes) = omega arith in
     ap (λ rest. outcome_text number outcome ++ rest) (text_pushed (number + 1) outcomes last ∙ ap (λ n. outcomes_text (number + 1) outcomes ++ outcome_text n last) place)
     ∙ sym (append_assoc (outcome_text number outcome) (outcomes_text (number + 1) outcomes) _)
+
+text_apart : (number : ℕ) (front rest : List Outcome) → outcomes_text number (front ++ rest) ≡ outcomes_text number front ++ outcomes_text (number + length front) rest
+text_apart number [] rest = let here : number ≡ number + 0 = omega arith in ap (λ n. outcomes_text n rest) here
+text_apart number (outcome ∷ front) rest =
+    let place : number + 1 + length front ≡ number + length (outcome ∷ front) = omega arith in
+    ap (λ more. outcome_text number outcome ++ more) (text_apart (number + 1) front rest ∙ ap (λ n. outcomes_text (number + 1) front ++ outcomes_text n rest) place)
+    ∙ sym (append_assoc (outcome_text number outcome) (outcomes_text (number + 1) front) _)
 
 got : (front rest : List Outcome) (outcome : Outcome) → slice_get (front ++ outcome ∷ rest) (length front) ≡ Some outcome
 got [] rest outcome = refl
@@ -114,3 +113,17 @@ pub played_on : (trace : Trace) (old now next : Option (List ℕ)) (table table'
 played_on trace old now next table table' left rest place number differs differs' outcome text playing moves numbered is written judges =
     let told : text ≡ outcome_text (place + 1) outcome = is ∙ ap (λ n. outcome_text n outcome) numbered in
     subst (λ n. IsPlaying trace old next table' rest n differs') (sym numbered) (play_more trace old now next table table' left rest place differs differs' outcome text playing moves told written judges)
+
+-- the stream took a beginning of the next outcome's text
+pub play_broken : (trace : Trace) (old now next : Option (List ℕ)) (table table' : DeviceTable) (left rest : List Entry) (place number : ℕ) (differs : Option ℕ) (outcome : Outcome) (text : List ℕ) → IsPlaying trace old now table left place differs → MovesOn table left (Ok (Some outcome)) table' rest → number ≡ place + 1 → text ≡ outcome_text number outcome → BeginsToWrite now text next → BeginsToWrite old (outcomes_text 1 (outcomes_told trace)) next
+play_broken trace old now next table table' left rest place number differs outcome text playing moves numbered is (first, (last, (parts, written))) =
+    let front : List Outcome = playing.front in
+    let more : List Outcome = outcomes_of table' (events_of rest) in
+    let told : outcomes_told trace ≡ (front ++ outcome ∷ []) ++ more = gone_on (outcomes_told trace) front (front ++ outcome ∷ []) table table' left rest outcome playing.told moves refl in
+    let apart : outcomes_told trace ≡ front ++ outcome ∷ more = told ∙ append_assoc front (outcome ∷ []) more in
+    let number_is : 1 + length front ≡ number = omega (arith, playing.counted, numbered) in
+    let all_text : outcomes_text 1 (outcomes_told trace) ≡ outcomes_text 1 front ++ (text ++ outcomes_text (number + 1) more) =
+    ap (outcomes_text 1) apart ∙ text_apart 1 front (outcome ∷ more) ∙ ap (λ n. outcomes_text 1 front ++ outcomes_text n (outcome ∷ more)) number_is ∙ ap (λ t. outcomes_text 1 front ++ (t ++ outcomes_text (number + 1) more)) (sym is) in
+    let parted : outcomes_text 1 front ++ (text ++ outcomes_text (number + 1) more) ≡ (outcomes_text 1 front ++ first) ++ (last ++ outcomes_text (number + 1) more) =
+    ap (λ t. outcomes_text 1 front ++ (t ++ outcomes_text (number + 1) more)) parts ∙ ap (λ t. outcomes_text 1 front ++ t) (append_assoc first last (outcomes_text (number + 1) more)) ∙ sym (append_assoc (outcomes_text 1 front) first (last ++ outcomes_text (number + 1) more)) in
+    (outcomes_text 1 front ++ first, (last ++ outcomes_text (number + 1) more, (all_text ∙ parted, chained old now next (outcomes_text 1 front) first playing.written written)))

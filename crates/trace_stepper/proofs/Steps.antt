@@ -1,5 +1,5 @@
 -- Steps of a stepper.
-use Rattle.std.proofs.Common.{suc, ◌≡◌, ◌≢◌, ℕ, ◌+◌, ◌<◌, List, [], ◌∷◌, ◌++◌, drop, length, get_or, drop-cons, subst, Some, None, Result, Ok, Err, refl, sym, ap, ◌∙◌, arith, append_assoc}
+use Rattle.std.proofs.Common.{suc, ◌≡◌, ◌≢◌, ℕ, ◌+◌, ◌<◌, List, [], ◌∷◌, ◌++◌, drop, length, get_or, drop-cons, subst, Some, None, Result, Ok, Err, refl, sym, ap, ◌∙◌, arith, append_assoc, Option, Bool, true}
 use Rattle.std.proofs.lemmas.List.{append-nil}
 use Rattle.cip_events.specs.declared.event.Answer.{Answer}
 use Rattle.cip_events.specs.declared.event.StepFault.{StepFault}
@@ -10,7 +10,10 @@ use Rattle.cip_events.specs.Outcomes.{Outcome, Follows}
 use Rattle.cip_tables.specs.Run.{outcome_of, table_of, outcomes_of}
 use Rattle.trace_text.specs.declared.trace.Trace.{Trace}
 use Rattle.trace_text.specs.Reading.{Entry}
-use Rattle.trace_stepper.specs.Stepping.{events_of, outcomes_told, MovesOn}
+use Rattle.cip_events.specs.declared.profile_fault.ProfileFault.{ProfileFault}
+use Rattle.trace_stepper.specs.declared.stepper.StepperFault.{StepperFault}
+use Rattle.trace_stepper.specs.declared.stepper.StepperFault.TheVariants as stepper
+use Rattle.trace_stepper.specs.Stepping.{events_of, outcomes_told, MovesOn, IsRefused}
 
 -- an outcome that is no want of memory is the step's
 pub follows_said : (said : Result (Answer × DeviceTable) StepFault) (old new : DeviceTable) (outcome : Outcome) → Follows said old outcome new → outcome ≢ Err step_fault.OutOfMemory → (outcome ≡ outcome_of said) × (new ≡ table_of old said)
@@ -49,3 +52,9 @@ moved old new slice entries place entry outcome same below is h memory =
 
 pub begun : (trace : Trace) (front : List Outcome) (table : DeviceTable) (left : List Entry) → front ≡ [] → table ≡ opening_table trace.config → left ≡ trace.events → outcomes_told trace ≡ front ++ outcomes_of table (events_of left)
 begun trace front table left none fresh all = rw (none, fresh, all) refl
+
+-- a step that is not taken is refused for want of memory alone
+pub not_moved : (old new : DeviceTable) (left rest : List Entry) (wrong : Option ProfileFault) (same : Bool) (fault : StepperFault) → MovesOn old left (Err fault) new rest → wrong ≡ None → same ≡ true → IsRefused wrong same fault
+not_moved old new left rest wrong same stepper.OutOfMemory moves good kind = (good, kind)
+not_moved old new left rest wrong same stepper.Profile moves good kind = absurd moves
+not_moved old new left rest wrong same stepper.WrongKind moves good kind = absurd moves

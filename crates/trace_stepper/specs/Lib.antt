@@ -1,3 +1,4 @@
 pub mod Compared
 pub mod Playing
 pub mod Stepping
+pub mod Written

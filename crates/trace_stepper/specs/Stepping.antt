@@ -1,5 +1,5 @@
 -- What a stepper does: a device takes the events of a trace, one after the other.
-use Rattle.std.specs.Prelude.{◌≡◌, ◌≢◌, List, [], ◌∷◌, map, Option, Some, None, Result, Ok, Err}
+use Rattle.std.specs.Prelude.{◌≡◌, ◌≢◌, Bool, true, false, List, [], ◌∷◌, map, Option, Some, None, Result, Ok, Err}
 use Rattle.cip_events.specs.declared.event.Event.{Event}
 use Rattle.cip_events.specs.declared.profile_fault.ProfileFault.{ProfileFault}
 use Rattle.cip_tables.specs.declared.table.DeviceTable.{DeviceTable}
@@ -28,12 +28,15 @@ MovesOn old left (Ok (Some outcome)) new rest = (entry : Entry) × (left ≡ ent
 MovesOn old left (Ok None) new rest = (left ≡ []) × (rest ≡ []) × (new ≡ old)
 MovesOn old left (Err fault.OutOfMemory) new rest = (left ≢ []) × (rest ≡ left) × (new ≡ old)
 MovesOn old left (Err fault.Profile) new rest = ⊥
+MovesOn old left (Err fault.WrongKind) new rest = ⊥
 
--- a stepper is refused for what is wrong with the profile, or else for want of memory
-abbrev pub IsRefused : Option ProfileFault → StepperFault → Type 0
-IsRefused wrong fault.Profile = wrong ≢ None
-IsRefused wrong fault.OutOfMemory = wrong ≡ None
+-- a stepper is refused for what is wrong with the profile, or else for its kind, or else for want of memory
+abbrev pub IsRefused : Option ProfileFault → Bool → StepperFault → Type 0
+IsRefused wrong same_kind fault.Profile = wrong ≢ None
+IsRefused wrong same_kind fault.WrongKind = (wrong ≡ None) × (same_kind ≡ false)
+IsRefused wrong same_kind fault.OutOfMemory = (wrong ≡ None) × (same_kind ≡ true)
 
 abbrev pub play_fault_of : StepperFault → PlayFault
 play_fault_of fault.Profile = play.Profile
+play_fault_of fault.WrongKind = play.WrongKind
 play_fault_of fault.OutOfMemory = play.OutOfMemory

@@ -4,7 +4,9 @@
 mod compared;
 mod player;
 mod stepper;
+mod writing;
 
 pub use compared::{Differs, agrees, compare};
 pub use player::{PlayFault, play};
 pub use stepper::{Report, Stepper, StepperFault, replay};
+pub use writing::{NotTaken, write_text};

@@ -2,12 +2,14 @@
 
 ghost use Rattle.std.specs.Prelude.{◌≡◌, ◌<◌, ◌+◌, length, IfErr, OnOk, OnErr};
 ghost use Rattle.std.specs.Io.KnownBytes.{Appends};
-ghost use Rattle.trace_text.specs.Told.{outcome_text};
+ghost use Rattle.trace_outcomes.specs.Told.{outcome_text};
+ghost use Rattle.cip_tables.specs.Step.{makes_adapter, same_kind};
 ghost use Rattle.trace_stepper.specs.Compared.{JudgesOn};
 ghost use Rattle.trace_stepper.specs.Playing.{IsPlayed};
 
 use crate::compared::agrees;
 use crate::stepper::{Stepper, StepperFault};
+use crate::writing::{NotTaken, write_text};
 use cip_tables::{Device, Outcome};
 use cip_types::OutOfMemory;
 use std::alloc::Global;
@@ -21,6 +23,9 @@ pub enum PlayFault {
     /// The profile is wrong.
     #[error("bad profile")]
     Profile,
+    /// The configuration is for a device of another kind.
+    #[error("wrong kind of device")]
+    WrongKind,
     /// A growth of memory was refused.
     #[error("no memory")]
     OutOfMemory,
@@ -39,6 +44,16 @@ impl From<OutOfMemory> for PlayFault {
     }
 }
 
+impl From<NotTaken> for PlayFault {
+    ghost use Rattle.trace_stepper.specs.declared.player.PlayFault.TheVariants as fault;
+
+    ghost from_gives = { λ _ f. f ≡ fault.Write };
+
+    fn from(_error: NotTaken) -> PlayFault {
+        PlayFault::Write
+    }
+}
+
 impl From<StepperFault> for PlayFault {
     ghost use Rattle.trace_stepper.specs.Stepping.{play_fault_of};
 
@@ -47,6 +62,7 @@ impl From<StepperFault> for PlayFault {
     fn from(fault: StepperFault) -> PlayFault {
         match fault {
             StepperFault::Profile => PlayFault::Profile,
+            StepperFault::WrongKind => PlayFault::WrongKind,
             StepperFault::OutOfMemory => PlayFault::OutOfMemory,
         }
     }
@@ -59,7 +75,7 @@ pub fn play<D: Device + Drop, O: Write>(
     trace: &Trace,
     out: &mut O,
 ) -> Result<Option<usize>, PlayFault>
-    ensures { IsPlayed trace.now (O.contents out.old) (O.contents out.new) result }
+    ensures { IsPlayed (same_kind D.ADAPTER (makes_adapter trace.now.config)) trace.now (O.contents out.old) (O.contents out.new) result }
 {
     let mut stepper: Stepper<'_, D> = Stepper::new(alloc, trace)?;
     let mut text = String::new(alloc);
@@ -69,7 +85,7 @@ pub fn play<D: Device + Drop, O: Write>(
         let number = place_after(trace, place);
         text.clear();
         push_outcome(alloc, &mut text, number as u64, &outcome)?;
-        write_text(out, text.as_str())?;
+        write_text(out, text.as_bytes())?;
         differs = judge(trace, place, differs, &outcome);
         place = number;
     }
@@ -83,17 +99,6 @@ fn place_after(trace: &Trace, place: usize) -> usize
 {
     let _entry = &trace.events.as_slice()[place];
     place + 1
-}
-
-/// Writes a text and nothing else.
-fn write_text<O: Write>(out: &mut O, text: &str) -> Result<(), PlayFault>
-    ensures ok { OnOk result (Appends (O.contents out.old) (O.contents out.new) text.now) }
-    ensures fault { IfErr result (λ fault. fault ≡ PlayFault.Write) }
-{
-    match out.write_all(text.as_bytes()) {
-        Ok(()) => Ok(()),
-        Err(_) => Err(PlayFault::Write),
-    }
 }
 
 /// The first difference, with one outcome more.

@@ -1,7 +1,7 @@
 //! A device that takes the events of a trace.
 
-ghost use Rattle.std.specs.Prelude.{◌≡◌, ◌↔◌, None, Err, IsTrue, IfOk, IfErr, drop};
-ghost use Rattle.cip_tables.specs.Step.{opening_table, config_fault};
+ghost use Rattle.std.specs.Prelude.{◌≡◌, ◌↔◌, true, None, Err, IsTrue, IfOk, IfErr, drop};
+ghost use Rattle.cip_tables.specs.Step.{opening_table, config_fault, makes_adapter, same_kind};
 ghost use Rattle.trace_stepper.specs.Stepping.{outcomes_told, MovesOn, IsRefused};
 
 use cip_tables::{Config, Device, NewFault, Outcome, StepFault};
@@ -16,6 +16,9 @@ pub enum StepperFault {
     /// The profile is wrong.
     #[error("bad profile")]
     Profile,
+    /// The configuration is for a device of another kind.
+    #[error("wrong kind of device")]
+    WrongKind,
     /// A growth of memory was refused.
     #[error("no memory")]
     OutOfMemory,
@@ -52,15 +55,19 @@ pub struct Stepper<'a, D> {
 impl<'a, D: Device> Stepper<'a, D> {
     /// A fresh device that is to take the events of a trace from the first on.
     ///
-    /// The faults, in order: `Profile`, `OutOfMemory`.
+    /// The faults, in order: `Profile`, `WrongKind`, `OutOfMemory`.
     pub fn new(alloc: Global, trace: &'a Trace) -> Result<Stepper<'a, D>, StepperFault>
         ensures table { IfOk result (λ stepper. D.table stepper.device ≡ opening_table trace.now.config) }
         ensures events { IfOk result (λ stepper. drop stepper.place stepper.trace.now.events ≡ trace.now.events) }
         ensures good { IfOk result (λ _. config_fault trace.now.config ≡ None) }
-        ensures fault { IfErr result (IsRefused (config_fault trace.now.config)) }
+        ensures kind { IfOk result (λ _. same_kind D.ADAPTER (makes_adapter trace.now.config) ≡ true) }
+        ensures fault { IfErr result (IsRefused (config_fault trace.now.config) (same_kind D.ADAPTER (makes_adapter trace.now.config))) }
     {
         if !is_good(&trace.config) {
             return Err(StepperFault::Profile);
+        }
+        if D::ADAPTER != makes_adapter(&trace.config) {
+            return Err(StepperFault::WrongKind);
         }
         let Ok(config) = trace.config.copy(alloc) else {
             return Err(StepperFault::OutOfMemory);
@@ -72,6 +79,7 @@ impl<'a, D: Device> Stepper<'a, D> {
                 place: 0,
             }),
             Err(NewFault::Profile(_)) => Err(StepperFault::Profile),
+            Err(NewFault::WrongKind) => Err(StepperFault::WrongKind),
             Err(NewFault::OutOfMemory) => Err(StepperFault::OutOfMemory),
         }
     }
@@ -97,8 +105,20 @@ impl<'a, D: Device> Stepper<'a, D> {
 fn is_good(config: &Config) -> bool
     ensures { IsTrue result ↔ (config_fault config.now ≡ None) }
 {
-    let Config::Adapter(profile) = config;
-    profile.check().is_ok()
+    match config {
+        Config::Adapter(profile) => profile.check().is_ok(),
+        Config::Scanner(profile) => profile.check().is_ok(),
+    }
+}
+
+/// Whether an adapter is made of a configuration.
+fn makes_adapter(config: &Config) -> bool
+    ensures { result ≡ makes_adapter config.now }
+{
+    match config {
+        Config::Adapter(_) => true,
+        Config::Scanner(_) => false,
+    }
 }
 
 /// Whether a growth of memory was refused.
@@ -119,10 +139,10 @@ pub struct Report {
 
 /// The outcomes of a trace's events at a fresh device.
 ///
-/// The faults: `Profile`, and `OutOfMemory` wherever a growth was refused.
+/// The faults, in order: `Profile`, `WrongKind`, and `OutOfMemory` wherever a growth was refused.
 pub fn replay<D: Device + Drop>(alloc: Global, trace: &Trace) -> Result<Report, StepperFault>
     ensures outcomes { IfOk result (λ report. report.outcomes ≡ outcomes_told trace.now) }
-    ensures fault { IfErr result (IsRefused (config_fault trace.now.config)) }
+    ensures fault { IfErr result (IsRefused (config_fault trace.now.config) (same_kind D.ADAPTER (makes_adapter trace.now.config))) }
 {
     let mut stepper: Stepper<'_, D> = Stepper::new(alloc, trace)?;
     let mut outcomes = Vec::new(alloc);

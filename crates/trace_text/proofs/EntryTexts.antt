@@ -2,7 +2,8 @@
 use Rattle.std.proofs.Common.{◌≡◌, ℕ, ◌+◌, ◌<◌, List, [], ◌∷◌, ◌++◌, length, take, get_or, sym, ap, ◌∙◌, arith, append_assoc}
 use Rattle.std.proofs.lemmas.List.{append-nil, take_more, length-take}
 use Rattle.trace_text.specs.Reading.{Entry}
-use Rattle.trace_text.specs.Written.{line_text, event_words, recorded_text, entries_text}
+use Rattle.trace_text.specs.Written.{event_words, recorded_text, entries_text}
+use Rattle.trace_words.specs.Words.{line_text}
 
 abbrev pub entry_text : ℕ → Entry → List ℕ
 entry_text number entry = line_text (event_words entry.0) ++ recorded_text number entry.1

@@ -1,7 +1,6 @@
+mod AsciiLines
 mod EntryTexts
-mod LineWords
-mod NodeWords
-mod NumberWords
 mod Pieces
 mod Samples
+mod ScannerSamples
 mod TextLines

@@ -9,9 +9,10 @@ use Rattle.cip_events.specs.declared.event.Reason.TheVariants.{Encap, Unreadable
 use Rattle.cip_events.specs.declared.event.Verdict.TheVariants as verdict
 use Rattle.trace_text.specs.declared.forms.Line.{Line}
 use Rattle.trace_text.specs.declared.forms.Line.TheVariants.{Event as EventLine, Recorded}
-use Rattle.trace_text.specs.declared.forms.Part.TheVariants as part
-use Rattle.trace_text.specs.Words.{number_of, general_of, extra_of}
-use Rattle.trace_text.specs.Forms.{mode_of, mismatch_of, verdict_of, line_of}
+use Rattle.trace_outcomes.specs.declared.part.Part.TheVariants as part
+use Rattle.trace_words.specs.Words.{number_of, general_of, extra_of}
+use Rattle.trace_outcomes.specs.Parts.{mismatch_of, verdict_of}
+use Rattle.trace_text.specs.Forms.{mode_of, line_of}
 
 -- ---- events
 

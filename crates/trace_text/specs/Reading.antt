@@ -4,51 +4,26 @@ use Rattle.std.specs.Prelude.{ℕ, ◌+◌, ◌≡◌, ◌==◌, if◌then◌els
 use Rattle.std.specs.List.{slice_split}
 use Rattle.adapter_table.specs.declared.profile.OutputPoint.{OutputPoint}
 use Rattle.adapter_table.specs.declared.profile.InputPoint.{InputPoint}
-use Rattle.adapter_table.specs.declared.profile.Profile.{Profile}
 use Rattle.cip_events.specs.declared.profile_fault.ProfileFault.{ProfileFault}
+use Rattle.cip_tables.specs.declared.table.Config.{Config}
 use Rattle.cip_tables.specs.declared.table.Config.TheVariants as config
 use Rattle.cip_events.specs.declared.event.Event.{Event}
-use Rattle.cip_events.specs.declared.event.Answer.{Answer}
-use Rattle.cip_events.specs.declared.event.Frame.{Frame}
-use Rattle.cip_events.specs.declared.event.Sending.{Sending}
-use Rattle.cip_events.specs.declared.event.Verdict.{Verdict}
-use Rattle.adapter_table.specs.Profiles.{profile_fault}
+use Rattle.cip_tables.specs.Step.{config_fault}
 use Rattle.cip_events.specs.Faults.{fault_number}
 use Rattle.cip_events.specs.Outcomes.{Outcome}
-use Rattle.trace_text.specs.declared.forms.AdapterLine.{AdapterLine}
-use Rattle.trace_text.specs.declared.forms.HeartbeatLine.{HeartbeatLine}
+use Rattle.trace_profiles.specs.declared.forms.AdapterLine.{AdapterLine}
 use Rattle.trace_text.specs.declared.forms.Line.{Line}
 use Rattle.trace_text.specs.declared.forms.Line.TheVariants as line
-use Rattle.trace_text.specs.declared.forms.Part.{Part}
-use Rattle.trace_text.specs.declared.forms.Part.TheVariants as part
+use Rattle.trace_outcomes.specs.declared.part.Part.{Part}
 use Rattle.trace_text.specs.declared.draft.Draft.{Draft}
-use Rattle.trace_text.specs.declared.draft.Draft.TheVariants.{Empty, Points, Configured, Events}
+use Rattle.trace_text.specs.declared.draft.Draft.TheVariants.{Empty, Points, Configured, Slots, Events}
 use Rattle.trace_text.specs.declared.trace.Trace.{Trace}
 use Rattle.trace_text.specs.declared.trace.TraceFault.{TraceFault}
 use Rattle.trace_text.specs.declared.trace.TraceFault.TheVariants as fault
 use Rattle.trace_text.specs.Forms.{line_of}
-
--- AN OUTCOME, PART BY PART
-
--- a frame comes before all datagrams and notices
-abbrev pub with_frame : Answer → Frame → Option Answer
-with_frame answer frame = if length answer.datagrams + length answer.notices == 0 then Some (record answer { frames = answer.frames ++ frame ∷ [] }) else None
-
--- a datagram comes before all notices
-abbrev pub with_datagram : Answer → Sending → Option Answer
-with_datagram answer sending = if length answer.notices == 0 then Some (record answer { datagrams = answer.datagrams ++ sending ∷ [] }) else None
-
-abbrev pub plain_answer_of : Verdict → Answer
-plain_answer_of verdict = record { frames = []; datagrams = []; verdict = verdict; notices = [] }
-
--- what is recorded of an event's outcome, with one part more
-abbrev pub recorded_with : Option Outcome → Part → Option Outcome
-recorded_with None (part.Verdict verdict) = Some (Ok (plain_answer_of verdict))
-recorded_with None (part.Fault fault) = Some (Err fault)
-recorded_with (Some (Ok answer)) (part.Frame frame) = option_map Ok (with_frame answer frame)
-recorded_with (Some (Ok answer)) (part.Datagram sending) = option_map Ok (with_datagram answer sending)
-recorded_with (Some (Ok answer)) (part.Notice notice) = Some (Ok (record answer { notices = answer.notices ++ notice ∷ [] }))
-recorded_with outcome told = None
+use Rattle.trace_profiles.specs.Profiles.{profile_with}
+use Rattle.trace_profiles.specs.Slots.{scanner_with}
+use Rattle.trace_outcomes.specs.Recorded.{recorded_with}
 
 -- A TRACE, LINE BY LINE
 
@@ -56,37 +31,27 @@ recorded_with outcome told = None
 abbrev pub Entry : Type 0
 Entry = Event × Option Outcome
 
-abbrev pub profile_with : AdapterLine → List OutputPoint → List InputPoint → Option InputPoint → HeartbeatLine → Profile
-profile_with adapter outputs inputs config heartbeat = record {
-  incarnation = adapter.incarnation;
-  node = adapter.node;
-  mask = adapter.mask;
-  identity = adapter.identity;
-  outputs = outputs;
-  inputs = inputs;
-  config = config;
-  input_only = heartbeat.input_only;
-  listen_only = heartbeat.listen_only;
-}
-
 -- an output comes before all inputs
 abbrev pub with_output : AdapterLine → List OutputPoint → List InputPoint → OutputPoint → Option Draft
 with_output adapter outputs inputs output = if length inputs == 0 then Some (Points adapter (outputs ++ output ∷ []) inputs) else None
 
 -- a part of the outcome of the event that came last, whose number it has
-abbrev pub with_part : Profile → List Entry → Entry → ℕ → Part → Option Draft
-with_part profile entries last number told = if number == length entries + 1 then option_map (λ outcome. Events profile entries (Some (last.0, Some outcome))) (recorded_with last.1 told) else None
+abbrev pub with_part : Config → List Entry → Entry → ℕ → Part → Option Draft
+with_part made_of entries last number told = if number == length entries + 1 then option_map (λ outcome. Events made_of entries (Some (last.0, Some outcome))) (recorded_with last.1 told) else None
 
 -- what was read so far, with what one line more tells; None where it may not stand there
 abbrev pub draft_with : Draft → Line → Option Draft
 draft_with Empty (line.Adapter adapter) = Some (Points adapter [] [])
+draft_with Empty (line.Scanner scanner) = Some (Slots scanner [])
 draft_with (Points adapter outputs inputs) (line.Output output) = with_output adapter outputs inputs output
 draft_with (Points adapter outputs inputs) (line.Input input) = Some (Points adapter outputs (inputs ++ input ∷ []))
-draft_with (Points adapter outputs inputs) (line.Config config) = Some (Configured adapter outputs inputs config)
-draft_with (Points adapter outputs inputs) (line.Heartbeat heartbeat) = Some (Events (profile_with adapter outputs inputs None heartbeat) [] None)
-draft_with (Configured adapter outputs inputs config) (line.Heartbeat heartbeat) = Some (Events (profile_with adapter outputs inputs (Some config) heartbeat) [] None)
-draft_with (Events profile entries last) (line.Event event) = Some (Events profile (entries ++ option_to_list last) (Some (event, None)))
-draft_with (Events profile entries (Some last)) (line.Recorded number told) = with_part profile entries last number told
+draft_with (Points adapter outputs inputs) (line.Config point) = Some (Configured adapter outputs inputs point)
+draft_with (Points adapter outputs inputs) (line.Heartbeat heartbeat) = Some (Events (config.Adapter (profile_with adapter outputs inputs None heartbeat)) [] None)
+draft_with (Configured adapter outputs inputs point) (line.Heartbeat heartbeat) = Some (Events (config.Adapter (profile_with adapter outputs inputs (Some point) heartbeat)) [] None)
+draft_with (Slots scanner slots) (line.Slot slot) = Some (Slots scanner (slots ++ slot ∷ []))
+draft_with (Slots scanner slots) (line.Event event) = Some (Events (config.Scanner (scanner_with scanner slots)) [] (Some (event, None)))
+draft_with (Events made_of entries last) (line.Event event) = Some (Events made_of (entries ++ option_to_list last) (Some (event, None)))
+draft_with (Events made_of entries (Some last)) (line.Recorded number told) = with_part made_of entries last number told
 draft_with draft told = None
 
 -- whether a line is empty, or begins with `#`
@@ -118,9 +83,14 @@ abbrev pub judged : Trace → Option ProfileFault → Result Trace TraceFault
 judged trace None = Ok trace
 judged trace (Some first) = Err (fault.BadProfile (fault_number first))
 
+-- what a device is made of is judged before all that happens at it
+abbrev pub judged_by : Config → List Entry → Result Trace TraceFault
+judged_by made_of entries = judged (record { config = made_of; events = entries }) (config_fault made_of)
+
 -- what was read when the text ends; the end is a bad line where the profile is not all there
 abbrev pub told : ℕ → Draft → Result Trace TraceFault
-told number (Events profile entries last) = judged (record { config = config.Adapter profile; events = entries ++ option_to_list last }) (profile_fault profile)
+told number (Slots scanner slots) = judged_by (config.Scanner (scanner_with scanner slots)) []
+told number (Events made_of entries last) = judged_by made_of (entries ++ option_to_list last)
 told number draft = Err (fault.BadLine number)
 
 -- the end of the text; what no LF ends is a bad line

@@ -1,16 +1,19 @@
 //! What was read of a trace so far.
 
-ghost use Rattle.std.specs.Prelude.{◌≡◌, ◌++◌, ◌∷◌, [], Some, None, IfOk, option_to_list};
-ghost use Rattle.trace_text.specs.Reader.{Finds};
-ghost use Rattle.trace_text.specs.Reading.{profile_with, plain_answer_of, with_frame, with_datagram, recorded_with, with_part, draft_with};
+ghost use Rattle.std.specs.Prelude.{◌≡◌, ◌++◌, [], Some, None, IfOk, option_to_list};
+ghost use Rattle.trace_words.specs.Reader.{Finds};
+ghost use Rattle.trace_outcomes.specs.Recorded.{recorded_with};
+ghost use Rattle.trace_profiles.specs.Profiles.{profile_with};
+ghost use Rattle.trace_text.specs.Reading.{with_part, draft_with};
 
-use crate::forms::{AdapterLine, HeartbeatLine, Line, Part};
-use crate::words::LineFault;
-use cip_tables::{
-    Answer, Event, Frame, InputPoint, Notice, Outcome, OutputPoint, Profile, Sending, Verdict,
-};
+use crate::forms::Line;
+use cip_tables::{Config, Event, InputPoint, Outcome, OutputPoint};
 use cip_types::{Items, OutOfMemory};
+use scanner_table::SlotConfig;
 use std::alloc::Global;
+use trace_outcomes::{Part, recorded_with, with_item};
+use trace_profiles::{AdapterLine, ScannerLine, profile_with, scanner_with};
+use trace_words::LineFault;
 
 /// What the lines so far told.
 #[derive(Drop)]
@@ -30,9 +33,14 @@ pub enum Draft {
         inputs: Items<InputPoint>,
         config: InputPoint,
     },
-    /// A profile, and events with what is recorded of their outcomes; the last one may get more.
+    /// A scanner's profile up to its slots.
+    Slots {
+        scanner: ScannerLine,
+        slots: Items<SlotConfig>,
+    },
+    /// What a device is made of, and events with what is recorded of their outcomes; the last one may get more.
     Events {
-        profile: Profile,
+        config: Config,
         entries: Items<(Event, Option<Outcome>)>,
         last: Option<(Event, Option<Outcome>)>,
     },
@@ -57,11 +65,12 @@ pub fn draft_with(alloc: Global, draft: Draft, told: Line) -> Result<Draft, Line
             inputs,
             config,
         } => after_config(alloc, adapter, outputs, inputs, config, told),
+        Draft::Slots { scanner, slots } => after_slots(alloc, scanner, slots, told),
         Draft::Events {
-            profile,
+            config,
             entries,
             last,
-        } => after_events(alloc, profile, entries, last, told),
+        } => after_events(alloc, config, entries, last, told),
     }
 }
 
@@ -73,6 +82,10 @@ fn after_nothing(alloc: Global, told: Line) -> Result<Draft, LineFault>
             adapter,
             outputs: Items::new(alloc),
             inputs: Items::new(alloc),
+        }),
+        Line::Scanner(scanner) => Ok(Draft::Slots {
+            scanner,
+            slots: Items::new(alloc),
         }),
         _ => Err(LineFault::Bad),
     }
@@ -114,7 +127,7 @@ fn after_points(
             config,
         }),
         Line::Heartbeat(heartbeat) => Ok(Draft::Events {
-            profile: profile_with(adapter, outputs, inputs, None, heartbeat),
+            config: Config::Adapter(profile_with(adapter, outputs, inputs, None, heartbeat)),
             entries: Items::new(alloc),
             last: None,
         }),
@@ -134,7 +147,13 @@ fn after_config(
 {
     match told {
         Line::Heartbeat(heartbeat) => Ok(Draft::Events {
-            profile: profile_with(adapter, outputs, inputs, Some(config), heartbeat),
+            config: Config::Adapter(profile_with(
+                adapter,
+                outputs,
+                inputs,
+                Some(config),
+                heartbeat,
+            )),
             entries: Items::new(alloc),
             last: None,
         }),
@@ -142,45 +161,45 @@ fn after_config(
     }
 }
 
-fn profile_with(
-    adapter: AdapterLine,
-    outputs: Items<OutputPoint>,
-    inputs: Items<InputPoint>,
-    config: Option<InputPoint>,
-    heartbeat: HeartbeatLine,
-) -> Profile
-    ensures { result ≡ profile_with adapter outputs inputs config heartbeat }
+fn after_slots(
+    alloc: Global,
+    scanner: ScannerLine,
+    slots: Items<SlotConfig>,
+    told: Line,
+) -> Result<Draft, LineFault>
+    ensures { Finds (draft_with (Draft.Slots scanner slots) told) result }
 {
-    Profile {
-        incarnation: adapter.incarnation,
-        node: adapter.node,
-        mask: adapter.mask,
-        identity: adapter.identity,
-        outputs,
-        inputs,
-        config,
-        input_only: heartbeat.input_only,
-        listen_only: heartbeat.listen_only,
+    match told {
+        Line::Slot(slot) => Ok(Draft::Slots {
+            scanner,
+            slots: with_item(slots, slot)?,
+        }),
+        Line::Event(event) => Ok(Draft::Events {
+            config: Config::Scanner(scanner_with(scanner, slots)),
+            entries: Items::new(alloc),
+            last: Some((event, None)),
+        }),
+        _ => Err(LineFault::Bad),
     }
 }
 
 fn after_events(
     alloc: Global,
-    profile: Profile,
+    config: Config,
     entries: Items<(Event, Option<Outcome>)>,
     last: Option<(Event, Option<Outcome>)>,
     told: Line,
 ) -> Result<Draft, LineFault>
-    ensures { Finds (draft_with (Draft.Events profile entries last) told) result }
+    ensures { Finds (draft_with (Draft.Events config entries last) told) result }
 {
     match told {
         Line::Event(event) => Ok(Draft::Events {
-            profile,
+            config,
             entries: with_last(entries, last)?,
             last: Some((event, None)),
         }),
         Line::Recorded(number, part) => match last {
-            Some(last) => after_event(alloc, profile, entries, last, number, part),
+            Some(last) => after_event(alloc, config, entries, last, number, part),
             None => Err(LineFault::Bad),
         },
         _ => Err(LineFault::Bad),
@@ -189,13 +208,13 @@ fn after_events(
 
 fn after_event(
     alloc: Global,
-    profile: Profile,
+    config: Config,
     entries: Items<(Event, Option<Outcome>)>,
     last: (Event, Option<Outcome>),
     number: u64,
     part: Part,
 ) -> Result<Draft, LineFault>
-    ensures { Finds (with_part profile entries last number part) result }
+    ensures { Finds (with_part config entries last number part) result }
 {
     if number != entries.as_slice().len() as u64 + 1 {
         return Err(LineFault::Bad);
@@ -203,7 +222,7 @@ fn after_event(
     let (event, recorded) = last;
     let outcome = recorded_with(alloc, recorded, part)?;
     Ok(Draft::Events {
-        profile,
+        config,
         entries,
         last: Some((event, Some(outcome))),
     })
@@ -217,116 +236,4 @@ pub fn with_last<T: Drop>(items: Items<T>, last: Option<T>) -> Result<Items<T>, 
         Some(last) => with_item(items, last),
         None => Ok(items),
     }
-}
-
-/// Values, and one more.
-fn with_item<T: Drop>(items: Items<T>, item: T) -> Result<Items<T>, OutOfMemory>
-    ensures { IfOk result (λ more. more ≡ items ++ item ∷ []) }
-{
-    let mut vec = items.into_vec();
-    vec.push(item)?;
-    Ok(Items::from_vec(vec))
-}
-
-/// What is recorded of an outcome, with one part more.
-fn recorded_with(alloc: Global, recorded: Option<Outcome>, part: Part) -> Result<Outcome, LineFault>
-    ensures { Finds (recorded_with recorded part) result }
-{
-    match recorded {
-        None => first_part(alloc, part),
-        Some(Ok(answer)) => answer_with(answer, part),
-        Some(Err(_)) => Err(LineFault::Bad),
-    }
-}
-
-fn first_part(alloc: Global, part: Part) -> Result<Outcome, LineFault>
-    ensures { Finds (recorded_with None part) result }
-{
-    match part {
-        Part::Verdict(verdict) => Ok(Ok(plain_answer_of(alloc, verdict))),
-        Part::Fault(fault) => Ok(Err(fault)),
-        _ => Err(LineFault::Bad),
-    }
-}
-
-fn plain_answer_of(alloc: Global, verdict: Verdict) -> Answer
-    ensures { result ≡ plain_answer_of verdict }
-{
-    Answer {
-        frames: Items::new(alloc),
-        datagrams: Items::new(alloc),
-        verdict,
-        notices: Items::new(alloc),
-    }
-}
-
-fn answer_with(answer: Answer, part: Part) -> Result<Outcome, LineFault>
-    ensures { Finds (recorded_with (Some (Ok answer)) part) result }
-{
-    match part {
-        Part::Frame(frame) => Ok(Ok(with_frame(answer, frame)?)),
-        Part::Datagram(sending) => Ok(Ok(with_datagram(answer, sending)?)),
-        Part::Notice(notice) => Ok(Ok(with_notice(answer, notice)?)),
-        _ => Err(LineFault::Bad),
-    }
-}
-
-fn with_frame(answer: Answer, frame: Frame) -> Result<Answer, LineFault>
-    ensures { Finds (with_frame answer frame) result }
-{
-    if !answer.datagrams.as_slice().is_empty() || !answer.notices.as_slice().is_empty() {
-        return Err(LineFault::Bad);
-    }
-    let Answer {
-        frames,
-        datagrams,
-        verdict,
-        notices,
-    } = answer;
-    let frames = with_item(frames, frame)?;
-    Ok(Answer {
-        frames,
-        datagrams,
-        verdict,
-        notices,
-    })
-}
-
-fn with_datagram(answer: Answer, sending: Sending) -> Result<Answer, LineFault>
-    ensures { Finds (with_datagram answer sending) result }
-{
-    if !answer.notices.as_slice().is_empty() {
-        return Err(LineFault::Bad);
-    }
-    let Answer {
-        frames,
-        datagrams,
-        verdict,
-        notices,
-    } = answer;
-    let datagrams = with_item(datagrams, sending)?;
-    Ok(Answer {
-        frames,
-        datagrams,
-        verdict,
-        notices,
-    })
-}
-
-fn with_notice(answer: Answer, notice: Notice) -> Result<Answer, LineFault>
-    ensures { Finds (Some (record answer { notices = answer.notices ++ notice ∷ [] })) result }
-{
-    let Answer {
-        frames,
-        datagrams,
-        verdict,
-        notices,
-    } = answer;
-    let notices = with_item(notices, notice)?;
-    Ok(Answer {
-        frames,
-        datagrams,
-        verdict,
-        notices,
-    })
 }

@@ -1,12 +1,12 @@
 //! The lines that tell events.
 
 ghost use Rattle.std.specs.Prelude.{◌≡◌};
-ghost use Rattle.trace_text.specs.Reader.{unread_words, Takes};
+ghost use Rattle.trace_words.specs.Reader.{unread_words, Takes};
 ghost use Rattle.trace_text.specs.Forms.{request_reader, stream_reader, frame_reader, cut_reader, datagram_reader, write_reader, read_reader, tick_reader, mode_of, mode_reader, start_reader, stop_reader};
 
-use crate::words::{LineFault, Words};
 use cip_tables::Event;
 use std::alloc::Global;
+use trace_words::{LineFault, Words};
 
 /// What follows `request`: `NODE HEX`.
 pub fn read_request(alloc: Global, words: &mut Words<'_>) -> Result<Event, LineFault>

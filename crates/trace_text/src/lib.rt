@@ -6,14 +6,9 @@ mod draft;
 mod event_lines;
 mod forms;
 mod lines;
-mod notice_lines;
-mod part_lines;
-mod profile_lines;
-mod told;
 mod trace;
-mod words;
 mod written;
 
-pub use told::{push_outcome, write_outcome};
 pub use trace::{Trace, TraceFault, read_trace};
+pub use trace_outcomes::{push_outcome, write_outcome};
 pub use written::write_trace;

@@ -1,9 +1,8 @@
 //! The lines of a trace, one by one.
 
-ghost use Rattle.std.specs.Prelude.{◌≡◌, Some, IfSome, IfNone};
-ghost use Rattle.std.specs.List.{list_all};
-ghost use Rattle.trace_text.specs.Reader.{unread_words, Takes, Finds};
-ghost use Rattle.trace_text.specs.Words.{number_of};
+ghost use Rattle.std.specs.Prelude.{◌≡◌};
+ghost use Rattle.trace_words.specs.Reader.{unread_words, Takes, Finds};
+ghost use Rattle.trace_words.specs.Words.{number_of};
 ghost use Rattle.trace_text.specs.Forms.{is_ascii, line_of, line_reader, numbered};
 
 use crate::event_lines::{
@@ -11,11 +10,13 @@ use crate::event_lines::{
     read_stream, read_tick, read_write,
 };
 use crate::forms::Line;
-use crate::part_lines::read_part;
-use crate::profile_lines::{read_adapter, read_heartbeat, read_output, read_point};
-use crate::words::{LineFault, Words, read_u64};
 use std::alloc::Global;
 use std::str;
+use trace_outcomes::read_part;
+use trace_profiles::{
+    read_adapter, read_heartbeat, read_output, read_point, read_scanner, read_slot,
+};
+use trace_words::{LineFault, Words, read_u64};
 
 /// What a line tells.
 ///
@@ -49,6 +50,8 @@ fn read_words(alloc: Global, words: &mut Words<'_>) -> Result<Line, LineFault>
         "input" => Ok(Line::Input(read_point(words)?)),
         "config" => Ok(Line::Config(read_point(words)?)),
         "heartbeat" => Ok(Line::Heartbeat(read_heartbeat(words)?)),
+        "scanner" => Ok(Line::Scanner(read_scanner(words)?)),
+        "slot" => Ok(Line::Slot(read_slot(alloc, words)?)),
         "request" => Ok(Line::Event(read_request(alloc, words)?)),
         "stream" => Ok(Line::Event(read_stream(words)?)),
         "frame" => Ok(Line::Event(read_frame(alloc, words)?)),

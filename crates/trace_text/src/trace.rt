@@ -1,20 +1,21 @@
-//! The text of a trace: an adapter's profile, and what happens at the adapter.
+//! The text of a trace: the profile of a device, and what happens at the device.
 //!
 //! Lines are ended by LF, and one space parts their words. Empty lines and lines that begin with `#` are
 //! skipped.
 
-ghost use Rattle.std.specs.Prelude.{◌≡◌, ◌<◌, ◌+◌, ◌∷◌, position, length, IfSome, IfNone, OnSome, [], Ok};
-ghost use Rattle.trace_text.specs.Reader.{Finds};
-ghost use Rattle.trace_text.specs.Reading.{is_line_feed, is_skipped, parts_of, draft_after, told, judged, trace_reading, Answers};
-ghost use Rattle.adapter_table.specs.Profiles.{profile_fault};
+ghost use Rattle.std.specs.Prelude.{◌≡◌, ◌<◌, ◌+◌, ◌∷◌, position, length, IfSome, IfNone, IfErr, IsOk, ◌↔◌, Some, None, [], Ok};
+ghost use Rattle.trace_words.specs.Reader.{Finds};
+ghost use Rattle.trace_text.specs.Reading.{is_line_feed, is_skipped, parts_of, draft_after, told, judged_by, trace_reading, Answers};
+ghost use Rattle.cip_tables.specs.Step.{config_fault};
 
 use crate::draft::{Draft, draft_with, with_last};
 use crate::lines::read_line;
-use crate::words::LineFault;
-use cip_tables::{Config, Event, Outcome, Profile};
+use cip_tables::{Config, Event, Outcome, ProfileFault};
 use cip_types::{Items, OutOfMemory};
 use std::alloc::Global;
 use thiserror::Error;
+use trace_profiles::scanner_with;
+use trace_words::LineFault;
 
 /// What a trace tells: what a device is made of, and what happens at it, each event with its outcome where
 /// that is recorded.
@@ -71,7 +72,7 @@ pub fn read_trace(alloc: Global, text: &[u8]) -> Result<Trace, TraceFault>
     if !rest.is_empty() {
         return Err(TraceFault::BadLine(number));
     }
-    told(draft, number)
+    told(alloc, draft, number)
 }
 
 /// The first line, without the LF that ends it, and what stands behind that. None where no LF is left.
@@ -115,31 +116,45 @@ fn is_skipped(line: &[u8]) -> bool
 }
 
 /// The trace that was read when the text ends, where one more line would have this number.
-fn told(draft: Draft, number: u64) -> Result<Trace, TraceFault>
+fn told(alloc: Global, draft: Draft, number: u64) -> Result<Trace, TraceFault>
     ensures { Answers (told number draft) result }
 {
     match draft {
+        Draft::Slots { scanner, slots } => {
+            judged(
+                Config::Scanner(scanner_with(scanner, slots)),
+                Items::new(alloc),
+            )
+        }
         Draft::Events {
-            profile,
+            config,
             entries,
             last,
         } => {
             let events = with_last(entries, last)?;
-            judged(profile, events)
+            judged(config, events)
         }
         _ => Err(TraceFault::BadLine(number)),
     }
 }
 
 /// A trace, where its profile is a good one.
-fn judged(profile: Profile, events: Items<(Event, Option<Outcome>)>) -> Result<Trace, TraceFault>
-    ensures { result ≡ judged (record { config = Config.Adapter profile; events = events }) (profile_fault profile) }
+fn judged(config: Config, events: Items<(Event, Option<Outcome>)>) -> Result<Trace, TraceFault>
+    ensures { result ≡ judged_by config events }
 {
-    match profile.check() {
-        Ok(()) => Ok(Trace {
-            config: Config::Adapter(profile),
-            events,
-        }),
+    match check(&config) {
+        Ok(()) => Ok(Trace { config, events }),
         Err(first) => Err(TraceFault::BadProfile(first.number())),
+    }
+}
+
+/// The first thing that is wrong with what a device is to be made of.
+fn check(config: &Config) -> Result<(), ProfileFault>
+    ensures ok { IsOk result ↔ (config_fault config.now ≡ None) }
+    ensures fault { IfErr result (λ first. config_fault config.now ≡ Some first) }
+{
+    match config {
+        Config::Adapter(profile) => profile.check(),
+        Config::Scanner(profile) => profile.check(),
     }
 }

@@ -1,130 +1,35 @@
 //! Traces as they are written.
 
-ghost use Rattle.std.specs.Prelude.{◌≡◌, ◌++◌, ◌∷◌, [], OnOk, IfOk, string_bytes, flat_map, codes, decimal};
-ghost use Rattle.trace_text.specs.Words.{action_word, node_word, bytes_word};
-ghost use Rattle.trace_text.specs.Written.{mode_word, line_text, identity_words, adapter_words, output_words, point_words, heartbeat_words, config_text, profile_text, event_words, recorded_text, entries_text, trace_text};
+ghost use Rattle.std.specs.Prelude.{◌≡◌, ◌++◌, ◌∷◌, [], OnOk, IfOk, string_bytes, decimal};
+ghost use Rattle.trace_words.specs.Words.{node_word, bytes_word, line_text};
+ghost use Rattle.trace_text.specs.Written.{mode_word, config_lines, event_words, recorded_text, entries_text, trace_text};
 
-use crate::told::{push_last_bytes, push_node, push_outcome};
 use crate::trace::Trace;
-use cip_tables::{Action, Config, Event, InputPoint, Outcome, OutputPoint, Profile};
-use cip_types::{Identity, Node, OutOfMemory};
+use cip_tables::{Config, Event, Outcome};
+use cip_types::{Node, OutOfMemory};
 use std::alloc::Global;
+use trace_outcomes::push_outcome;
+use trace_profiles::{push_profile, push_scanner};
+use trace_words::{push_last_bytes, push_node};
 
 /// The text of a trace. What is recorded of an event stands behind its line.
 #[tactic(auto, unfolding(crate::specs::Written::trace_text))]
 pub fn write_trace(alloc: Global, trace: &Trace) -> Result<String, OutOfMemory>
     ensures { IfOk result (λ text. string_bytes text ≡ trace_text trace.now) }
 {
-    let Config::Adapter(profile) = &trace.config;
     let mut out = String::new(alloc);
-    push_profile(&mut out, profile)?;
+    push_lines(alloc, &mut out, &trace.config)?;
     push_entries(alloc, &mut out, trace.events.as_slice())?;
     Ok(out)
 }
 
-fn push_profile(out: &mut String, profile: &Profile) -> Result<(), OutOfMemory>
-    ensures { OnOk result (string_bytes out.new ≡ string_bytes out.old ++ profile_text profile.now) }
-{
-    push_adapter(out, profile)?;
-    push_outputs(out, profile.outputs.as_slice())?;
-    push_inputs(out, profile.inputs.as_slice())?;
-    push_config(out, profile.config)?;
-    push_heartbeat(out, profile)?;
-    Ok(())
-}
-
-fn push_adapter(out: &mut String, profile: &Profile) -> Result<(), OutOfMemory>
-    ensures { OnOk result (string_bytes out.new ≡ string_bytes out.old ++ line_text (adapter_words profile.now)) }
-{
-    let incarnation = profile.incarnation;
-    write!(out, "adapter {incarnation} ")?;
-    push_node(out, profile.node)?;
-    out.push_str(" ")?;
-    push_node(out, Node(profile.mask))?;
-    push_identity(out, profile.identity)?;
-    Ok(())
-}
-
-fn push_identity(out: &mut String, identity: Identity) -> Result<(), OutOfMemory>
-    ensures { OnOk result (string_bytes out.new ≡ string_bytes out.old ++ (codes " " ++ line_text (identity_words identity))) }
-{
-    let Identity {
-        vendor,
-        device_type,
-        product,
-        major,
-        minor,
-    } = identity;
-    write!(out, " {vendor} {device_type} {product} {major} {minor}\n")?;
-    Ok(())
-}
-
-fn push_outputs(out: &mut String, outputs: &[OutputPoint]) -> Result<(), OutOfMemory>
-    ensures { OnOk result (string_bytes out.new ≡ string_bytes out.old ++ flat_map (λ point. line_text (output_words point)) outputs.now) }
-{
-    for output in outputs {
-        push_output(out, *output)?;
-    }
-    Ok(())
-}
-
-fn push_output(out: &mut String, output: OutputPoint) -> Result<(), OutOfMemory>
-    ensures { OnOk result (string_bytes out.new ≡ string_bytes out.old ++ line_text (output_words output)) }
-{
-    let OutputPoint {
-        instance,
-        len,
-        idle,
-        fault,
-    } = output;
-    let idle = action_name(idle);
-    let fault = action_name(fault);
-    write!(out, "output {instance} {len} {idle} {fault}\n")?;
-    Ok(())
-}
-
-fn action_name(action: Action) -> &'static str
-    ensures { result.now ≡ action_word action }
-{
-    match action {
-        Action::Zero => "zero",
-        Action::Hold => "hold",
-    }
-}
-
-fn push_inputs(out: &mut String, inputs: &[InputPoint]) -> Result<(), OutOfMemory>
-    ensures { OnOk result (string_bytes out.new ≡ string_bytes out.old ++ flat_map (λ point. line_text (point_words (codes "input") point)) inputs.now) }
-{
-    for input in inputs {
-        push_point(out, "input", *input)?;
-    }
-    Ok(())
-}
-
-fn push_point(out: &mut String, keyword: &str, point: InputPoint) -> Result<(), OutOfMemory>
-    ensures { OnOk result (string_bytes out.new ≡ string_bytes out.old ++ line_text (point_words keyword.now point)) }
-{
-    let InputPoint { instance, len } = point;
-    write!(out, "{keyword} {instance} {len}\n")?;
-    Ok(())
-}
-
-fn push_config(out: &mut String, config: Option<InputPoint>) -> Result<(), OutOfMemory>
-    ensures { OnOk result (string_bytes out.new ≡ string_bytes out.old ++ config_text config) }
+fn push_lines(alloc: Global, out: &mut String, config: &Config) -> Result<(), OutOfMemory>
+    ensures { OnOk result (string_bytes out.new ≡ string_bytes out.old ++ config_lines config.now) }
 {
     match config {
-        Some(config) => push_point(out, "config", config),
-        None => Ok(()),
+        Config::Adapter(profile) => push_profile(out, profile),
+        Config::Scanner(profile) => push_scanner(alloc, out, profile),
     }
-}
-
-fn push_heartbeat(out: &mut String, profile: &Profile) -> Result<(), OutOfMemory>
-    ensures { OnOk result (string_bytes out.new ≡ string_bytes out.old ++ line_text (heartbeat_words profile.now)) }
-{
-    let input_only = profile.input_only;
-    let listen_only = profile.listen_only;
-    write!(out, "heartbeat {input_only} {listen_only}\n")?;
-    Ok(())
 }
 
 fn push_entries(

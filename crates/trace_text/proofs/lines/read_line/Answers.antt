@@ -1,5 +1,5 @@
 use Rattle.std.proofs.Common.{sym}
-use Rattle.trace_text.proofs.LineWords.{ascii_text}
+use Rattle.trace_text.proofs.AsciiLines.{ascii_text}
 use Rattle.trace_text.proofs.lines.read_line.Goals as goal
 
 pub returns-in-Err : goal.returns-in-Err

@@ -1,7 +1,7 @@
 use Rattle.std.proofs.Common.{append_assoc, refl}
 use Rattle.std.proofs.Common.{[], ◌∷◌}
-use Rattle.trace_text.specs.Words.{node_word, bytes_word}
-use Rattle.trace_text.specs.Written.{line_text}
+use Rattle.trace_words.specs.Words.{node_word, bytes_word}
+use Rattle.trace_words.specs.Words.{line_text}
 use Rattle.trace_text.proofs.Pieces.{three}
 use Rattle.trace_text.proofs.written.push_of_node.Goals as goal
 

@@ -1,6 +1,7 @@
 use Rattle.std.proofs.Common.{append_assoc, refl}
 use Rattle.cip_events.specs.declared.event.Event.TheVariants.{StreamOpened}
-use Rattle.trace_text.specs.Written.{line_text, event_words}
+use Rattle.trace_text.specs.Written.{event_words}
+use Rattle.trace_words.specs.Words.{line_text}
 use Rattle.trace_text.proofs.Pieces.{three}
 use Rattle.trace_text.proofs.written.push_stream.Goals as goal
 

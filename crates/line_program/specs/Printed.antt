@@ -1,0 +1,94 @@
+-- What a run of the program prints.
+use Rattle.std.specs.Prelude.{ℕ, ◌≡◌, ◌≤◌, ◌<◌, ◌⊎◌, Bool, true, false, List, [], ◌++◌, length, codes, Option, Some, None, Result, Ok, Err, IfSome}
+use Rattle.std.specs.Io.KnownBytes.{Appends}
+use Rattle.trace_text.specs.declared.trace.Trace.{Trace}
+use Rattle.trace_text.specs.declared.trace.TraceFault.TheVariants as trace
+use Rattle.trace_text.specs.Reading.{trace_reading}
+use Rattle.trace_outcomes.specs.Told.{outcomes_text}
+use Rattle.trace_stepper.specs.Compared.{IsJudged}
+use Rattle.trace_stepper.specs.Playing.{WritesFirst}
+use Rattle.trace_stepper.specs.Stepping.{outcomes_told}
+use Rattle.trace_stepper.specs.Written.{BeginsToWrite}
+use Rattle.trace_stepper.specs.declared.player.PlayFault.{PlayFault}
+use Rattle.trace_stepper.specs.declared.player.PlayFault.TheVariants as play
+use Rattle.line_program.specs.Faults.{numbered_line, fault_line}
+use Rattle.line_program.specs.declared.console.ProgramFault.{ProgramFault}
+use Rattle.line_program.specs.declared.console.ProgramFault.TheVariants as program
+
+-- the most bytes of a trace
+abbrev pub longest_trace : ℕ
+longest_trace = 16777216
+
+-- the trace that is read, where what was to be read is known
+abbrev pub Reads : Option (List ℕ) → Trace → Type 0
+Reads input trace = IfSome input (λ text. (trace_reading text ≡ Ok trace) × (length text ≤ longest_trace))
+
+-- the line that tells the first difference
+abbrev pub differs_line : ℕ → List ℕ
+differs_line number = numbered_line (codes "differs ") number
+
+-- all outcomes of the trace are written, and all are as recorded
+abbrev pub PrintsRun : Option (List ℕ) → Option (List ℕ) → Option (List ℕ) → Type 0
+PrintsRun input old new = (trace : Trace) × (Reads input trace × Appends old new (outcomes_text 1 (outcomes_told trace)) × IsJudged trace.events (outcomes_told trace) (length trace.events) None)
+
+-- all outcomes are written, and a last line that tells the first that is not as recorded
+abbrev pub PrintsDifference : Option (List ℕ) → Option (List ℕ) → Option (List ℕ) → Type 0
+PrintsDifference input old new = (trace : Trace) × ((number : ℕ) × (Reads input trace × Appends old new (outcomes_text 1 (outcomes_told trace) ++ differs_line number) × IsJudged trace.events (outcomes_told trace) (length trace.events) (Some number)))
+
+-- the first outcomes of the trace are written, each whole
+abbrev pub PrintsFirst : Option (List ℕ) → Option (List ℕ) → Option (List ℕ) → Type 0
+PrintsFirst input old new = (trace : Trace) × (Reads input trace × WritesFirst trace old new)
+
+-- a beginning of the outcomes' text is written; or all of it, and a beginning of the last line
+abbrev pub BeginsToPrint : Option (List ℕ) → Option (List ℕ) → Option (List ℕ) → Type 0
+BeginsToPrint input old new = (trace : Trace) × (Reads input trace × (BeginsToWrite old (outcomes_text 1 (outcomes_told trace)) new ⊎ ((number : ℕ) × (IsJudged trace.events (outcomes_told trace) (length trace.events) (Some number) × BeginsToWrite old (outcomes_text 1 (outcomes_told trace) ++ differs_line number) new))))
+
+-- What was printed when a run ends so: a trace that is refused prints nothing.
+abbrev pub IsStepped : Option (List ℕ) → Option (List ℕ) → Option (List ℕ) → Result Bool ProgramFault → Type 0
+IsStepped input old new (Ok true) = PrintsRun input old new
+IsStepped input old new (Ok false) = PrintsDifference input old new
+IsStepped input old new (Err program.TooLong) = IfSome input (λ text. longest_trace < length text) × (new ≡ old)
+IsStepped input old new (Err (program.BadLine number)) = IfSome input (λ text. trace_reading text ≡ Err (trace.BadLine number)) × (new ≡ old)
+IsStepped input old new (Err (program.BadProfile number)) = IfSome input (λ text. trace_reading text ≡ Err (trace.BadProfile number)) × (new ≡ old)
+IsStepped input old new (Err program.Read) = new ≡ old
+IsStepped input old new (Err program.OutOfMemory) = (new ≡ old) ⊎ PrintsFirst input old new
+IsStepped input old new (Err program.Write) = BeginsToPrint input old new
+
+-- A run with status 1: a recorded outcome was not given, and nothing is told; or the run failed, and the line of
+-- the fault is written, as far as the stream took it.
+abbrev pub Fails : Option (List ℕ) → Option (List ℕ) → Option (List ℕ) → Option (List ℕ) → Option (List ℕ) → Type 0
+Fails input old new silent told = (PrintsDifference input old new × (told ≡ silent)) ⊎ ((fault : ProgramFault) × (IsStepped input old new (Err fault) × BeginsToWrite silent (fault_line fault) told))
+
+-- what ends the reading of the text
+abbrev pub IsTextFault : ProgramFault → Type 0
+IsTextFault program.TooLong = Unit {0}
+IsTextFault program.Read = Unit {0}
+IsTextFault program.OutOfMemory = Unit {0}
+IsTextFault fault = ⊥
+
+-- the trace was read, or it was refused
+abbrev pub IsTraceRead : Option (List ℕ) → Result Trace ProgramFault → Type 0
+IsTraceRead input (Ok trace) = Reads input trace
+IsTraceRead input (Err program.TooLong) = IfSome input (λ text. longest_trace < length text)
+IsTraceRead input (Err (program.BadLine number)) = IfSome input (λ text. trace_reading text ≡ Err (trace.BadLine number))
+IsTraceRead input (Err (program.BadProfile number)) = IfSome input (λ text. trace_reading text ≡ Err (trace.BadProfile number))
+IsTraceRead input (Err program.Read) = Unit {0}
+IsTraceRead input (Err program.OutOfMemory) = Unit {0}
+IsTraceRead input (Err program.Write) = ⊥
+
+-- What is written behind the outcomes: nothing, or the line of the first difference; or the stream took a
+-- beginning of that alone, or did not hand on what it took.
+abbrev pub IsFinished : Option (List ℕ) → Option ℕ → Option (List ℕ) → Result Bool ProgramFault → Type 0
+IsFinished old None new (Ok same) = (same ≡ true) × Appends old new []
+IsFinished old (Some number) new (Ok same) = (same ≡ false) × Appends old new (differs_line number)
+IsFinished old None new (Err program.Write) = Appends old new []
+IsFinished old (Some number) new (Err program.Write) = BeginsToWrite old (differs_line number) new
+IsFinished old differs new (Err fault) = ⊥
+
+-- what a run that was not played to its end is told to be
+abbrev pub IsStop : PlayFault → ProgramFault → Type 0
+IsStop stopped program.Write = Unit {0}
+IsStop play.Profile program.OutOfMemory = Unit {0}
+IsStop play.WrongKind program.OutOfMemory = Unit {0}
+IsStop play.OutOfMemory program.OutOfMemory = Unit {0}
+IsStop stopped fault = ⊥

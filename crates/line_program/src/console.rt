@@ -1,0 +1,228 @@
+//! The program, over any streams.
+
+ghost use Rattle.std.specs.Prelude.{◌≡◌, ◌<◌, ◌≤◌, ◌⊎◌, ◌≢◌, ◌++◌, [], true, length, codes, decimal, IfOk, IfErr, OnOk, IfSome};
+ghost use Rattle.std.specs.Io.KnownBytes.{Appends, Keeps};
+ghost use Rattle.trace_stepper.specs.Playing.{IsPlayed};
+ghost use Rattle.trace_stepper.specs.Written.{BeginsToWrite, IsTaken};
+ghost use Rattle.line_program.specs.Faults.{fault_line};
+ghost use Rattle.line_program.specs.Printed.{longest_trace, PrintsRun, Fails, IsStepped, IsFinished, IsTraceRead, IsTextFault, IsStop};
+
+use crate::commands::{Misuse, Task, read_task};
+use cip_tables::Config;
+use itoa::Buffer;
+use plain_engine::{PlainAdapter, PlainScanner};
+use std::alloc::Global;
+use std::convert::AsStr;
+use std::io::{ErrorKind, Read, Write};
+use trace_stepper::{NotTaken, PlayFault, play, write_text};
+use trace_text::{Trace, TraceFault, read_trace};
+
+/// The status of a run that failed.
+const FAILED: u8 = 1;
+
+/// The status for a command line that is none of the program's.
+const USAGE: u8 = 2;
+
+/// The most bytes of a trace.
+const LONGEST_TRACE: usize = 16_777_216;
+
+/// Why a run ended with status 1, as standard error tells it.
+#[derive(Clone, Copy, Debug, PartialEq, Eq)]
+pub enum ProgramFault {
+    /// The trace is longer than any that is read: `too long`.
+    TooLong,
+    /// The line of this number does not belong into the trace: `bad line N`.
+    BadLine(u64),
+    /// The profile is wrong in the way of this number: `bad profile N`.
+    BadProfile(u8),
+    /// A growth of memory was refused: `no memory`.
+    OutOfMemory,
+    /// The input could not be read: `fault Read`.
+    Read,
+    /// The output could not be written: `fault Write`.
+    Write,
+}
+
+impl From<NotTaken> for ProgramFault {
+    ghost use Rattle.line_program.specs.declared.console.ProgramFault.TheVariants as program;
+
+    ghost from_gives = { λ _ fault. fault ≡ program.Write };
+
+    fn from(_error: NotTaken) -> ProgramFault {
+        ProgramFault::Write
+    }
+}
+
+impl From<TraceFault> for ProgramFault {
+    ghost use Rattle.line_program.specs.Faults.{program_fault_of_trace};
+
+    ghost from_gives = { λ error fault. fault ≡ program_fault_of_trace error };
+
+    fn from(fault: TraceFault) -> ProgramFault {
+        match fault {
+            TraceFault::BadLine(number) => ProgramFault::BadLine(number),
+            TraceFault::BadProfile(number) => ProgramFault::BadProfile(number),
+            TraceFault::OutOfMemory => ProgramFault::OutOfMemory,
+        }
+    }
+}
+
+/// Runs the program on the words of a command line, the first of them its own name, and answers its
+/// status: 0, where all outcomes are printed and each is as recorded; 1 where one is not, after a last line that
+/// tells the first, or where the run failed, after one line on `err` that tells why, as far as the stream took it;
+/// 2 where the command line is none of the program's, which prints nothing.
+pub fn program<R, S, I, O, E>(rt: &R, words: &[S], reader: &mut I, out: &mut O, err: &mut E) -> u8
+where
+    R: AllocGlobal,
+    S: AsStr,
+    I: Read,
+    O: Write,
+    E: Write,
+    ensures status { result ≤ 2 }
+    ensures done { result ≡ 0 → PrintsRun (I.remaining reader.old) (O.contents out.old) (O.contents out.new) × (err.new ≡ err.old) }
+    ensures failed { result ≡ 1 → Fails (I.remaining reader.old) (O.contents out.old) (O.contents out.new) (E.contents err.old) (E.contents err.new) }
+    ensures usage { result ≡ 2 → (out.new ≡ out.old) × (err.new ≡ err.old) }
+{
+    let task = match read_task(rt.alloc(), words) {
+        Ok(task) => task,
+        Err(Misuse::Usage) => return USAGE,
+        Err(Misuse::OutOfMemory) => return failed(err, ProgramFault::OutOfMemory),
+    };
+    let done = match task {
+        Task::Step => step(rt.alloc(), reader, out),
+    };
+    match done {
+        Ok(true) => 0,
+        Ok(false) => FAILED,
+        Err(fault) => failed(err, fault),
+    }
+}
+
+/// Tells a fault, as far as the stream takes it.
+fn failed<E: Write>(err: &mut E, fault: ProgramFault) -> u8
+    ensures status { result ≡ 1 }
+    ensures told { BeginsToWrite (E.contents err.old) (fault_line fault) (E.contents err.new) }
+{
+    let _ = tell(err, fault);
+    FAILED
+}
+
+/// Writes the line of a fault.
+fn tell<E: Write>(err: &mut E, fault: ProgramFault) -> Result<(), NotTaken>
+    ensures { IsTaken (E.contents err.old) (fault_line fault) result (E.contents err.new) }
+{
+    match fault {
+        ProgramFault::TooLong => write_text(err, b"too long\n"),
+        ProgramFault::BadLine(number) => write_numbered(err, b"bad line ", number),
+        ProgramFault::BadProfile(number) => {
+            write_numbered(err, b"bad profile ", u64::from(number))
+        }
+        ProgramFault::OutOfMemory => write_text(err, b"no memory\n"),
+        ProgramFault::Read => write_text(err, b"fault Read\n"),
+        ProgramFault::Write => write_text(err, b"fault Write\n"),
+    }
+}
+
+/// Writes a line of a word and a number. Takes no memory.
+fn write_numbered<W: Write>(out: &mut W, word: &[u8], number: u64) -> Result<(), NotTaken>
+    ensures { IsTaken (W.contents out.old) (word.now ++ (decimal number ++ codes "\n")) result (W.contents out.new) }
+{
+    let mut digits = Buffer::new();
+    write_text(out, word)?;
+    write_text(out, digits.format(number).as_bytes())?;
+    write_text(out, b"\n")
+}
+
+/// Steps a device by the trace that the reader holds, and prints the outcomes as they come. False where one
+/// is not as recorded.
+fn step<I: Read, O: Write>(alloc: Global, reader: &mut I, out: &mut O) -> Result<bool, ProgramFault>
+    ensures { IsStepped (I.remaining reader.old) (O.contents out.old) (O.contents out.new) result }
+{
+    let trace = trace_of(alloc, reader)?;
+    match played(alloc, &trace, out) {
+        Ok(differs) => finish(out, differs),
+        Err(fault) => Err(stop(out, fault)),
+    }
+}
+
+/// Plays a trace at a device of its kind.
+fn played<O: Write>(alloc: Global, trace: &Trace, out: &mut O) -> Result<Option<usize>, PlayFault>
+    ensures { IsPlayed true trace.now (O.contents out.old) (O.contents out.new) result }
+{
+    match &trace.config {
+        Config::Adapter(_) => play::<PlainAdapter, O>(alloc, trace, out),
+        Config::Scanner(_) => play::<PlainScanner, O>(alloc, trace, out),
+    }
+}
+
+/// The last line, where an outcome is not as recorded, and the end of what is written.
+fn finish<O: Write>(out: &mut O, differs: Option<usize>) -> Result<bool, ProgramFault>
+    ensures { IsFinished (O.contents out.old) differs (O.contents out.new) result }
+{
+    let Some(number) = differs else {
+        flush(out)?;
+        return Ok(true);
+    };
+    write_numbered(out, b"differs ", number as u64)?;
+    flush(out)?;
+    Ok(false)
+}
+
+/// What a run that was not played to its end is told to be, once what is written was handed on.
+fn stop<O: Write>(out: &mut O, fault: PlayFault) -> ProgramFault
+    ensures kept { Keeps (O.contents out.old) (O.contents out.new) }
+    ensures fault { IsStop fault result }
+{
+    if out.flush().is_err() {
+        return ProgramFault::Write;
+    }
+    match fault {
+        PlayFault::Write => ProgramFault::Write,
+        PlayFault::Profile | PlayFault::WrongKind | PlayFault::OutOfMemory => {
+            ProgramFault::OutOfMemory
+        }
+    }
+}
+
+/// Hands on what was written.
+fn flush<O: Write>(out: &mut O) -> Result<(), ProgramFault>
+    ensures kept { Keeps (O.contents out.old) (O.contents out.new) }
+    ensures fault { IfErr result (λ fault. fault ≡ ProgramFault.Write) }
+{
+    match out.flush() {
+        Ok(()) => Ok(()),
+        Err(_) => Err(ProgramFault::Write),
+    }
+}
+
+/// The trace that the reader holds.
+fn trace_of<I: Read>(alloc: Global, reader: &mut I) -> Result<Trace, ProgramFault>
+    ensures { IsTraceRead (I.remaining reader.old) result }
+{
+    let text = match read_text(alloc, reader) {
+        Ok(text) => text,
+        Err(fault) => return Err(fault),
+    };
+    Ok(read_trace(alloc, text.as_slice())?)
+}
+
+/// All that the reader has left, if it is no longer than the longest trace.
+fn read_text<I: Read>(alloc: Global, reader: &mut I) -> Result<Vec<u8>, ProgramFault>
+    ensures all { IfOk result (λ text. IfSome (I.remaining reader.old) (λ input. (text.items ≡ input) × (length input ≤ longest_trace))) }
+    ensures long { result ≡ Err ProgramFault.TooLong → IfSome (I.remaining reader.old) (λ input. longest_trace < length input) }
+    ensures fault { IfErr result IsTextFault }
+{
+    let mut text = Vec::new(alloc);
+    let limit = LONGEST_TRACE as u64 + 1;
+    match (&mut *reader).take(limit).read_to_end(&mut text) {
+        Ok(_) => {}
+        Err(error) if error.kind() == ErrorKind::OutOfMemory => {
+            return Err(ProgramFault::OutOfMemory);
+        }
+        Err(_) => return Err(ProgramFault::Read),
+    }
+    if text.len() > LONGEST_TRACE {
+        return Err(ProgramFault::TooLong);
+    }
+    Ok(text)
+}

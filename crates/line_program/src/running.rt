@@ -1,0 +1,41 @@
+//! The program at its standard streams.
+
+use crate::console::program;
+use std::env::{self, Env};
+use std::io::{BufWriter, ErrorKind, Read, Write};
+use std::process::ExitCode;
+
+/// The status for a command line that is none of the program's.
+const USAGE: u8 = 2;
+
+/// Hands the program its command line and these streams, the output through a buffer, and answers its status.
+pub fn run<R, I, O, E>(rt: &R, reader: &mut I, out: O, err: &mut E) -> ExitCode
+where
+    R: AllocGlobal + Env,
+    I: Read,
+    O: Write + Drop,
+    E: Write,
+{
+    let words = match env::args(rt) {
+        Ok(words) => words,
+        Err(error) => {
+            if error.kind() == ErrorKind::OutOfMemory {
+                return no_memory(err);
+            }
+            return ExitCode::from(USAGE);
+        }
+    };
+    let Ok(words) = words.collect::<Vec<String>>(rt.alloc()) else {
+        return no_memory(err);
+    };
+    let Ok(mut out) = BufWriter::new(rt.alloc(), out) else {
+        return no_memory(err);
+    };
+    ExitCode::from(program(rt, words.as_slice(), reader, &mut out, err))
+}
+
+/// Tells that memory was refused.
+fn no_memory<E: Write>(err: &mut E) -> ExitCode {
+    let _ = err.write_all(b"no memory\n");
+    ExitCode::from(1)
+}

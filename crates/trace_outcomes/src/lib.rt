@@ -1,0 +1,13 @@
+//! The lines of a trace that tell outcomes, as they are read and as they are written.
+#![tactic(auto)]
+
+mod notice_lines;
+mod part;
+mod part_lines;
+mod recorded;
+mod told;
+
+pub use part::Part;
+pub use part_lines::read_part;
+pub use recorded::{recorded_with, with_item};
+pub use told::{push_outcome, write_outcome};

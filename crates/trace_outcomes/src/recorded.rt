@@ -1,0 +1,127 @@
+//! An outcome as it is recorded, part by part.
+
+ghost use Rattle.std.specs.Prelude.{◌≡◌, ◌++◌, ◌∷◌, [], Some, None, IfOk};
+ghost use Rattle.trace_words.specs.Reader.{Finds};
+ghost use Rattle.trace_outcomes.specs.Recorded.{plain_answer_of, with_frame, with_datagram, recorded_with};
+
+use crate::part::Part;
+use cip_events::{Answer, Frame, Notice, Outcome, Sending, Verdict};
+use cip_types::{Items, OutOfMemory};
+use std::alloc::Global;
+use trace_words::LineFault;
+
+/// What is recorded of an outcome, with one part more.
+pub fn recorded_with(
+    alloc: Global,
+    recorded: Option<Outcome>,
+    part: Part,
+) -> Result<Outcome, LineFault>
+    ensures { Finds (recorded_with recorded part) result }
+{
+    match recorded {
+        None => first_part(alloc, part),
+        Some(Ok(answer)) => answer_with(answer, part),
+        Some(Err(_)) => Err(LineFault::Bad),
+    }
+}
+
+fn first_part(alloc: Global, part: Part) -> Result<Outcome, LineFault>
+    ensures { Finds (recorded_with None part) result }
+{
+    match part {
+        Part::Verdict(verdict) => Ok(Ok(plain_answer_of(alloc, verdict))),
+        Part::Fault(fault) => Ok(Err(fault)),
+        _ => Err(LineFault::Bad),
+    }
+}
+
+fn plain_answer_of(alloc: Global, verdict: Verdict) -> Answer
+    ensures { result ≡ plain_answer_of verdict }
+{
+    Answer {
+        frames: Items::new(alloc),
+        datagrams: Items::new(alloc),
+        verdict,
+        notices: Items::new(alloc),
+    }
+}
+
+fn answer_with(answer: Answer, part: Part) -> Result<Outcome, LineFault>
+    ensures { Finds (recorded_with (Some (Ok answer)) part) result }
+{
+    match part {
+        Part::Frame(frame) => Ok(Ok(with_frame(answer, frame)?)),
+        Part::Datagram(sending) => Ok(Ok(with_datagram(answer, sending)?)),
+        Part::Notice(notice) => Ok(Ok(with_notice(answer, notice)?)),
+        _ => Err(LineFault::Bad),
+    }
+}
+
+fn with_frame(answer: Answer, frame: Frame) -> Result<Answer, LineFault>
+    ensures { Finds (with_frame answer frame) result }
+{
+    if !answer.datagrams.as_slice().is_empty() || !answer.notices.as_slice().is_empty() {
+        return Err(LineFault::Bad);
+    }
+    let Answer {
+        frames,
+        datagrams,
+        verdict,
+        notices,
+    } = answer;
+    let frames = with_item(frames, frame)?;
+    Ok(Answer {
+        frames,
+        datagrams,
+        verdict,
+        notices,
+    })
+}
+
+fn with_datagram(answer: Answer, sending: Sending) -> Result<Answer, LineFault>
+    ensures { Finds (with_datagram answer sending) result }
+{
+    if !answer.notices.as_slice().is_empty() {
+        return Err(LineFault::Bad);
+    }
+    let Answer {
+        frames,
+        datagrams,
+        verdict,
+        notices,
+    } = answer;
+    let datagrams = with_item(datagrams, sending)?;
+    Ok(Answer {
+        frames,
+        datagrams,
+        verdict,
+        notices,
+    })
+}
+
+fn with_notice(answer: Answer, notice: Notice) -> Result<Answer, LineFault>
+    ensures { Finds (Some (record answer { notices = answer.notices ++ notice ∷ [] })) result }
+{
+    let Answer {
+        frames,
+        datagrams,
+        verdict,
+        notices,
+    } = answer;
+    let notices = with_item(notices, notice)?;
+    Ok(Answer {
+        frames,
+        datagrams,
+        verdict,
+        notices,
+    })
+}
+
+/// Values, and one more.
+pub fn with_item<T: Drop>(items: Items<T>, item: T) -> Result<Items<T>, OutOfMemory>
+    ensures { IfOk result (λ more. more ≡ items ++ item ∷ []) }
+{
+    let mut vec = items.into_vec();
+    vec.push(item)?;
+    Ok(Items::from_vec(vec))
+}

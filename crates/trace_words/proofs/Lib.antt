@@ -1,0 +1,3 @@
+mod LineWords
+mod NodeWords
+mod NumberWords

@@ -1,0 +1,8 @@
+//! The words of a trace: numbers, addresses, bytes, as they are read and as they are written.
+#![tactic(auto)]
+
+mod words;
+mod written;
+
+pub use words::{LineFault, Words, read_u64};
+pub use written::{push_bytes, push_last_bytes, push_node, push_nodes, push_text};

@@ -1,0 +1,360 @@
+//! The words of a line: numbers, addresses, bytes.
+
+ghost use Rattle.std.specs.Prelude.{◌≡◌, ◌↔◌, ◌==◌, [], IsOk, IsTrue, IfErr};
+ghost use Rattle.trace_words.specs.Words.{is_short_form, is_dash, number_of, node_of, nodes_of, action_of, bytes_of, digits_of, id_of, general_of, extra_of, instance_of};
+ghost use Rattle.trace_words.specs.Reader.{Finds};
+
+use adapter_table::Action;
+use cip_types::{ConnId, Items, Node, OutOfMemory};
+use hex::FromHexError;
+use std::alloc::{AllocFailed, Global};
+use std::net::Ipv4Addr;
+
+/// Why a line is not read.
+#[derive(Clone, Copy, Debug, PartialEq, Eq)]
+pub enum LineFault {
+    /// It is none of the lines that may stand there.
+    Bad,
+    /// A growth of memory was refused.
+    OutOfMemory,
+}
+
+impl From<OutOfMemory> for LineFault {
+    ghost use Rattle.trace_words.specs.declared.words.LineFault.TheVariants as fault;
+
+    ghost from_gives = { λ _ f. f ≡ fault.OutOfMemory };
+
+    fn from(_error: OutOfMemory) -> LineFault {
+        LineFault::OutOfMemory
+    }
+}
+
+impl<T: Drop> From<AllocFailed<T>> for LineFault {
+    ghost use Rattle.trace_words.specs.declared.words.LineFault.TheVariants as fault;
+
+    ghost from_gives = { λ _ f. f ≡ fault.OutOfMemory };
+
+    fn from(_refused: AllocFailed<T>) -> LineFault {
+        LineFault::OutOfMemory
+    }
+}
+
+impl From<FromHexError> for LineFault {
+    ghost use Rattle.trace_words.specs.Faults.{line_fault_of};
+
+    ghost from_gives = { λ error fault. fault ≡ line_fault_of error };
+
+    fn from(error: FromHexError) -> LineFault {
+        match error {
+            FromHexError::OutOfMemory => LineFault::OutOfMemory,
+            _ => LineFault::Bad,
+        }
+    }
+}
+
+/// The words of a line that are still to be read. One space parts two words.
+#[derive(Drop)]
+pub struct Words<'a> {
+    rest: Option<&'a str>,
+}
+
+impl<'a> Words<'a> {
+    ghost use Rattle.trace_words.specs.Words.{words_of};
+    ghost use Rattle.trace_words.specs.Reader.{unread_words, TakesWord, Takes, next_word};
+
+    /// All words of a line.
+    pub fn of(line: &'a str) -> Words<'a>
+        ensures { unread_words result ≡ words_of line.now }
+    {
+        Words { rest: Some(line) }
+    }
+
+    /// The next word.
+    pub fn word(&mut self) -> Result<&'a str, LineFault>
+        ensures { TakesWord (unread_words self.old) (unread_words self.new) result }
+    {
+        let rest = self.rest.ok_or(LineFault::Bad)?;
+        match rest.split_once(' ') {
+            Some((word, after)) => {
+                self.rest = Some(after);
+                Ok(word)
+            }
+            None => {
+                self.rest = None;
+                Ok(rest)
+            }
+        }
+    }
+
+    /// The next word as a number of 64 bits.
+    pub fn u64(&mut self) -> Result<u64, LineFault>
+        ensures { Takes (next_word (number_of 64) (unread_words self.old)) result (unread_words self.new) }
+    {
+        read_u64(self.word()?).ok_or(LineFault::Bad)
+    }
+
+    /// The next word as a number of 32 bits.
+    pub fn u32(&mut self) -> Result<u32, LineFault>
+        ensures { Takes (next_word (number_of 32) (unread_words self.old)) result (unread_words self.new) }
+    {
+        read_u32(self.word()?).ok_or(LineFault::Bad)
+    }
+
+    /// The next word as a number of 32 bits, or none.
+    pub fn u32_or_none(&mut self) -> Result<Option<u32>, LineFault>
+        ensures { Takes (next_word instance_of (unread_words self.old)) result (unread_words self.new) }
+    {
+        read_instance(self.word()?).ok_or(LineFault::Bad)
+    }
+
+    /// The next word as a number of 16 bits.
+    pub fn u16(&mut self) -> Result<u16, LineFault>
+        ensures { Takes (next_word (number_of 16) (unread_words self.old)) result (unread_words self.new) }
+    {
+        read_u16(self.word()?).ok_or(LineFault::Bad)
+    }
+
+    /// The next word as a number of 8 bits.
+    pub fn u8(&mut self) -> Result<u8, LineFault>
+        ensures { Takes (next_word (number_of 8) (unread_words self.old)) result (unread_words self.new) }
+    {
+        read_u8(self.word()?).ok_or(LineFault::Bad)
+    }
+
+    /// The next word as an address.
+    pub fn node(&mut self) -> Result<Node, LineFault>
+        ensures { Takes (next_word node_of (unread_words self.old)) result (unread_words self.new) }
+    {
+        read_node(self.word()?).ok_or(LineFault::Bad)
+    }
+
+    /// The next word as addresses.
+    pub fn nodes(&mut self, alloc: Global) -> Result<Items<Node>, LineFault>
+        ensures { Takes (next_word nodes_of (unread_words self.old)) result (unread_words self.new) }
+    {
+        read_nodes(alloc, self.word()?)
+    }
+
+    /// The next word as what happens to an output.
+    pub fn action(&mut self) -> Result<Action, LineFault>
+        ensures { Takes (next_word action_of (unread_words self.old)) result (unread_words self.new) }
+    {
+        read_action(self.word()?).ok_or(LineFault::Bad)
+    }
+
+    /// The next word as a connection id.
+    pub fn id(&mut self, alloc: Global) -> Result<ConnId, LineFault>
+        ensures { Takes (next_word id_of (unread_words self.old)) result (unread_words self.new) }
+    {
+        read_id(alloc, self.word()?)
+    }
+
+    /// The next word as a general status.
+    pub fn general(&mut self, alloc: Global) -> Result<u8, LineFault>
+        ensures { Takes (next_word general_of (unread_words self.old)) result (unread_words self.new) }
+    {
+        read_general(alloc, self.word()?)
+    }
+
+    /// The next word as an extended status, or none.
+    pub fn extra(&mut self, alloc: Global) -> Result<Option<u16>, LineFault>
+        ensures { Takes (next_word extra_of (unread_words self.old)) result (unread_words self.new) }
+    {
+        read_extra(alloc, self.word()?)
+    }
+
+    /// The next word as bytes.
+    pub fn bytes(&mut self, alloc: Global) -> Result<Items<u8>, LineFault>
+        ensures { Takes (next_word bytes_of (unread_words self.old)) result (unread_words self.new) }
+    {
+        read_bytes(alloc, self.word()?)
+    }
+
+    /// Whether all words are read.
+    pub fn is_done(&self) -> bool
+        ensures { IsTrue result ↔ (unread_words self.now ≡ []) }
+    {
+        self.end().is_ok()
+    }
+
+    /// The end of the line.
+    pub fn end(&self) -> Result<(), LineFault>
+        ensures end { IsOk result ↔ (unread_words self.now ≡ []) }
+        ensures bad { IfErr result (λ fault. fault ≡ LineFault.Bad) }
+    {
+        match self.rest {
+            Some(_) => Err(LineFault::Bad),
+            None => Ok(()),
+        }
+    }
+}
+
+/// A number as it is printed: decimal digits, the first of them 0 only where it stands alone.
+pub fn read_u64(word: &str) -> Option<u64>
+    ensures { result ≡ number_of 64 word.now }
+{
+    if !is_short_form(word.as_bytes()) {
+        return None;
+    }
+    word.parse().ok()
+}
+
+fn read_u32(word: &str) -> Option<u32>
+    ensures { result ≡ number_of 32 word.now }
+{
+    let number = read_u64(word)?;
+    u32::try_from(number).ok()
+}
+
+/// The number of an instance; `-` for none.
+#[tactic(auto, unfolding(crate::specs::Words::instance_of))]
+fn read_instance(word: &str) -> Option<Option<u32>>
+    ensures { result ≡ instance_of word.now }
+{
+    if is_dash(word) {
+        return Some(None);
+    }
+    let instance = read_u32(word)?;
+    Some(Some(instance))
+}
+
+fn read_u16(word: &str) -> Option<u16>
+    ensures { result ≡ number_of 16 word.now }
+{
+    let number = read_u64(word)?;
+    u16::try_from(number).ok()
+}
+
+fn read_u8(word: &str) -> Option<u8>
+    ensures { result ≡ number_of 8 word.now }
+{
+    let number = read_u64(word)?;
+    u8::try_from(number).ok()
+}
+
+/// Whether a word has neither a plus nor a needless zero in front.
+fn is_short_form(word: &[u8]) -> bool
+    ensures { result ≡ is_short_form word.now }
+{
+    match word {
+        [b'+', ..] => false,
+        [b'0', rest @ ..] => rest.is_empty(),
+        _ => true,
+    }
+}
+
+/// An address as it is printed: four numbers below 256, parted by dots.
+fn read_node(word: &str) -> Option<Node>
+    ensures { result ≡ node_of word.now }
+{
+    match word.parse::<Ipv4Addr>() {
+        Ok(address) => Some(Node(address.to_bits())),
+        Err(_) => None,
+    }
+}
+
+/// What happens to an output, as it is printed.
+#[tactic(auto, unfolding(crate::specs::Words::action_of))]
+fn read_action(word: &str) -> Option<Action>
+    ensures { result ≡ action_of word.now }
+{
+    match word {
+        "zero" => Some(Action::Zero),
+        "hold" => Some(Action::Hold),
+        _ => None,
+    }
+}
+
+/// Bytes as hexadecimal digits of either case, two a byte; `-` for no bytes.
+///
+/// The faults: `Bad` where the word spells no bytes, and `OutOfMemory`.
+#[tactic(auto, unfolding(crate::specs::Words::bytes_of))]
+fn read_bytes(alloc: Global, word: &str) -> Result<Items<u8>, LineFault>
+    ensures { Finds (bytes_of word.now) result }
+{
+    if is_dash(word) {
+        return Ok(Items::new(alloc));
+    }
+    read_digits(alloc, word)
+}
+
+/// Whether a word stands for nothing.
+fn is_dash(word: &str) -> bool
+    ensures { result ≡ is_dash word.now }
+{
+    word == "-"
+}
+
+/// The bytes of hexadecimal digits, at least one byte.
+fn read_digits(alloc: Global, word: &str) -> Result<Items<u8>, LineFault>
+    ensures { Finds (digits_of word.now) result }
+{
+    if word.is_empty() {
+        return Err(LineFault::Bad);
+    }
+    let bytes = hex::decode(alloc, word)?;
+    Ok(Items::from_vec(bytes))
+}
+
+/// A connection id as eight hexadecimal digits of either case.
+#[tactic(auto, unfolding(crate::specs::Words::id_of))]
+fn read_id(alloc: Global, word: &str) -> Result<ConnId, LineFault>
+    ensures { Finds (id_of word.now) result }
+{
+    let bytes = read_digits(alloc, word)?;
+    let [a, b, c, d] = bytes.as_slice() else {
+        return Err(LineFault::Bad);
+    };
+    Ok(ConnId(u32::from_be_bytes([*a, *b, *c, *d])))
+}
+
+/// A general status as two hexadecimal digits of either case.
+#[tactic(auto, unfolding(crate::specs::Words::general_of))]
+fn read_general(alloc: Global, word: &str) -> Result<u8, LineFault>
+    ensures { Finds (general_of word.now) result }
+{
+    let bytes = read_digits(alloc, word)?;
+    let [general] = bytes.as_slice() else {
+        return Err(LineFault::Bad);
+    };
+    Ok(*general)
+}
+
+/// An extended status as four hexadecimal digits of either case; `-` for none.
+#[tactic(auto, unfolding(crate::specs::Words::extra_of))]
+fn read_extra(alloc: Global, word: &str) -> Result<Option<u16>, LineFault>
+    ensures { Finds (extra_of word.now) result }
+{
+    if is_dash(word) {
+        return Ok(None);
+    }
+    let bytes = read_digits(alloc, word)?;
+    let [high, low] = bytes.as_slice() else {
+        return Err(LineFault::Bad);
+    };
+    Ok(Some(u16::from_be_bytes([*high, *low])))
+}
+
+/// Addresses parted by commas; `-` for none.
+#[tactic(auto, unfolding(crate::specs::Words::nodes_of))]
+fn read_nodes(alloc: Global, word: &str) -> Result<Items<Node>, LineFault>
+    ensures { Finds (nodes_of word.now) result }
+{
+    if is_dash(word) {
+        return Ok(Items::new(alloc));
+    }
+    let mut nodes = Vec::new(alloc);
+    let mut rest = word;
+    while let Some((node, after)) = rest.split_once(',') {
+        let Some(node) = read_node(node) else {
+            return Err(LineFault::Bad);
+        };
+        nodes.push(node)?;
+        rest = after;
+    }
+    let Some(last) = read_node(rest) else {
+        return Err(LineFault::Bad);
+    };
+    nodes.push(last)?;
+    Ok(Items::from_vec(nodes))
+}
