@@ -10,7 +10,7 @@ use thiserror::Error;
 /// Why a run ends early.
 #[derive(Debug, Drop, Error)]
 pub enum BenchFault {
-    #[error("the one word that may follow is check, wheel, splitter, datagrams or engine")]
+    #[error("the one word that may follow is check, wheel, splitter, datagrams, engine or scanner")]
     Usage,
     #[error("no memory")]
     OutOfMemory,

@@ -3,7 +3,7 @@
 //! With no word, or the word `check`: short runs, and what they came to. With the word `wheel`: the wheel
 //! beside a sorted list and a binary heap. `splitter`: a stream of messages that comes in pieces beside a
 //! copy of the pieces. `datagrams`: writing datagrams beside a copy of their data. `engine`: datagrams and
-//! ticks at a plain adapter, on one thread, with no network.
+//! ticks at a plain adapter, `scanner`: at a plain scanner, on one thread, with no network.
 #![tactic(auto)]
 
 mod clock;
@@ -13,6 +13,7 @@ mod fault;
 mod heap;
 mod list;
 mod race;
+mod scanner;
 mod splitter;
 mod timers;
 mod wheel;
@@ -27,7 +28,8 @@ fn check(rt: &(impl Print + CpuClock), alloc: Global) -> Result<(), BenchFault> 
     race::check(rt, alloc)?;
     splitter::check(rt, alloc)?;
     datagrams::check(rt, alloc)?;
-    engine::check(rt, alloc)
+    engine::check(rt, alloc)?;
+    scanner::check(rt, alloc)
 }
 
 /// Does what the word asks for.
@@ -45,6 +47,7 @@ fn bench(
         "splitter" => splitter::print_times(rt, alloc),
         "datagrams" => datagrams::print_times(rt, alloc),
         "engine" => engine::print_times(rt, alloc),
+        "scanner" => scanner::print_times(rt, alloc),
         _ => Err(BenchFault::Usage),
     }
 }

@@ -2,13 +2,15 @@
 //! for each: whether all outcomes are as recorded.
 #![tactic(auto)]
 
-use plain_engine::PlainAdapter;
+use cip_tables::Config;
+use plain_engine::{PlainAdapter, PlainScanner};
+use std::alloc::Global;
 use std::env;
 use std::fs::{self, Files};
 use std::process::ExitCode;
 use thiserror::Error;
-use trace_stepper::{Differs, StepperFault, compare, replay};
-use trace_text::{TraceFault, read_trace};
+use trace_stepper::{Differs, Report, StepperFault, compare, replay};
+use trace_text::{Trace, TraceFault, read_trace};
 
 /// Why a scenario does not hold.
 #[derive(Clone, Copy, Debug, Error)]
@@ -56,12 +58,20 @@ fn held<R: AllocGlobal + Files>(rt: &R, name: &str) -> Result<(), Failure> {
         Ok(trace) => trace,
         Err(fault) => return Err(Failure::Trace(fault)),
     };
-    let report = match replay::<PlainAdapter>(rt.alloc(), &trace) {
+    let report = match replayed(rt.alloc(), &trace) {
         Ok(report) => report,
         Err(fault) => return Err(Failure::Stepper(fault)),
     };
     match compare(&trace, report.outcomes.as_slice()) {
         Ok(()) => Ok(()),
         Err(differs) => Err(Failure::Differs(differs)),
+    }
+}
+
+/// The outcomes of a trace's events at a device of its kind.
+fn replayed(alloc: Global, trace: &Trace) -> Result<Report, StepperFault> {
+    match &trace.config {
+        Config::Adapter(_) => replay::<PlainAdapter>(alloc, trace),
+        Config::Scanner(_) => replay::<PlainScanner>(alloc, trace),
     }
 }
