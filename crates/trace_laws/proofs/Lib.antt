@@ -1,0 +1,9 @@
+mod CleanWords
+mod EventLaws
+mod LineLaws
+mod NodeLaws
+mod OutcomeLaws
+mod ProfileLaws
+mod TextLaws
+mod TraceLaws
+mod WordLaws

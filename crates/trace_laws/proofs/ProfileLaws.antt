@@ -1,0 +1,134 @@
+-- A profile that is written is read as itself.
+use Rattle.std.proofs.Common.{◌≡◌, ℕ, ◌<◌, ◌^◌, true, List, [], ◌∷◌, ◌++◌, Option, Some, None, refl, sym, ap, subst, arith, append_assoc}
+use Rattle.std.specs.Prelude.{decimal, codes, flat_map, IfSome}
+use Rattle.std.specs.List.{All}
+use Rattle.std.proofs.lemmas.List.{append-nil}
+use Rattle.cip_types.specs.declared.names.Identity.{Identity}
+use Rattle.adapter_table.specs.declared.profile.Action.{Action}
+use Rattle.adapter_table.specs.declared.profile.Action.TheVariants.{Zero, Hold}
+use Rattle.adapter_table.specs.declared.profile.InputPoint.{InputPoint}
+use Rattle.adapter_table.specs.declared.profile.OutputPoint.{OutputPoint}
+use Rattle.adapter_table.specs.declared.profile.Profile.{Profile}
+use Rattle.cip_tables.specs.declared.table.Config.TheVariants as config
+use Rattle.trace_words.specs.Words.{number_of, node_word, action_word, line_text}
+use Rattle.trace_profiles.specs.declared.forms.AdapterLine.{AdapterLine}
+use Rattle.trace_profiles.specs.declared.forms.HeartbeatLine.{HeartbeatLine}
+use Rattle.trace_profiles.specs.Profiles.{identity_reader, profile_with}
+use Rattle.trace_profiles.specs.Written.{identity_words, adapter_words, output_words, point_words, heartbeat_words, config_text, profile_text}
+use Rattle.trace_text.specs.declared.draft.Draft.TheVariants.{Empty, Points, Configured, Events}
+use Rattle.trace_text.specs.declared.forms.Line.TheVariants as line
+use Rattle.trace_text.specs.Forms.{line_reader}
+use Rattle.trace_laws.specs.TraceBack.{IdentityFits, OutputFits, InputFits, ProfileFits}
+use Rattle.trace_laws.proofs.WordLaws.{number_back, node_back, action_back}
+use Rattle.trace_laws.proofs.CleanWords.{decimal_clean, node_clean}
+use Rattle.trace_laws.proofs.LineLaws.{is_clean, are_clean, and_both}
+use Rattle.trace_laws.proofs.TextLaws.{first_of, rest_of, Reads, reads_none, reads_both, line_reads, next_reads}
+
+pub n8 : (n : ℕ) → n < 2 ^ 8 → number_of 8 (decimal n) ≡ Some n
+n8 n fits = number_back 8 n fits (omega (arith, fits))
+
+pub n16 : (n : ℕ) → n < 2 ^ 16 → number_of 16 (decimal n) ≡ Some n
+n16 n fits = number_back 16 n fits (omega (arith, fits))
+
+pub n32 : (n : ℕ) → n < 2 ^ 32 → number_of 32 (decimal n) ≡ Some n
+n32 n fits = number_back 32 n fits (omega (arith, fits))
+
+pub n64 : (n : ℕ) → n < 2 ^ 64 → number_of 64 (decimal n) ≡ Some n
+n64 n fits = number_back 64 n fits fits
+
+-- THE LINES
+
+identity_read : (identity : Identity) → IdentityFits identity → identity_reader (identity_words identity) ≡ Some (identity, [])
+identity_read identity fits =
+    next_reads (number_of 16) _ _ _ identity.vendor _ (n16 _ fits.0)
+    (next_reads (number_of 16) _ _ _ identity.device_type _ (n16 _ fits.1)
+    (next_reads (number_of 16) _ _ _ identity.product _ (n16 _ fits.2)
+    (next_reads (number_of 8) _ _ _ identity.major _ (n8 _ fits.3)
+    (next_reads (number_of 8) _ _ _ identity.minor _ (n8 _ fits.4) refl))))
+
+abbrev adapter_line : Profile → AdapterLine
+adapter_line profile = record { incarnation = profile.incarnation; node = profile.node; mask = profile.mask; identity = profile.identity }
+
+adapter_read : (profile : Profile) → ProfileFits profile → line_reader (adapter_words profile) ≡ Some (line.Adapter (adapter_line profile), [])
+adapter_read profile fits = rw (n8 profile.incarnation fits.incarnation_fits, node_back profile.node fits.node_fits, node_back (record { 0 = profile.mask }) fits.mask_fits, identity_read profile.identity fits.identity_fits) refl
+
+output_read : (point : OutputPoint) → OutputFits point → line_reader (output_words point) ≡ Some (line.Output point, [])
+output_read point fits = rw (n32 point.instance fits.0, n64 point.len fits.1, action_back point.idle, action_back point.fault) refl
+
+input_read : (point : InputPoint) → InputFits point → line_reader (point_words (codes "input") point) ≡ Some (line.Input point, [])
+input_read point fits = rw (n32 point.instance fits.0, n64 point.len fits.1) refl
+
+config_read : (point : InputPoint) → InputFits point → line_reader (point_words (codes "config") point) ≡ Some (line.Config point, [])
+config_read point fits = rw (n32 point.instance fits.0, n64 point.len fits.1) refl
+
+abbrev heartbeat_line : Profile → HeartbeatLine
+heartbeat_line profile = record { input_only = profile.input_only; listen_only = profile.listen_only }
+
+heartbeat_read : (profile : Profile) → ProfileFits profile → line_reader (heartbeat_words profile) ≡ Some (line.Heartbeat (heartbeat_line profile), [])
+heartbeat_read profile fits = rw (n32 profile.input_only fits.input_only_fits, n32 profile.listen_only fits.listen_only_fits) refl
+
+-- CLEAN WORDS
+
+pub c8 : (n : ℕ) → n < 2 ^ 8 → is_clean (decimal n) ≡ true
+c8 n fits = decimal_clean n (omega (arith, fits))
+
+pub c16 : (n : ℕ) → n < 2 ^ 16 → is_clean (decimal n) ≡ true
+c16 n fits = decimal_clean n (omega (arith, fits))
+
+pub c32 : (n : ℕ) → n < 2 ^ 32 → is_clean (decimal n) ≡ true
+c32 n fits = decimal_clean n (omega (arith, fits))
+
+action_clean : (action : Action) → is_clean (action_word action) ≡ true
+action_clean Zero = refl
+action_clean Hold = refl
+
+identity_clean : (identity : Identity) → IdentityFits identity → are_clean (identity_words identity) ≡ true
+identity_clean identity fits = rw (c16 identity.vendor fits.0, c16 identity.device_type fits.1, c16 identity.product fits.2, c8 identity.major fits.3, c8 identity.minor fits.4) refl
+
+-- ONE AFTER THE OTHER
+
+outputs_read : (adapter : AdapterLine) (before points : List OutputPoint) → All OutputFits points → Reads (Points adapter before []) (flat_map (λ point. line_text (output_words point)) points) (Points adapter (before ++ points) [])
+outputs_read adapter before [] fit = subst (λ all. Reads (Points adapter before []) [] (Points adapter all [])) (sym (append-nil before)) (reads_none (Points adapter before []))
+outputs_read adapter before (point ∷ points) fit =
+    let fits : OutputFits point = first_of OutputFits point points fit in
+    let clean : are_clean (decimal point.instance ∷ decimal point.len ∷ action_word point.idle ∷ action_word point.fault ∷ []) ≡ true = rw (c32 point.instance fits.0, decimal_clean point.len fits.1, action_clean point.idle, action_clean point.fault) refl in
+    let one : Reads (Points adapter before []) (line_text (output_words point)) (Points adapter (before ++ point ∷ []) []) = line_reads _ _ (codes "output") (decimal point.instance ∷ decimal point.len ∷ action_word point.idle ∷ action_word point.fault ∷ []) (line.Output point) refl refl clean (output_read point fits) refl in
+    let more : Reads (Points adapter (before ++ point ∷ []) []) (flat_map (λ p. line_text (output_words p)) points) (Points adapter (before ++ point ∷ points) []) = subst (λ all. Reads (Points adapter (before ++ point ∷ []) []) (flat_map (λ p. line_text (output_words p)) points) (Points adapter all [])) (append_assoc before (point ∷ []) points) (outputs_read adapter (before ++ point ∷ []) points (rest_of OutputFits point points fit)) in
+    reads_both _ _ _ _ _ one more
+
+inputs_read : (adapter : AdapterLine) (outputs : List OutputPoint) (before points : List InputPoint) → All InputFits points → Reads (Points adapter outputs before) (flat_map (λ point. line_text (point_words (codes "input") point)) points) (Points adapter outputs (before ++ points))
+inputs_read adapter outputs before [] fit = subst (λ all. Reads (Points adapter outputs before) [] (Points adapter outputs all)) (sym (append-nil before)) (reads_none (Points adapter outputs before))
+inputs_read adapter outputs before (point ∷ points) fit =
+    let fits : InputFits point = first_of InputFits point points fit in
+    let clean : are_clean (decimal point.instance ∷ decimal point.len ∷ []) ≡ true = rw (c32 point.instance fits.0, decimal_clean point.len fits.1) refl in
+    let one : Reads (Points adapter outputs before) (line_text (point_words (codes "input") point)) (Points adapter outputs (before ++ point ∷ [])) = line_reads _ _ (codes "input") (decimal point.instance ∷ decimal point.len ∷ []) (line.Input point) refl refl clean (input_read point fits) refl in
+    let more : Reads (Points adapter outputs (before ++ point ∷ [])) (flat_map (λ p. line_text (point_words (codes "input") p)) points) (Points adapter outputs (before ++ point ∷ points)) = subst (λ all. Reads (Points adapter outputs (before ++ point ∷ [])) (flat_map (λ p. line_text (point_words (codes "input") p)) points) (Points adapter outputs all)) (append_assoc before (point ∷ []) points) (inputs_read adapter outputs (before ++ point ∷ []) points (rest_of InputFits point points fit)) in
+    reads_both _ _ _ _ _ one more
+
+heartbeat_clean : (profile : Profile) → ProfileFits profile → are_clean (decimal profile.input_only ∷ decimal profile.listen_only ∷ []) ≡ true
+heartbeat_clean profile fits = rw (c32 profile.input_only fits.input_only_fits, c32 profile.listen_only fits.listen_only_fits) refl
+
+-- the configuration, where there is one, and the heartbeats
+ends_read : (profile : Profile) (settings : Option InputPoint) → profile.config ≡ settings → ProfileFits profile → IfSome settings InputFits → Reads (Points (adapter_line profile) profile.outputs profile.inputs) (config_text settings ++ line_text (heartbeat_words profile)) (Events (config.Adapter profile) [] None)
+ends_read profile None is fits fit =
+    let same : profile_with (adapter_line profile) profile.outputs profile.inputs None (heartbeat_line profile) ≡ profile = ap (λ c. profile_with (adapter_line profile) profile.outputs profile.inputs c (heartbeat_line profile)) (sym is) in
+    subst (λ p. Reads (Points (adapter_line profile) profile.outputs profile.inputs) (line_text (heartbeat_words profile)) (Events (config.Adapter p) [] None)) same
+    (line_reads _ _ (codes "heartbeat") (decimal profile.input_only ∷ decimal profile.listen_only ∷ []) (line.Heartbeat (heartbeat_line profile)) refl refl (heartbeat_clean profile fits) (heartbeat_read profile fits) refl)
+ends_read profile (Some point) is fits fit =
+    let same : profile_with (adapter_line profile) profile.outputs profile.inputs (Some point) (heartbeat_line profile) ≡ profile = ap (λ c. profile_with (adapter_line profile) profile.outputs profile.inputs c (heartbeat_line profile)) (sym is) in
+    let clean : are_clean (decimal point.instance ∷ decimal point.len ∷ []) ≡ true = rw (c32 point.instance fit.0, decimal_clean point.len fit.1) refl in
+    let one : Reads (Points (adapter_line profile) profile.outputs profile.inputs) (line_text (point_words (codes "config") point)) (Configured (adapter_line profile) profile.outputs profile.inputs point) = line_reads _ _ (codes "config") (decimal point.instance ∷ decimal point.len ∷ []) (line.Config point) refl refl clean (config_read point fit) refl in
+    let last : Reads (Configured (adapter_line profile) profile.outputs profile.inputs point) (line_text (heartbeat_words profile)) (Events (config.Adapter (profile_with (adapter_line profile) profile.outputs profile.inputs (Some point) (heartbeat_line profile))) [] None) = line_reads _ _ (codes "heartbeat") (decimal profile.input_only ∷ decimal profile.listen_only ∷ []) (line.Heartbeat (heartbeat_line profile)) refl refl (heartbeat_clean profile fits) (heartbeat_read profile fits) refl in
+    subst (λ p. Reads (Points (adapter_line profile) profile.outputs profile.inputs) (line_text (point_words (codes "config") point) ++ line_text (heartbeat_words profile)) (Events (config.Adapter p) [] None)) same (reads_both _ _ _ _ _ one last)
+
+adapter_clean : (profile : Profile) → ProfileFits profile → are_clean (decimal profile.incarnation ∷ node_word profile.node ∷ node_word (record { 0 = profile.mask }) ∷ identity_words profile.identity) ≡ true
+adapter_clean profile fits =
+    and_both _ _ (c8 profile.incarnation fits.incarnation_fits) (and_both _ _ (node_clean profile.node) (and_both _ _ (node_clean (record { 0 = profile.mask })) (identity_clean profile.identity fits.identity_fits)))
+
+pub profile_read : (profile : Profile) → ProfileFits profile → Reads Empty (profile_text profile) (Events (config.Adapter profile) [] None)
+profile_read profile fits =
+    let one : Reads Empty (line_text (adapter_words profile)) (Points (adapter_line profile) [] []) = line_reads _ _ (codes "adapter") (decimal profile.incarnation ∷ node_word profile.node ∷ node_word (record { 0 = profile.mask }) ∷ identity_words profile.identity) (line.Adapter (adapter_line profile)) refl refl (adapter_clean profile fits) (adapter_read profile fits) refl in
+    reads_both _ _ _ _ _ one
+    (reads_both _ _ _ _ _ (outputs_read (adapter_line profile) [] profile.outputs fits.outputs_fit)
+    (reads_both _ _ _ _ _ (inputs_read (adapter_line profile) profile.outputs [] profile.inputs fits.inputs_fit)
+    (ends_read profile profile.config refl fits fits.config_fits)))

@@ -1,0 +1,2 @@
+pub mod TraceBack
+pub mod WordsBack

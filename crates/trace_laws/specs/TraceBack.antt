@@ -1,0 +1,134 @@
+-- A trace that is written is read as itself: a law of the definitions alone, which `reads_back` promises. Its
+-- profile is to be a good one, and no reason that it records a mismatch that carries a refused status, which is
+-- written as that status alone. The numbers are those of their types.
+use Rattle.std.specs.Prelude.{◌≡◌, ◌<◌, ◌^◌, ◌-◌, List, length, None, Ok, Err, IfSome}
+use Rattle.std.specs.List.{All}
+use Rattle.hex.specs.Hex.{IsBytes}
+use Rattle.cip_types.specs.declared.names.Fault.{Fault}
+use Rattle.cip_types.specs.declared.names.Identity.{Identity}
+use Rattle.cip_types.specs.declared.names.Mismatch.{Mismatch}
+use Rattle.cip_types.specs.declared.names.Mismatch.TheVariants as mismatch
+use Rattle.cip_types.specs.declared.names.Triad.{Triad}
+use Rattle.adapter_table.specs.declared.profile.InputPoint.{InputPoint}
+use Rattle.adapter_table.specs.declared.profile.OutputPoint.{OutputPoint}
+use Rattle.adapter_table.specs.declared.profile.Profile.{Profile}
+use Rattle.adapter_table.specs.Profiles.{profile_fault}
+use Rattle.cip_events.specs.declared.event.Answer.{Answer}
+use Rattle.cip_events.specs.declared.event.Event.{Event}
+use Rattle.cip_events.specs.declared.event.Event.TheVariants as event
+use Rattle.cip_events.specs.declared.event.Frame.{Frame}
+use Rattle.cip_events.specs.declared.event.Notice.{Notice}
+use Rattle.cip_events.specs.declared.event.Notice.TheVariants as notice
+use Rattle.cip_events.specs.declared.event.Reason.{Reason}
+use Rattle.cip_events.specs.declared.event.Reason.TheVariants as reason
+use Rattle.cip_events.specs.declared.event.Recipient.{Recipient}
+use Rattle.cip_events.specs.declared.event.Recipient.TheVariants as recipient
+use Rattle.cip_events.specs.declared.event.Sending.{Sending}
+use Rattle.cip_events.specs.declared.event.Verdict.{Verdict}
+use Rattle.cip_events.specs.declared.event.Verdict.TheVariants as verdict
+use Rattle.cip_events.specs.Outcomes.{Outcome}
+use Rattle.cip_tables.specs.declared.table.Config.TheVariants as config
+use Rattle.trace_text.specs.Reading.{Entry, trace_reading}
+use Rattle.trace_text.specs.Written.{trace_text}
+
+-- PROFILES
+
+abbrev pub IdentityFits : Identity → Type 0
+IdentityFits identity = (identity.vendor < 2 ^ 16) × (identity.device_type < 2 ^ 16) × (identity.product < 2 ^ 16) × (identity.major < 2 ^ 8) × (identity.minor < 2 ^ 8)
+
+abbrev pub OutputFits : OutputPoint → Type 0
+OutputFits point = (point.instance < 2 ^ 32) × (point.len < 2 ^ 64)
+
+abbrev pub InputFits : InputPoint → Type 0
+InputFits point = (point.instance < 2 ^ 32) × (point.len < 2 ^ 64)
+
+pub record ProfileFits (profile : Profile) : Type 0 where
+  pub incarnation_fits : profile.incarnation < 2 ^ 8
+  pub node_fits : profile.node.0 < 2 ^ 32
+  pub mask_fits : profile.mask < 2 ^ 32
+  pub identity_fits : IdentityFits profile.identity
+  pub outputs_fit : All OutputFits profile.outputs
+  pub inputs_fit : All InputFits profile.inputs
+  pub config_fits : IfSome profile.config InputFits
+  pub input_only_fits : profile.input_only < 2 ^ 32
+  pub listen_only_fits : profile.listen_only < 2 ^ 32
+
+-- EVENTS
+
+abbrev pub EventFits : Event → Type 0
+EventFits (event.Request peer bytes) = (peer.0 < 2 ^ 32) × IsBytes bytes
+EventFits (event.StreamOpened stream peer) = (stream < 2 ^ 16) × (peer.0 < 2 ^ 32)
+EventFits (event.Frame stream bytes) = (stream < 2 ^ 16) × IsBytes bytes
+EventFits (event.StreamCut stream) = stream < 2 ^ 16
+EventFits (event.Datagram peer bytes) = (peer.0 < 2 ^ 32) × IsBytes bytes
+EventFits (event.Write point bytes) = (point < 2 ^ 32) × IsBytes bytes
+EventFits (event.Read point) = point < 2 ^ 32
+EventFits (event.Tick ms) = ms < 2 ^ 32
+EventFits (event.Mode run) = Unit {0}
+EventFits (event.Start slot) = slot < 2 ^ 32
+EventFits (event.Stop slot) = slot < 2 ^ 32
+
+-- OUTCOMES
+
+abbrev pub TriadFits : Triad → Type 0
+TriadFits triad = (triad.serial < 2 ^ 16) × (triad.vendor < 2 ^ 16) × (triad.originator < 2 ^ 32)
+
+abbrev pub FaultFits : Fault → Type 0
+FaultFits fault = (fault.general < 2 ^ 8) × IfSome fault.extra (λ extra. extra < 2 ^ 16)
+
+-- a mismatch carries no refused status
+abbrev pub MismatchTells : Mismatch → Type 0
+MismatchTells (mismatch.Refused fault) = ⊥
+MismatchTells why = Unit {0}
+
+abbrev pub ReasonFits : Reason → Type 0
+ReasonFits (reason.Encap status) = status < 2 ^ 32
+ReasonFits reason.Unreadable = Unit {0}
+ReasonFits (reason.Cip fault) = FaultFits fault
+ReasonFits (reason.Mismatch why) = MismatchTells why
+
+abbrev pub NoticeFits : Notice → Type 0
+NoticeFits (notice.Opened triad id) = TriadFits triad × (id.0 < 2 ^ 32)
+NoticeFits (notice.Closed triad) = TriadFits triad
+NoticeFits (notice.Expired triad) = TriadFits triad
+NoticeFits (notice.Dropped triad) = TriadFits triad
+NoticeFits (notice.Replaced triad) = TriadFits triad
+NoticeFits (notice.StreamClosed stream) = stream < 2 ^ 16
+NoticeFits (notice.Slot slot state) = (slot < 2 ^ 32) × (state < 2 ^ 8)
+NoticeFits (notice.Refused slot why) = (slot < 2 ^ 32) × ReasonFits why
+NoticeFits (notice.NoIds slot) = slot < 2 ^ 32
+
+abbrev pub RecipientFits : Recipient → Type 0
+RecipientFits (recipient.Stream stream) = stream < 2 ^ 16
+RecipientFits (recipient.Peer node) = node.0 < 2 ^ 32
+
+abbrev pub FrameFits : Frame → Type 0
+FrameFits frame = RecipientFits frame.to × IsBytes frame.bytes
+
+abbrev pub SendingFits : Sending → Type 0
+SendingFits sending = (sending.address.0 < 2 ^ 32) × All (λ node. node.0 < 2 ^ 32) sending.nodes × IsBytes sending.bytes
+
+abbrev pub VerdictFits : Verdict → Type 0
+VerdictFits (verdict.Value bytes) = IsBytes bytes
+VerdictFits told = Unit {0}
+
+pub record AnswerFits (answer : Answer) : Type 0 where
+  pub verdict_fits : VerdictFits answer.verdict
+  pub frames_fit : All FrameFits answer.frames
+  pub datagrams_fit : All SendingFits answer.datagrams
+  pub notices_fit : All NoticeFits answer.notices
+
+abbrev pub OutcomeFits : Outcome → Type 0
+OutcomeFits (Ok answer) = AnswerFits answer
+OutcomeFits (Err fault) = Unit {0}
+
+-- an event, and what is recorded of it
+abbrev pub EntryFits : Entry → Type 0
+EntryFits entry = EventFits entry.0 × IfSome entry.1 OutcomeFits
+
+-- THE TRACE
+
+-- an adapter's trace
+abbrev pub TraceReadsBack : Type 0
+TraceReadsBack = (profile : Profile) (events : List Entry) → ProfileFits profile → profile_fault profile ≡ None → All EntryFits events → length events < 2 ^ 64 - 1
+    → trace_reading (trace_text (record { config = config.Adapter profile; events = events })) ≡ Ok (record { config = config.Adapter profile; events = events })
