@@ -1,0 +1,264 @@
+-- A scanner's answers are small.
+use Rattle.std.proofs.Common.{◌≡◌, ◌≤◌, ℕ, ◌+◌, ◌^◌, ◌==◌, nat_lt, Bool, true, false, cond, List, [], length, map, find, Option, Some, None, Result, Ok, Err, refl, arith}
+use Rattle.std.proofs.lemmas.Bool.Decides.{nat_tests}
+use Rattle.cip_types.specs.declared.names.Node.{Node}
+use Rattle.cip_datagram.specs.declared.datagram.DatagramFault.{DatagramFault}
+use Rattle.cip_datagram.specs.Datagram.{DatagramFields}
+use Rattle.cip_datagram.specs.Reading.{datagram_reading}
+use Rattle.cip_encap.specs.declared.message.EncapFault.{EncapFault}
+use Rattle.cip_encap.specs.Message.{MessageFields}
+use Rattle.cip_encap.specs.Reading.{message_reading}
+use Rattle.cip_events.specs.declared.event.Delivery.TheVariants.{Applied, Duplicate, Old, UnknownId, WrongSize, Malformed}
+use Rattle.cip_events.specs.declared.event.Event.{Event}
+use Rattle.cip_events.specs.declared.event.Event.TheVariants as event
+use Rattle.cip_events.specs.declared.event.Sending.{Sending}
+use Rattle.cip_events.specs.declared.event.StepFault.{StepFault}
+use Rattle.cip_events.specs.declared.event.StepFault.TheVariants as fault
+use Rattle.cip_events.specs.declared.event.Verdict.TheVariants.{Done, BadFrame, Ignored, Value, Delivered}
+use Rattle.cip_events.specs.Clock.{longest_tick, clock_end}
+use Rattle.cip_productions.specs.Acceptance.{is_news, is_repeated}
+use Rattle.cip_productions.specs.Kinds.{is_owner}
+use Rattle.cip_productions.specs.Productions.{sent}
+use Rattle.scanner_table.specs.declared.slot.Connection.{Connection}
+use Rattle.scanner_table.specs.declared.slot.SlotState.{SlotState}
+use Rattle.scanner_table.specs.declared.slot.SlotState.TheVariants.{Idle, Opening, Established, TimedOut, Closing}
+use Rattle.scanner_table.specs.declared.table.ScannerTable.{ScannerTable}
+use Rattle.scanner_table.specs.declared.table.Stage.{Stage}
+use Rattle.scanner_table.specs.declared.table.Stage.TheVariants.{Waiting, Up, Unused}
+use Rattle.scanner_table.specs.declared.table.TargetStream.{TargetStream}
+use Rattle.scanner_table.specs.Asking.{is_large, sent_frame}
+use Rattle.scanner_table.specs.Closing.{idle_slot, target_lost, resigned_place, closed_within, stopped, stopped_at}
+use Rattle.scanner_table.specs.Datagrams.{is_for, accepted_table, delivered, accepted, sized, connected, state_received, received_at, received_as, received}
+use Rattle.scanner_table.specs.Effects.{Next, Effect, changed, sent_answer, done}
+use Rattle.scanner_table.specs.Encapsulation.{registering_on, stream_opened, cut_of, stream_cut, is_registered, session_begun, session_failed, registered, ignored, is_awaiting, replied, replied_to, told, frame_answer, frame_of, frame}
+use Rattle.scanner_table.specs.Points.{write_length, write_at, write, read_at, read, mode, wanted_slot, started, start_state, start_at, start, stop_of, stop, written_place}
+use Rattle.scanner_table.specs.Productions.{due_productions}
+use Rattle.scanner_table.specs.Profiles.{profile_fault}
+use Rattle.scanner_table.specs.Replies.{open_told, answered}
+use Rattle.scanner_table.specs.Sessions.{is_stream, is_taken, without_stream, with_stage, session_with}
+use Rattle.scanner_table.specs.Slots.{Place, places, place_at, is_numbered, with_slot}
+use Rattle.scanner_table.specs.Step.{scanner_step}
+use Rattle.scanner_table.specs.Ticks.{clocked_table, elapsed, ticked, tick}
+use Rattle.scanner_table.specs.Whole.{IsWhole}
+use Rattle.answer_sizes.specs.Sizes.{IsShortFrame, IsShortDatagram, IsSmall}
+use Rattle.answer_sizes.proofs.Answers.{both_small, plain_small, AnswersSmall}
+use Rattle.answer_sizes.proofs.Few.{Few, few_none, few_one, few_mapped, each_found}
+use Rattle.answer_sizes.proofs.ScannerDatagrams.{due_few}
+use Rattle.answer_sizes.proofs.ScannerFrames.{AsksFew, Asks, few_places, opened_asks, target_asks, closed_asks, IsQuiet, lost_quiet, answered_quiet, quiet_asks, elapsed_asks}
+use Rattle.answer_sizes.proofs.ScannerRequests.{IsShortRequest, registration_short}
+
+-- ---- answers of effects
+
+effect_small : (effect : Effect) (datagrams : List Sending) → Asks 64 effect → Few 64 IsShortDatagram datagrams → IsSmall (sent_answer effect datagrams)
+effect_small effect datagrams asks few =
+    both_small (map sent_frame effect.sent) datagrams Done effect.notices (few_mapped 64 IsShortRequest IsShortFrame sent_frame (λ request short. short) effect.sent asks) few
+
+done_small : (effect : Effect) → Asks 64 effect → IsSmall (done effect).0
+done_small effect asks = effect_small effect [] asks (few_none 64 IsShortDatagram)
+
+once_small : (effect : Effect) → Asks 1 effect → IsSmall (done effect).0
+once_small effect asks = done_small effect (record { count = omega (arith, asks.count); each = asks.each })
+
+quiet_small : (t : ScannerTable) (effect : Effect) → IsQuiet t effect → IsSmall (done effect).0
+quiet_small t effect quiet = done_small effect (quiet_asks 64 t effect quiet)
+
+-- ---- streams and messages
+
+opens_small : (b : Bool) (t : ScannerTable) (number : ℕ) (target : Node) → AnswersSmall (cond b (Err fault.NotAllowedNow) (Ok (done (registering_on t number target))))
+opens_small true t number target = tt
+opens_small false t number target = once_small (registering_on t number target) (few_one IsShortRequest _ (registration_short number))
+
+opened_small : (t : ScannerTable) (number : ℕ) (target : Node) → AnswersSmall (stream_opened t number target)
+unfolding stream_opened
+opened_small t number target = opens_small (is_taken t.streams number target) t number target
+
+cuts_small : (t : ScannerTable) (found : Option TargetStream) → AnswersSmall (cut_of t found)
+cuts_small t None = tt
+cuts_small t (Some stream) = quiet_small (without_stream t stream.number) (target_lost stream.peer (without_stream t stream.number)) (lost_quiet stream.peer (without_stream t stream.number))
+
+cut_small : (t : ScannerTable) (number : ℕ) → AnswersSmall (stream_cut t number)
+unfolding stream_cut
+cut_small t number = cuts_small t (find (is_stream number) t.streams)
+
+registers_small : (b : Bool) (t : ScannerTable) (stream : TargetStream) (handle : ℕ) → profile_fault t.profile ≡ None → IsSmall (done (cond b (session_begun t stream handle) (session_failed t stream))).0
+registers_small true t stream handle none = done_small (session_begun t stream handle) (target_asks stream.peer (with_stage t stream.number (Up handle)) none)
+registers_small false t stream handle none = done_small (session_failed t stream) (few_none 64 IsShortRequest)
+
+waits_small : (b : Bool) (t : ScannerTable) (stream : TargetStream) (m : MessageFields) → profile_fault t.profile ≡ None → IsSmall (cond b (done (registered t stream m)) (ignored t)).0
+waits_small true t stream m none = registers_small (is_registered m) t stream m.session none
+waits_small false t stream m none = plain_small Ignored
+
+replied_small : (t : ScannerTable) (place : Place) (m : MessageFields) (state : SlotState) → IsSmall (replied t place m state).0
+replied_small t place m Idle = plain_small Ignored
+replied_small t place m (Opening o) = quiet_small t (answered t place o (open_told (is_large place.config) m)) (answered_quiet t place o (open_told (is_large place.config) m))
+replied_small t place m (Established c) = plain_small Ignored
+replied_small t place m (TimedOut link) = plain_small Ignored
+replied_small t place m (Closing c) = done_small (changed t place (idle_slot place.slot) []) (few_none 64 IsShortRequest)
+
+awaited_small : (t : ScannerTable) (m : MessageFields) (found : Option Place) → IsSmall (replied_to t m found).0
+awaited_small t m None = plain_small Ignored
+awaited_small t m (Some place) = replied_small t place m place.slot.state
+
+told_small : (t : ScannerTable) (stream : TargetStream) (m : MessageFields) (stage : Stage) → profile_fault t.profile ≡ None → IsSmall (told t stream m stage).0
+told_small t stream m Waiting none = waits_small (m.context == 0) t stream m none
+told_small t stream m (Up handle) none = awaited_small t m (find (is_awaiting stream.peer m.context) (places t))
+told_small t stream m Unused none = plain_small Ignored
+
+message_small : (t : ScannerTable) (stream : TargetStream) (reading : Result MessageFields EncapFault) → profile_fault t.profile ≡ None → IsSmall (frame_answer t stream reading).0
+message_small t stream (Err why) none = plain_small BadFrame
+message_small t stream (Ok m) none = told_small t stream m stream.stage none
+
+found_small : (t : ScannerTable) (bytes : List ℕ) (found : Option TargetStream) → profile_fault t.profile ≡ None → AnswersSmall (frame_of t bytes found)
+found_small t bytes None none = tt
+found_small t bytes (Some stream) none = message_small t stream (message_reading bytes) none
+
+frame_small : (t : ScannerTable) (number : ℕ) (bytes : List ℕ) → profile_fault t.profile ≡ None → AnswersSmall (frame t number bytes)
+unfolding frame
+frame_small t number bytes none = found_small t bytes (find (is_stream number) t.streams) none
+
+-- ---- datagrams
+
+either_small : (b : Bool) (x y : Next) → IsSmall x.0 → IsSmall y.0 → IsSmall (cond b x y).0
+either_small true x y first second = first
+either_small false x y first second = second
+
+connected_small : (t : ScannerTable) (place : Place) (d : DatagramFields) (c : Connection) → IsSmall (connected t place d c).0
+connected_small t place d c =
+    either_small (length d.payload == place.config.in_len) (sized t place d c) (delivered WrongSize t)
+    (either_small (is_news c.last d.sequence) (accepted t place d c) (delivered Old t)
+    (either_small (is_repeated c.last d.count) (delivered Duplicate (accepted_table t place d c place.slot.image)) (delivered Applied (accepted_table t place d c d.payload)) (plain_small (Delivered Duplicate)) (plain_small (Delivered Applied)))
+    (plain_small (Delivered Old)))
+    (plain_small (Delivered WrongSize))
+
+state_small : (t : ScannerTable) (place : Place) (d : DatagramFields) (state : SlotState) → IsSmall (state_received t place d state).0
+state_small t place d Idle = plain_small (Delivered UnknownId)
+state_small t place d (Opening o) = plain_small (Delivered UnknownId)
+state_small t place d (Established c) = connected_small t place d c
+state_small t place d (TimedOut link) = plain_small (Delivered UnknownId)
+state_small t place d (Closing c) = plain_small (Delivered UnknownId)
+
+place_small : (t : ScannerTable) (d : DatagramFields) (found : Option Place) → IsSmall (received_at t d found).0
+place_small t d None = plain_small (Delivered UnknownId)
+place_small t d (Some place) = state_small t place d place.slot.state
+
+read_as_small : (t : ScannerTable) (peer : Node) (reading : Result DatagramFields DatagramFault) → IsSmall (received_as t peer reading).0
+read_as_small t peer (Err why) = plain_small (Delivered Malformed)
+read_as_small t peer (Ok d) = place_small t d (find (is_for peer d.connection) (places t))
+
+received_small : (t : ScannerTable) (peer : Node) (bytes : List ℕ) → IsSmall (received t peer bytes).0
+unfolding received
+received_small t peer bytes = read_as_small t peer (datagram_reading bytes)
+
+-- ---- the application
+
+chosen_small : (b : Bool) (next : Next) (why : StepFault) → IsSmall next.0 → AnswersSmall (cond b (Ok next) (Err why))
+chosen_small true next why small = small
+chosen_small false next why small = tt
+
+owned_small : (b : Bool) (t : ScannerTable) (place : Place) (bytes : List ℕ) → AnswersSmall (cond b (write_length t place bytes) (Err fault.NotAllowedNow))
+owned_small true t place bytes = chosen_small (length bytes == place.config.out_len) (written_place t place bytes) fault.WrongLength (plain_small Done)
+owned_small false t place bytes = tt
+
+writes_small : (t : ScannerTable) (bytes : List ℕ) (found : Option Place) → AnswersSmall (write_at t bytes found)
+writes_small t bytes None = tt
+writes_small t bytes (Some place) = owned_small (is_owner place.config.kind) t place bytes
+
+write_small : (t : ScannerTable) (number : ℕ) (bytes : List ℕ) → AnswersSmall (write t number bytes)
+unfolding write
+write_small t number bytes = writes_small t bytes (place_at t number)
+
+reads_small : (t : ScannerTable) (found : Option Place) → AnswersSmall (read_at t found)
+reads_small t None = tt
+reads_small t (Some place) = plain_small (Value place.slot.image)
+
+read_small : (t : ScannerTable) (number : ℕ) → AnswersSmall (read t number)
+unfolding read
+read_small t number = reads_small t (place_at t number)
+
+mode_small : (t : ScannerTable) (run : Bool) → IsSmall (mode t run).0
+unfolding mode
+mode_small t run = plain_small Done
+
+-- ---- starts and stops
+
+idle_started : (b : Bool) (t : ScannerTable) (place : Place) → AsksFew place → AnswersSmall (cond b (Err fault.NotAllowedNow) (Ok (done (started t place (wanted_slot t place.slot)))))
+idle_started true t place few = tt
+idle_started false t place few =
+    let slot = wanted_slot t place.slot in
+    once_small (started t place slot) (opened_asks (with_slot t place.number slot) (record place { slot = slot }) few)
+
+state_started : (t : ScannerTable) (place : Place) (state : SlotState) → AsksFew place → AnswersSmall (start_state t place state)
+state_started t place Idle few = idle_started place.slot.wanted t place few
+state_started t place (Opening o) few = tt
+state_started t place (Established c) few = tt
+state_started t place (TimedOut link) few = tt
+state_started t place (Closing c) few = tt
+
+idle_stopped : (b : Bool) (t : ScannerTable) (place : Place) → AnswersSmall (stop_of (cond b (Ok (resigned_place t place)) (Err fault.NotAllowedNow)))
+idle_stopped true t place = done_small (resigned_place t place) (few_none 64 IsShortRequest)
+idle_stopped false t place = tt
+
+state_stopped : (t : ScannerTable) (place : Place) (state : SlotState) → AsksFew place → AnswersSmall (stop_of (stopped t place state))
+state_stopped t place Idle few = idle_stopped place.slot.wanted t place
+state_stopped t place (Opening o) few = done_small (resigned_place t place) (few_none 64 IsShortRequest)
+state_stopped t place (Established c) few = once_small (closed_within t place c (session_with t place.config.target)) (closed_asks t place c (session_with t place.config.target) few)
+state_stopped t place (TimedOut link) few = done_small (resigned_place t place) (few_none 64 IsShortRequest)
+state_stopped t place (Closing c) few = tt
+
+-- the slot that is found is one of those that ask little
+found_asks : (t : ScannerTable) (number : ℕ) (place : Place) → profile_fault t.profile ≡ None → place_at t number ≡ Some place → AsksFew place
+found_asks t number place none is = each_found AsksFew (is_numbered number) (places t) place is (few_places t none).each
+
+starts_small : (t : ScannerTable) (number : ℕ) (found : Option Place) → place_at t number ≡ found → profile_fault t.profile ≡ None → AnswersSmall (start_at t found)
+starts_small t number None is none = tt
+starts_small t number (Some place) is none = state_started t place place.slot.state (found_asks t number place none is)
+
+start_small : (t : ScannerTable) (number : ℕ) → profile_fault t.profile ≡ None → AnswersSmall (start t number)
+unfolding start
+start_small t number none = starts_small t number (place_at t number) refl none
+
+stops_small : (t : ScannerTable) (number : ℕ) (found : Option Place) → place_at t number ≡ found → profile_fault t.profile ≡ None → AnswersSmall (stop_of (stopped_at t found))
+stops_small t number None is none = tt
+stops_small t number (Some place) is none = state_stopped t place place.slot.state (found_asks t number place none is)
+
+stop_small : (t : ScannerTable) (number : ℕ) → profile_fault t.profile ≡ None → AnswersSmall (stop t number)
+unfolding stop
+stop_small t number none = stops_small t number (place_at t number) refl none
+
+-- ---- a tick
+
+-- what becomes of connections within a tick keeps a table whole
+abbrev pub ElapsesWhole : Type 0
+ElapsesWhole = (t : ScannerTable) (ms : ℕ) → t.clock.0 + ms ≤ 2 ^ 48 → IsWhole t → IsWhole (elapsed (clocked_table t ms)).table
+
+elapsed_small : ElapsesWhole → (t : ScannerTable) (ms : ℕ) → t.clock.0 + ms ≤ 2 ^ 48 → IsWhole t → IsSmall (ticked (elapsed (clocked_table t ms))).0
+elapsed_small elapse t ms within whole =
+    let effect = elapsed (clocked_table t ms) in
+    effect_small effect (map sent (due_productions effect.table)) (elapsed_asks (clocked_table t ms) whole.faultless) (due_few effect.table (elapse t ms within whole))
+
+within : (n : ℕ) → nat_lt clock_end n ≡ false → n ≤ 2 ^ 48
+within n is = grind (arith, nat_tests)
+
+tick_step : (a b : Bool) → ElapsesWhole → (t : ScannerTable) (ms : ℕ) → nat_lt clock_end (t.clock.0 + ms) ≡ b → IsWhole t → AnswersSmall (cond a (Err fault.TickTooLong) (cond b (Err fault.ClockEnd) (Ok (ticked (elapsed (clocked_table t ms))))))
+tick_step true b elapse t ms is whole = tt
+tick_step false true elapse t ms is whole = tt
+tick_step false false elapse t ms is whole = elapsed_small elapse t ms (within (t.clock.0 + ms) is) whole
+
+tick_small : ElapsesWhole → (t : ScannerTable) (ms : ℕ) → IsWhole t → AnswersSmall (tick t ms)
+unfolding tick
+tick_small elapse t ms whole = tick_step (nat_lt longest_tick ms) (nat_lt clock_end (t.clock.0 + ms)) elapse t ms refl whole
+
+-- ---- the step
+
+pub scanner_small : ElapsesWhole → (t : ScannerTable) (happens : Event) → IsWhole t → AnswersSmall (scanner_step t happens)
+scanner_small elapse t (event.Request peer bytes) whole = tt
+scanner_small elapse t (event.StreamOpened stream peer) whole = opened_small t stream peer
+scanner_small elapse t (event.Frame stream bytes) whole = frame_small t stream bytes whole.faultless
+scanner_small elapse t (event.StreamCut stream) whole = cut_small t stream
+scanner_small elapse t (event.Datagram peer bytes) whole = received_small t peer bytes
+scanner_small elapse t (event.Write point bytes) whole = write_small t point bytes
+scanner_small elapse t (event.Read point) whole = read_small t point
+scanner_small elapse t (event.Tick ms) whole = tick_small elapse t ms whole
+scanner_small elapse t (event.Mode run) whole = mode_small t run
+scanner_small elapse t (event.Start slot) whole = start_small t slot whole.faultless
+scanner_small elapse t (event.Stop slot) whole = stop_small t slot whole.faultless

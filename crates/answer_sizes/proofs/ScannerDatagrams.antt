@@ -1,0 +1,87 @@
+-- The datagrams of a scanner: a slot sends one at most, a run/idle header and an output.
+use Rattle.std.proofs.Common.{◌≡◌, ◌≤◌, ℕ, suc, Bool, true, false, cond, List, [], ◌∷◌, ◌++◌, length, map, filter, refl, arith, length-append}
+use Rattle.std.specs.Int.{w32, to_le_bytes}
+use Rattle.std.specs.List.{list_all}
+use Rattle.std.specs.Option.{IfSome}
+use Rattle.std.proofs.lemmas.Bool.{and_parts}
+use Rattle.std.proofs.lemmas.Bool.Decides.{nat_tests}
+use Rattle.cip_datagram.specs.Header.{mode_header}
+use Rattle.cip_productions.specs.declared.kind.Kind.{Kind}
+use Rattle.cip_productions.specs.declared.kind.Kind.TheVariants.{ExclusiveOwner, InputOnly, ListenOnly}
+use Rattle.cip_productions.specs.Kinds.{is_owner}
+use Rattle.cip_productions.specs.Productions.{Produced, sent}
+use Rattle.scanner_table.specs.declared.profile.SlotConfig.{SlotConfig}
+use Rattle.scanner_table.specs.declared.slot.Slot.{Slot}
+use Rattle.scanner_table.specs.declared.slot.SlotState.{SlotState}
+use Rattle.scanner_table.specs.declared.slot.SlotState.TheVariants.{Idle, Opening, Established, TimedOut, Closing}
+use Rattle.scanner_table.specs.declared.table.ScannerTable.{ScannerTable}
+use Rattle.scanner_table.specs.Productions.{slot_data, state_production, slot_production, is_due, by_due, due_places, due_productions}
+use Rattle.scanner_table.specs.Profiles.{is_out_len, has_lengths}
+use Rattle.scanner_table.specs.Slots.{Place, places_from, places}
+use Rattle.scanner_table.specs.Whole.{SlotsFit, IsWhole}
+use Rattle.answer_sizes.specs.Sizes.{IsShortDatagram}
+use Rattle.answer_sizes.proofs.Few.{Few, few_none, few_filtered, few_ordered, few_mapped, few_made}
+use Rattle.answer_sizes.proofs.Answers.{datagram_short}
+use Rattle.answer_sizes.proofs.ScannerFrames.{faultless}
+
+-- ---- outputs
+
+HasShortOutput : Place → Type 0
+HasShortOutput place = length place.slot.output ≤ 1400
+
+out_short : (kind : Kind) (len : ℕ) → is_out_len kind len ≡ true → len ≤ 1400
+out_short ExclusiveOwner len is = grind (arith, nat_tests)
+out_short InputOnly len is = grind (arith, nat_tests)
+out_short ListenOnly len is = grind (arith, nat_tests)
+
+output_short : (config : SlotConfig) → has_lengths config ≡ true → config.out_len ≤ 1400
+output_short config is = out_short config.kind config.out_len (and_parts (is_out_len config.kind config.out_len) _ (and_parts _ _ is).1).0
+
+own_outputs : (r clock number : ℕ) (configs : List SlotConfig) (slots : List Slot) → list_all has_lengths configs ≡ true → SlotsFit r clock configs slots → Few (length configs) HasShortOutput (places_from number configs slots)
+unfolding HasShortOutput
+own_outputs r clock number [] slots all fit = few_none 0 HasShortOutput
+own_outputs r clock number (config ∷ configs) [] all fit = few_none (suc (length configs)) HasShortOutput
+own_outputs r clock number (config ∷ configs) (slot ∷ slots) all fit =
+    let parts = and_parts (has_lengths config) (list_all has_lengths configs) all in
+    let rest = own_outputs r clock (suc number) configs slots parts.1 fit.1 in
+    record { count = omega (arith, rest.count); each = (omega (arith, fit.0.output, output_short config parts.0), rest.each) }
+
+few_outputs : (t : ScannerTable) → IsWhole t → Few 64 HasShortOutput (places t)
+few_outputs t whole =
+    let has = faultless t.profile whole.faultless in
+    let all = own_outputs t.next_request t.clock.0 0 t.profile.slots t.slots has.lengths whole.slots in
+    record { count = omega (arith, all.count, has.few); each = all.each }
+
+-- ---- productions
+
+SendsFew : Produced → Type 0
+SendsFew production = length production.datagram.payload ≤ 1404
+
+data_step : (b run : Bool) (output : List ℕ) → length output ≤ 1400 → length (cond b (to_le_bytes w32 (mode_header run) ++ output) []) ≤ 1404
+data_step true run output short =
+    let header : length (to_le_bytes w32 (mode_header run)) ≡ 4 = refl in
+    omega (arith, length-append (to_le_bytes w32 (mode_header run)) output, header)
+data_step false run output short = omega arith
+
+data_short : (run : Bool) (place : Place) → HasShortOutput place → length (slot_data run place) ≤ 1404
+unfolding HasShortOutput
+data_short run place short = data_step (is_owner place.config.kind) run place.slot.output short
+
+produces_few : (run : Bool) (place : Place) (state : SlotState) → HasShortOutput place → IfSome (state_production run place state) SendsFew
+unfolding SendsFew
+produces_few run place Idle short = tt
+produces_few run place (Opening o) short = tt
+produces_few run place (Established c) short = data_short run place short
+produces_few run place (TimedOut link) short = tt
+produces_few run place (Closing c) short = tt
+
+sent_short : (production : Produced) → SendsFew production → IsShortDatagram (sent production)
+unfolding SendsFew
+sent_short production few = datagram_short production.datagram (omega arith)
+
+-- what the slots that are due send
+pub due_few : (t : ScannerTable) → IsWhole t → Few 64 IsShortDatagram (map sent (due_productions t))
+due_few t whole =
+    let due = few_ordered 64 HasShortOutput by_due (filter (is_due t.clock) (places t)) (few_filtered 64 HasShortOutput (is_due t.clock) (places t) (few_outputs t whole)) in
+    few_mapped 64 SendsFew IsShortDatagram sent sent_short (due_productions t)
+    (few_made 64 HasShortOutput SendsFew (slot_production t.run) (λ place short. produces_few t.run place place.slot.state short) (due_places t) due)
