@@ -1,10 +1,9 @@
 -- An adapter's answers are small.
-use Rattle.std.proofs.Common.{ℕ, Bool, true, false, cond, List, find, Option, Some, None, Result, Ok, Err}
+use Rattle.std.proofs.Common.{ℕ, List, find, Option, Some, None, Result, Ok, Err}
 use Rattle.cip_types.specs.declared.names.Node.{Node}
 use Rattle.cip_datagram.specs.declared.datagram.DatagramFault.{DatagramFault}
 use Rattle.cip_datagram.specs.Datagram.{DatagramFields}
 use Rattle.cip_datagram.specs.Reading.{datagram_reading}
-use Rattle.cip_events.specs.declared.event.Delivery.{Delivery}
 use Rattle.cip_events.specs.declared.event.Delivery.TheVariants.{UnknownId, Malformed}
 use Rattle.cip_events.specs.declared.event.Event.{Event}
 use Rattle.cip_events.specs.declared.event.Event.TheVariants as event
@@ -16,6 +15,7 @@ use Rattle.adapter_table.specs.declared.table.AdapterTable.{AdapterTable}
 use Rattle.adapter_table.specs.declared.table.Stream.{Stream}
 use Rattle.adapter_table.specs.Datagrams.{is_for, row_delivery, accepted_table, delivered, found_datagram, datagram_of, received}
 use Rattle.adapter_table.specs.Points.{bytes_at}
+use Rattle.adapter_table.specs.Requests.{Next}
 use Rattle.adapter_table.specs.Step.{read_of, read, adapter_step}
 use Rattle.adapter_table.specs.Streams.{is_stream, is_taken, with_stream, stream_opened, cut_of, stream_cut}
 use Rattle.adapter_table.specs.Whole.{IsWhole}
@@ -23,16 +23,13 @@ use Rattle.answer_sizes.specs.Sizes.{IsSmall}
 use Rattle.answer_sizes.proofs.AdapterDatagrams.{tick_small, write_small}
 use Rattle.answer_sizes.proofs.AdapterFrames.{requested_small, frame_small}
 use Rattle.answer_sizes.proofs.Answers.{plain_small, AnswersSmall}
+use Rattle.answer_sizes.proofs.Few.{either}
 
 -- ---- answers with nothing to send
 
-opens_small : (b : Bool) (t : AdapterTable) → AnswersSmall (cond b (Err fault.NotAllowedNow) (Ok (plain_answer Done, t)))
-opens_small true t = tt
-opens_small false t = plain_small Done
-
 opened_small : (t : AdapterTable) (stream : ℕ) (peer : Node) → AnswersSmall (stream_opened t stream peer)
 unfolding stream_opened
-opened_small t stream peer = opens_small (is_taken t.streams stream) (with_stream t stream peer)
+opened_small t stream peer = either (AnswersSmall {T = AdapterTable}) (is_taken t.streams stream) (Err fault.NotAllowedNow) (Ok (plain_answer Done, with_stream t stream peer)) tt (plain_small Done)
 
 cuts_small : (t : AdapterTable) (found : Option Stream) → AnswersSmall (cut_of t found)
 cuts_small t None = tt
@@ -42,15 +39,11 @@ cut_small : (t : AdapterTable) (number : ℕ) → AnswersSmall (stream_cut t num
 unfolding stream_cut
 cut_small t number = cuts_small t (find (is_stream number) t.streams)
 
-delivers_small : (b : Bool) (delivery : Delivery) (t next : AdapterTable) → IsSmall (cond b (delivered delivery next) (delivered delivery t)).0
-delivers_small true delivery t next = plain_small (Delivered delivery)
-delivers_small false delivery t next = plain_small (Delivered delivery)
-
 datagram_found : (t : AdapterTable) (peer : Node) (d : DatagramFields) (found : Option Row) → IsSmall (found_datagram t peer d found).0
 datagram_found t peer d None = plain_small (Delivered UnknownId)
 datagram_found t peer d (Some row) =
     let delivery = row_delivery t.profile row d in
-    delivers_small (is_accepted (row_delivery t.profile row d)) delivery t (accepted_table t peer d row delivery)
+    either (λ (next : Next). IsSmall next.0) (is_accepted (row_delivery t.profile row d)) (delivered delivery (accepted_table t peer d row delivery)) (delivered delivery t) (plain_small (Delivered delivery)) (plain_small (Delivered delivery))
 
 datagram_read : (t : AdapterTable) (peer : Node) (reading : Result DatagramFields DatagramFault) → IsSmall (datagram_of t peer reading).0
 datagram_read t peer (Err why) = plain_small (Delivered Malformed)
@@ -79,6 +72,4 @@ adapter_small t (event.Datagram peer bytes) whole = received_small t peer bytes
 adapter_small t (event.Write point bytes) whole = write_small t point bytes whole.shaped whole.sound.few
 adapter_small t (event.Read point) whole = read_small t point
 adapter_small t (event.Tick ms) whole = tick_small t ms whole.shaped whole.sound.few
-adapter_small t (event.Mode run) whole = tt
-adapter_small t (event.Start slot) whole = tt
-adapter_small t (event.Stop slot) whole = tt
+adapter_small t other whole = tt

@@ -22,13 +22,12 @@ use Rattle.adapter_table.specs.Limits.{held_short, input_len_short}
 use Rattle.adapter_table.specs.Points.{bytes_at}
 use Rattle.adapter_table.specs.Productions.{producer_in, producers, production_of, is_due, due_producers, input_of, due_productions, produces_on_change, producers_on_change, productions_on_change}
 use Rattle.adapter_table.specs.Profiles.{is_at}
-use Rattle.adapter_table.specs.Requests.{Next}
 use Rattle.adapter_table.specs.Rows.{written_row}
 use Rattle.adapter_table.specs.Shapes.{IsShaped}
 use Rattle.adapter_table.specs.Step.{written_table, write_answer, written, write_of, write}
-use Rattle.adapter_table.specs.Ticks.{clocked_table, expired_row, expired_rows, expired_table, expiry_notices, tick_answer, elapsed, tick}
+use Rattle.adapter_table.specs.Ticks.{clocked_table, expired_row, expired_rows, expired_table, expiry_notices, elapsed, tick}
 use Rattle.answer_sizes.specs.Sizes.{IsShortFrame, IsShortDatagram, IsSmall}
-use Rattle.answer_sizes.proofs.Few.{Few, Any, few_none, few_any, few_filtered, few_ordered, few_firsts, few_mapped, few_made}
+use Rattle.answer_sizes.proofs.Few.{Few, Any, few_none, few_any, few_filtered, few_ordered, few_firsts, few_mapped, few_made, either}
 use Rattle.answer_sizes.proofs.Answers.{datagram_short, both_small, AnswersSmall}
 
 -- ---- producers
@@ -62,11 +61,6 @@ value_short profile values point (Some bytes) is shaped = held_short profile val
 inputs_short : (profile : Profile) (values : List PointValue) → IsShaped profile values → SendsFew (input_of values)
 inputs_short profile values shaped producer = value_short profile values producer.point (bytes_at values producer.point) refl shaped
 
-due_small : (clocked : AdapterTable) (rows : List Row) → IsShaped clocked.profile clocked.values → length rows ≤ 64 → IsSmall (tick_answer clocked rows)
-due_small clocked rows shaped few =
-    both_small [] (map sent (due_productions clocked.clock rows clocked.values)) Done (expiry_notices clocked.clock clocked.rows) (few_none 64 IsShortFrame)
-    (sent_few rows (input_of clocked.values) (inputs_short clocked.profile clocked.values shaped) (due_producers clocked.clock rows) (passing_producers (is_due clocked.clock) by_due rows few))
-
 -- the connections that are left
 few_left : (clock : Ms) (rows : List Row) → length rows ≤ 64 → length (filter (stays (expired_rows clock rows)) (expired_rows clock rows)) ≤ 64
 few_left clock rows few =
@@ -78,18 +72,16 @@ elapsed_small : (t : AdapterTable) (ms : ℕ) → IsShaped t.profile t.values �
 unfolding clocked_table expired_table
 elapsed_small t ms shaped few =
     let clocked : AdapterTable = record t { clock = record { 0 = t.clock.0 + ms } } in
-    due_small clocked (filter (stays (expired_rows clocked.clock t.rows)) (expired_rows clocked.clock t.rows)) shaped (few_left clocked.clock t.rows few)
-
-tick_step : (a b : Bool) (next : Next) → IsSmall next.0 → AnswersSmall (cond a (Err fault.TickTooLong) (cond b (Err fault.ClockEnd) (Ok next)))
-tick_step true b next small = tt
-tick_step false true next small = tt
-tick_step false false next small = small
+    let rows = filter (stays (expired_rows clocked.clock t.rows)) (expired_rows clocked.clock t.rows) in
+    both_small [] (map sent (due_productions clocked.clock rows clocked.values)) Done (expiry_notices clocked.clock clocked.rows) (few_none 64 IsShortFrame)
+    (sent_few rows (input_of clocked.values) (inputs_short t.profile t.values shaped) (due_producers clocked.clock rows) (passing_producers (is_due clocked.clock) by_due rows (few_left clocked.clock t.rows few)))
 
 -- the answer to a tick
 pub tick_small : (t : AdapterTable) (ms : ℕ) → IsShaped t.profile t.values → length t.rows ≤ 64 → AnswersSmall (tick t ms)
 unfolding tick
 tick_small t ms shaped few =
-    tick_step (nat_lt longest_tick ms) (nat_lt clock_end (t.clock.0 + ms)) (elapsed (clocked_table t ms)) (elapsed_small t ms shaped few)
+    either (AnswersSmall {T = AdapterTable}) (nat_lt longest_tick ms) _ _ tt
+    (either (AnswersSmall {T = AdapterTable}) (nat_lt clock_end (t.clock.0 + ms)) (Err fault.ClockEnd) (Ok (elapsed (clocked_table t ms))) tt (elapsed_small t ms shaped few))
 
 -- ---- a write
 

@@ -32,10 +32,7 @@ datagram_short d short =
 -- ---- answers
 
 -- an answer of few short frames and few short datagrams
-abbrev pub both : List Frame → List Sending → Verdict → List Notice → Answer
-both frames datagrams verdict notices = record { frames = frames; datagrams = datagrams; verdict = verdict; notices = notices }
-
-pub both_small : (frames : List Frame) (datagrams : List Sending) (verdict : Verdict) (notices : List Notice) → Few 64 IsShortFrame frames → Few 64 IsShortDatagram datagrams → IsSmall (both frames datagrams verdict notices)
+pub both_small : (frames : List Frame) (datagrams : List Sending) (verdict : Verdict) (notices : List Notice) → Few 64 IsShortFrame frames → Few 64 IsShortDatagram datagrams → IsSmall (record { frames = frames; datagrams = datagrams; verdict = verdict; notices = notices })
 both_small frames datagrams verdict notices few sent =
     record { few_frames = few.count; short_frames = few.each; few_datagrams = sent.count; short_datagrams = sent.each }
 

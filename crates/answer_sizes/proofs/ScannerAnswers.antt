@@ -1,6 +1,7 @@
 -- A scanner's answers are small.
-use Rattle.std.proofs.Common.{◌≡◌, ◌≤◌, ℕ, ◌+◌, ◌^◌, ◌==◌, nat_lt, Bool, true, false, cond, List, [], length, map, find, Option, Some, None, Result, Ok, Err, refl, arith}
+use Rattle.std.proofs.Common.{◌≡◌, ◌≤◌, ℕ, ◌+◌, ◌^◌, ◌==◌, nat_lt, Bool, true, false, cond, List, [], length, map, find, Option, Some, None, Result, Ok, Err, refl, sym, subst, arith}
 use Rattle.std.proofs.lemmas.Bool.Decides.{nat_tests}
+use Rattle.std.specs.Option.{IfSome}
 use Rattle.cip_types.specs.declared.names.Node.{Node}
 use Rattle.cip_datagram.specs.declared.datagram.DatagramFault.{DatagramFault}
 use Rattle.cip_datagram.specs.Datagram.{DatagramFields}
@@ -12,7 +13,6 @@ use Rattle.cip_events.specs.declared.event.Delivery.TheVariants.{Applied, Duplic
 use Rattle.cip_events.specs.declared.event.Event.{Event}
 use Rattle.cip_events.specs.declared.event.Event.TheVariants as event
 use Rattle.cip_events.specs.declared.event.Sending.{Sending}
-use Rattle.cip_events.specs.declared.event.StepFault.{StepFault}
 use Rattle.cip_events.specs.declared.event.StepFault.TheVariants as fault
 use Rattle.cip_events.specs.declared.event.Verdict.TheVariants.{Done, BadFrame, Ignored, Value, Delivered}
 use Rattle.cip_events.specs.Clock.{longest_tick, clock_end}
@@ -21,7 +21,7 @@ use Rattle.cip_productions.specs.Kinds.{is_owner}
 use Rattle.cip_productions.specs.Productions.{sent}
 use Rattle.scanner_table.specs.declared.slot.Connection.{Connection}
 use Rattle.scanner_table.specs.declared.slot.SlotState.{SlotState}
-use Rattle.scanner_table.specs.declared.slot.SlotState.TheVariants.{Idle, Opening, Established, TimedOut, Closing}
+use Rattle.scanner_table.specs.declared.slot.SlotState.TheVariants.{Idle, Opening, Established, Closing}
 use Rattle.scanner_table.specs.declared.table.ScannerTable.{ScannerTable}
 use Rattle.scanner_table.specs.declared.table.Stage.{Stage}
 use Rattle.scanner_table.specs.declared.table.Stage.TheVariants.{Waiting, Up, Unused}
@@ -42,12 +42,15 @@ use Rattle.scanner_table.specs.Ticks.{clocked_table, elapsed, ticked, tick}
 use Rattle.scanner_table.specs.Whole.{IsWhole}
 use Rattle.answer_sizes.specs.Sizes.{IsShortFrame, IsShortDatagram, IsSmall}
 use Rattle.answer_sizes.proofs.Answers.{both_small, plain_small, AnswersSmall}
-use Rattle.answer_sizes.proofs.Few.{Few, few_none, few_one, few_mapped, each_found}
+use Rattle.answer_sizes.proofs.Few.{Few, few_none, few_one, few_most, few_mapped, each_found, either}
 use Rattle.answer_sizes.proofs.ScannerDatagrams.{due_few}
-use Rattle.answer_sizes.proofs.ScannerFrames.{AsksFew, Asks, few_places, opened_asks, target_asks, closed_asks, IsQuiet, lost_quiet, answered_quiet, quiet_asks, elapsed_asks}
+use Rattle.answer_sizes.proofs.ScannerFrames.{AsksFew, Asks, few_places, opened_asks, target_asks, closed_asks, IsQuiet, lost_quiet, answered_quiet, elapsed_asks}
 use Rattle.answer_sizes.proofs.ScannerRequests.{IsShortRequest, registration_short}
 
 -- ---- answers of effects
+
+abbrev NextSmall : Next → Type 0
+NextSmall next = IsSmall next.0
 
 effect_small : (effect : Effect) (datagrams : List Sending) → Asks 64 effect → Few 64 IsShortDatagram datagrams → IsSmall (sent_answer effect datagrams)
 effect_small effect datagrams asks few =
@@ -57,20 +60,17 @@ done_small : (effect : Effect) → Asks 64 effect → IsSmall (done effect).0
 done_small effect asks = effect_small effect [] asks (few_none 64 IsShortDatagram)
 
 once_small : (effect : Effect) → Asks 1 effect → IsSmall (done effect).0
-once_small effect asks = done_small effect (record { count = omega (arith, asks.count); each = asks.each })
+once_small effect asks = done_small effect (few_most 64 1 IsShortRequest effect.sent (omega arith) asks)
 
 quiet_small : (t : ScannerTable) (effect : Effect) → IsQuiet t effect → IsSmall (done effect).0
-quiet_small t effect quiet = done_small effect (quiet_asks 64 t effect quiet)
+quiet_small t effect quiet = done_small effect (subst (Few 64 IsShortRequest) (sym quiet.silent) (few_none 64 IsShortRequest))
 
 -- ---- streams and messages
 
-opens_small : (b : Bool) (t : ScannerTable) (number : ℕ) (target : Node) → AnswersSmall (cond b (Err fault.NotAllowedNow) (Ok (done (registering_on t number target))))
-opens_small true t number target = tt
-opens_small false t number target = once_small (registering_on t number target) (few_one IsShortRequest _ (registration_short number))
-
 opened_small : (t : ScannerTable) (number : ℕ) (target : Node) → AnswersSmall (stream_opened t number target)
 unfolding stream_opened
-opened_small t number target = opens_small (is_taken t.streams number target) t number target
+opened_small t number target =
+    either (AnswersSmall {T = ScannerTable}) (is_taken t.streams number target) (Err fault.NotAllowedNow) (Ok (done (registering_on t number target))) tt (once_small (registering_on t number target) (few_one 1 IsShortRequest _ (omega arith) (registration_short number)))
 
 cuts_small : (t : ScannerTable) (found : Option TargetStream) → AnswersSmall (cut_of t found)
 cuts_small t None = tt
@@ -80,27 +80,21 @@ cut_small : (t : ScannerTable) (number : ℕ) → AnswersSmall (stream_cut t num
 unfolding stream_cut
 cut_small t number = cuts_small t (find (is_stream number) t.streams)
 
-registers_small : (b : Bool) (t : ScannerTable) (stream : TargetStream) (handle : ℕ) → profile_fault t.profile ≡ None → IsSmall (done (cond b (session_begun t stream handle) (session_failed t stream))).0
-registers_small true t stream handle none = done_small (session_begun t stream handle) (target_asks stream.peer (with_stage t stream.number (Up handle)) none)
-registers_small false t stream handle none = done_small (session_failed t stream) (few_none 64 IsShortRequest)
-
-waits_small : (b : Bool) (t : ScannerTable) (stream : TargetStream) (m : MessageFields) → profile_fault t.profile ≡ None → IsSmall (cond b (done (registered t stream m)) (ignored t)).0
-waits_small true t stream m none = registers_small (is_registered m) t stream m.session none
-waits_small false t stream m none = plain_small Ignored
+registered_asks : (t : ScannerTable) (stream : TargetStream) (m : MessageFields) → profile_fault t.profile ≡ None → Asks 64 (registered t stream m)
+registered_asks t stream m none =
+    either (Asks 64) (is_registered m) (session_begun t stream m.session) (session_failed t stream) (target_asks stream.peer (with_stage t stream.number (Up m.session)) none) (few_none 64 IsShortRequest)
 
 replied_small : (t : ScannerTable) (place : Place) (m : MessageFields) (state : SlotState) → IsSmall (replied t place m state).0
-replied_small t place m Idle = plain_small Ignored
 replied_small t place m (Opening o) = quiet_small t (answered t place o (open_told (is_large place.config) m)) (answered_quiet t place o (open_told (is_large place.config) m))
-replied_small t place m (Established c) = plain_small Ignored
-replied_small t place m (TimedOut link) = plain_small Ignored
 replied_small t place m (Closing c) = done_small (changed t place (idle_slot place.slot) []) (few_none 64 IsShortRequest)
+replied_small t place m other = plain_small Ignored
 
 awaited_small : (t : ScannerTable) (m : MessageFields) (found : Option Place) → IsSmall (replied_to t m found).0
 awaited_small t m None = plain_small Ignored
 awaited_small t m (Some place) = replied_small t place m place.slot.state
 
 told_small : (t : ScannerTable) (stream : TargetStream) (m : MessageFields) (stage : Stage) → profile_fault t.profile ≡ None → IsSmall (told t stream m stage).0
-told_small t stream m Waiting none = waits_small (m.context == 0) t stream m none
+told_small t stream m Waiting none = either NextSmall (m.context == 0) (done (registered t stream m)) (ignored t) (done_small (registered t stream m) (registered_asks t stream m none)) (plain_small Ignored)
 told_small t stream m (Up handle) none = awaited_small t m (find (is_awaiting stream.peer m.context) (places t))
 told_small t stream m Unused none = plain_small Ignored
 
@@ -118,24 +112,17 @@ frame_small t number bytes none = found_small t bytes (find (is_stream number) t
 
 -- ---- datagrams
 
-either_small : (b : Bool) (x y : Next) → IsSmall x.0 → IsSmall y.0 → IsSmall (cond b x y).0
-either_small true x y first second = first
-either_small false x y first second = second
-
 connected_small : (t : ScannerTable) (place : Place) (d : DatagramFields) (c : Connection) → IsSmall (connected t place d c).0
 connected_small t place d c =
-    either_small (length d.payload == place.config.in_len) (sized t place d c) (delivered WrongSize t)
-    (either_small (is_news c.last d.sequence) (accepted t place d c) (delivered Old t)
-    (either_small (is_repeated c.last d.count) (delivered Duplicate (accepted_table t place d c place.slot.image)) (delivered Applied (accepted_table t place d c d.payload)) (plain_small (Delivered Duplicate)) (plain_small (Delivered Applied)))
+    either NextSmall (length d.payload == place.config.in_len) (sized t place d c) (delivered WrongSize t)
+    (either NextSmall (is_news c.last d.sequence) (accepted t place d c) (delivered Old t)
+    (either NextSmall (is_repeated c.last d.count) (delivered Duplicate (accepted_table t place d c place.slot.image)) (delivered Applied (accepted_table t place d c d.payload)) (plain_small (Delivered Duplicate)) (plain_small (Delivered Applied)))
     (plain_small (Delivered Old)))
     (plain_small (Delivered WrongSize))
 
 state_small : (t : ScannerTable) (place : Place) (d : DatagramFields) (state : SlotState) → IsSmall (state_received t place d state).0
-state_small t place d Idle = plain_small (Delivered UnknownId)
-state_small t place d (Opening o) = plain_small (Delivered UnknownId)
 state_small t place d (Established c) = connected_small t place d c
-state_small t place d (TimedOut link) = plain_small (Delivered UnknownId)
-state_small t place d (Closing c) = plain_small (Delivered UnknownId)
+state_small t place d other = plain_small (Delivered UnknownId)
 
 place_small : (t : ScannerTable) (d : DatagramFields) (found : Option Place) → IsSmall (received_at t d found).0
 place_small t d None = plain_small (Delivered UnknownId)
@@ -151,17 +138,11 @@ received_small t peer bytes = read_as_small t peer (datagram_reading bytes)
 
 -- ---- the application
 
-chosen_small : (b : Bool) (next : Next) (why : StepFault) → IsSmall next.0 → AnswersSmall (cond b (Ok next) (Err why))
-chosen_small true next why small = small
-chosen_small false next why small = tt
-
-owned_small : (b : Bool) (t : ScannerTable) (place : Place) (bytes : List ℕ) → AnswersSmall (cond b (write_length t place bytes) (Err fault.NotAllowedNow))
-owned_small true t place bytes = chosen_small (length bytes == place.config.out_len) (written_place t place bytes) fault.WrongLength (plain_small Done)
-owned_small false t place bytes = tt
-
 writes_small : (t : ScannerTable) (bytes : List ℕ) (found : Option Place) → AnswersSmall (write_at t bytes found)
 writes_small t bytes None = tt
-writes_small t bytes (Some place) = owned_small (is_owner place.config.kind) t place bytes
+writes_small t bytes (Some place) =
+    either (AnswersSmall {T = ScannerTable}) (is_owner place.config.kind) (write_length t place bytes) (Err fault.NotAllowedNow)
+    (either (AnswersSmall {T = ScannerTable}) (length bytes == place.config.out_len) (Ok (written_place t place bytes)) (Err fault.WrongLength) (plain_small Done) tt) tt
 
 write_small : (t : ScannerTable) (number : ℕ) (bytes : List ℕ) → AnswersSmall (write t number bytes)
 unfolding write
@@ -181,49 +162,37 @@ mode_small t run = plain_small Done
 
 -- ---- starts and stops
 
-idle_started : (b : Bool) (t : ScannerTable) (place : Place) → AsksFew place → AnswersSmall (cond b (Err fault.NotAllowedNow) (Ok (done (started t place (wanted_slot t place.slot)))))
-idle_started true t place few = tt
-idle_started false t place few =
-    let slot = wanted_slot t place.slot in
-    once_small (started t place slot) (opened_asks (with_slot t place.number slot) (record place { slot = slot }) few)
-
 state_started : (t : ScannerTable) (place : Place) (state : SlotState) → AsksFew place → AnswersSmall (start_state t place state)
-state_started t place Idle few = idle_started place.slot.wanted t place few
-state_started t place (Opening o) few = tt
-state_started t place (Established c) few = tt
-state_started t place (TimedOut link) few = tt
-state_started t place (Closing c) few = tt
-
-idle_stopped : (b : Bool) (t : ScannerTable) (place : Place) → AnswersSmall (stop_of (cond b (Ok (resigned_place t place)) (Err fault.NotAllowedNow)))
-idle_stopped true t place = done_small (resigned_place t place) (few_none 64 IsShortRequest)
-idle_stopped false t place = tt
+state_started t place Idle few =
+    let slot = wanted_slot t place.slot in
+    either (AnswersSmall {T = ScannerTable}) place.slot.wanted (Err fault.NotAllowedNow) (Ok (done (started t place slot))) tt (once_small (started t place slot) (opened_asks (with_slot t place.number slot) (record place { slot = slot }) few))
+state_started t place other few = tt
 
 state_stopped : (t : ScannerTable) (place : Place) (state : SlotState) → AsksFew place → AnswersSmall (stop_of (stopped t place state))
-state_stopped t place Idle few = idle_stopped place.slot.wanted t place
-state_stopped t place (Opening o) few = done_small (resigned_place t place) (few_none 64 IsShortRequest)
+state_stopped t place Idle few = either (λ said. AnswersSmall (stop_of said)) place.slot.wanted (Ok (resigned_place t place)) (Err fault.NotAllowedNow) (done_small (resigned_place t place) (few_none 64 IsShortRequest)) tt
 state_stopped t place (Established c) few = once_small (closed_within t place c (session_with t place.config.target)) (closed_asks t place c (session_with t place.config.target) few)
-state_stopped t place (TimedOut link) few = done_small (resigned_place t place) (few_none 64 IsShortRequest)
 state_stopped t place (Closing c) few = tt
+state_stopped t place other few = done_small (resigned_place t place) (few_none 64 IsShortRequest)
 
 -- the slot that is found is one of those that ask little
-found_asks : (t : ScannerTable) (number : ℕ) (place : Place) → profile_fault t.profile ≡ None → place_at t number ≡ Some place → AsksFew place
-found_asks t number place none is = each_found AsksFew (is_numbered number) (places t) place is (few_places t none).each
+found_asks : (t : ScannerTable) (number : ℕ) → profile_fault t.profile ≡ None → IfSome (place_at t number) AsksFew
+found_asks t number none = each_found AsksFew (is_numbered number) (places t) (few_places t none).each
 
-starts_small : (t : ScannerTable) (number : ℕ) (found : Option Place) → place_at t number ≡ found → profile_fault t.profile ≡ None → AnswersSmall (start_at t found)
-starts_small t number None is none = tt
-starts_small t number (Some place) is none = state_started t place place.slot.state (found_asks t number place none is)
+starts_small : (t : ScannerTable) (found : Option Place) → IfSome found AsksFew → AnswersSmall (start_at t found)
+starts_small t None few = tt
+starts_small t (Some place) few = state_started t place place.slot.state few
 
 start_small : (t : ScannerTable) (number : ℕ) → profile_fault t.profile ≡ None → AnswersSmall (start t number)
 unfolding start
-start_small t number none = starts_small t number (place_at t number) refl none
+start_small t number none = starts_small t (place_at t number) (found_asks t number none)
 
-stops_small : (t : ScannerTable) (number : ℕ) (found : Option Place) → place_at t number ≡ found → profile_fault t.profile ≡ None → AnswersSmall (stop_of (stopped_at t found))
-stops_small t number None is none = tt
-stops_small t number (Some place) is none = state_stopped t place place.slot.state (found_asks t number place none is)
+stops_small : (t : ScannerTable) (found : Option Place) → IfSome found AsksFew → AnswersSmall (stop_of (stopped_at t found))
+stops_small t None few = tt
+stops_small t (Some place) few = state_stopped t place place.slot.state few
 
 stop_small : (t : ScannerTable) (number : ℕ) → profile_fault t.profile ≡ None → AnswersSmall (stop t number)
 unfolding stop
-stop_small t number none = stops_small t number (place_at t number) refl none
+stop_small t number none = stops_small t (place_at t number) (found_asks t number none)
 
 -- ---- a tick
 
@@ -231,18 +200,15 @@ stop_small t number none = stops_small t number (place_at t number) refl none
 abbrev pub ElapsesWhole : Type 0
 ElapsesWhole = (t : ScannerTable) (ms : ℕ) → t.clock.0 + ms ≤ 2 ^ 48 → IsWhole t → IsWhole (elapsed (clocked_table t ms)).table
 
-elapsed_small : ElapsesWhole → (t : ScannerTable) (ms : ℕ) → t.clock.0 + ms ≤ 2 ^ 48 → IsWhole t → IsSmall (ticked (elapsed (clocked_table t ms))).0
-elapsed_small elapse t ms within whole =
-    let effect = elapsed (clocked_table t ms) in
-    effect_small effect (map sent (due_productions effect.table)) (elapsed_asks (clocked_table t ms) whole.faultless) (due_few effect.table (elapse t ms within whole))
-
 within : (n : ℕ) → nat_lt clock_end n ≡ false → n ≤ 2 ^ 48
 within n is = grind (arith, nat_tests)
 
 tick_step : (a b : Bool) → ElapsesWhole → (t : ScannerTable) (ms : ℕ) → nat_lt clock_end (t.clock.0 + ms) ≡ b → IsWhole t → AnswersSmall (cond a (Err fault.TickTooLong) (cond b (Err fault.ClockEnd) (Ok (ticked (elapsed (clocked_table t ms))))))
 tick_step true b elapse t ms is whole = tt
 tick_step false true elapse t ms is whole = tt
-tick_step false false elapse t ms is whole = elapsed_small elapse t ms (within (t.clock.0 + ms) is) whole
+tick_step false false elapse t ms is whole =
+    let effect = elapsed (clocked_table t ms) in
+    effect_small effect (map sent (due_productions effect.table)) (elapsed_asks (clocked_table t ms) whole.faultless) (due_few effect.table (elapse t ms (within (t.clock.0 + ms) is) whole))
 
 tick_small : ElapsesWhole → (t : ScannerTable) (ms : ℕ) → IsWhole t → AnswersSmall (tick t ms)
 unfolding tick

@@ -1,5 +1,5 @@
 -- The datagrams of a scanner: a slot sends one at most, a run/idle header and an output.
-use Rattle.std.proofs.Common.{◌≡◌, ◌≤◌, ℕ, suc, Bool, true, false, cond, List, [], ◌∷◌, ◌++◌, length, map, filter, refl, arith, length-append}
+use Rattle.std.proofs.Common.{◌≡◌, ◌≤◌, ℕ, suc, Bool, true, List, [], ◌∷◌, ◌++◌, length, map, filter, refl, arith, length-append}
 use Rattle.std.specs.Int.{w32, to_le_bytes}
 use Rattle.std.specs.List.{list_all}
 use Rattle.std.specs.Option.{IfSome}
@@ -13,14 +13,14 @@ use Rattle.cip_productions.specs.Productions.{Produced, sent}
 use Rattle.scanner_table.specs.declared.profile.SlotConfig.{SlotConfig}
 use Rattle.scanner_table.specs.declared.slot.Slot.{Slot}
 use Rattle.scanner_table.specs.declared.slot.SlotState.{SlotState}
-use Rattle.scanner_table.specs.declared.slot.SlotState.TheVariants.{Idle, Opening, Established, TimedOut, Closing}
+use Rattle.scanner_table.specs.declared.slot.SlotState.TheVariants.{Established}
 use Rattle.scanner_table.specs.declared.table.ScannerTable.{ScannerTable}
 use Rattle.scanner_table.specs.Productions.{slot_data, state_production, slot_production, is_due, by_due, due_places, due_productions}
 use Rattle.scanner_table.specs.Profiles.{is_out_len, has_lengths}
 use Rattle.scanner_table.specs.Slots.{Place, places_from, places}
 use Rattle.scanner_table.specs.Whole.{SlotsFit, IsWhole}
 use Rattle.answer_sizes.specs.Sizes.{IsShortDatagram}
-use Rattle.answer_sizes.proofs.Few.{Few, few_none, few_filtered, few_ordered, few_mapped, few_made}
+use Rattle.answer_sizes.proofs.Few.{Few, few_none, few_more, few_most, few_filtered, few_ordered, few_mapped, few_made, either}
 use Rattle.answer_sizes.proofs.Answers.{datagram_short}
 use Rattle.answer_sizes.proofs.ScannerFrames.{faultless}
 
@@ -43,37 +43,28 @@ own_outputs r clock number [] slots all fit = few_none 0 HasShortOutput
 own_outputs r clock number (config ∷ configs) [] all fit = few_none (suc (length configs)) HasShortOutput
 own_outputs r clock number (config ∷ configs) (slot ∷ slots) all fit =
     let parts = and_parts (has_lengths config) (list_all has_lengths configs) all in
-    let rest = own_outputs r clock (suc number) configs slots parts.1 fit.1 in
-    record { count = omega (arith, rest.count); each = (omega (arith, fit.0.output, output_short config parts.0), rest.each) }
+    few_more (length configs) HasShortOutput (record { number = number; config = config; slot = slot }) (places_from (suc number) configs slots) (omega (arith, fit.0.output, output_short config parts.0)) (own_outputs r clock (suc number) configs slots parts.1 fit.1)
 
 few_outputs : (t : ScannerTable) → IsWhole t → Few 64 HasShortOutput (places t)
 few_outputs t whole =
     let has = faultless t.profile whole.faultless in
-    let all = own_outputs t.next_request t.clock.0 0 t.profile.slots t.slots has.lengths whole.slots in
-    record { count = omega (arith, all.count, has.few); each = all.each }
+    few_most 64 (length t.profile.slots) HasShortOutput (places t) has.few (own_outputs t.next_request t.clock.0 0 t.profile.slots t.slots has.lengths whole.slots)
 
 -- ---- productions
 
 SendsFew : Produced → Type 0
 SendsFew production = length production.datagram.payload ≤ 1404
 
-data_step : (b run : Bool) (output : List ℕ) → length output ≤ 1400 → length (cond b (to_le_bytes w32 (mode_header run) ++ output) []) ≤ 1404
-data_step true run output short =
-    let header : length (to_le_bytes w32 (mode_header run)) ≡ 4 = refl in
-    omega (arith, length-append (to_le_bytes w32 (mode_header run)) output, header)
-data_step false run output short = omega arith
-
 data_short : (run : Bool) (place : Place) → HasShortOutput place → length (slot_data run place) ≤ 1404
 unfolding HasShortOutput
-data_short run place short = data_step (is_owner place.config.kind) run place.slot.output short
+data_short run place short =
+    let header : length (to_le_bytes w32 (mode_header run)) ≡ 4 = refl in
+    either (λ (bytes : List ℕ). length bytes ≤ 1404) (is_owner place.config.kind) (to_le_bytes w32 (mode_header run) ++ place.slot.output) [] (omega (arith, length-append (to_le_bytes w32 (mode_header run)) place.slot.output, header)) (omega arith)
 
 produces_few : (run : Bool) (place : Place) (state : SlotState) → HasShortOutput place → IfSome (state_production run place state) SendsFew
 unfolding SendsFew
-produces_few run place Idle short = tt
-produces_few run place (Opening o) short = tt
 produces_few run place (Established c) short = data_short run place short
-produces_few run place (TimedOut link) short = tt
-produces_few run place (Closing c) short = tt
+produces_few run place other short = tt
 
 sent_short : (production : Produced) → SendsFew production → IsShortDatagram (sent production)
 unfolding SendsFew

@@ -1,5 +1,5 @@
 -- The frames of a scanner: an event asks each slot's target once at most, and each request is short.
-use Rattle.std.proofs.Common.{◌≡◌, ◌≤◌, ℕ, suc, ◌+◌, Bool, true, false, cond, List, [], ◌∷◌, ◌++◌, length, filter, Option, Some, None, Result, Ok, Err, refl, sym, ◌∙◌, subst, arith, length-append}
+use Rattle.std.proofs.Common.{◌≡◌, ◌≤◌, ℕ, suc, ◌+◌, true, List, [], ◌∷◌, ◌++◌, length, filter, Option, Some, None, Result, Ok, Err, refl, sym, ◌∙◌, subst, arith}
 use Rattle.std.specs.List.{AllByRecursion, list_all}
 use Rattle.std.proofs.lemmas.Bool.{not-false, and_parts}
 use Rattle.std.proofs.lemmas.Bool.Decides.{nat_tests}
@@ -18,10 +18,10 @@ use Rattle.scanner_table.specs.declared.slot.Connection.{Connection}
 use Rattle.scanner_table.specs.declared.slot.Opening as opening
 use Rattle.scanner_table.specs.declared.slot.Slot.{Slot}
 use Rattle.scanner_table.specs.declared.slot.SlotState.{SlotState}
-use Rattle.scanner_table.specs.declared.slot.SlotState.TheVariants.{Idle, Opening, Established, TimedOut, Closing}
+use Rattle.scanner_table.specs.declared.slot.SlotState.TheVariants.{Opening, Established}
 use Rattle.scanner_table.specs.declared.table.ScannerTable.{ScannerTable}
 use Rattle.scanner_table.specs.declared.table.Session.{Session}
-use Rattle.scanner_table.specs.Asking.{Sent, is_large, next_wanted}
+use Rattle.scanner_table.specs.Asking.{is_large, next_wanted}
 use Rattle.scanner_table.specs.Closing.{given_up_state, given_up, target_lost, close_asked, closed_within}
 use Rattle.scanner_table.specs.Effects.{Effect, and_then, on_each}
 use Rattle.scanner_table.specs.Opening.{has_request, can_open, open_asked, exhausted, opened_within, opened, is_ready_place, ready_places, ready_opened, target_opened}
@@ -30,7 +30,7 @@ use Rattle.scanner_table.specs.Replies.{is_id_free, judged_success, answered}
 use Rattle.scanner_table.specs.Sessions.{session_with}
 use Rattle.scanner_table.specs.Slots.{Place, places_from, places, is_with}
 use Rattle.scanner_table.specs.Ticks.{expired_state, expired, expired_places, all_expired, is_overdue, all_given_up, elapsed}
-use Rattle.answer_sizes.proofs.Few.{Few, few_none, few_one, few_filtered}
+use Rattle.answer_sizes.proofs.Few.{Few, few_none, few_one, few_more, few_most, few_both, few_filtered, either}
 use Rattle.answer_sizes.proofs.ScannerRequests.{HasFewData, IsShortRequest, open_short, close_short}
 
 -- ---- what a faultless profile has
@@ -66,80 +66,59 @@ own_places number [] slots all = few_none 0 AsksFew
 own_places number (config ∷ configs) [] all = few_none (suc (length configs)) AsksFew
 own_places number (config ∷ configs) (slot ∷ slots) all =
     let parts = and_parts (has_lengths config) (list_all has_lengths configs) all in
-    let rest = own_places (suc number) configs slots parts.1 in
-    record { count = omega (arith, rest.count); each = (config_few config parts.0, rest.each) }
+    few_more (length configs) AsksFew (record { number = number; config = config; slot = slot }) (places_from (suc number) configs slots) (config_few config parts.0) (own_places (suc number) configs slots parts.1)
 
 pub few_places : (t : ScannerTable) → profile_fault t.profile ≡ None → Few 64 AsksFew (places t)
 few_places t none =
     let has = faultless t.profile none in
-    let all = own_places 0 t.profile.slots t.slots has.lengths in
-    record { count = omega (arith, all.count, has.few); each = all.each }
+    few_most 64 (length t.profile.slots) AsksFew (places t) has.few (own_places 0 t.profile.slots t.slots has.lengths)
 
 -- ---- effects that ask little
 
 abbrev pub Asks : ℕ → Effect → Type 0
 Asks most effect = Few most IsShortRequest effect.sent
 
-both_ask : (a b : ℕ) (xs ys : List Sent) → Few a IsShortRequest xs → Few b IsShortRequest ys → Few (a + b) IsShortRequest (xs ++ ys)
-both_ask a b [] ys first next = record { count = omega (arith, next.count); each = next.each }
-both_ask a b (x ∷ xs) ys first next = record {
-  count = omega (arith, first.count, next.count, length-append xs ys);
-  each = (first.each.0, all_ask xs ys first.each.1 next.each);
-} where
-  all_ask : (xs ys : List Sent) → AllByRecursion IsShortRequest xs → AllByRecursion IsShortRequest ys → AllByRecursion IsShortRequest (xs ++ ys)
-  all_ask [] ys first next = next
-  all_ask (x ∷ xs) ys first next = (first.0, all_ask xs ys first.1 next)
-
--- each place asks once at most
-abbrev AsksOnce : (ScannerTable → Place → Effect) → Type 0
-AsksOnce effect = (t : ScannerTable) (place : Place) → AsksFew place → Asks 1 (effect t place)
-
-each_asks : (effect : ScannerTable → Place → Effect) → AsksOnce effect → (all : List Place) → AllByRecursion AsksFew all → (t : ScannerTable) → Asks (length all) (on_each effect all t)
-each_asks effect once [] few t = few_none 0 IsShortRequest
-each_asks effect once (place ∷ rest) few t =
-    let first = effect t place in
-    let next = on_each effect rest first.table in
-    let total = both_ask 1 (length rest) first.sent next.sent (once t place few.0) (each_asks effect once rest few.1 first.table) in
-    record { count = omega (arith, total.count); each = total.each }
-
-few_ask : (effect : ScannerTable → Place → Effect) → AsksOnce effect → (all : List Place) (t : ScannerTable) → Few 64 AsksFew all → Asks 64 (on_each effect all t)
-few_ask effect once all t few =
-    let own = each_asks effect once all few.each t in
-    record { count = omega (arith, own.count, few.count); each = own.each }
-
 -- ---- openings
-
-opening_asks : (b : Bool) (t : ScannerTable) (place : Place) (session : Session) → AsksFew place → Asks 1 (cond b (open_asked t place session) (exhausted t place))
-opening_asks true t place session few = few_one IsShortRequest _ (open_short session t.next_request (is_large place.config) place.config (next_wanted t place.config) few)
-opening_asks false t place session few = few_none 1 IsShortRequest
 
 within_asks : (t : ScannerTable) (place : Place) (session : Option Session) → AsksFew place → Asks 1 (opened_within t place session)
 within_asks t place None few = few_none 1 IsShortRequest
-within_asks t place (Some session) few = opening_asks (can_open t place.config) t place session few
+within_asks t place (Some session) few =
+    either (Asks 1) (can_open t place.config) (open_asked t place session) (exhausted t place)
+    (few_one 1 IsShortRequest _ (omega arith) (open_short session t.next_request (is_large place.config) place.config (next_wanted t place.config) few)) (few_none 1 IsShortRequest)
 
 pub opened_asks : (t : ScannerTable) (place : Place) → AsksFew place → Asks 1 (opened t place)
 unfolding opened
 opened_asks t place few = within_asks t place (session_with t place.config.target) few
 
+each_asks : (all : List Place) → AllByRecursion AsksFew all → (t : ScannerTable) → Asks (length all) (on_each opened all t)
+each_asks [] few t = few_none 0 IsShortRequest
+each_asks (place ∷ rest) few t =
+    let first = opened t place in
+    let next = on_each opened rest first.table in
+    few_most (suc (length rest)) (1 + length rest) IsShortRequest (first.sent ++ next.sent) (omega arith) (few_both 1 (length rest) IsShortRequest first.sent next.sent (opened_asks t place few.0) (each_asks rest few.1 first.table))
+
+-- each place asks once at most
+few_ask : (all : List Place) (t : ScannerTable) → Few 64 AsksFew all → Asks 64 (on_each opened all t)
+few_ask all t few = few_most 64 (length all) IsShortRequest (on_each opened all t).sent few.count (each_asks all few.each t)
+
+few_ready : (t : ScannerTable) → profile_fault t.profile ≡ None → Few 64 AsksFew (ready_places t)
+few_ready t none = few_filtered 64 AsksFew (is_ready_place t.clock) (places t) (few_places t none)
+
 pub ready_asks : (t : ScannerTable) → profile_fault t.profile ≡ None → Asks 64 (ready_opened t)
 unfolding ready_opened
-ready_asks t none = few_ask opened opened_asks (ready_places t) t (few_filtered 64 AsksFew (is_ready_place t.clock) (places t) (few_places t none))
+ready_asks t none = few_ask (ready_places t) t (few_ready t none)
 
 pub target_asks : (target : Node) (t : ScannerTable) → profile_fault t.profile ≡ None → Asks 64 (target_opened target t)
 unfolding target_opened
-target_asks target t none =
-    few_ask opened opened_asks (filter (is_with target) (ready_places t)) t
-    (few_filtered 64 AsksFew (is_with target) (ready_places t) (few_filtered 64 AsksFew (is_ready_place t.clock) (places t) (few_places t none)))
+target_asks target t none = few_ask (filter (is_with target) (ready_places t)) t (few_filtered 64 AsksFew (is_with target) (ready_places t) (few_ready t none))
 
 -- ---- closings
 
-closing_asks : (b : Bool) (t : ScannerTable) (place : Place) (c : Connection) (session : Session) → AsksFew place → Asks 1 (cond b (close_asked t place c session) (exhausted t place))
-closing_asks true t place c session few = few_one IsShortRequest _ (close_short session t.next_request place.config c.link.triad few)
-closing_asks false t place c session few = few_none 1 IsShortRequest
-
 pub closed_asks : (t : ScannerTable) (place : Place) (c : Connection) (session : Option Session) → AsksFew place → Asks 1 (closed_within t place c session)
 closed_asks t place c None few = few_none 1 IsShortRequest
-closed_asks t place c (Some session) few = closing_asks (has_request t) t place c session few
+closed_asks t place c (Some session) few =
+    either (Asks 1) (has_request t) (close_asked t place c session) (exhausted t place)
+    (few_one 1 IsShortRequest _ (omega arith) (close_short session t.next_request place.config c.link.triad few)) (few_none 1 IsShortRequest)
 
 -- ---- effects that ask nothing
 
@@ -148,32 +127,23 @@ pub record IsQuiet (t : ScannerTable) (effect : Effect) : Type 0 where
   pub silent : effect.sent ≡ []
   pub profile : effect.table.profile ≡ t.profile
 
-abbrev QuietOnes : (ScannerTable → Place → Effect) → Type 0
-QuietOnes effect = (t : ScannerTable) (place : Place) → IsQuiet t (effect t place)
-
 quiet_then : (t : ScannerTable) (first : Effect) (next : ScannerTable → Effect) → IsQuiet t first → IsQuiet first.table (next first.table) → IsQuiet t (and_then first next)
 quiet_then t first next before behind =
     let a = before.silent in
     let b = behind.silent in
     record { silent = rw (a, b) refl; profile = behind.profile ∙ before.profile }
 
-each_quiet : (effect : ScannerTable → Place → Effect) → QuietOnes effect → (all : List Place) (t : ScannerTable) → IsQuiet t (on_each effect all t)
+each_quiet : (effect : ScannerTable → Place → Effect) → ((t : ScannerTable) (place : Place) → IsQuiet t (effect t place)) → (all : List Place) (t : ScannerTable) → IsQuiet t (on_each effect all t)
 each_quiet effect quiet [] t = record { silent = refl; profile = refl }
 each_quiet effect quiet (place ∷ rest) t = quiet_then t (effect t place) (on_each effect rest) (quiet t place) (each_quiet effect quiet rest (effect t place).table)
 
 given_quiet : (t : ScannerTable) (place : Place) (state : SlotState) → IsQuiet t (given_up_state t place state)
-given_quiet t place Idle = record { silent = refl; profile = refl }
 given_quiet t place (Opening o) = record { silent = refl; profile = refl }
-given_quiet t place (Established c) = record { silent = refl; profile = refl }
-given_quiet t place (TimedOut link) = record { silent = refl; profile = refl }
-given_quiet t place (Closing c) = record { silent = refl; profile = refl }
+given_quiet t place other = record { silent = refl; profile = refl }
 
 expired_quiet : (t : ScannerTable) (place : Place) (state : SlotState) → IsQuiet t (expired_state t place state)
-expired_quiet t place Idle = record { silent = refl; profile = refl }
-expired_quiet t place (Opening o) = record { silent = refl; profile = refl }
 expired_quiet t place (Established c) = record { silent = refl; profile = refl }
-expired_quiet t place (TimedOut link) = record { silent = refl; profile = refl }
-expired_quiet t place (Closing c) = record { silent = refl; profile = refl }
+expired_quiet t place other = record { silent = refl; profile = refl }
 
 pub lost_quiet : (target : Node) (t : ScannerTable) → IsQuiet t (target_lost target t)
 unfolding target_lost
@@ -188,9 +158,6 @@ unfolding answered
 answered_quiet t place o (Err why) = record { silent = refl; profile = refl }
 answered_quiet t place o (Ok (answer.Refused r)) = record { silent = refl; profile = refl }
 answered_quiet t place o (Ok (answer.Opened success)) = success_quiet t place o success (first_case (answer_tests o.wanted success (is_id_free t place success.t_o_id)))
-
-pub quiet_asks : (most : ℕ) (t : ScannerTable) (effect : Effect) → IsQuiet t effect → Asks most effect
-quiet_asks most t effect quiet = subst (λ (sent : List Sent). Few most IsShortRequest sent) (sym quiet.silent) (few_none most IsShortRequest)
 
 -- ---- a tick
 

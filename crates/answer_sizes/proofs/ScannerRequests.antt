@@ -1,5 +1,5 @@
 -- The requests of a scanner: each is short, a path and its configuration being so.
-use Rattle.std.proofs.Common.{◌≡◌, ◌≤◌, ℕ, ◌+◌, ltb, Bool, true, false, cond, List, [], ◌∷◌, ◌++◌, length, map, Option, Some, None, refl, arith, length-append}
+use Rattle.std.proofs.Common.{◌≡◌, ◌≤◌, ℕ, ◌+◌, ltb, Bool, true, false, List, [], ◌∷◌, ◌++◌, length, map, Option, Some, None, refl, arith, length-append}
 use Rattle.std.specs.Prelude.{option_to_list}
 use Rattle.std.specs.Int.{w16, w32, to_le_bytes}
 use Rattle.std.specs.List.{flat_map}
@@ -7,10 +7,9 @@ use Rattle.cip_types.specs.declared.names.Triad.{Triad}
 use Rattle.cip_types.specs.Fields.{fields_text}
 use Rattle.cip_epath.specs.declared.segment.LogicalType.{LogicalType}
 use Rattle.cip_epath.specs.declared.segment.LogicalType.TheVariants.{Class, Instance, ConnectionPoint}
-use Rattle.cip_epath.specs.Key.{KeyFields}
 use Rattle.cip_epath.specs.Path.{PathFields}
 use Rattle.cip_epath.specs.Segment.{SegmentValue, logical, key, bytes, inhibit, logical_byte}
-use Rattle.cip_epath.specs.Written.{segment_text, path_segments, path_text, target_text}
+use Rattle.cip_epath.specs.Written.{segment_text, path_text, target_text}
 use Rattle.cip_fwdopen.specs.Open.{open_widths, open_numbers, open_text}
 use Rattle.cip_fwdopen.specs.Close.{close_widths, close_numbers, close_text}
 use Rattle.cip_router.specs.ReplyLaws.{items_length}
@@ -20,6 +19,7 @@ use Rattle.scanner_table.specs.declared.table.Session.{Session}
 use Rattle.scanner_table.specs.Asking.{segment_of, slot_path, open_fields, close_fields, opening, closing, Sent, manager, manager_text, open_service, request_data, sent_message, sent_frame, registration, numbered}
 use Rattle.answer_sizes.specs.Sizes.{IsShortFrame}
 use Rattle.answer_sizes.proofs.Answers.{message_short}
+use Rattle.answer_sizes.proofs.Few.{either}
 
 -- ---- paths
 
@@ -27,58 +27,36 @@ use Rattle.answer_sizes.proofs.Answers.{message_short}
 abbrev pub HasFewData : SlotConfig → Type 0
 HasFewData config = length config.config_data ≤ 400
 
-logical_few : (a b : Bool) (kind : LogicalType) (value : ℕ) → length (cond a (logical_byte kind 0 ∷ value ∷ []) (cond b (logical_byte kind 1 ∷ 0 ∷ to_le_bytes w16 value) (logical_byte kind 2 ∷ 0 ∷ to_le_bytes w32 value))) ≤ 6
-logical_few true b kind value = omega arith
-logical_few false true kind value = omega arith
-logical_few false false kind value = omega arith
-
 -- a number takes at most 6 bytes
 number_few : (kind : LogicalType) (value : ℕ) → length (segment_text (logical kind value)) ≤ 6
-number_few kind value = logical_few (ltb value 256) (ltb value 65536) kind value
-
-texts_append : (ss ts : List SegmentValue) → length (flat_map segment_text (ss ++ ts)) ≡ length (flat_map segment_text ss) + length (flat_map segment_text ts)
-texts_append [] ts = omega arith
-texts_append (s ∷ ss) ts =
-    omega (arith, length-append (segment_text s) (flat_map segment_text (ss ++ ts)), length-append (segment_text s) (flat_map segment_text ss), texts_append ss ts)
+number_few kind value =
+    either (λ (text : List ℕ). length text ≤ 6) (ltb value 256) _ _ (omega arith)
+    (either (λ (text : List ℕ). length text ≤ 6) (ltb value 65536) (logical_byte kind 1 ∷ 0 ∷ to_le_bytes w16 value) (logical_byte kind 2 ∷ 0 ∷ to_le_bytes w32 value) (omega arith) (omega arith))
 
 -- the bytes of some segments
-bytes_of : List SegmentValue → ℕ
+abbrev bytes_of : List SegmentValue → ℕ
 bytes_of ss = length (flat_map segment_text ss)
 
 bytes_append : (ss ts : List SegmentValue) → bytes_of (ss ++ ts) ≡ bytes_of ss + bytes_of ts
-unfolding bytes_of
-bytes_append ss ts = texts_append ss ts
+bytes_append [] ts = omega arith
+bytes_append (s ∷ ss) ts =
+    omega (arith, length-append (segment_text s) (flat_map segment_text (ss ++ ts)), length-append (segment_text s) (flat_map segment_text ss), bytes_append ss ts)
 
 bytes_more : (kind : LogicalType) (value : ℕ) (ss : List SegmentValue) → bytes_of (logical kind value ∷ ss) ≤ 6 + bytes_of ss
-unfolding bytes_of
 bytes_more kind value ss = omega (arith, length-append (segment_text (logical kind value)) (flat_map segment_text ss), number_few kind value)
 
-key_few : (k : Option KeyFields) → bytes_of (map key (option_to_list k)) ≤ 10
-unfolding bytes_of
-key_few None = omega arith
-key_few (Some k) = omega arith
-
-inhibit_few : (ms : Option ℕ) → bytes_of (map inhibit (option_to_list ms)) ≤ 2
-unfolding bytes_of
-inhibit_few None = omega arith
-inhibit_few (Some ms) = omega arith
-
-no_bytes : bytes_of [] ≡ 0
-unfolding bytes_of
-no_bytes = refl
-
-config_few : (n : Option ℕ) → bytes_of (map (logical Instance) (option_to_list n)) ≤ 6
-config_few None = omega (arith, no_bytes)
-config_few (Some n) = omega (arith, bytes_more Instance n [], no_bytes)
+-- one segment, or none
+option_few : {X : Type 0} (most : ℕ) (f : X → SegmentValue) → ((x : X) → length (segment_text (f x)) ≤ most) → (o : Option X) → bytes_of (map f (option_to_list o)) ≤ most
+option_few most f few None = omega arith
+option_few most f few (Some x) = omega (arith, length-append (segment_text (f x)) [], few x)
 
 data_few : (content : List ℕ) → length content ≤ 400 → bytes_of (map bytes (option_to_list (segment_of content))) ≤ 402
-unfolding bytes_of
 data_few [] few = omega arith
 data_few (byte ∷ content) few = omega (arith, length-append (segment_text (bytes (byte ∷ content))) [])
 
 -- the segments of a path, part by part
-parts_few : (ks is cs ds : List SegmentValue) (class consumed produced : ℕ) → bytes_of (((ks ++ is) ++ (logical Class class ∷ cs)) ++ (logical ConnectionPoint consumed ∷ (logical ConnectionPoint produced ∷ ds))) ≤ bytes_of ks + bytes_of is + bytes_of cs + bytes_of ds + 18
-parts_few ks is cs ds class consumed produced =
+parts_few : (ks is cs ds : List SegmentValue) (class consumed produced : ℕ) → bytes_of ks ≤ 10 → bytes_of is ≤ 2 → bytes_of cs ≤ 6 → bytes_of ds ≤ 402 → bytes_of (((ks ++ is) ++ (logical Class class ∷ cs)) ++ (logical ConnectionPoint consumed ∷ (logical ConnectionPoint produced ∷ ds))) ≤ 500
+parts_few ks is cs ds class consumed produced keys inhibits configs content =
     let points = logical ConnectionPoint consumed ∷ (logical ConnectionPoint produced ∷ ds) in
     let named = logical Class class ∷ cs in
     omega (
@@ -91,22 +69,11 @@ parts_few ks is cs ds class consumed produced =
       bytes_more ConnectionPoint produced ds,
     )
 
-bounded : (all k i c d : ℕ) → all ≤ k + i + c + d + 18 → k ≤ 10 → i ≤ 2 → c ≤ 6 → d ≤ 402 → all ≤ 500
-bounded all k i c d parts keys inhibits configs content = omega arith
-
-segments_few : (config : SlotConfig) → HasFewData config → bytes_of (path_segments (slot_path config)) ≤ 500
-segments_few config few =
-    let p : PathFields = slot_path config in
-    bounded _ _ _ _ _
-    (parts_few (map key (option_to_list p.key)) (map inhibit (option_to_list p.inhibit)) (map (logical Instance) (option_to_list p.config)) (map bytes (option_to_list p.segment)) p.class p.consumed p.produced)
-    (key_few p.key)
-    (inhibit_few p.inhibit)
-    (config_few p.config)
-    (data_few config.config_data few)
-
 path_few : (config : SlotConfig) → HasFewData config → length (path_text (slot_path config)) ≤ 500
-unfolding bytes_of
-path_few config few = segments_few config few
+path_few config few =
+    let p : PathFields = slot_path config in
+    parts_few (map key (option_to_list p.key)) (map inhibit (option_to_list p.inhibit)) (map (logical Instance) (option_to_list p.config)) (map bytes (option_to_list p.segment)) p.class p.consumed p.produced
+    (option_few 10 key (λ k. omega arith) p.key) (option_few 2 inhibit (λ ms. omega arith) p.inhibit) (option_few 6 (logical Instance) (number_few Instance) p.config) (data_few config.config_data few)
 
 -- ---- requests to the Connection Manager
 
