@@ -1,10 +1,2 @@
-pub mod Numbers
-pub mod Segments
-pub mod Taken
-pub mod Faults
-pub mod Cuts
-pub mod Arrangements
 pub mod Walks
-pub mod Texts
-pub mod PathLaws
 pub mod Samples

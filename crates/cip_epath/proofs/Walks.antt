@@ -16,8 +16,8 @@ use Rattle.cip_epath.specs.Segment.{SegmentValue, logical}
 use Rattle.cip_epath.specs.Path.{PathFields, Role, key_role, class_role, point_role, data_role, role_of, inhibit_of, roles, inhibits}
 use Rattle.cip_epath.specs.Reading.{◌>>=◌, Gives, seen, segment_at, segments_at, reading_by, with_points, with_key, with_inhibits, arranged_path, arranged_target, path_reading, target_reading}
 use Rattle.cip_epath.specs.Draft.{DraftValue, start, keyed, classed, one, two, three, whole, misplaced, next, next_if, next_count, path_with, path_of, next_target, target_of}
-use Rattle.cip_epath.proofs.Taken.{segment_taken}
-use Rattle.cip_epath.proofs.Cuts.{behind, at_end, at_segment, at_fault, segment_shrinks, enough}
+use Rattle.cip_epath.specs.Laws.Taken.{segment_taken}
+use Rattle.cip_epath.specs.Laws.Cuts.{behind, at_end, at_segment, at_fault, segment_shrinks, enough}
 
 -- ---- one step of a reading, whatever the segments are to make
 

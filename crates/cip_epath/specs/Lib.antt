@@ -5,3 +5,4 @@ pub mod Reading
 pub mod Draft
 pub mod Written
 pub mod ReadsBack
+pub mod Laws

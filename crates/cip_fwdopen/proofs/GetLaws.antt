@@ -10,7 +10,7 @@ use Rattle.cip_epath.specs.declared.segment.LogicalType.{LogicalType}
 use Rattle.cip_epath.specs.declared.segment.LogicalType.TheVariants.{Class, Instance, Attribute}
 use Rattle.cip_epath.specs.Path.{IsTarget, IsTextOf}
 use Rattle.cip_epath.specs.Written.{logical_text, target_text, TargetFits}
-use Rattle.cip_epath.proofs.Texts.{target_text_is}
+use Rattle.cip_epath.specs.Laws.Texts.{target_text_is}
 use Rattle.cip_fwdopen.specs.declared.fault.ReadFault.{ReadFault}
 use Rattle.cip_fwdopen.specs.declared.fault.ReadFault.TheVariants.{NotEnough}
 use Rattle.cip_fwdopen.specs.Readings.{seen}

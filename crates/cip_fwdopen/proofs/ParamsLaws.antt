@@ -5,8 +5,8 @@ use Rattle.std.proofs.lemmas.Nat.{and_mask}
 use Rattle.cip_types.specs.FieldLaws.{IsWide, wide16, wide32}
 use Rattle.cip_netparams.specs.declared.NetParams.{NetParams}
 use Rattle.cip_netparams.specs.Word.{params16}
-use Rattle.cip_netparams.proofs.Bits.{flag_below}
-use Rattle.cip_netparams.proofs.Words.{priority_below, type_below, word16_reads, word32_reads}
+use Rattle.cip_netparams.specs.Laws.Bits.{flag_below}
+use Rattle.cip_netparams.specs.Laws.Words.{priority_below, type_below, word16_reads, word32_reads}
 use Rattle.cip_fwdopen.specs.Open.{params_width, params_of, params_word, greatest_size}
 
 pub wide_params : (large : Bool) → IsWide (params_width large)

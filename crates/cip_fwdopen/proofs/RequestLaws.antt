@@ -10,7 +10,7 @@ use Rattle.cip_epath.specs.declared.fault.PathFault.{PathFault}
 use Rattle.cip_epath.specs.declared.path.Target.{Target}
 use Rattle.cip_epath.specs.Path.{IsTarget, IsReading}
 use Rattle.cip_epath.specs.Reading.{target_reading}
-use Rattle.cip_epath.proofs.PathLaws.{target_reads, target_reading_is, one_target_reading}
+use Rattle.cip_epath.specs.Laws.PathLaws.{target_reads, target_reading_is, one_target_reading}
 use Rattle.cip_fwdopen.specs.declared.fault.ReadFault.{ReadFault}
 use Rattle.cip_fwdopen.specs.declared.fault.ReadFault.TheVariants.{NotEnough, TooMuch, Path}
 use Rattle.cip_fwdopen.specs.Readings.{number}

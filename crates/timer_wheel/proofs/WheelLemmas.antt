@@ -9,9 +9,9 @@ use Rattle.timer_wheel.specs.Marks.{AllFree}
 use Rattle.timer_wheel.specs.declared.place.Timer.{Timer}
 use Rattle.timer_wheel.specs.Timers.{Timers}
 use Rattle.timer_wheel.specs.Layout.{timer_at, armed_of, IsUnique, Agree, IsPlaced, IsLaidOut, IsSound, HasToken, Mirrors, Clears}
-use Rattle.timer_wheel.proofs.MapLemmas.{get-armed_of, armed_of-put, IsUnique-put, get-armed_of_none, IsUnique-clear, len-armed_of, timer_count-bound, timer_count-free, timer_count-clear, free_key, timer_within}
-use Rattle.timer_wheel.proofs.PlaceLemmas.{slot_of-bound}
-use Rattle.timer_wheel.proofs.SweepLemmas.{key_within, IsLaidOut-move, Clears-one}
+use Rattle.timer_wheel.specs.Laws.MapLemmas.{get-armed_of, armed_of-put, IsUnique-put, get-armed_of_none, IsUnique-clear, len-armed_of, timer_count-bound, timer_count-free, timer_count-clear, free_key, timer_within}
+use Rattle.timer_wheel.specs.Laws.PlaceLemmas.{slot_of-bound}
+use Rattle.timer_wheel.specs.Laws.SweepLemmas.{key_within, IsLaidOut-move, Clears-one}
 
 pub same_timers : (a b : Timers) → a.time ≡ b.time → a.capacity ≡ b.capacity → a.armed ≡ b.armed → a ≡ b
 same_timers a b p q r = λ i. record { time = p i; capacity = q i; armed = r i }

@@ -3,3 +3,4 @@ pub mod Place
 pub mod Marks
 pub mod Hints
 pub mod Layout
+pub mod Laws

@@ -3,7 +3,7 @@ use Rattle.std.specs.FinMap.{get}
 use Rattle.timer_wheel.specs.Timers.{Timers}
 use Rattle.timer_wheel.specs.declared.Token.{Token}
 use Rattle.std.proofs.lemmas.List.{get_or_default}
-use Rattle.timer_wheel.proofs.MapLemmas.{get-insert_other}
+use Rattle.timer_wheel.specs.Laws.MapLemmas.{get-insert_other}
 use Rattle.bench.proofs.wheel.arm_anew.Goals as goal
 
 -- a later token is another one, and is still not armed

@@ -1,4 +1,4 @@
-use Rattle.cip_epath.proofs.PathLaws.{path_text_reads, target_text_reads}
+use Rattle.cip_epath.specs.Laws.PathLaws.{path_text_reads, target_text_reads}
 use Rattle.cip_epath.proofs.laws.reads_back.Goals as goal
 
 pub returns-clause-path : goal.returns-clause-path

@@ -1,6 +1,6 @@
 use Rattle.std.proofs.Common.{arith, sym, subst, ◌∙◌}
 use Rattle.cip_epath.specs.Path.{IsPath, IsReading}
-use Rattle.cip_epath.proofs.PathLaws.{path_reading_is, one_path_reading}
+use Rattle.cip_epath.specs.Laws.PathLaws.{path_reading_is, one_path_reading}
 use Rattle.cip_epath.proofs.read.read_path.Goals as goal
 
 pub returns-clause-reading : goal.returns-clause-reading

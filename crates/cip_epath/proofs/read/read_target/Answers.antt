@@ -1,6 +1,6 @@
 use Rattle.std.proofs.Common.{arith, sym, subst, ◌∙◌}
 use Rattle.cip_epath.specs.Path.{IsTarget, IsReading}
-use Rattle.cip_epath.proofs.PathLaws.{target_reading_is, one_target_reading}
+use Rattle.cip_epath.specs.Laws.PathLaws.{target_reading_is, one_target_reading}
 use Rattle.cip_epath.proofs.read.read_target.Goals as goal
 
 pub returns-clause-reading : goal.returns-clause-reading

@@ -1,7 +1,7 @@
 use Rattle.std.proofs.Common.{arith, sym, ◌∙◌}
 use Rattle.std.proofs.lemmas.Result.{err_from_is_err_and}
 use Rattle.cip_epath.specs.Path.{view_path}
-use Rattle.cip_epath.proofs.Cuts.{segment_shrinks}
+use Rattle.cip_epath.specs.Laws.Cuts.{segment_shrinks}
 use Rattle.cip_epath.proofs.Walks.{path_starts, path_then, path_ends, path_stops, some_left, none_left, gives_seen}
 use Rattle.cip_epath.proofs.read.walked_path.Goals as goal
 

@@ -1,6 +1,6 @@
 use Rattle.std.proofs.Common.{arith, sym, ◌∙◌}
 use Rattle.std.proofs.lemmas.Result.{err_from_is_err_and}
-use Rattle.cip_epath.proofs.Cuts.{segment_shrinks}
+use Rattle.cip_epath.specs.Laws.Cuts.{segment_shrinks}
 use Rattle.cip_epath.proofs.Walks.{target_starts, target_then, target_ends, target_stops, some_left, none_left}
 use Rattle.cip_epath.proofs.read.walked_target.Goals as goal
 

@@ -4,8 +4,8 @@ use Rattle.std.proofs.lemmas.Grind.{common_steps}
 use Rattle.cip_epath.specs.Segment.{KeyFits}
 use Rattle.cip_epath.specs.Path.{view_path, IsPath, IsTextOf}
 use Rattle.cip_epath.specs.Written.{PathFits}
-use Rattle.cip_epath.proofs.Texts.{path_text_is, path_text_whole}
-use Rattle.cip_epath.proofs.PathLaws.{path_reads}
+use Rattle.cip_epath.specs.Laws.Texts.{path_text_is, path_text_whole}
+use Rattle.cip_epath.specs.Laws.PathLaws.{path_reads}
 use Rattle.cip_epath.proofs.write.write_path.Goals as goal
 use Rattle.cip_epath.proofs.write.write_path.Goals.{Joined-path-4}
 

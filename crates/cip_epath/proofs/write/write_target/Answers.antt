@@ -3,8 +3,8 @@ use Rattle.std.specs.Prelude.{IfSome}
 use Rattle.std.proofs.lemmas.Grind.{common_steps}
 use Rattle.cip_epath.specs.Path.{IsTarget, IsTextOf}
 use Rattle.cip_epath.specs.Written.{TargetFits}
-use Rattle.cip_epath.proofs.Texts.{target_text_is}
-use Rattle.cip_epath.proofs.PathLaws.{target_reads}
+use Rattle.cip_epath.specs.Laws.Texts.{target_text_is}
+use Rattle.cip_epath.specs.Laws.PathLaws.{target_reads}
 use Rattle.cip_epath.proofs.write.write_target.Goals as goal
 
 pub returns-clause-text : goal.returns-clause-text

@@ -1,4 +1,4 @@
-use Rattle.cip_netparams.proofs.Words.{word16_reads, word32_reads, trigger_reads}
+use Rattle.cip_netparams.specs.Laws.Words.{word16_reads, word32_reads, trigger_reads}
 use Rattle.cip_netparams.proofs.laws.reads_back.Goals as goal
 
 pub returns-clause-word16 : goal.returns-clause-word16

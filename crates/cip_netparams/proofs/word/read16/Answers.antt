@@ -1,7 +1,7 @@
 use Rattle.std.proofs.Common.{ℕ, ◌/◌, ◌%◌, arith, sym, ◌∙◌, ap}
 use Rattle.std.proofs.lemmas.Nat.{and_mask}
-use Rattle.cip_netparams.proofs.Bits.{flag_of_low, flag_of_bit}
-use Rattle.cip_netparams.proofs.Words.{carries_16, params_of_16}
+use Rattle.cip_netparams.specs.Laws.Bits.{flag_of_low, flag_of_bit}
+use Rattle.cip_netparams.specs.Laws.Words.{carries_16, params_of_16}
 use Rattle.cip_netparams.proofs.word.read16.Goals as goal
 
 pub returns-clause-carried : goal.returns-clause-carried

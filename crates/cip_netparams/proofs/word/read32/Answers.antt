@@ -1,7 +1,7 @@
 use Rattle.std.proofs.Common.{◌^◌, ◌/◌, arith, sym, ◌∙◌}
 use Rattle.std.proofs.lemmas.Nat.{and_mask}
-use Rattle.cip_netparams.proofs.Bits.{flag_of_low, flag_of_bit}
-use Rattle.cip_netparams.proofs.Words.{carries_32, params_of_32}
+use Rattle.cip_netparams.specs.Laws.Bits.{flag_of_low, flag_of_bit}
+use Rattle.cip_netparams.specs.Laws.Words.{carries_32, params_of_32}
 use Rattle.cip_netparams.proofs.word.read32.Goals as goal
 
 pub returns-clause-carried : goal.returns-clause-carried

@@ -1,7 +1,7 @@
 use Rattle.std.proofs.Common.{arith, ◌∙◌, ◌<◌, ap}
 use Rattle.cip_netparams.specs.Word.{params16}
-use Rattle.cip_netparams.proofs.Bits.{or_16, flag_below}
-use Rattle.cip_netparams.proofs.Words.{priority_below, type_below, word16_reads}
+use Rattle.cip_netparams.specs.Laws.Bits.{or_16, flag_below}
+use Rattle.cip_netparams.specs.Laws.Words.{priority_below, type_below, word16_reads}
 use Rattle.cip_netparams.proofs.word.write16.Goals as goal
 
 pub returns-clause-value : goal.returns-clause-value

@@ -1,7 +1,7 @@
 use Rattle.std.proofs.Common.{arith, rules, Fits, w16, ◌∙◌, ap}
 use Rattle.cip_netparams.specs.Word.{params32}
-use Rattle.cip_netparams.proofs.Bits.{or_32, flag_below}
-use Rattle.cip_netparams.proofs.Words.{priority_below, type_below, word32_reads}
+use Rattle.cip_netparams.specs.Laws.Bits.{or_32, flag_below}
+use Rattle.cip_netparams.specs.Laws.Words.{priority_below, type_below, word32_reads}
 use Rattle.cip_netparams.proofs.word.write32.Goals as goal
 
 pub returns-clause-value : goal.returns-clause-value

@@ -4,9 +4,9 @@ use Rattle.std.specs.FinMap.{len}
 use Rattle.timer_wheel.specs.declared.place.Timer.{Timer}
 use Rattle.timer_wheel.specs.Timers.{Timers, later_than, Fires}
 use Rattle.timer_wheel.specs.Layout.{armed_of, timer_count}
-use Rattle.timer_wheel.proofs.MapLemmas.{len-armed_of}
+use Rattle.timer_wheel.specs.Laws.MapLemmas.{len-armed_of}
 use Rattle.timer_wheel.proofs.WheelLemmas.{same_timers, IsSound-swept}
-use Rattle.timer_wheel.proofs.FireLemmas.{IsSplit-swept, armed_of-later, Fires-sorted}
+use Rattle.timer_wheel.specs.Laws.FireLemmas.{IsSplit-swept, armed_of-later, Fires-sorted}
 use Rattle.timer_wheel.proofs.Wheel.advance.Goals as goal
 
 pub push_reserved-requires : goal.push_reserved-requires

@@ -2,7 +2,7 @@ use Rattle.std.proofs.Common.{sym, ap, ◌∙◌, refl, None, is_some, length-se
 use Rattle.std.specs.FinMap.{get, contains_key, remove}
 use Rattle.timer_wheel.specs.Timers.{Timers}
 use Rattle.timer_wheel.specs.Layout.{armed_of}
-use Rattle.timer_wheel.proofs.MapLemmas.{remove_absent, armed_of-clear, get-remove_same}
+use Rattle.timer_wheel.specs.Laws.MapLemmas.{remove_absent, armed_of-clear, get-remove_same}
 use Rattle.timer_wheel.proofs.WheelLemmas.{IsSound-disarm, same_timers, token_timer, token_armed, token_absent, len-clear}
 use Rattle.timer_wheel.proofs.Wheel.disarm.Goals as goal
 

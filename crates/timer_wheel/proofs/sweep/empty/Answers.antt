@@ -1,4 +1,4 @@
-use Rattle.timer_wheel.proofs.SweepLemmas.{Emptying-take}
+use Rattle.timer_wheel.specs.Laws.SweepLemmas.{Emptying-take}
 use Rattle.timer_wheel.proofs.sweep.empty.Goals as goal
 
 pub loop-key-preserved-then-timer-step : goal.loop-key-preserved-then-timer-step

@@ -1,5 +1,5 @@
 use Rattle.std.proofs.Common.{◌∙◌, arith}
-use Rattle.timer_wheel.proofs.SweepLemmas.{IsLaidOut-done}
+use Rattle.timer_wheel.specs.Laws.SweepLemmas.{IsLaidOut-done}
 use Rattle.timer_wheel.proofs.sweep.empty_all.Goals as goal
 
 pub empty-requires-clause-laid_out : goal.empty-requires-clause-laid_out

@@ -1,5 +1,5 @@
 use Rattle.std.proofs.Common.{◌-◌, ◌≤◌, vec_len, vec_capacity}
-use Rattle.timer_wheel.proofs.SweepLemmas.{Emptying}
+use Rattle.timer_wheel.specs.Laws.SweepLemmas.{Emptying}
 use Rattle.timer_wheel.proofs.sweep.empty_all.Given as goal
 
 abbrev pub invariant-loop-slot : goal.invariant-loop-slot

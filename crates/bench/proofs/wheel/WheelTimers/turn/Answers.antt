@@ -1,4 +1,4 @@
-use Rattle.timer_wheel.proofs.TimersLemmas.{fired_unarmed, fired_apart}
+use Rattle.timer_wheel.specs.Laws.TimersLemmas.{fired_unarmed, fired_apart}
 use Rattle.bench.proofs.wheel.WheelTimers.turn.Goals as goal
 
 pub arm_anew-requires-clause-unarmed : goal.arm_anew-requires-clause-unarmed

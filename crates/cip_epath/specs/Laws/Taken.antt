@@ -10,8 +10,8 @@ use Rattle.cip_epath.specs.Key.{KeyFields}
 use Rattle.cip_epath.specs.Segment.{SegmentValue, logical, key, bytes, inhibit, KeyFits, key_text, revision_byte, logical_byte, IsSegmentText}
 use Rattle.cip_epath.specs.Reading.{◌>>=◌, number_at, data_at, key_fields_at, key_at, value_at, segment_at}
 use Rattle.cip_types.specs.FieldLaws.{IsBytes, IsBytes-drop, Takes, wide16, wide32}
-use Rattle.cip_epath.proofs.Numbers.{IsBytes-rest, gives, bind_ok, guard_ok, ok_is, Takes-then, number_takes, byte_field}
-use Rattle.cip_epath.proofs.Segments.{is_key, is_inhibit, is_data, is_8, is_16, is_32, is_stray, first_byte, at_key, at_inhibit, at_data, at_logical_8, at_logical_16, at_logical_32}
+use Rattle.cip_epath.specs.Laws.Numbers.{IsBytes-rest, gives, bind_ok, guard_ok, ok_is, Takes-then, number_takes, byte_field}
+use Rattle.cip_epath.specs.Laws.Segments.{is_key, is_inhibit, is_data, is_8, is_16, is_32, is_stray, first_byte, at_key, at_inhibit, at_data, at_logical_8, at_logical_16, at_logical_32}
 
 -- the segment whose text was taken from the front
 pub record TakesSegment (bs : List ℕ) (s : SegmentValue) (rest : List ℕ) : Type 0 where

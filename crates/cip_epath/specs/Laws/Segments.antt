@@ -10,7 +10,7 @@ use Rattle.cip_epath.specs.Key.{KeyFields}
 use Rattle.cip_epath.specs.Segment.{SegmentValue, logical, key, bytes, inhibit, KeyFits, key_text, revision_byte, type_code, logical_byte, IsLogicalText, IsSegmentText}
 use Rattle.cip_epath.specs.Reading.{◌>>=◌, number_at, data_at, key_fields_at, key_at, type_of, value_at, logical_at, segment_at}
 use Rattle.cip_types.specs.FieldLaws.{wide16, wide32}
-use Rattle.cip_epath.proofs.Numbers.{number_again, byte_again}
+use Rattle.cip_epath.specs.Laws.Numbers.{number_again, byte_again}
 
 -- ---- what the first byte leads to
 

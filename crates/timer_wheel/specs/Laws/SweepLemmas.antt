@@ -10,8 +10,8 @@ use Rattle.timer_wheel.specs.Marks.{AllEmpty}
 use Rattle.timer_wheel.specs.declared.place.Timer.{Timer}
 use Rattle.timer_wheel.specs.Place.{slot_of}
 use Rattle.timer_wheel.specs.Layout.{timer_at, timer_count, armed_of, IsUnique, Agree, IsPlaced, IsAt, IsLaidOut, IsSplit, TakesDue, Clears}
-use Rattle.timer_wheel.proofs.MapLemmas.{get-remove_same, get-remove_other, get-armed_of, armed_of-clear, IsUnique-clear, timer_count-clear, timer_within}
-use Rattle.timer_wheel.proofs.PlaceLemmas.{slot_of-bound, Stays}
+use Rattle.timer_wheel.specs.Laws.MapLemmas.{get-remove_same, get-remove_other, get-armed_of, armed_of-clear, IsUnique-clear, timer_count-clear, timer_within}
+use Rattle.timer_wheel.specs.Laws.PlaceLemmas.{slot_of-bound, Stays}
 
 -- so far, what was taken out is due, and each timer stands where it belongs or waits in a slot from this one on
 pub record Emptying (before now from : ℕ) (slots : LinkedLists) (timers timers' : List (Option Timer)) (due due' : List Timer) (len len' cap cap' : ℕ) : Type 0 where

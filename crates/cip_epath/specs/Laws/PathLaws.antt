@@ -7,9 +7,9 @@ use Rattle.cip_epath.specs.declared.path.Target.{Target}
 use Rattle.cip_epath.specs.Path.{PathFields, IsPath, IsTarget, IsTextOf, IsReading}
 use Rattle.cip_epath.specs.Reading.{arranged_path, arranged_target, path_reading, target_reading}
 use Rattle.cip_epath.specs.Written.{path_text, target_text, PathFits, TargetFits}
-use Rattle.cip_epath.proofs.Cuts.{text_reads, reading_is, one_reading}
-use Rattle.cip_epath.proofs.Arrangements.{path_arranges, target_arranges}
-use Rattle.cip_epath.proofs.Texts.{path_text_is, target_text_is}
+use Rattle.cip_epath.specs.Laws.Cuts.{text_reads, reading_is, one_reading}
+use Rattle.cip_epath.specs.Laws.Arrangements.{path_arranges, target_arranges}
+use Rattle.cip_epath.specs.Laws.Texts.{path_text_is, target_text_is}
 
 -- a text of a path is read as that path
 pub path_reads : (t : List ℕ) (p : PathFields) → IsTextOf IsPath t p → path_reading t ≡ Ok p

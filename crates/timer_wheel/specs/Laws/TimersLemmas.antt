@@ -4,7 +4,7 @@ use Rattle.timer_wheel.specs.declared.Token.{Token}
 use Rattle.timer_wheel.specs.Timers.{Deadlines, ComesBefore, Fires, later_than}
 use Rattle.std.proofs.lemmas.List.Elements.{Contains-get_or}
 use Rattle.std.specs.FinMap.{get}
-use Rattle.timer_wheel.proofs.FireLemmas.{get-later_than, later_of-due}
+use Rattle.timer_wheel.specs.Laws.FireLemmas.{get-later_than, later_of-due}
 
 module _ {X : Type 0} (R : X → X → Type 0) where
   in_tail : (x : X) (xs : List X) (y : X) → Contains (x ∷ xs) y → (x ≡ y) ⊎ Contains xs y

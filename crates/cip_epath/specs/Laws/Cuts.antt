@@ -7,9 +7,9 @@ use Rattle.cip_epath.specs.declared.fault.PathFault.TheVariants as fault
 use Rattle.cip_epath.specs.Segment.{SegmentValue, IsSegmentText}
 use Rattle.cip_epath.specs.Path.{AreSegmentTexts, SegmentBegins, IsFaultOf, StopsWith, IsTextOf, IsReading}
 use Rattle.cip_epath.specs.Reading.{◌>>=◌, segment_at, segments_at, reading_by}
-use Rattle.cip_epath.proofs.Segments.{segment_again}
-use Rattle.cip_epath.proofs.Taken.{TakesSegment, segment_taken, nothing_taken}
-use Rattle.cip_epath.proofs.Faults.{segment_fault, key_begins_at}
+use Rattle.cip_epath.specs.Laws.Segments.{segment_again}
+use Rattle.cip_epath.specs.Laws.Taken.{TakesSegment, segment_taken, nothing_taken}
+use Rattle.cip_epath.specs.Laws.Faults.{segment_fault, key_begins_at}
 
 -- the segments with one in front
 abbrev pub behind : SegmentValue → Result (List SegmentValue) PathFault → Result (List SegmentValue) PathFault

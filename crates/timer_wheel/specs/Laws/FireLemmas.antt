@@ -17,8 +17,8 @@ use Rattle.timer_wheel.specs.declared.place.Timer.{Timer}
 use Rattle.timer_wheel.specs.declared.Token.{Token}
 use Rattle.timer_wheel.specs.Timers.{Deadlines, IsDue, later_than, ComesBefore, Fires}
 use Rattle.timer_wheel.specs.Layout.{armed_of, IsAt, IsLaidOut, IsSplit, TakesDue}
-use Rattle.timer_wheel.proofs.MapLemmas.{armed_of_timer}
-use Rattle.timer_wheel.proofs.SweepLemmas.{list_of_timer, later_at_end}
+use Rattle.timer_wheel.specs.Laws.MapLemmas.{armed_of_timer}
+use Rattle.timer_wheel.specs.Laws.SweepLemmas.{list_of_timer, later_at_end}
 
 -- before anything was taken out
 pub IsSplit-none : (now : ℕ) (armed : Deadlines) → IsSplit now armed [] armed

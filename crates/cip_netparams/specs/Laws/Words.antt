@@ -9,7 +9,7 @@ use Rattle.cip_netparams.specs.declared.ConnectionType.TheVariants.{Null, Multic
 use Rattle.cip_netparams.specs.declared.Trigger.{Trigger}
 use Rattle.cip_netparams.specs.declared.Trigger.TheVariants.{Cyclic, ChangeOfState}
 use Rattle.cip_netparams.specs.Word.{priority_code, type_code, priority_of, type_of, IsWord16, IsWord32, word16, word32, params16, params32, trigger_of, trigger_byte}
-use Rattle.cip_netparams.proofs.Bits.{flag_below, fields_16, fields_32, sum_16, sum_32}
+use Rattle.cip_netparams.specs.Laws.Bits.{flag_below, fields_16, fields_32, sum_16, sum_32}
 
 pub priority_below : (p : Priority) → priority_code p < 4
 priority_below Low = omega arith

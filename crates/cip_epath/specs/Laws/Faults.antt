@@ -10,8 +10,8 @@ use Rattle.cip_epath.specs.Key.{KeyFields}
 use Rattle.cip_epath.specs.Segment.{logical, key, bytes, inhibit, type_code, logical_byte}
 use Rattle.cip_epath.specs.Path.{SegmentBegins, BeginsNone, IsOtherKey, IsFaultOf}
 use Rattle.cip_epath.specs.Reading.{◌>>=◌, number_at, data_at, key_fields_at, key_at, value_at, segment_at}
-use Rattle.cip_epath.proofs.Numbers.{gives, bind_err, guard_err, number_err, byte_again}
-use Rattle.cip_epath.proofs.Segments.{FirstByte, is_key, is_inhibit, is_data, is_8, is_16, is_32, is_stray, first_byte, at_key, at_inhibit, at_data, at_logical_8, at_logical_16, at_logical_32, segment_again}
+use Rattle.cip_epath.specs.Laws.Numbers.{gives, bind_err, guard_err, number_err, byte_again}
+use Rattle.cip_epath.specs.Laws.Segments.{FirstByte, is_key, is_inhibit, is_data, is_8, is_16, is_32, is_stray, first_byte, at_key, at_inhibit, at_data, at_logical_8, at_logical_16, at_logical_32, segment_again}
 
 -- a number is missing, or what follows it fails
 after_number : {B : Type 0} (w : Width) (bs : List ℕ) (g : ℕ × List ℕ → Result B PathFault) (f : PathFault) → (number_at w bs >>= g) ≡ Err f

@@ -9,8 +9,8 @@ use Rattle.cip_epath.specs.Key.{KeyFields}
 use Rattle.cip_epath.specs.Segment.{SegmentValue, logical}
 use Rattle.cip_epath.specs.Path.{PathFields, Role, key_role, class_role, point_role, data_role, roles, inhibits, arrangement, IsPath, IsTarget}
 use Rattle.cip_epath.specs.Reading.{with_points, with_class, with_key, with_inhibits, arranged_path, arranged_target}
-use Rattle.cip_epath.proofs.Numbers.{ok_is}
-use Rattle.cip_epath.proofs.Cuts.{Arranges}
+use Rattle.cip_epath.specs.Laws.Numbers.{ok_is}
+use Rattle.cip_epath.specs.Laws.Cuts.{Arranges}
 
 -- ---- connection paths
 
