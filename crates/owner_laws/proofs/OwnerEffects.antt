@@ -19,7 +19,7 @@ use Rattle.adapter_table.specs.declared.row.Row.{Row}
 use Rattle.adapter_table.specs.declared.row.State.{State}
 use Rattle.adapter_table.specs.declared.row.State.TheVariants.{Established, TimedOut}
 use Rattle.adapter_table.specs.declared.table.AdapterTable.{AdapterTable}
-use Rattle.adapter_table.specs.Rows.{lives, is_established, is_timed_out, is_supported, same_triad, has_triad, holds_triad, drives, drivers, others, written_state, written_row}
+use Rattle.adapter_table.specs.Rows.{most_rows, lives, is_established, is_timed_out, is_supported, same_triad, has_triad, holds_triad, drives, drivers, others, written_state, written_row}
 use Rattle.adapter_table.specs.Checks.{Admitted}
 use Rattle.adapter_table.specs.Opening.{makes_room, makes_room_by, is_opened_as, opened_row, opened_table}
 use Rattle.adapter_table.specs.Closing.{without_triad, stays, unsupported, staying, dropped_notice, closed_table, closed_notices}
@@ -41,8 +41,9 @@ abbrev pub KeepsOwner : ℕ → AdapterTable → List Notice → AdapterTable �
 KeepsOwner point t notices next =
     (row : Row) → drivers point t.rows ≡ row ∷ [] → has_ended notices row ≡ false → openings point next.rows ≡ row.opening ∷ []
 
-pub keeps_rows : (point : ℕ) (t next : AdapterTable) (notices : List Notice) → next.rows ≡ t.rows → KeepsOwner point t notices next
-keeps_rows point t next notices same = λ row alone lasts. ap (openings point) same ∙ ap (map opening_of) alone
+-- so it is where connections stay as they are
+pub unchanged : (point : ℕ) (t : AdapterTable) (notices : List Notice) → KeepsOwner point t notices t
+unchanged point t notices = λ row alone lasts. ap (map opening_of) alone
 
 -- ---- connections that are changed alone
 
@@ -51,16 +52,15 @@ pub record IsAlike (point : ℕ) (old new : Row) : Type 0 where
   pub drives : drives point new ≡ drives point old
   pub opening : new.opening ≡ old.opening
 
-mapped_step : (b c : Bool) (old new : Row) (rows news : List Row) → c ≡ b → new.opening ≡ old.opening → map opening_of news ≡ map opening_of rows → map opening_of (cond c (new ∷ news) news) ≡ map opening_of (cond b (old ∷ rows) rows)
-mapped_step true true old new rows news same opened rest = rw (opened, rest) refl
-mapped_step true false old new rows news same opened rest = absurd cc
-mapped_step false true old new rows news same opened rest = absurd cc
-mapped_step false false old new rows news same opened rest = rest
+mapped_step : (b : Bool) (old new : Row) (rows news : List Row) → new.opening ≡ old.opening → map opening_of news ≡ map opening_of rows → map opening_of (cond b (new ∷ news) news) ≡ map opening_of (cond b (old ∷ rows) rows)
+mapped_step true old new rows news opened rest = rw (opened, rest) refl
+mapped_step false old new rows news opened rest = rest
 
-pub openings_mapped : (point : ℕ) (f : Row → Row) → ((row : Row) → IsAlike point row (f row)) → (rows : List Row) → openings point (map f rows) ≡ openings point rows
+openings_mapped : (point : ℕ) (f : Row → Row) → ((row : Row) → IsAlike point row (f row)) → (rows : List Row) → openings point (map f rows) ≡ openings point rows
 openings_mapped point f alike [] = refl
 openings_mapped point f alike (row ∷ rows) =
-    mapped_step (drives point row) (drives point (f row)) row (f row) (drivers point rows) (drivers point (map f rows)) (alike row).drives (alike row).opening (openings_mapped point f alike rows)
+    rw ((alike row).drives)
+    (mapped_step (drives point row) row (f row) (drivers point rows) (drivers point (map f rows)) (alike row).opening (openings_mapped point f alike rows))
 
 stated : (point : ℕ) (row : Row) (state : State) → lives state ≡ lives row.state → IsAlike point row (record row { state = state })
 stated point row state same = record { drives = rw same refl; opening = refl }
@@ -93,13 +93,11 @@ alike_changed point input clock row = chosen (row.produced == input) point row (
 alike_produced : (point : ℕ) (clock : Ms) (row : Row) → IsAlike point row (produced_row clock row)
 alike_produced point clock row = stated point row (produced_state clock row.t_o_api row.state) (lives_produced clock row.t_o_api row.state)
 
-alike_accepted : (point : ℕ) (clock : Ms) (peer : Node) (d : DatagramFields) (row : Row) → IsAlike point row (accepted_if_for clock peer d row)
-alike_accepted point clock peer d row = chosen (is_for peer d.connection row) point row (accepted_row clock d row) (record { drives = refl; opening = refl })
-
 pub keeps_fed : (point : ℕ) (t : AdapterTable) (peer : Node) (d : DatagramFields) (to : Row) (delivery : Delivery) (notices : List Notice) → KeepsOwner point t notices (accepted_table t peer d to delivery)
 unfolding accepted_table
 keeps_fed point t peer d to delivery notices = λ row alone lasts.
-    openings_mapped point (accepted_if_for t.clock peer d) (alike_accepted point t.clock peer d) t.rows ∙ ap (map opening_of) alone
+    openings_mapped point (accepted_if_for t.clock peer d) (λ r. chosen (is_for peer d.connection r) point r (accepted_row t.clock d r) (record { drives = refl; opening = refl })) t.rows
+    ∙ ap (map opening_of) alone
 
 pub keeps_written : (point : ℕ) (t : AdapterTable) (input : ℕ) (bytes : List ℕ) (notices : List Notice) → KeepsOwner point t notices (changed_table (written_table t input bytes) input)
 unfolding written_table changed_table
@@ -115,18 +113,13 @@ owner_listens_not ExclusiveOwner is = refl
 owner_listens_not InputOnly is = absurd cc
 owner_listens_not ListenOnly is = absurd cc
 
--- what a driver is
-pub record IsDriver (point : ℕ) (row : Row) : Type 0 where
-  pub lives : is_established row ≡ true
-  pub owns : is_owner row.kind ≡ true
-
-pub driver_is : (point : ℕ) (row : Row) → drives point row ≡ true → IsDriver point row
+driver_is : (point : ℕ) (row : Row) → drives point row ≡ true → (is_established row ≡ true) × (is_owner row.kind ≡ true)
 driver_is point row is =
     let parts = and_parts (is_established row) _ is in
-    record { lives = parts.0; owns = (and_parts (is_owner row.kind) _ parts.1).0 }
+    (parts.0, (and_parts (is_owner row.kind) _ parts.1).0)
 
 driver_stays : (point : ℕ) (rows : List Row) (row : Row) → drives point row ≡ true → stays rows row ≡ true
-driver_stays point rows row is = stays_step (is_established row) (is_listener row.kind) (not (is_supported rows row.kind row.produced)) (owner_listens_not row.kind (driver_is point row is).owns) where
+driver_stays point rows row is = stays_step (is_established row) (is_listener row.kind) (not (is_supported rows row.kind row.produced)) (owner_listens_not row.kind (driver_is point row is).1) where
   stays_step : (a b c : Bool) → b ≡ false → not (a && (b && c)) ≡ true
   stays_step true true c h = absurd cc
   stays_step true false c h = refl
@@ -179,7 +172,7 @@ first_is_other point rows row (Some first) is alone rise = other_step (row.openi
       let all = two_found SameOpening same_back is_timed_out rows first is (λ _. refl) (two_weak OpensBefore SameOpening rising rows rise) in
       let one : row ≡ first = alone_holds (λ r. SameOpening r first) (drives point) rows row alone all number in
       let dead : not (is_established row) ≡ true = subst (λ (r : Row). is_timed_out r ≡ true) (sym one) (found_passes is_timed_out rows first is) in
-      let live = (driver_is point row (alone_passes (drives point) rows row alone)).lives in
+      let live = (driver_is point row (alone_passes (drives point) rows row alone)).0 in
       absurd (let e : not true ≡ true = subst (λ (b : Bool). not b ≡ true) live dead in cc)
   other_step false same = refl
 
@@ -190,7 +183,7 @@ and_other false b lives free = absurd cc
 -- an established connection makes no room for a triad that is free
 room_is_other : (b c : Bool) (triad : Triad) (point : ℕ) (rows : List Row) (row : Row) → drivers point rows ≡ row ∷ [] → list_any (holds_triad triad) rows ≡ false → OpeningsRise rows → makes_room_by b c (find is_timed_out rows) triad row ≡ false
 room_is_other true c triad point rows row alone free rise =
-    and_other (is_established row) (has_triad triad row) (driver_is point row (alone_passes (drives point) rows row alone)).lives
+    and_other (is_established row) (has_triad triad row) (driver_is point row (alone_passes (drives point) rows row alone)).0
     (alone_fails (drives point) (holds_triad triad) rows row alone free)
 room_is_other false true triad point rows row alone free rise = first_is_other point rows row (find is_timed_out rows) refl alone rise
 room_is_other false false triad point rows row alone free rise = refl
@@ -199,7 +192,7 @@ room_is_other false false triad point rows row alone free rise = refl
 pub keeps_opened : (point : ℕ) (t : AdapterTable) (peer : Node) (request : OpenFields) (admitted : Admitted) (notices : List Notice) → list_any (holds_triad request.triad) t.rows ≡ false → OpeningsRise t.rows → length (drivers point (opened_table t (opened_row t peer request admitted) admitted).rows) ≤ 1 → KeepsOwner point t notices (opened_table t (opened_row t peer request admitted) admitted)
 unfolding opened_table opened_row
 keeps_opened point t peer request admitted notices free rise one = λ row alone lasts.
-    let other = room_is_other (list_any (has_triad request.triad) t.rows) (nat_le 64 (length t.rows)) request.triad point t.rows row alone free rise in
+    let other = room_is_other (list_any (has_triad request.triad) t.rows) (nat_le most_rows (length t.rows)) request.triad point t.rows row alone free rise in
     let left = left_alone (λ r. not (makes_room t.rows request.triad r)) (drives point) t.rows row alone (passes_not (makes_room t.rows request.triad row) other) in
     ap (map opening_of) (alone_before (drives point) (others (makes_room t.rows request.triad) t.rows) (opened_row t peer request admitted) row left one)
 

@@ -11,13 +11,12 @@ use Rattle.cip_encap.specs.declared.packet.ItemFault.{ItemFault}
 use Rattle.cip_encap.specs.Packet.{PacketFields}
 use Rattle.cip_encap.specs.PacketReading.{packet_reading}
 use Rattle.cip_epath.specs.Reading.{path_reading}
-use Rattle.cip_events.specs.declared.event.Delivery.{Delivery}
 use Rattle.cip_events.specs.declared.event.Event.{Event}
 use Rattle.cip_events.specs.declared.event.Event.TheVariants.{Request, StreamOpened, Frame, StreamCut, Datagram, Write, Read, Tick, Mode, Start, Stop}
 use Rattle.cip_events.specs.declared.event.Notice.TheVariants.{StreamClosed}
 use Rattle.cip_events.specs.declared.event.StepFault.{StepFault}
 use Rattle.cip_events.specs.declared.event.StepFault.TheVariants.{NotAllowedNow, TickTooLong, ClockEnd, WrongLength}
-use Rattle.cip_events.specs.declared.event.Verdict.TheVariants.{Done, BadFrame}
+use Rattle.cip_events.specs.declared.event.Verdict.TheVariants.{Done}
 use Rattle.cip_events.specs.Answers.{plain_answer, is_accepted}
 use Rattle.cip_events.specs.Clock.{longest_tick, clock_end}
 use Rattle.cip_fwdopen.specs.Open.{OpenFields}
@@ -26,11 +25,10 @@ use Rattle.cip_router.specs.declared.command.Command.{Command}
 use Rattle.cip_router.specs.declared.command.Command.TheVariants as command
 use Rattle.cip_router.specs.declared.command.EncapStatus.TheVariants as encap
 use Rattle.cip_router.specs.declared.refusal.Refusal.{Refusal}
-use Rattle.cip_router.specs.declared.refusal.Status.TheVariants as status
+use Rattle.cip_router.specs.declared.refusal.Refusal.TheVariants.{InUse}
 use Rattle.cip_router.specs.Asking.{AskedFields, nothing, refused, closing, assembly, opening, asked_reading}
 use Rattle.cip_router.specs.Commands.{command_of, is_silent}
 use Rattle.cip_router.specs.Frames.{Echo, FrameFields, headless, misfit, whole, frame_reading, protocol_text}
-use Rattle.cip_router.specs.Replies.{got}
 use Rattle.adapter_table.specs.declared.profile.InputPoint.{InputPoint}
 use Rattle.adapter_table.specs.declared.row.Row.{Row}
 use Rattle.adapter_table.specs.declared.table.AdapterTable.{AdapterTable}
@@ -38,45 +36,40 @@ use Rattle.adapter_table.specs.declared.table.Stream.{Stream}
 use Rattle.adapter_table.specs.Profiles.{is_at}
 use Rattle.adapter_table.specs.Points.{bytes_at}
 use Rattle.adapter_table.specs.Rows.{has_triad, holds_triad}
-use Rattle.adapter_table.specs.Checks.{Check, check, first_of, checks, points_of, Points, judged, view_of, verdict, Admitted, admission}
+use Rattle.adapter_table.specs.Checks.{Check, check, first_of, segment_check, points_of, Points, judged, view_of, verdict, Admitted, admission}
 use Rattle.adapter_table.specs.Opening.{opened_row, opened_table, opened_notices}
-use Rattle.adapter_table.specs.Requests.{Next, Served, judged_open, admitted_open, served_open, close_of, served_close, get_of, is_value_attribute, router_refusal, assembly_of, served_assembly, served, answered, requested}
+use Rattle.adapter_table.specs.Requests.{Next, Served, judged_open, admitted_open, served_open, close_of, served_close, is_value_attribute, assembly_of, served_assembly, served, answered, requested}
 use Rattle.adapter_table.specs.Streams.{is_stream, is_taken, with_stream, without_stream, has_session, registered_table, stream_opened, cut_of, stream_cut}
-use Rattle.adapter_table.specs.Encapsulation.{Handled, refusal, session_begun, session_ended, register_session, request_replied, packet_replied, handled, framed, frame_answer, frame_of, frame}
+use Rattle.adapter_table.specs.Encapsulation.{Handled, refusal, unanswered, session_begun, session_ended, register_session, request_replied, packet_replied, handled, frame_answer, frame_of, frame}
 use Rattle.adapter_table.specs.Datagrams.{is_for, row_delivery, accepted_table, delivered, found_datagram, datagram_of, received}
 use Rattle.adapter_table.specs.Ticks.{clocked_table, elapsed, tick}
 use Rattle.adapter_table.specs.Step.{adapter_step, read, read_of, write, write_of, written, written_table}
 use Rattle.adapter_table.specs.Whole.{IsWhole}
 use Rattle.adapter_table.specs.Laws.{EffectsKeep}
-use Rattle.owner_laws.proofs.OwnerEffects.{KeepsOwner, keeps_rows, keeps_fed, keeps_written, keeps_closed, keeps_opened, keeps_elapsed}
+use Rattle.owner_laws.proofs.OwnerEffects.{KeepsOwner, unchanged, keeps_fed, keeps_written, keeps_closed, keeps_opened, keeps_elapsed}
+
+-- a choice between two things that keep it
+either : {A : Type 0} (P : A → Type 0) (b : Bool) (x y : A) → P x → P y → P (cond b x y)
+either P true x y first second = first
+either P false x y first second = second
 
 -- ---- an opening that is admitted
-
-abbrev AllPass : List Check → Type 0
-AllPass [] = Unit {0}
-AllPass (c ∷ rest) = (c ≡ None) × AllPass rest
-
-all_pass : (cs : List Check) → first_of cs ≡ None → AllPass cs
-all_pass [] none = tt
-all_pass (None ∷ rest) none = (refl, all_pass rest none)
-all_pass (Some why ∷ rest) none = absurd cc
-
-check_passes : (fails : Bool) (why : Refusal) → check fails why ≡ None → fails ≡ false
-check_passes true why none = absurd cc
-check_passes false why none = refl
 
 judged_passes : (request : OpenFields) (points : Result Points Refusal) (c : Check) (admitted : Admitted) → judged request points c ≡ Ok admitted → c ≡ None
 judged_passes request points (Some why) admitted is = absurd cc
 judged_passes request points None admitted is = refl
 
--- no established connection has its triad
+second_passes : (first : Check) (fails : Bool) (why : Refusal) (rest : List Check) → first_of (first ∷ check fails why ∷ rest) ≡ None → fails ≡ false
+second_passes None false why rest none = refl
+second_passes None true why rest none = absurd cc
+second_passes (Some other) fails why rest none = absurd cc
+
+-- no established connection has its triad, by the second check
 triad_is_free : (t : AdapterTable) (request : OpenFields) (admitted : Admitted) → admission t request ≡ Ok admitted → list_any (holds_triad request.triad) t.rows ≡ false
 unfolding verdict
 triad_is_free t request admitted is =
-    let path = path_reading request.path in
     let points = points_of (view_of t request.triad) request (result_ok (path_reading request.path)) in
-    let passed = all_pass (checks (view_of t request.triad) request (path_reading request.path) (points_of (view_of t request.triad) request (result_ok (path_reading request.path)))) (judged_passes request points _ admitted is) in
-    check_passes _ _ passed.1.0
+    second_passes (segment_check (path_reading request.path)) (list_any (holds_triad request.triad) t.rows) InUse _ (judged_passes request points _ admitted is)
 
 -- each opening that is admitted keeps the owner
 abbrev OpeningsKeep : ℕ → AdapterTable → Type 0
@@ -94,30 +87,22 @@ openings_keep effects point t holds = λ peer request admitted is.
 abbrev ServedKeeps : ℕ → AdapterTable → Served → Type 0
 ServedKeeps point t s = KeepsOwner point t s.notices s.table
 
--- what changes no connection keeps the owner
-unchanged : (point : ℕ) (t : AdapterTable) → KeepsOwner point t [] t
-unchanged point t = keeps_rows point t t [] refl
-
 keeps_judged : (point : ℕ) (t : AdapterTable) → OpeningsKeep point t → (peer : Node) (large : Bool) (request : OpenFields) (said : Result Admitted Refusal) → admission t request ≡ said → ServedKeeps point t (judged_open t peer large request said)
 unfolding admitted_open
-keeps_judged point t opens peer large request (Err why) is = unchanged point t
+keeps_judged point t opens peer large request (Err why) is = unchanged point t []
 keeps_judged point t opens peer large request (Ok admitted) is = opens peer request admitted is
 
 keeps_close : (point : ℕ) (t : AdapterTable) (request : CloseFields) (found : Option Row) → ServedKeeps point t (close_of t request found)
-keeps_close point t request None = unchanged point t
+keeps_close point t request None = unchanged point t []
 keeps_close point t request (Some row) = keeps_closed point t row
 
-keeps_get : (point : ℕ) (t : AdapterTable) (service : ℕ) (attribute : Option ℕ) (body value : List ℕ) → ServedKeeps point t (get_of t service attribute body value)
-keeps_get point t service attribute body value = get_step (not (service == 0x0E)) (not (is_value_attribute attribute)) (not (length body == 0)) where
-  get_step : (a b c : Bool) → ServedKeeps point t (cond a (router_refusal t service status.Service) (cond b (router_refusal t service status.Attribute) (cond c (router_refusal t service status.TooMuchData) (record { reply = got value; address = None; notices = []; table = t }))))
-  get_step true b c = unchanged point t
-  get_step false true c = unchanged point t
-  get_step false false true = unchanged point t
-  get_step false false false = unchanged point t
-
 keeps_assembly : (point : ℕ) (t : AdapterTable) (service : ℕ) (attribute : Option ℕ) (body : List ℕ) (found : Option (List ℕ)) → ServedKeeps point t (assembly_of t service attribute body found)
-keeps_assembly point t service attribute body None = unchanged point t
-keeps_assembly point t service attribute body (Some value) = keeps_get point t service attribute body value
+keeps_assembly point t service attribute body None = unchanged point t []
+keeps_assembly point t service attribute body (Some value) =
+    let same = unchanged point t [] in
+    either (ServedKeeps point t) (not (service == 0x0E)) _ _ same
+    (either (ServedKeeps point t) (not (is_value_attribute attribute)) _ _ same
+    (either (ServedKeeps point t) (not (length body == 0)) _ _ same same))
 
 -- the same of what is served, where something is
 abbrev AnyKeeps : ℕ → AdapterTable → Option Served → Type 0
@@ -127,17 +112,17 @@ AnyKeeps point t (Some s) = ServedKeeps point t s
 keeps_served : (point : ℕ) (t : AdapterTable) → OpeningsKeep point t → (peer : Node) (asked : AskedFields) → AnyKeeps point t (served t peer asked)
 unfolding served_open served_close served_assembly
 keeps_served point t opens peer nothing = tt
-keeps_served point t opens peer (refused service why) = unchanged point t
+keeps_served point t opens peer (refused service why) = unchanged point t []
 keeps_served point t opens peer (closing request) = keeps_close point t request (find (has_triad request.triad) t.rows)
 keeps_served point t opens peer (assembly service instance attribute body) = keeps_assembly point t service attribute body (bytes_at t.values instance)
 keeps_served point t opens peer (opening large request) = keeps_judged point t opens peer large request (admission t request) refl
 
 -- an answer and the next table keep the owner
-abbrev pub NextKeeps : ℕ → AdapterTable → Next → Type 0
+abbrev NextKeeps : ℕ → AdapterTable → Next → Type 0
 NextKeeps point t next = KeepsOwner point t next.0.notices next.1
 
 keeps_answered : (point : ℕ) (t : AdapterTable) (peer : Node) (s : Option Served) → AnyKeeps point t s → NextKeeps point t (answered t peer s)
-keeps_answered point t peer None keeps = unchanged point t
+keeps_answered point t peer None keeps = unchanged point t []
 keeps_answered point t peer (Some s) keeps = keeps
 
 -- ---- frames
@@ -145,49 +130,48 @@ keeps_answered point t peer (Some s) keeps = keeps
 abbrev HandledKeeps : ℕ → AdapterTable → Handled → Type 0
 HandledKeeps point t done = KeepsOwner point t done.notices done.table
 
-either_keeps : (point : ℕ) (t : AdapterTable) (b : Bool) (x y : Handled) → HandledKeeps point t x → HandledKeeps point t y → HandledKeeps point t (cond b x y)
-either_keeps point t true x y first second = first
-either_keeps point t false x y first second = second
-
-keeps_registered : (point : ℕ) (t : AdapterTable) (number : ℕ) → KeepsOwner point t [] (registered_table t number)
-unfolding registered_table
-keeps_registered point t number = keeps_rows point t (registered_table t number) [] refl
-
 keeps_register : (point : ℕ) (t : AdapterTable) (stream : Stream) (body : List ℕ) → HandledKeeps point t (register_session t stream body)
+unfolding registered_table
 keeps_register point t stream body =
-    either_keeps point t (not (length body == 4)) _ _ (unchanged point t)
-    (either_keeps point t (not (bytes_eq body protocol_text)) _ _ (unchanged point t)
-    (either_keeps point t stream.registered (refusal t encap.InvalidCommand) (session_begun t stream) (unchanged point t) (keeps_registered point t stream.number)))
-
-keeps_ended : (point : ℕ) (t : AdapterTable) (stream : Stream) → HandledKeeps point t (session_ended t stream)
-unfolding without_stream
-keeps_ended point t stream = keeps_rows point t (without_stream t stream.number) (StreamClosed stream.number ∷ []) refl
+    let same = unchanged point t [] in
+    either (HandledKeeps point t) (not (length body == 4)) _ _ same
+    (either (HandledKeeps point t) (not (bytes_eq body protocol_text)) _ _ same
+    (either (HandledKeeps point t) stream.registered (refusal t encap.InvalidCommand) (session_begun t stream) same same))
 
 keeps_replied : (point : ℕ) (t : AdapterTable) (s : Option Served) → AnyKeeps point t s → HandledKeeps point t (request_replied t s)
-keeps_replied point t None keeps = unchanged point t
+keeps_replied point t None keeps = unchanged point t []
 keeps_replied point t (Some s) keeps = keeps
 
 keeps_packet : (point : ℕ) (t : AdapterTable) → OpeningsKeep point t → (peer : Node) (reading : Result PacketFields ItemFault) → HandledKeeps point t (packet_replied t peer reading)
-keeps_packet point t opens peer (Err fault) = unchanged point t
+keeps_packet point t opens peer (Err fault) = unchanged point t []
 keeps_packet point t opens peer (Ok packet) = keeps_replied point t (served t peer (asked_reading packet.payload)) (keeps_served point t opens peer (asked_reading packet.payload))
 
 keeps_handled : (point : ℕ) (t : AdapterTable) → OpeningsKeep point t → (stream : Stream) (echo : Echo) (body : List ℕ) (asked : Command) → HandledKeeps point t (handled t stream echo body asked)
-unfolding handled
-keeps_handled point t opens stream echo body command.Nop = unchanged point t
-keeps_handled point t opens stream echo body command.ListServices = unchanged point t
+unfolding handled without_stream
 keeps_handled point t opens stream echo body command.RegisterSession = keeps_register point t stream body
-keeps_handled point t opens stream echo body command.UnregisterSession = either_keeps point t (has_session stream echo.session) (session_ended t stream) _ (keeps_ended point t stream) (unchanged point t)
-keeps_handled point t opens stream echo body command.SendRrData = either_keeps point t (has_session stream echo.session) _ _ (keeps_packet point t opens stream.peer (packet_reading body)) (unchanged point t)
-keeps_handled point t opens stream echo body command.Other = unchanged point t
-
-keeps_misfit : (b : Bool) (point : ℕ) (t : AdapterTable) (number : ℕ) (echo : Echo) → NextKeeps point t (cond b (plain_answer BadFrame, t) (framed number echo (refusal t encap.InvalidLength)))
-keeps_misfit true point t number echo = unchanged point t
-keeps_misfit false point t number echo = unchanged point t
+keeps_handled point t opens stream echo body command.UnregisterSession =
+    either (HandledKeeps point t) (has_session stream echo.session) (session_ended t stream) (unanswered t) (unchanged point t (StreamClosed stream.number ∷ [])) (unchanged point t [])
+keeps_handled point t opens stream echo body command.SendRrData =
+    either (HandledKeeps point t) (has_session stream echo.session) _ _ (keeps_packet point t opens stream.peer (packet_reading body)) (unchanged point t [])
+keeps_handled point t opens stream echo body _ = unchanged point t []
 
 keeps_frame : (point : ℕ) (t : AdapterTable) → OpeningsKeep point t → (stream : Stream) (fields : FrameFields) → NextKeeps point t (frame_answer t stream fields)
-keeps_frame point t opens stream headless = unchanged point t
-keeps_frame point t opens stream (misfit echo) = keeps_misfit (is_silent (command_of echo.command)) point t stream.number echo
+keeps_frame point t opens stream headless = unchanged point t []
+keeps_frame point t opens stream (misfit echo) = either (NextKeeps point t) (is_silent (command_of echo.command)) _ _ (unchanged point t []) (unchanged point t [])
 keeps_frame point t opens stream (whole echo body) = keeps_handled point t opens stream echo body (command_of echo.command)
+
+-- ---- datagrams
+
+keeps_found : (point : ℕ) (t : AdapterTable) (peer : Node) (d : DatagramFields) (found : Option Row) → NextKeeps point t (found_datagram t peer d found)
+keeps_found point t peer d None = unchanged point t []
+keeps_found point t peer d (Some row) =
+    let delivery = row_delivery t.profile row d in
+    either (NextKeeps point t) (is_accepted (row_delivery t.profile row d)) (delivered delivery (accepted_table t peer d row delivery)) (delivered delivery t)
+    (keeps_fed point t peer d row delivery []) (unchanged point t [])
+
+keeps_datagram : (point : ℕ) (t : AdapterTable) (peer : Node) (reading : Result DatagramFields DatagramFault) → NextKeeps point t (datagram_of t peer reading)
+keeps_datagram point t peer (Err fault) = unchanged point t []
+keeps_datagram point t peer (Ok d) = keeps_found point t peer d (find (is_for peer d.connection) t.rows)
 
 -- ---- a step that gives an answer
 
@@ -196,60 +180,38 @@ abbrev OkKeeps : ℕ → AdapterTable → Result Next StepFault → Type 0
 OkKeeps point t (Ok next) = NextKeeps point t next
 OkKeeps point t (Err fault) = Unit {0}
 
-ok_chosen : (b : Bool) (point : ℕ) (t : AdapterTable) (x y : Result Next StepFault) → OkKeeps point t x → OkKeeps point t y → OkKeeps point t (cond b x y)
-ok_chosen true point t x y first second = first
-ok_chosen false point t x y first second = second
-
 ok_framed : (point : ℕ) (t : AdapterTable) → OpeningsKeep point t → (bytes : List ℕ) (found : Option Stream) → OkKeeps point t (frame_of t bytes found)
 ok_framed point t opens bytes None = tt
 ok_framed point t opens bytes (Some stream) = keeps_frame point t opens stream (frame_reading bytes)
 
-keeps_with : (point : ℕ) (t : AdapterTable) (number : ℕ) (peer : Node) → KeepsOwner point t [] (with_stream t number peer)
-unfolding with_stream
-keeps_with point t number peer = keeps_rows point t (with_stream t number peer) [] refl
-
-keeps_without : (point : ℕ) (t : AdapterTable) (number : ℕ) → KeepsOwner point t [] (without_stream t number)
-unfolding without_stream
-keeps_without point t number = keeps_rows point t (without_stream t number) [] refl
-
 ok_cut : (point : ℕ) (t : AdapterTable) (found : Option Stream) → OkKeeps point t (cut_of t found)
+unfolding without_stream
 ok_cut point t None = tt
-ok_cut point t (Some stream) = keeps_without point t stream.number
-
-judged_keeps : (b : Bool) (point : ℕ) (t : AdapterTable) (peer : Node) (d : DatagramFields) (row : Row) (delivery : Delivery) → NextKeeps point t (cond b (delivered delivery (accepted_table t peer d row delivery)) (delivered delivery t))
-judged_keeps true point t peer d row delivery = keeps_fed point t peer d row delivery []
-judged_keeps false point t peer d row delivery = unchanged point t
-
-found_keeps : (point : ℕ) (t : AdapterTable) (peer : Node) (d : DatagramFields) (found : Option Row) → NextKeeps point t (found_datagram t peer d found)
-found_keeps point t peer d None = unchanged point t
-found_keeps point t peer d (Some row) = judged_keeps (is_accepted (row_delivery t.profile row d)) point t peer d row (row_delivery t.profile row d)
-
-datagram_keeps : (point : ℕ) (t : AdapterTable) (peer : Node) (reading : Result DatagramFields DatagramFault) → NextKeeps point t (datagram_of t peer reading)
-datagram_keeps point t peer (Err fault) = unchanged point t
-datagram_keeps point t peer (Ok d) = found_keeps point t peer d (find (is_for peer d.connection) t.rows)
+ok_cut point t (Some stream) = unchanged point t []
 
 ok_written : (point : ℕ) (t : AdapterTable) (input : ℕ) (bytes : List ℕ) (found : Option InputPoint) → OkKeeps point t (write_of t input bytes found)
 ok_written point t input bytes None = tt
 ok_written point t input bytes (Some there) =
-    ok_chosen (length bytes == there.len) point t (Ok (written (written_table t input bytes) input bytes)) (Err WrongLength) (keeps_written point t input bytes []) tt
+    either (OkKeeps point t) (length bytes == there.len) (Ok (written (written_table t input bytes) input bytes)) (Err WrongLength) (keeps_written point t input bytes []) tt
 
 ok_read : (point : ℕ) (t : AdapterTable) (found : Option (List ℕ)) → OkKeeps point t (read_of t found)
 ok_read point t None = tt
-ok_read point t (Some bytes) = unchanged point t
+ok_read point t (Some bytes) = unchanged point t []
 
 ok_ticked : (point : ℕ) (t : AdapterTable) (ms : ℕ) → OkKeeps point t (tick t ms)
 unfolding tick
 ok_ticked point t ms =
-    ok_chosen (nat_lt longest_tick ms) point t (Err TickTooLong) _ tt
-    (ok_chosen (nat_lt clock_end (t.clock.0 + ms)) point t (Err ClockEnd) (Ok (elapsed (clocked_table t ms))) tt (keeps_elapsed point t ms))
+    either (OkKeeps point t) (nat_lt longest_tick ms) (Err TickTooLong) _ tt
+    (either (OkKeeps point t) (nat_lt clock_end (t.clock.0 + ms)) (Err ClockEnd) (Ok (elapsed (clocked_table t ms))) tt (keeps_elapsed point t ms))
 
 ok_step : (point : ℕ) (t : AdapterTable) → OpeningsKeep point t → (event : Event) → OkKeeps point t (adapter_step t event)
-unfolding requested received read write frame stream_cut stream_opened
+unfolding requested received read write frame stream_cut stream_opened with_stream
 ok_step point t opens (Request peer bytes) = keeps_answered point t peer (served t peer (asked_reading bytes)) (keeps_served point t opens peer (asked_reading bytes))
-ok_step point t opens (StreamOpened number peer) = ok_chosen (is_taken t.streams number) point t (Err NotAllowedNow) (Ok (plain_answer Done, with_stream t number peer)) tt (keeps_with point t number peer)
+ok_step point t opens (StreamOpened number peer) =
+    either (OkKeeps point t) (is_taken t.streams number) (Err NotAllowedNow) (Ok (plain_answer Done, with_stream t number peer)) tt (unchanged point t [])
 ok_step point t opens (Frame number bytes) = ok_framed point t opens bytes (find (is_stream number) t.streams)
 ok_step point t opens (StreamCut number) = ok_cut point t (find (is_stream number) t.streams)
-ok_step point t opens (Datagram peer bytes) = datagram_keeps point t peer (datagram_reading bytes)
+ok_step point t opens (Datagram peer bytes) = keeps_datagram point t peer (datagram_reading bytes)
 ok_step point t opens (Write input bytes) = ok_written point t input bytes (find (is_at input) t.profile.inputs)
 ok_step point t opens (Read other) = ok_read point t (bytes_at t.values other)
 ok_step point t opens (Tick ms) = ok_ticked point t ms
@@ -258,5 +220,5 @@ ok_step point t opens (Start slot) = tt
 ok_step point t opens (Stop slot) = tt
 
 -- each step from a whole table that gives an answer keeps the owner, unless the answer tells its end
-pub step_keeps : EffectsKeep IsWhole → (point : ℕ) (t : AdapterTable) (event : Event) (next : Next) → IsWhole t → adapter_step t event ≡ Ok next → NextKeeps point t next
+pub step_keeps : EffectsKeep IsWhole → (point : ℕ) (t : AdapterTable) (event : Event) (next : Next) → IsWhole t → adapter_step t event ≡ Ok next → KeepsOwner point t next.0.notices next.1
 step_keeps effects point t event next holds is = subst (OkKeeps point t) is (ok_step point t (openings_keep effects point t holds) event)

@@ -10,11 +10,9 @@ use Rattle.cip_datagram.specs.Reading.{datagram_reading}
 use Rattle.cip_events.specs.declared.event.Delivery.{Delivery}
 use Rattle.cip_events.specs.declared.event.Delivery.TheVariants.{Heartbeat, Old, WrongSize}
 use Rattle.cip_events.specs.declared.event.Event.{Event}
-use Rattle.cip_events.specs.declared.event.Event.TheVariants.{Request, StreamOpened, Frame, StreamCut, Datagram, Write, Read, Tick, Mode, Start, Stop}
+use Rattle.cip_events.specs.declared.event.Event.TheVariants.{Datagram}
 use Rattle.cip_events.specs.declared.event.Notice.{Notice}
 use Rattle.cip_events.specs.declared.event.StepFault.{StepFault}
-use Rattle.cip_events.specs.declared.event.StepFault.TheVariants.{OutOfMemory, TickTooLong, ClockEnd, NoSuchPoint, WrongLength, NoSuchSlot, NotAllowedNow}
-use Rattle.cip_events.specs.Outcomes.{Outcome, Follows}
 use Rattle.cip_productions.specs.Acceptance.{is_news}
 use Rattle.cip_productions.specs.Kinds.{is_owner}
 use Rattle.adapter_table.specs.declared.profile.Profile.{Profile}
@@ -28,12 +26,13 @@ use Rattle.adapter_table.specs.Step.{adapter_step}
 use Rattle.adapter_table.specs.Sound.{HasOneOwner}
 use Rattle.adapter_table.specs.Whole.{IsWhole}
 use Rattle.adapter_table.specs.Laws.{EffectsKeep}
+use Rattle.scanner_table.specs.declared.table.ScannerTable.{ScannerTable}
 use Rattle.scanner_table.specs.Effects.{Next as ScannerNext}
 use Rattle.scanner_table.specs.Step.{scanner_step}
 use Rattle.cip_tables.specs.declared.table.DeviceTable.{DeviceTable}
 use Rattle.cip_tables.specs.declared.table.DeviceTable.TheVariants.{Adapter, Scanner}
 use Rattle.cip_tables.specs.Step.{DeviceNext, as_adapter, as_scanner, step}
-use Rattle.cip_tables.specs.Run.{Runs, performed}
+use Rattle.cip_tables.specs.Run.{table_of, performed}
 use Rattle.cip_tables.specs.Whole.{IsWholeDevice, RunsKeepWhole}
 use Rattle.owner_laws.specs.Turns.{Turn, brought, brought_found, brought_read, brought_at, has_ended, ended_turn, ended_at, told, turns_at, turns, left_after, owner_after, IsOwner, Follow, opening_of, driver_in, OwnersFollow, DriversGoOn}
 use Rattle.owner_laws.proofs.OneOwner.{found_alone}
@@ -110,17 +109,8 @@ brings_read point owner t peer (Ok d) one owns = brings_found point owner t peer
 
 -- the data of an event come from the owner, where there is one
 brings_at : (point : ℕ) (owner : Option ℕ) (t : AdapterTable) (event : Event) → HasOneOwner t.rows → Owns point owner t → Goes point owner (brought_at point t event) t
-brings_at point owner t (Request peer bytes) one owns = (tt, owns)
-brings_at point owner t (StreamOpened number peer) one owns = (tt, owns)
-brings_at point owner t (Frame number bytes) one owns = (tt, owns)
-brings_at point owner t (StreamCut number) one owns = (tt, owns)
 brings_at point owner t (Datagram peer bytes) one owns = brings_read point owner t peer (datagram_reading bytes) one owns
-brings_at point owner t (Write other bytes) one owns = (tt, owns)
-brings_at point owner t (Read other) one owns = (tt, owns)
-brings_at point owner t (Tick ms) one owns = (tt, owns)
-brings_at point owner t (Mode run) one owns = (tt, owns)
-brings_at point owner t (Start slot) one owns = (tt, owns)
-brings_at point owner t (Stop slot) one owns = (tt, owns)
+brings_at point owner t event one owns = (tt, owns)
 
 -- ---- ends
 
@@ -176,69 +166,34 @@ DeviceOwns point owner (Scanner t) = Unit {0}
 abbrev DeviceGoes : ℕ → Option ℕ → List Turn → DeviceTable → Type 0
 DeviceGoes point owner told next = Follow owner told × DeviceOwns point (owner_at_end owner told) next
 
-ok_is : (x y : DeviceNext) → ◌≡◌ {A = Result DeviceNext StepFault} (Ok x) (Ok y) → x ≡ y
-ok_is x y h = cc
+adapter_goes : EffectsKeep IsWhole → (point : ℕ) (owner : Option ℕ) (t : AdapterTable) (event : Event) (said : Result Next StepFault) → adapter_step t event ≡ said → IsWhole t → Owns point owner t → DeviceGoes point owner (told point t event said) (table_of (Adapter t) (as_adapter said))
+adapter_goes effects point owner t event (Ok next) is whole owns = told_goes point owner t event next whole.sound.one_owner owns (step_keeps effects point t event next whole is)
+adapter_goes effects point owner t event (Err fault) is whole owns = (tt, owns)
 
-adapter_goes : (point : ℕ) (owner : Option ℕ) (t : AdapterTable) (event : Event) (said : Result Next StepFault) (next : DeviceNext) → as_adapter said ≡ Ok next → ((n : Next) → said ≡ Ok n → Goes point owner (told point t event (Ok n)) n.1) → DeviceGoes point owner (told point t event said) next.1
-adapter_goes point owner t event (Ok n) next is goes = subst (λ (d : DeviceNext). DeviceGoes point owner (told point t event (Ok n)) d.1) (ok_is _ _ is) (goes n refl)
-adapter_goes point owner t event (Err fault) next is goes = absurd cc
+scanner_goes : (point : ℕ) (owner : Option ℕ) (t : ScannerTable) (said : Result ScannerNext StepFault) → DeviceGoes point owner [] (table_of (Scanner t) (as_scanner said))
+scanner_goes point owner t (Ok next) = (tt, tt)
+scanner_goes point owner t (Err fault) = (tt, tt)
 
-scanner_goes : (point : ℕ) (owner : Option ℕ) (said : Result ScannerNext StepFault) (next : DeviceNext) → as_scanner said ≡ Ok next → DeviceGoes point owner [] next.1
-scanner_goes point owner (Ok n) next is = subst (λ (d : DeviceNext). DeviceGoes point owner [] d.1) (ok_is _ _ is) (scanner_owns owner n) where
-  scanner_owns : (owner : Option ℕ) (n : ScannerNext) → DeviceGoes point owner [] (Scanner n.1)
-  scanner_owns owner n = (tt, tt)
-scanner_goes point owner (Err fault) next is = absurd cc
-
-step_goes : EffectsKeep IsWhole → (point : ℕ) (owner : Option ℕ) (old : DeviceTable) (event : Event) (next : DeviceNext) → step old event ≡ Ok next → IsWholeDevice old → DeviceOwns point owner old → DeviceGoes point owner (turns_at point old event) next.1
+step_goes : EffectsKeep IsWhole → (point : ℕ) (owner : Option ℕ) (old : DeviceTable) (event : Event) → IsWholeDevice old → DeviceOwns point owner old → DeviceGoes point owner (turns_at point old event) (table_of old (step old event))
 unfolding step
-step_goes effects point owner (Adapter t) event next is whole owns =
-    adapter_goes point owner t event (adapter_step t event) next is (λ n said. told_goes point owner t event n whole.sound.one_owner owns (step_keeps effects point t event n whole said))
-step_goes effects point owner (Scanner t) event next is whole owns = scanner_goes point owner (scanner_step t event) next is
+step_goes effects point owner (Adapter t) event whole owns = adapter_goes effects point owner t event (adapter_step t event) refl whole owns
+step_goes effects point owner (Scanner t) event whole owns = scanner_goes point owner t (scanner_step t event)
 
-told_nothing : (point : ℕ) (t : AdapterTable) (event : Event) (said : Result Next StepFault) (fault : StepFault) → as_adapter said ≡ Err fault → told point t event said ≡ []
-told_nothing point t event (Ok next) fault is = absurd cc
-told_nothing point t event (Err other) fault is = refl
-
-fault_none : (point : ℕ) (old : DeviceTable) (event : Event) (fault : StepFault) → step old event ≡ Err fault → turns_at point old event ≡ []
-unfolding step
-fault_none point (Adapter t) event fault is = told_nothing point t event (adapter_step t event) fault is
-fault_none point (Scanner t) event fault is = refl
+step_is_whole : RunsKeepWhole → (old : DeviceTable) (event : Event) (said : Result DeviceNext StepFault) → step old event ≡ said → IsWholeDevice old → IsWholeDevice (table_of old said)
+step_is_whole runs old event (Ok next) is whole = runs old next.1 (event ∷ []) (Ok next.0 ∷ []) whole (next.1, is, refl)
+step_is_whole runs old event (Err fault) is whole = whole
 
 -- ---- a run
 
--- from each owner the turns over the events follow one another
-abbrev TurnsFollow : ℕ → DeviceTable → List Event → Type 0
-TurnsFollow point t events = (owner : Option ℕ) → DeviceOwns point owner t → Follow owner (turns point t events)
-
-follows_more : EffectsKeep IsWhole → (point : ℕ) (old : DeviceTable) (event : Event) (events : List Event) (next : DeviceNext) → step old event ≡ Ok next → IsWholeDevice old → TurnsFollow point next.1 events → TurnsFollow point old (event ∷ events)
-follows_more effects point old event events next is whole rest = λ owner owns.
-    let goes = step_goes effects point owner old event next is whole owns in
-    rw is (follow_more owner (turns_at point old event) (turns point next.1 events) goes.0 (rest (owner_at_end owner (turns_at point old event)) goes.1))
-
-follows_stay : (point : ℕ) (old mid : DeviceTable) (events : List Event) → mid ≡ old → TurnsFollow point mid events → TurnsFollow point old events
-follows_stay point old mid events stays rest = subst (λ (t : DeviceTable). TurnsFollow point t events) stays rest
-
-follows_fault : (point : ℕ) (old mid : DeviceTable) (event : Event) (events : List Event) (fault : StepFault) → (step old event ≡ Err fault) × (mid ≡ old) → TurnsFollow point mid events → TurnsFollow point old (event ∷ events)
-follows_fault point old mid event events fault follows rest = λ owner owns.
-    rw (fault_none point old event fault follows.0, follows.0) (follows_stay point old mid events follows.1 rest owner owns)
-
-follows_by : EffectsKeep IsWhole → (point : ℕ) (old mid : DeviceTable) (event : Event) (events : List Event) (outcome : Outcome) (outcomes : List Outcome) → Follows (step old event) old outcome mid → IsWholeDevice old → TurnsFollow point mid (performed events outcomes) → TurnsFollow point old (performed (event ∷ events) (outcome ∷ outcomes))
-follows_by effects point old mid event events (Ok answer) outcomes follows whole rest = follows_more effects point old event (performed events outcomes) (answer, mid) follows whole rest
-follows_by effects point old mid event events (Err OutOfMemory) outcomes follows whole rest = follows_stay point old mid (performed events outcomes) follows.1 rest
-follows_by effects point old mid event events (Err TickTooLong) outcomes follows whole rest = follows_fault point old mid event (performed events outcomes) TickTooLong follows rest
-follows_by effects point old mid event events (Err ClockEnd) outcomes follows whole rest = follows_fault point old mid event (performed events outcomes) ClockEnd follows rest
-follows_by effects point old mid event events (Err NoSuchPoint) outcomes follows whole rest = follows_fault point old mid event (performed events outcomes) NoSuchPoint follows rest
-follows_by effects point old mid event events (Err WrongLength) outcomes follows whole rest = follows_fault point old mid event (performed events outcomes) WrongLength follows rest
-follows_by effects point old mid event events (Err NoSuchSlot) outcomes follows whole rest = follows_fault point old mid event (performed events outcomes) NoSuchSlot follows rest
-follows_by effects point old mid event events (Err NotAllowedNow) outcomes follows whole rest = follows_fault point old mid event (performed events outcomes) NotAllowedNow follows rest
-
-run_follows : EffectsKeep IsWhole → RunsKeepWhole → (point : ℕ) (old : DeviceTable) (events : List Event) (outcomes : List Outcome) (new : DeviceTable) → Runs old events outcomes new → IsWholeDevice old → TurnsFollow point old (performed events outcomes)
-run_follows effects runs point old [] [] new ran whole = λ owner owns. tt
-run_follows effects runs point old [] (outcome ∷ outcomes) new ran whole = absurd ran
-run_follows effects runs point old (event ∷ events) [] new ran whole = absurd ran
-run_follows effects runs point old (event ∷ events) (outcome ∷ outcomes) new ran whole =
-    let next_whole = runs old ran.0 (event ∷ []) (outcome ∷ []) whole (ran.0, ran.1, refl) in
-    follows_by effects point old ran.0 event events outcome outcomes ran.1 whole (run_follows effects runs point ran.0 events outcomes new ran.2 next_whole)
+-- from an owner the turns over the events follow one another
+events_follow : EffectsKeep IsWhole → RunsKeepWhole → (point : ℕ) (owner : Option ℕ) (old : DeviceTable) (events : List Event) → IsWholeDevice old → DeviceOwns point owner old → Follow owner (turns point old events)
+events_follow effects runs point owner old [] whole owns = tt
+events_follow effects runs point owner old (event ∷ events) whole owns =
+    let next = table_of old (step old event) in
+    let goes = step_goes effects point owner old event whole owns in
+    let next_whole = step_is_whole runs old event (step old event) refl whole in
+    follow_more owner (turns_at point old event) (turns point next events) goes.0
+    (events_follow effects runs point (owner_at_end owner (turns_at point old event)) (table_of old (step old event)) events next_whole goes.1)
 
 -- who drives the output at first owns it
 driver_found : (point : ℕ) (t : AdapterTable) (found : Option Row) → find (drives point) t.rows ≡ found → HasOneOwner t.rows → Owns point (option_map opening_of found) t
@@ -256,7 +211,8 @@ nobody_owns point (Scanner t) = tt
 
 pub drivers_go_on : EffectsKeep IsWhole → RunsKeepWhole → DriversGoOn
 drivers_go_on effects runs point old new events outcomes whole ran =
-    run_follows effects runs point old events outcomes new ran whole (driver_in point old) (driver_owns point old whole)
+    events_follow effects runs point (driver_in point old) old (performed events outcomes) whole (driver_owns point old whole)
 
 pub owners_follow : EffectsKeep IsWhole → RunsKeepWhole → OwnersFollow
-owners_follow effects runs point old new events outcomes whole ran = run_follows effects runs point old events outcomes new ran whole None (nobody_owns point old)
+owners_follow effects runs point old new events outcomes whole ran =
+    events_follow effects runs point None old (performed events outcomes) whole (nobody_owns point old)

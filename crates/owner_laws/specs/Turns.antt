@@ -10,7 +10,7 @@ use Rattle.cip_datagram.specs.declared.datagram.DatagramFault.{DatagramFault}
 use Rattle.cip_datagram.specs.Datagram.{DatagramFields}
 use Rattle.cip_datagram.specs.Reading.{datagram_reading}
 use Rattle.cip_events.specs.declared.event.Event.{Event}
-use Rattle.cip_events.specs.declared.event.Event.TheVariants.{Request, StreamOpened, Frame, StreamCut, Datagram, Write, Read, Tick, Mode, Start, Stop}
+use Rattle.cip_events.specs.declared.event.Event.TheVariants.{Datagram}
 use Rattle.cip_events.specs.declared.event.Notice.{Notice}
 use Rattle.cip_events.specs.declared.event.Notice.TheVariants as notice
 use Rattle.cip_events.specs.declared.event.StepFault.{StepFault}
@@ -51,33 +51,18 @@ abbrev pub brought_read : ℕ → AdapterTable → Node → Result DatagramField
 brought_read point t peer (Err fault) = []
 brought_read point t peer (Ok d) = brought_found point t.profile d (find (is_for peer d.connection) t.rows)
 
--- whose data an event applies to the output
+-- whose data an event applies to the output; no other event than a datagram applies data
 abbrev pub brought_at : ℕ → AdapterTable → Event → List Turn
-brought_at point t (Request peer bytes) = []
-brought_at point t (StreamOpened stream peer) = []
-brought_at point t (Frame stream bytes) = []
-brought_at point t (StreamCut stream) = []
 brought_at point t (Datagram peer bytes) = brought_read point t peer (datagram_reading bytes)
-brought_at point t (Write other bytes) = []
-brought_at point t (Read other) = []
-brought_at point t (Tick ms) = []
-brought_at point t (Mode run) = []
-brought_at point t (Start slot) = []
-brought_at point t (Stop slot) = []
+brought_at point t event = []
 
 -- ---- ends
 
 -- the notice tells that the connection of a triad was closed, or that it timed out
 abbrev pub tells_end : Triad → Notice → Bool
-tells_end triad (notice.Opened other id) = false
 tells_end triad (notice.Closed other) = same_triad triad other
 tells_end triad (notice.Expired other) = same_triad triad other
-tells_end triad (notice.Dropped other) = false
-tells_end triad (notice.Replaced other) = false
-tells_end triad (notice.StreamClosed stream) = false
-tells_end triad (notice.Slot slot state) = false
-tells_end triad (notice.Refused slot why) = false
-tells_end triad (notice.NoIds slot) = false
+tells_end triad other = false
 
 -- one of the notices tells the end of the connection
 abbrev pub has_ended : List Notice → Row → Bool
