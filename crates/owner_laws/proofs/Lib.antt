@@ -1,0 +1,6 @@
+mod OneOwner
+mod OwnerEffects
+mod OwnerSteps
+mod TurnRuns
+mod TurnReading
+mod TurnSamples
