@@ -7,7 +7,7 @@ use cip_types::OutOfMemory;
 use std::alloc::Global;
 use std::marker::Model;
 
-/// What is recorded of an event's outcome. Where nothing is, that takes the room of one address alone.
+/// What is recorded of an event's outcome. Where nothing is, that takes 16 bytes, where an outcome has 112.
 #[derive(Drop)]
 pub struct Recorded {
     kept: Option<Box<Outcome>>,
