@@ -117,11 +117,15 @@ fn with_notice(answer: Answer, notice: Notice) -> Result<Answer, LineFault>
     })
 }
 
-/// Values, and one more.
+/// Values, and one more. The first of them takes the room of one alone, since most outcomes have one frame, one
+/// datagram or one notice; from the second on room is doubled.
 pub fn with_item<T: Drop>(items: Items<T>, item: T) -> Result<Items<T>, OutOfMemory>
     ensures { IfOk result (λ more. more ≡ items ++ item ∷ []) }
 {
     let mut vec = items.into_vec();
+    if vec.is_empty() {
+        vec.reserve_exact(1)?;
+    }
     vec.push(item)?;
     Ok(Items::from_vec(vec))
 }

@@ -5,7 +5,7 @@ ghost use Rattle.trace_stepper.specs.Compared.{AgreesWith, IsCompared};
 
 use cip_tables::{Answer, Outcome};
 use thiserror::Error;
-use trace_text::Trace;
+use trace_text::{Recorded, Trace};
 
 /// The number, from 1, of the first event of which another outcome is recorded, or of which one is recorded
 /// and none was given.
@@ -26,10 +26,10 @@ pub fn compare(trace: &Trace, outcomes: &[Outcome]) -> Result<(), Differs>
 }
 
 /// Whether an outcome is the one that is recorded, where one is. Takes no memory.
-pub fn agrees(recorded: &Option<Outcome>, given: Option<&Outcome>) -> bool
+pub fn agrees(recorded: &Recorded, given: Option<&Outcome>) -> bool
     ensures { IsTrue result ↔ AgreesWith recorded.now (option_map (λ outcome. outcome.now) given.entry) }
 {
-    match recorded {
+    match recorded.get() {
         None => true,
         Some(recorded) => match given {
             None => false,

@@ -4,7 +4,7 @@ use plain_engine::PlainAdapter;
 use std::alloc::Global;
 use std::test::Fail;
 use trace_stepper::{Differs, compare, replay};
-use trace_text::{Trace, TraceFault, read_trace, write_outcome, write_trace};
+use trace_text::{Recorded, Trace, TraceFault, read_trace, write_outcome, write_trace};
 
 const TRACE: &str =
     "adapter 16 192.168.1.10 255.255.255.0 1 12 7 2 3\noutput 150 4 zero hold\ninput 100 4\nconfig 151 0\nheartbeat 152 153\nrequest 192.168.1.20 5402200624010a0e0000000001000020010034127856341202000000102700000a481027000006480104200424972c962c64\n1 done\n1 reply 192.168.1.20 d40000000100001001000020010034127856341210270000102700000000\n1 note opened 1 4660 305419896 10000001\ndatagram 192.168.1.20 0200028008000100001001000000b1000a0001000100000011223344\n2 applied\ntick 70000\n3 fault TickTooLong\nread 150\n4 value 11223344\ntick 1\n5 done\n5 send 192.168.1.20 192.168.1.20 0200028008000100002001000000b1000600010000000000\n";
@@ -54,13 +54,17 @@ fn the_first_difference_is_told(rt: HostRuntime) -> Result<(), Fail> {
     Ok(())
 }
 
+fn is_recorded_as(recorded: &Recorded, alloc: Global, text: &str) -> bool {
+    match recorded.get().map(|outcome| write_outcome(alloc, 1, outcome)) {
+        Some(Ok(told)) => told.as_str() == text,
+        _ => false,
+    }
+}
+
 fn is_told_as(trace: &Trace, alloc: Global, text: &str) -> bool {
     match trace.events.as_slice() {
-        [(_, Some(outcome)), ..] => match write_outcome(alloc, 1, outcome) {
-            Ok(told) => told.as_str() == text,
-            Err(_) => false,
-        },
-        _ => false,
+        [(_, recorded), ..] => is_recorded_as(recorded, alloc, text),
+        [] => false,
     }
 }
 

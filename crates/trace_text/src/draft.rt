@@ -11,7 +11,7 @@ use cip_tables::{Config, Event, InputPoint, Outcome, OutputPoint};
 use cip_types::{Items, OutOfMemory};
 use scanner_table::SlotConfig;
 use std::alloc::Global;
-use trace_outcomes::{Part, recorded_with, with_item};
+use trace_outcomes::{Part, Recorded, recorded_with, with_item};
 use trace_profiles::{AdapterLine, ScannerLine, profile_with, scanner_with};
 use trace_words::LineFault;
 
@@ -41,7 +41,7 @@ pub enum Draft {
     /// What a device is made of, and events with what is recorded of their outcomes; the last one may get more.
     Events {
         config: Config,
-        entries: Items<(Event, Option<Outcome>)>,
+        entries: Items<(Event, Recorded)>,
         last: Option<(Event, Option<Outcome>)>,
     },
 }
@@ -186,7 +186,7 @@ fn after_slots(
 fn after_events(
     alloc: Global,
     config: Config,
-    entries: Items<(Event, Option<Outcome>)>,
+    entries: Items<(Event, Recorded)>,
     last: Option<(Event, Option<Outcome>)>,
     told: Line,
 ) -> Result<Draft, LineFault>
@@ -195,7 +195,7 @@ fn after_events(
     match told {
         Line::Event(event) => Ok(Draft::Events {
             config,
-            entries: with_last(entries, last)?,
+            entries: with_last(alloc, entries, last)?,
             last: Some((event, None)),
         }),
         Line::Recorded(number, part) => match last {
@@ -209,7 +209,7 @@ fn after_events(
 fn after_event(
     alloc: Global,
     config: Config,
-    entries: Items<(Event, Option<Outcome>)>,
+    entries: Items<(Event, Recorded)>,
     last: (Event, Option<Outcome>),
     number: u64,
     part: Part,
@@ -228,12 +228,17 @@ fn after_event(
     })
 }
 
-/// Values, and the one that came last.
-pub fn with_last<T: Drop>(items: Items<T>, last: Option<T>) -> Result<Items<T>, OutOfMemory>
-    ensures { IfOk result (λ more. more ≡ items ++ option_to_list last) }
+/// Events with what is recorded of their outcomes, and the one that came last.
+pub fn with_last(
+    alloc: Global,
+    entries: Items<(Event, Recorded)>,
+    last: Option<(Event, Option<Outcome>)>,
+) -> Result<Items<(Event, Recorded)>, OutOfMemory>
+    ensures { IfOk result (λ more. more ≡ entries ++ option_to_list last) }
 {
-    match last {
-        Some(last) => with_item(items, last),
-        None => Ok(items),
-    }
+    let Some((event, recorded)) = last else {
+        return Ok(entries);
+    };
+    let recorded = Recorded::of(alloc, recorded)?;
+    with_item(entries, (event, recorded))
 }

@@ -10,5 +10,5 @@ mod trace;
 mod written;
 
 pub use trace::{Trace, TraceFault, read_trace};
-pub use trace_outcomes::{push_outcome, write_outcome};
+pub use trace_outcomes::{Recorded, push_outcome, write_outcome};
 pub use written::write_trace;

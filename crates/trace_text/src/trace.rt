@@ -10,10 +10,11 @@ ghost use Rattle.cip_tables.specs.Step.{config_fault};
 
 use crate::draft::{Draft, draft_with, with_last};
 use crate::lines::read_line;
-use cip_tables::{Config, Event, Outcome, ProfileFault};
+use cip_tables::{Config, Event, ProfileFault};
 use cip_types::{Items, OutOfMemory};
 use std::alloc::Global;
 use thiserror::Error;
+use trace_outcomes::Recorded;
 use trace_profiles::scanner_with;
 use trace_words::LineFault;
 
@@ -22,7 +23,7 @@ use trace_words::LineFault;
 #[derive(Drop)]
 pub struct Trace {
     pub config: Config,
-    pub events: Items<(Event, Option<Outcome>)>,
+    pub events: Items<(Event, Recorded)>,
 }
 
 /// Why a trace is not read.
@@ -131,7 +132,7 @@ fn told(alloc: Global, draft: Draft, number: u64) -> Result<Trace, TraceFault>
             entries,
             last,
         } => {
-            let events = with_last(entries, last)?;
+            let events = with_last(alloc, entries, last)?;
             judged(config, events)
         }
         _ => Err(TraceFault::BadLine(number)),
@@ -139,7 +140,7 @@ fn told(alloc: Global, draft: Draft, number: u64) -> Result<Trace, TraceFault>
 }
 
 /// A trace, where its profile is a good one.
-fn judged(config: Config, events: Items<(Event, Option<Outcome>)>) -> Result<Trace, TraceFault>
+fn judged(config: Config, events: Items<(Event, Recorded)>) -> Result<Trace, TraceFault>
     ensures { result ≡ judged_by config events }
 {
     match check(&config) {

@@ -5,10 +5,10 @@ ghost use Rattle.trace_words.specs.Words.{node_word, bytes_word, line_text};
 ghost use Rattle.trace_text.specs.Written.{mode_word, config_lines, event_words, recorded_text, entries_text, trace_text};
 
 use crate::trace::Trace;
-use cip_tables::{Config, Event, Outcome};
+use cip_tables::{Config, Event};
 use cip_types::{Node, OutOfMemory};
 use std::alloc::Global;
-use trace_outcomes::push_outcome;
+use trace_outcomes::{Recorded, push_outcome};
 use trace_profiles::{push_profile, push_scanner};
 use trace_words::{push_last_bytes, push_node};
 
@@ -35,7 +35,7 @@ fn push_lines(alloc: Global, out: &mut String, config: &Config) -> Result<(), Ou
 fn push_entries(
     alloc: Global,
     out: &mut String,
-    entries: &[(Event, Option<Outcome>)],
+    entries: &[(Event, Recorded)],
 ) -> Result<(), OutOfMemory>
     ensures { OnOk result (string_bytes out.new ≡ string_bytes out.old ++ entries_text 1 entries.now) }
 {
@@ -50,11 +50,11 @@ fn push_recorded(
     alloc: Global,
     out: &mut String,
     number: u64,
-    recorded: &Option<Outcome>,
+    recorded: &Recorded,
 ) -> Result<(), OutOfMemory>
     ensures { OnOk result (string_bytes out.new ≡ string_bytes out.old ++ recorded_text number recorded.now) }
 {
-    match recorded {
+    match recorded.get() {
         Some(outcome) => push_outcome(alloc, out, number, outcome),
         None => Ok(()),
     }
