@@ -55,7 +55,10 @@ fn the_first_difference_is_told(rt: HostRuntime) -> Result<(), Fail> {
 }
 
 fn is_recorded_as(recorded: &Recorded, alloc: Global, text: &str) -> bool {
-    match recorded.get().map(|outcome| write_outcome(alloc, 1, outcome)) {
+    match recorded
+        .get()
+        .map(|outcome| write_outcome(alloc, 1, outcome))
+    {
         Some(Ok(told)) => told.as_str() == text,
         _ => false,
     }
