@@ -1,6 +1,6 @@
-//! Copies of events.
+//! Copies of events, and whether two events are the same.
 
-ghost use Rattle.std.specs.Prelude.{◌≡◌, IfOk};
+ghost use Rattle.std.specs.Prelude.{◌≡◌, ◌↔◌, IsTrue, IfOk};
 
 use crate::event::Event;
 use cip_types::{Items, OutOfMemory};
@@ -39,5 +39,11 @@ impl Event {
             Event::Start { slot } => Event::Start { slot: *slot },
             Event::Stop { slot } => Event::Stop { slot: *slot },
         })
+    }
+    /// Whether the other event is the same. Takes no memory.
+    pub fn same(&self, other: &Event) -> bool
+        ensures { IsTrue result ↔ (self.now ≡ other.now) }
+    {
+        self == other
     }
 }

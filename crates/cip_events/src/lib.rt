@@ -5,6 +5,7 @@
 mod copy;
 mod event;
 mod profile_fault;
+mod same;
 
 pub use event::{
     Answer, Delivery, Event, Frame, NewFault, Notice, Outcome, Reason, Recipient, Sending,

@@ -1,4 +1,3 @@
-mod OutcomesEqual
 mod Plays
 mod Steps
 mod Writes

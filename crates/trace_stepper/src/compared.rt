@@ -3,7 +3,7 @@
 ghost use Rattle.std.specs.Prelude.{◌≡◌, ◌↔◌, IsTrue, option_map};
 ghost use Rattle.trace_stepper.specs.Compared.{AgreesWith, IsCompared};
 
-use cip_tables::{Answer, Outcome};
+use cip_tables::Outcome;
 use thiserror::Error;
 use trace_text::{Recorded, Trace};
 
@@ -42,14 +42,8 @@ fn same(one: &Outcome, other: &Outcome) -> bool
     ensures { IsTrue result ↔ (one.now ≡ other.now) }
 {
     match (one, other) {
-        (Ok(one), Ok(other)) => same_answer(one, other),
+        (Ok(one), Ok(other)) => one.same(other),
         (Err(one), Err(other)) => one == other,
         _ => false,
     }
-}
-
-fn same_answer(one: &Answer, other: &Answer) -> bool
-    ensures { IsTrue result ↔ (one.now ≡ other.now) }
-{
-    one == other
 }
