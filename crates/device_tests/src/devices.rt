@@ -1,7 +1,6 @@
 //! A plain adapter's calls beside `step`, and copies of it. What its steps answer is shown by the traces of the
 //! scenarios.
 
-use crate::fixtures::{PEER, SENSOR};
 use cip_tables::{
     Action, Config, Delivery, Device, DeviceTable, Event, InputPoint, Outcome, OutputPoint,
     Profile, StepFault, TableCopy, run,
@@ -10,6 +9,9 @@ use cip_types::{Identity, Items, Node, OutOfMemory};
 use plain_engine::PlainAdapter;
 use std::alloc::Global;
 use std::test::Fail;
+
+/// A peer of the adapter.
+pub const PEER: Node = Node(0xC0A8_0114);
 
 /// An exclusive owner's Forward_Open of output 150 for input 100, at 10 ms.
 const OPEN: [u8; 50] = [
@@ -56,6 +58,10 @@ fn profile(alloc: Global) -> Result<Profile, OutOfMemory> {
         idle: Action::Zero,
         fault: Action::Zero,
     };
+    let input = InputPoint {
+        instance: 100,
+        len: 4,
+    };
     Ok(Profile {
         incarnation: 0x10,
         node: Node(0xC0A8_010A),
@@ -68,7 +74,7 @@ fn profile(alloc: Global) -> Result<Profile, OutOfMemory> {
             minor: 3,
         },
         outputs: Items::one(alloc, output)?,
-        inputs: Items::one(alloc, SENSOR)?,
+        inputs: Items::one(alloc, input)?,
         config: Some(InputPoint {
             instance: 151,
             len: 0,

@@ -1,15 +1,14 @@
-//! Requests and commands by what they ask, replies, events, and copies of tables.
+//! Requests and commands by what they ask, events, and copies of tables.
 
 ghost use Rattle.std.specs.Prelude.{◌≡◌, IfOk};
 ghost use Rattle.cip_tables.specs.Whole.{next_id_of};
 
-use crate::fixtures::{PEER, are_bytes, triad};
-use cip_fwdopen::Opened;
+use crate::devices::PEER;
 use cip_tables::{
     AdapterTable, Asked, Command, DeviceTable, EncapStatus, Event, InputPoint, PointValue, Profile,
-    Refusal, Reply, Status, TableCopy, read_asked,
+    Refusal, Status, TableCopy, read_asked,
 };
-use cip_types::{ConnId, Identity, Items, Ms, Node, OutOfMemory};
+use cip_types::{Identity, Items, Ms, Node, OutOfMemory};
 use std::alloc::Global;
 use std::test::Fail;
 
@@ -45,52 +44,6 @@ fn commands_have_the_standards_numbers(rt: HostRuntime) {
     assert!(rt; Command::of(0x0000) == Command::Nop);
     assert!(rt; Command::of(0x006F) == Command::SendRrData);
     assert!(rt; Command::of(0x0063) == Command::Other);
-}
-
-// REPLIES
-
-fn writes_refusals(alloc: Global) -> bool {
-    let refused = Reply::Refused(0x54, Refusal::InUse.fault(), Some(triad(1)));
-    are_bytes(
-        refused.write(alloc),
-        &[
-            0xD4, 0, 1, 1, 0, 1, 1, 0, 0x34, 0x12, 0x78, 0x56, 0x34, 0x12, 0, 0,
-        ],
-    )
-}
-
-fn writes_openings(alloc: Global) -> bool {
-    let opened = Opened {
-        o_t_id: ConnId(0x1000_0001),
-        t_o_id: ConnId(0x2000_0001),
-        triad: triad(1),
-        o_t_api: 10_000,
-        t_o_api: 10_000,
-    };
-    are_bytes(
-        Reply::Opened(false, opened).write(alloc),
-        &[
-            0xD4, 0, 0, 0, 1, 0, 0, 0x10, 1, 0, 0, 0x20, 1, 0, 0x34, 0x12, 0x78, 0x56, 0x34, 0x12,
-            0x10, 0x27, 0, 0, 0x10, 0x27, 0, 0, 0, 0,
-        ],
-    )
-}
-
-fn writes_others(alloc: Global) -> bool {
-    are_bytes(Reply::Got(&[1, 2]).write(alloc), &[0x8E, 0, 0, 0, 1, 2])
-        && are_bytes(
-            Reply::Closed(triad(1)).write(alloc),
-            &[
-                0xCE, 0, 0, 0, 1, 0, 0x34, 0x12, 0x78, 0x56, 0x34, 0x12, 0, 0,
-            ],
-        )
-}
-
-#[test]
-fn replies_are_written_whole(rt: HostRuntime) {
-    assert!(rt; writes_refusals(rt.alloc()));
-    assert!(rt; writes_openings(rt.alloc()));
-    assert!(rt; writes_others(rt.alloc()));
 }
 
 // EVENTS
