@@ -1,0 +1,5 @@
+mod Frames
+mod Loops
+mod Spares
+mod Views
+mod Ways
