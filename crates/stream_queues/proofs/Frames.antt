@@ -45,33 +45,6 @@ frames_elsewhere n j d (w ∷ ws) ne = drop_step (w.stream == n) n j d w ws refl
 
 -- KNOWN STREAMS
 
-pub known_push : (count : ℕ) (ws : List Waiting) (w : Waiting) → AreKnown count ws → w.stream < count → AreKnown count (ws ++ w ∷ [])
-unfolding AreKnown
-known_push count [] w known lt = (lt, tt)
-known_push count (x ∷ ws) w known lt = (known.0, known_push count ws w known.1 lt)
-
-pub known_more : (count more : ℕ) (ws : List Waiting) → count ≤ more → AreKnown count ws → AreKnown more ws
-unfolding AreKnown
-known_more count more [] le known = tt
-known_more count more (x ∷ ws) le known = (omega (arith, known.0), known_more count more ws le known.1)
-
-known_step : (b : Bool) (count : ℕ) (w : Waiting) (ws : List Waiting) → w.stream < count → AreKnown count ws → AreKnown count (cond b (w ∷ ws) ws)
-unfolding AreKnown
-known_step true count w ws lt known = (lt, known)
-known_step false count w ws lt known = known
-
-pub known_filter : (count : ℕ) (test : Waiting → Bool) (ws : List Waiting) → AreKnown count ws → AreKnown count (filter test ws)
-unfolding AreKnown
-known_filter count test [] known = tt
-known_filter count test (w ∷ ws) known = known_step (test w) count w (filter test ws) known.0 (known_filter count test ws known.1)
-
-pub known_remove : (count : ℕ) (ws : List Waiting) (k : ℕ) → AreKnown count ws → AreKnown count (remove ws k)
-unfolding AreKnown
-known_remove count [] zero known = tt
-known_remove count [] (suc k) known = tt
-known_remove count (w ∷ ws) zero known = known.1
-known_remove count (w ∷ ws) (suc k) known = (known.0, known_remove count ws k known.1)
-
 -- on a stream that is not known nothing waits
 pub frames_unknown : (count n : ℕ) (d : Direction) (ws : List Waiting) → AreKnown count ws → count ≤ n → frames_of n d ws ≡ []
 unfolding AreKnown frames_of

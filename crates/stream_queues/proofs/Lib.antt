@@ -1,4 +1,5 @@
 mod Frames
+mod Live
 mod Loops
 mod Spares
 mod Views

@@ -1,5 +1,5 @@
 -- Streams in memory: their ends in one list, and in another the frames that wait, whatever their streams.
-use Rattle.std.specs.Prelude.{◌<◌, ◌≤◌, ℕ, suc, ◌==◌, ◌&&◌, not, Bool, true, false, if◌then◌else◌, List, [], ◌∷◌, ◌++◌, length}
+use Rattle.std.specs.Prelude.{◌≡◌, ◌<◌, ◌≤◌, ℕ, suc, ◌==◌, ◌&&◌, not, Bool, true, false, if◌then◌else◌, List, [], ◌∷◌, ◌++◌, length, slice_get, Option, Some, None}
 use Rattle.std.specs.List.{AllByRecursion}
 use Rattle.cip_events.specs.declared.event.Frame.{Frame}
 use Rattle.stream_queues.specs.declared.direction.Direction.{Direction}
@@ -58,6 +58,16 @@ streams_in n waiting (link ∷ links) = stream_in n waiting link ∷ streams_in 
 unfoldable pub AreKnown : ℕ → List Waiting → Type 0
 AreKnown count [] = Unit {0}
 AreKnown count (first ∷ waiting) = (first.stream < count) × AreKnown count waiting
+
+-- there is such a stream, and it has not ended
+abbrev pub is_living : Option Link → Bool
+is_living None = false
+is_living (Some link) = not link.ended
+
+-- each frame waits on a stream that has not ended
+unfoldable pub AreLive : List Link → List Waiting → Type 0
+AreLive links [] = Unit {0}
+AreLive links (first ∷ waiting) = (is_living (slice_get links first.stream) ≡ true) × AreLive links waiting
 
 -- a frame has at most as many bytes as a buffer
 abbrev pub IsShort : Frame → Type 0

@@ -26,20 +26,20 @@ pub struct Streams {
 }
 
 impl Model for Streams {
-    ghost use Rattle.std.specs.Prelude.{◌-◌, min, length};
+    ghost use Rattle.std.specs.Prelude.{◌-◌, min};
     ghost use Rattle.std.specs.Vec.{vec_len, vec_capacity};
-    ghost use Rattle.stream_queues.specs.Queues.{Queues, streams_in, AreKnown};
+    ghost use Rattle.stream_queues.specs.Queues.{Queues, streams_in, AreLive};
 
     ghost Value = { Queues };
 
     ghost view = { λ s. record { streams = streams_in 0 s.waiting.items s.links.items; room = min (vec_capacity s.waiting - vec_len s.waiting) s.buffers } };
 
-    ghost invariant = { λ s. AreKnown (length s.links.items) s.waiting.items };
+    ghost invariant = { λ s. AreLive s.links.items s.waiting.items };
 }
 
 impl Streams {
     /// No streams. Takes no memory.
-    #[tactic(auto, unfolding(crate::specs::Queues::streams_in, crate::specs::Queues::AreKnown))]
+    #[tactic(auto, unfolding(crate::specs::Queues::streams_in, crate::specs::Queues::AreLive))]
     pub fn new(alloc: Global) -> Streams
         ensures { result.streams ≡ [] }
     {

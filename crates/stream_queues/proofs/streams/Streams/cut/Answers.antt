@@ -1,8 +1,9 @@
-use Rattle.std.proofs.Common.{◌≤◌, length, set, length-set, Some, None, ap, ◌∙◌, arith}
+use Rattle.std.proofs.Common.{set, Some, None, ap, ◌∙◌}
 use Rattle.stream_queues.specs.Streams.{cut_stream}
 use Rattle.stream_queues.specs.Links.{cut_link}
-use Rattle.stream_queues.specs.Queues.{Queues, is_elsewhere}
-use Rattle.stream_queues.proofs.Frames.{known_filter, known_more, frames_elsewhere}
+use Rattle.stream_queues.specs.Queues.{Queues}
+use Rattle.stream_queues.proofs.Frames.{frames_elsewhere}
+use Rattle.stream_queues.proofs.Live.{live_drop}
 use Rattle.stream_queues.proofs.Views.{get_within, looked, seen_none, seen_changed}
 use Rattle.stream_queues.proofs.Ways.{cut_way}
 use Rattle.stream_queues.proofs.streams.Streams.cut.Goals as goal
@@ -15,8 +16,7 @@ put_link-requires c = get_within c.self.inside.links.items c.args.number c.in-So
 
 pub invariant_of-self : goal.invariant_of-self
 invariant_of-self c =
-    let more : length c.self.inside.links.items ≤ length c.put_link.new.links.items = rw c.put_link.ensures (omega (arith, length-set c.self.inside.links.items c.args.number c.cut.result)) in
-    known_more _ _ _ more (rw c.drop_frames.ensures (known_filter _ (is_elsewhere c.args.number) c.self.inside.waiting.items c.self.invariant))
+    rw (c.put_link.ensures, c.drop_frames.ensures) (live_drop c.self.inside.links.items c.args.number c.cut.result c.self.inside.waiting.items c.self.invariant)
 
 pub returns : goal.returns
 returns c =

@@ -3,8 +3,8 @@ use Rattle.stream_queues.specs.declared.direction.Direction.{Direction}
 use Rattle.stream_queues.specs.declared.waiting.Waiting.{Waiting}
 use Rattle.stream_queues.specs.Streams.{sent_over}
 use Rattle.stream_queues.specs.Queues.{Queues}
-use Rattle.stream_queues.proofs.Frames.{known_push}
-use Rattle.stream_queues.proofs.Views.{get_within, looked, seen_none, seen_kept, seen_waits}
+use Rattle.stream_queues.proofs.Live.{live_push, way_living}
+use Rattle.stream_queues.proofs.Views.{looked, seen_none, seen_kept, seen_waits}
 use Rattle.stream_queues.proofs.Ways.{sent_way, unsent_way, push_elsewhere}
 use Rattle.stream_queues.proofs.streams.Streams.send_over.Goals as goal
 
@@ -23,7 +23,10 @@ pushed bytes same n d ws ws' is pushed_is = pushed_is ∙ ap (λ (b : List ℕ).
 
 pub invariant_of-self : goal.invariant_of-self
 invariant_of-self c =
-    rw c.push_reserved.ensures.items (known_push _ c.self.inside.waiting.items _ c.self.invariant (get_within c.self.inside.links.items c.args.number c.in-Some.link (looked _ _ _ _ (Some c.in-Some.link) c.deref.ensures.value c.link_at.ensures c.in-Some.is)))
+    let is = looked _ _ _ _ (Some c.in-Some.link) c.deref.ensures.value c.link_at.ensures c.in-Some.is in
+    let way = sym c.way_from.ensures ∙ c.in-Some-way_from.is in
+    rw c.push_reserved.ensures.items
+    (live_push c.self.inside.links.items c.self.inside.waiting.items _ c.self.invariant (way_living c.self.inside.links.items c.args.number c.args.device c.in-Some.link c.in-Some-way_from.direction is way))
 
 pub returns-clause-streams : goal.returns-clause-streams
 returns-clause-streams c =

@@ -2,7 +2,8 @@ use Rattle.std.proofs.Common.{set, Some, None, refl, sym, ap, ◌∙◌}
 use Rattle.std.specs.List.{remove}
 use Rattle.stream_queues.specs.Streams.{taken_from}
 use Rattle.stream_queues.specs.Queues.{Queues}
-use Rattle.stream_queues.proofs.Frames.{known_remove, IsFirst}
+use Rattle.stream_queues.proofs.Frames.{IsFirst}
+use Rattle.stream_queues.proofs.Live.{live_remove, live_after}
 use Rattle.stream_queues.proofs.Views.{get_within, looked, seen_none, seen_kept, seen_changed, seen_waits}
 use Rattle.stream_queues.proofs.Ways.{mark_way, frame_way, none_way, first_elsewhere, found_first, not_found}
 use Rattle.stream_queues.proofs.streams.Streams.take_front.Goals as goal
@@ -12,6 +13,11 @@ returns-in_default-clause-streams c = seen_none (taken_from c.args.direction) c.
 
 pub put_link-requires : goal.put_link-requires
 put_link-requires c = get_within c.self.inside.links.items c.args.number c.in-Some.link (looked _ _ _ _ (Some c.in-Some.link) c.deref.ensures.value c.link_at.ensures c.in-Some.is)
+
+pub invariant_of-self : goal.invariant_of-self
+invariant_of-self c =
+    rw (c.put_link.ensures, c.after.ensures)
+    (live_after c.self.inside.links.items c.args.number c.args.direction c.in-Some.link _ c.self.inside.waiting.items (looked _ _ _ _ (Some c.in-Some.link) c.deref.ensures.value c.link_at.ensures c.in-Some.is) c.self.invariant)
 
 pub returns-then-is_marked-clause-streams : goal.returns-then-is_marked-clause-streams
 returns-then-is_marked-clause-streams c =
@@ -23,7 +29,7 @@ returns-then-is_marked-clause-streams c =
     (ap (λ (q : Queues). q.streams) c.self.view_is)
 
 pub invariant_of-self-in-Some-first : goal.invariant_of-self-in-Some-first
-invariant_of-self-in-Some-first c = rw c.remove-taken.ensures.items (known_remove _ c.self.inside.waiting.items c.in-Some-first.first c.self.invariant)
+invariant_of-self-in-Some-first c = rw c.remove-taken.ensures.items (live_remove _ c.self.inside.waiting.items c.in-Some-first.first c.self.invariant)
 
 pub returns-in-Some-first-clause-streams : goal.returns-in-Some-first-clause-streams
 returns-in-Some-first-clause-streams c =
