@@ -1,7 +1,7 @@
 -- Acts, told of what the code did.
-use Rattle.std.proofs.Common.{◌≡◌, ◌<◌, ◌≤◌, ℕ, zero, suc, ◌==◌, ◌&&◌, not, nat_lt, Bool, true, false, List, [], ◌∷◌, ◌++◌, map, set, length, get_or, slice_get, Option, Some, None, Result, Ok, Err, IsOk, subst, refl, sym, ap, ◌∙◌, arith}
+use Rattle.std.proofs.Common.{◌≡◌, ◌<◌, ◌≤◌, ℕ, zero, suc, List, [], ◌∷◌, ◌++◌, map, set, length, slice_get, Option, Some, None, Result, Ok, Err, IsOk, subst, refl, sym, ap, ◌∙◌, arith}
 use Rattle.std.proofs.lemmas.List.{append-nil}
-use Rattle.std.proofs.lemmas.Option.{get_or_from_slice_get, slice_get-get_or}
+use Rattle.std.proofs.lemmas.Option.{get_or_from_slice_get}
 use Rattle.std.specs.Option.{option_map}
 use Rattle.cip_types.specs.declared.names.Node.{Node}
 use Rattle.cip_events.specs.Answers.{plain_answer}
@@ -21,11 +21,10 @@ use Rattle.stream_queues.specs.declared.direction.Direction.TheVariants.{Forth, 
 use Rattle.stream_queues.specs.declared.links.Ends.{Ends}
 use Rattle.stream_queues.specs.Fronts.{ends_of, front_of}
 use Rattle.stream_queues.specs.Streams.{Item, Stream, side_of, taker, giver, frames_sent, notices_told, answered}
-use Rattle.segment_world.specs.declared.act.ActFault.{ActFault}
-use Rattle.segment_world.specs.declared.act.ActFault.TheVariants.{NoSuchDevice, NeverSent, Step, OutOfMemory}
-use Rattle.segment_world.specs.World.{World, Told, Happened, node_at, sent_by, spread, comes, comes_to, comes_so, delivered, event_of_item, without_front, taken, taken_at}
+use Rattle.segment_world.specs.declared.act.ActFault.TheVariants.{NoSuchDevice, NeverSent, Step}
+use Rattle.segment_world.specs.World.{World, Happened, node_at, sent_by, spread, comes, comes_to, comes_so, delivered, event_of_item, without_front, taken, taken_at}
 use Rattle.segment_world.specs.Comings.{taker_in, giver_in}
-use Rattle.segment_world.specs.Follows.{answer_of, IsPossible, ActFollows}
+use Rattle.segment_world.specs.Follows.{IsPossible, ActFollows}
 use Rattle.segment_world.specs.Rooms.{CameTo, WasDelivered}
 
 -- PLACES

@@ -1,5 +1,5 @@
 -- An event that comes to a device, told of its outcome.
-use Rattle.std.proofs.Common.{◌≡◌, ◌<◌, ℕ, List, set, length, get_or, slice_get, Some, Ok, Err, IfOk, subst, refl, sym, ap, ◌∙◌}
+use Rattle.std.proofs.Common.{◌≡◌, ◌<◌, ℕ, List, set, length, get_or, Some, Ok, Err, IfOk, subst, refl, sym, ap, ◌∙◌}
 use Rattle.std.proofs.lemmas.Option.{slice_get-get_or}
 use Rattle.std.proofs.lemmas.List.{get_or_default}
 use Rattle.cip_events.specs.Outcomes.{Outcome, Follows}

@@ -2,7 +2,6 @@
 use Rattle.std.proofs.Common.{◌≡◌, ◌≢◌, ℕ, zero, suc, ◌==◌, Bool, true, false, cond, List, [], ◌∷◌, ◌++◌, map, filter, set, slice_get, Option, Some, None, Result, Ok, Err, IfOk, refl, sym, ◌∙◌, ap, subst, arith}
 use Rattle.std.proofs.lemmas.List.{append-nil, map-append}
 use Rattle.std.proofs.lemmas.Bool.Decides.{nat_tests}
-use Rattle.cip_events.specs.declared.event.Answer.{Answer}
 use Rattle.cip_events.specs.declared.event.Event.{Event}
 use Rattle.cip_events.specs.declared.event.Event.TheVariants.{Datagram}
 use Rattle.cip_events.specs.declared.event.StepFault.{StepFault}
@@ -15,7 +14,7 @@ use Rattle.stream_queues.specs.Streams.{Item, Stream, side_of, taker, giver}
 use Rattle.segment_world.specs.declared.act.Act.{Act}
 use Rattle.segment_world.specs.declared.act.Act.TheVariants.{Local, Deliver, NextFrame, OpenStream, CutStream}
 use Rattle.segment_world.specs.declared.act.ActFault.{ActFault}
-use Rattle.segment_world.specs.World.{World, Told, Happened, comes, comes_to, comes_so, event_of_call, delivered, event_of_item, node_at, without_front, taken, taken_at, are_two, most_streams, opened_if, cut_if, cut_at, happens}
+use Rattle.segment_world.specs.World.{World, Told, Happened, comes, comes_to, comes_so, event_of_call, delivered, event_of_item, node_at, without_front, taken, taken_at, are_two, opened_if, cut_if, cut_at, happens}
 use Rattle.segment_world.specs.Story.{Story, told_more, goes_on, tells, runs, begins, is_of, event_told, events_of, ProjectionsAreRuns}
 
 -- WHAT ONE ACT DOES TO TABLES

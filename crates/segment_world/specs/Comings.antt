@@ -1,6 +1,5 @@
 -- What comes to a device over a stream.
 use Rattle.std.specs.Prelude.{◌≡◌, ℕ, slice_get, Some}
-use Rattle.cip_types.specs.declared.names.Node.{Node}
 use Rattle.stream_queues.specs.declared.direction.Direction.{Direction}
 use Rattle.stream_queues.specs.declared.direction.Direction.TheVariants.{Forth, Back}
 use Rattle.stream_queues.specs.declared.links.Ends.{Ends}

@@ -1,8 +1,10 @@
 -- What an act answers.
-use Rattle.std.specs.Prelude.{◌≡◌, Option, Some, None, Result, Ok, Err, IsOk}
+use Rattle.std.specs.Prelude.{◌≡◌, ◌≢◌, Bool, true, false, Option, Result, Ok, Err, IsOk}
 use Rattle.std.specs.Option.{option_map}
 use Rattle.cip_events.specs.declared.event.Answer.{Answer}
 use Rattle.cip_events.specs.declared.event.StepFault.TheVariants as step_fault
+use Rattle.segment_world.specs.declared.act.Act.{Act}
+use Rattle.segment_world.specs.declared.act.Act.TheVariants.{Local, Deliver, NextFrame, OpenStream, CutStream}
 use Rattle.segment_world.specs.declared.act.ActFault.{ActFault}
 use Rattle.segment_world.specs.declared.act.ActFault.TheVariants.{NoSuchDevice, NeverSent, StreamEmpty, NoSuchStream, Step, OutOfMemory}
 use Rattle.segment_world.specs.World.{World, Told, Happened}
@@ -28,3 +30,15 @@ ActFollows said old (Ok answer) new = (told : Option Told) × (said ≡ Ok (told
 ActFollows said old (Err OutOfMemory) new = IsPossible said × (new ≡ old)
 ActFollows said old (Err (Step step_fault.OutOfMemory)) new = IsOk said × (new ≡ old)
 ActFollows said old (Err fault) new = (said ≡ Err fault) × (new ≡ old)
+
+-- The act takes no memory: what comes was kept when it was sent, and a cut only drops.
+abbrev pub takes_no_memory : Act → Bool
+takes_no_memory (Local device call) = false
+takes_no_memory (Deliver index device) = true
+takes_no_memory (NextFrame stream direction) = false
+takes_no_memory (OpenStream from to) = false
+takes_no_memory (CutStream stream) = true
+
+-- no memory was wanted, the world's own or a device's
+abbrev pub WantsNone : Result (Option Answer) ActFault → Type 0
+WantsNone answered = (answered ≢ Err OutOfMemory) × (answered ≢ Err (Step step_fault.OutOfMemory))

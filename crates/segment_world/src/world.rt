@@ -2,7 +2,7 @@
 
 ghost use Rattle.std.specs.Prelude.{◌≡◌, true, false, Err, None, Some, IfOk, IfErr, IfSome, IfNone, length, slice_get, nat_lt};
 ghost use Rattle.segment_world.specs.World.{World as Segment, comes, event_of_call, delivered, taken_at, happens, are_two, opened_if, cut_at, most_streams};
-ghost use Rattle.segment_world.specs.Follows.{ActFollows};
+ghost use Rattle.segment_world.specs.Follows.{ActFollows, takes_no_memory, WantsNone};
 ghost use Rattle.std.specs.Option.{option_map};
 ghost use Rattle.stream_queues.specs.Fronts.{ends_of, view_front, front_of};
 ghost use Rattle.segment_world.specs.Comings.{IsComing};
@@ -86,9 +86,11 @@ impl<A: Device, S: Device> World<A, S> {
     /// was.
     ///
     /// The faults, in order: `NoSuchDevice`, `NeverSent`, `StreamEmpty`, `NoSuchStream`, `OutOfMemory` where room for
-    /// whatever the device could answer is refused, `Step` with what the device says.
+    /// whatever the device could answer is refused, `Step` with what the device says. A datagram that comes and the
+    /// cut of a stream take no memory.
     pub fn act(&mut self, act: &Act) -> Result<Option<Answer>, ActFault>
-        ensures { ActFollows (happens self.old act.now) self.old result self.new }
+        ensures follows { ActFollows (happens self.old act.now) self.old result self.new }
+        ensures no_memory { takes_no_memory act.now ≡ true → WantsNone result }
     {
         match act {
             Act::Local { device, call } => self.local(*device, call),
@@ -118,7 +120,8 @@ impl<A: Device, S: Device> World<A, S> {
     }
 
     fn deliver(&mut self, index: usize, device: u32) -> Result<Option<Answer>, ActFault>
-        ensures { ActFollows (delivered device self.old (slice_get self.old.tables device) (slice_get self.old.sent index)) self.old result self.new }
+        ensures follows { ActFollows (delivered device self.old (slice_get self.old.tables device) (slice_get self.old.sent index)) self.old result self.new }
+        ensures no_memory { WantsNone result }
     {
         if device as usize >= self.members.len() {
             return Err(ActFault::NoSuchDevice);
@@ -200,7 +203,8 @@ impl<A: Device, S: Device> World<A, S> {
     }
 
     fn cut_stream(&mut self, stream: u16) -> Result<Option<Answer>, ActFault>
-        ensures { ActFollows (cut_at stream self.old (slice_get self.old.streams stream)) self.old result self.new }
+        ensures follows { ActFollows (cut_at stream self.old (slice_get self.old.streams stream)) self.old result self.new }
+        ensures no_memory { WantsNone result }
     {
         let Some(ends) = self.streams.ends(stream) else {
             return Err(ActFault::NoSuchStream);

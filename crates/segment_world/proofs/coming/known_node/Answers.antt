@@ -1,4 +1,4 @@
-use Rattle.std.proofs.Common.{◌≡◌, unwrap_or, ap, ◌∙◌}
+use Rattle.std.proofs.Common.{unwrap_or, ap, ◌∙◌}
 use Rattle.std.proofs.lemmas.Option.{unwrap_or-slice_get}
 use Rattle.segment_world.proofs.coming.known_node.Goals as goal
 

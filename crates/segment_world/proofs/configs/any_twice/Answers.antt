@@ -1,6 +1,5 @@
-use Rattle.std.proofs.Common.{◌≡◌, ◌==◌, ◌+◌, drop, sym, ◌∙◌, arith}
+use Rattle.std.proofs.Common.{◌≡◌, ◌==◌, ◌+◌, drop}
 use Rattle.std.specs.List.{list_any}
-use Rattle.std.proofs.lemmas.Grind.{common_steps}
 use Rattle.segment_world.specs.Configs.{key_in}
 use Rattle.segment_world.proofs.Listing.{twice_here, twice_later, twice_nowhere}
 use Rattle.segment_world.proofs.configs.any_twice.Goals as goal

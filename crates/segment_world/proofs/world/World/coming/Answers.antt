@@ -1,9 +1,7 @@
-use Rattle.std.proofs.Common.{◌≡◌, List, slice_get, slice_index_or, Some, refl, sym, subst, ap, ◌∙◌}
+use Rattle.std.proofs.Common.{◌≡◌, List, slice_get, slice_index_or, refl, sym, ap, ◌∙◌}
 use Rattle.cip_types.specs.declared.names.Node.{Node}
 use Rattle.stream_queues.specs.Fronts.{view_front}
-use Rattle.segment_world.specs.World.{World, event_of_item, node_at, comes, without_front, taken_at}
-use Rattle.segment_world.specs.Comings.{taker_in, giver_in}
-use Rattle.segment_world.specs.Follows.{IsPossible}
+use Rattle.segment_world.specs.World.{World, node_at}
 use Rattle.segment_world.proofs.Acts.{stands, comes_over, comes_over_possibly}
 use Rattle.segment_world.proofs.world.World.coming.Goals as goal
 

@@ -1,4 +1,4 @@
-use Rattle.std.proofs.Common.{◌≡◌, slice_get, Some, refl, sym, ap, ◌∙◌}
+use Rattle.std.proofs.Common.{slice_get, refl, sym, ap, ◌∙◌}
 use Rattle.segment_world.specs.World.{World, comes, event_of_call}
 use Rattle.segment_world.proofs.Acts.{done_so, undone_so}
 use Rattle.segment_world.proofs.world.World.local.Goals as goal

@@ -1,4 +1,4 @@
-use Rattle.std.proofs.Common.{◌≡◌, slice_get, Some, refl, sym, ap, ◌∙◌}
+use Rattle.std.proofs.Common.{slice_get, sym, ap, ◌∙◌}
 use Rattle.stream_queues.specs.Streams.{with_stream, taken_from, answered}
 use Rattle.segment_world.specs.World.{World, comes, without_front, taken_at}
 use Rattle.segment_world.proofs.Acts.{done_so, undone_so}
