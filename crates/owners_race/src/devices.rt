@@ -1,0 +1,35 @@
+//! The devices: an adapter with one output and one input, and two scanners that want them.
+
+use crate::fault::RunFault;
+use cip_tables::Config;
+use cip_types::OutOfMemory;
+use std::alloc::Global;
+use trace_text::read_trace;
+
+/// The adapter at 192.168.1.10, with output 150, input 100 and configuration 151.
+pub const ADAPTER: &[u8] = b"adapter 16 192.168.1.10 255.255.255.0 1 12 7 2 3\noutput 150 4 zero zero\ninput 100 4\nconfig 151 0\nheartbeat 152 153\n";
+
+/// A scanner at 192.168.1.20, which waits 2,000 ms for an answer, and 3,000 ms for another try.
+pub const FIRST: &[u8] = b"scanner 32 192.168.1.20 4660 305419896 2000 3000\nslot 192.168.1.10 exclusive 151 150 100 4 4 10000 10000 2 p2p - -\n";
+
+/// A scanner at 192.168.1.21, which wants the same output.
+pub const SECOND: &[u8] = b"scanner 33 192.168.1.21 4660 305419897 2000 3000\nslot 192.168.1.10 exclusive 151 150 100 4 4 10000 10000 2 p2p - -\n";
+
+/// What a device is made of, by the lines of its profile.
+pub fn config(alloc: Global, lines: &[u8]) -> Result<Config, RunFault> {
+    Ok(read_trace(alloc, lines)?.config)
+}
+
+fn keep(configs: &mut Vec<Config>, config: Config) -> Result<(), OutOfMemory> {
+    configs.push(config)?;
+    Ok(())
+}
+
+/// What the devices are made of, in order.
+pub fn configs(alloc: Global, texts: &[&[u8]]) -> Result<Vec<Config>, RunFault> {
+    let mut configs = Vec::new(alloc);
+    for text in texts {
+        keep(&mut configs, config(alloc, text)?)?;
+    }
+    Ok(configs)
+}

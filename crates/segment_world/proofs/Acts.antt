@@ -1,0 +1,196 @@
+-- Acts, told of what the code did.
+use Rattle.std.proofs.Common.{◌≡◌, ◌<◌, ◌≤◌, ℕ, zero, suc, List, [], ◌∷◌, ◌++◌, map, set, length, slice_get, Option, Some, None, Result, Ok, Err, IsOk, subst, refl, sym, ap, ◌∙◌, arith}
+use Rattle.std.proofs.lemmas.List.{append-nil}
+use Rattle.std.proofs.lemmas.Option.{get_or_from_slice_get}
+use Rattle.std.specs.Option.{option_map}
+use Rattle.cip_types.specs.declared.names.Node.{Node}
+use Rattle.cip_events.specs.Answers.{plain_answer}
+use Rattle.cip_events.specs.Outcomes.{Follows}
+use Rattle.cip_events.specs.declared.event.Answer.{Answer}
+use Rattle.cip_events.specs.declared.event.Event.{Event}
+use Rattle.cip_events.specs.declared.event.Event.TheVariants.{Datagram}
+use Rattle.cip_events.specs.declared.event.Delivery.{Delivery}
+use Rattle.cip_events.specs.declared.event.Verdict.TheVariants.{Delivered}
+use Rattle.cip_events.specs.declared.event.StepFault.{StepFault}
+use Rattle.cip_events.specs.declared.event.StepFault.TheVariants as step_fault
+use Rattle.cip_tables.specs.declared.table.DeviceTable.{DeviceTable}
+use Rattle.cip_tables.specs.Step.{DeviceNext, step}
+use Rattle.sent_log.specs.Log.{Sent}
+use Rattle.stream_queues.specs.declared.direction.Direction.{Direction}
+use Rattle.stream_queues.specs.declared.direction.Direction.TheVariants.{Forth, Back}
+use Rattle.stream_queues.specs.declared.links.Ends.{Ends}
+use Rattle.stream_queues.specs.Fronts.{ends_of, front_of}
+use Rattle.stream_queues.specs.Streams.{Item, Stream, side_of, taker, giver, frames_sent, notices_told, answered}
+use Rattle.segment_world.specs.declared.act.ActFault.TheVariants.{NoSuchDevice, NeverSent, Step}
+use Rattle.segment_world.specs.World.{World, Happened, node_at, sent_by, spread, comes, comes_to, comes_so, delivered, event_of_item, without_front, taken, taken_at}
+use Rattle.segment_world.specs.Comings.{taker_in, giver_in}
+use Rattle.segment_world.specs.Follows.{IsPossible, ActFollows}
+use Rattle.segment_world.specs.Rooms.{CameTo, WasDelivered}
+
+-- PLACES
+
+get_there : {X : Type 0} (xs : List X) (i : ℕ) → i < length xs → (x : X) × (slice_get xs i ≡ Some x)
+get_there [] i lt = absurd (omega arith)
+get_there (x ∷ xs) zero lt = (x, refl)
+get_there (x ∷ xs) (suc i) lt = get_there xs i (omega arith)
+
+pub get_past : {X : Type 0} (xs : List X) (i : ℕ) → length xs ≤ i → slice_get xs i ≡ None
+get_past [] i le = refl
+get_past (x ∷ xs) zero le = absurd (omega arith)
+get_past (x ∷ xs) (suc i) le = get_past xs i (omega arith)
+
+pub some_within : {X : Type 0} (xs : List X) (i : ℕ) (x : X) → slice_get xs i ≡ Some x → i < length xs
+some_within [] i x is = absurd (let e = is in cc)
+some_within (y ∷ xs) zero x is = omega arith
+some_within (y ∷ xs) (suc i) x is = let lt = some_within xs i x is in omega arith
+
+none_past : {X : Type 0} (xs : List X) (i : ℕ) → slice_get xs i ≡ None → length xs ≤ i
+none_past [] i is = omega arith
+none_past (y ∷ xs) zero is = absurd (let e = is in cc)
+none_past (y ∷ xs) (suc i) is = let le = none_past xs i is in omega arith
+
+set_there : {X : Type 0} (xs : List X) (i : ℕ) (x : X) → slice_get xs i ≡ Some x → set xs i x ≡ xs
+set_there [] i x is = refl
+set_there (y ∷ xs) zero x is = ap (λ z. z ∷ xs) (let e = is in cc)
+set_there (y ∷ xs) (suc i) x is = ap (λ l. y ∷ l) (set_there xs i x is)
+
+-- AN EVENT THAT COMES
+
+-- a device of the world: the act can be done but for the step
+possible_so : (device : ℕ) (event : Event) (w : World) (said : Result DeviceNext StepFault) → IsPossible (comes_so device event w said)
+possible_so device event w (Ok next) = tt
+possible_so device event w (Err fault) = tt
+
+pub comes_possibly : (device : ℕ) (event : Event) (w : World) → device < length w.tables → IsPossible (comes device event w)
+comes_possibly device event w lt =
+    let there = get_there w.tables device lt in
+    subst (λ (o : Option DeviceTable). IsPossible (comes_to device event w o)) (sym there.1) (possible_so device event w (step there.0 event))
+
+pub comes_nowhere : (device : ℕ) (event : Event) (w : World) → length w.tables ≤ device → comes device event w ≡ Err NoSuchDevice
+comes_nowhere device event w le = ap (comes_to device event w) (get_past w.tables device le)
+
+came_is : (device : ℕ) (event : Event) (w : World) (t : DeviceTable) (said : Result DeviceNext StepFault) → slice_get w.tables device ≡ Some t → step t event ≡ said → comes device event w ≡ comes_so device event w said
+came_is device event w t said at is = ap (comes_to device event w) at ∙ ap (comes_so device event w) is
+
+-- the device answered
+pub answered_so : (said : Happened) (old mid : World) (device : ℕ) (event : Event) (answer : Answer) (tables : List DeviceTable) → said ≡ comes device event mid → CameTo mid.tables device event (Ok answer) tables → ActFollows said old (Ok (Some answer)) (spread device answer (record mid { tables = tables }))
+answered_so said old mid device event answer tables so came = (
+  Some (record { device = device; event = event; answer = answer }),
+  so
+      ∙ came_is device event mid came.before (Ok (answer, came.after)) came.is came.follows
+      ∙ ap (λ (ts : List DeviceTable). Ok (Some (record { device = device; event = event; answer = answer }), spread device answer (record mid { tables = ts }))) (sym came.leaves),
+  refl,
+)
+
+-- the device refused: a fault of its step is the act's
+refused_at : (said : Happened) (old mid new : World) (device : ℕ) (event : Event) (t after : DeviceTable) (fault : StepFault) → said ≡ comes device event mid → slice_get mid.tables device ≡ Some t → Follows (step t event) t (Err fault) after → new ≡ old → ActFollows said old (Err (Step fault)) new
+refused_at said old mid new device event t after step_fault.OutOfMemory so at follows same =
+    (subst (λ (r : Happened). IsOk r) (sym (so ∙ ap (comes_to device event mid) at)) (ok_so (step t event) follows.0), same) where
+      ok_so : (r : Result DeviceNext StepFault) → IsOk r → IsOk (comes_so device event mid r)
+      ok_so (Ok next) ok = ok
+      ok_so (Err fault) ok = ok
+refused_at said old mid new device event t after step_fault.TickTooLong so at follows same = (so ∙ came_is device event mid t _ at follows.0, same)
+refused_at said old mid new device event t after step_fault.ClockEnd so at follows same = (so ∙ came_is device event mid t _ at follows.0, same)
+refused_at said old mid new device event t after step_fault.NoSuchPoint so at follows same = (so ∙ came_is device event mid t _ at follows.0, same)
+refused_at said old mid new device event t after step_fault.WrongLength so at follows same = (so ∙ came_is device event mid t _ at follows.0, same)
+refused_at said old mid new device event t after step_fault.NoSuchSlot so at follows same = (so ∙ came_is device event mid t _ at follows.0, same)
+refused_at said old mid new device event t after step_fault.NotAllowedNow so at follows same = (so ∙ came_is device event mid t _ at follows.0, same)
+
+-- the table is as it was
+kept_at : (t after : DeviceTable) (said : Result DeviceNext StepFault) (fault : StepFault) → Follows said t (Err fault) after → after ≡ t
+kept_at t after said step_fault.OutOfMemory follows = follows.1
+kept_at t after said step_fault.TickTooLong follows = follows.1
+kept_at t after said step_fault.ClockEnd follows = follows.1
+kept_at t after said step_fault.NoSuchPoint follows = follows.1
+kept_at t after said step_fault.WrongLength follows = follows.1
+kept_at t after said step_fault.NoSuchSlot follows = follows.1
+kept_at t after said step_fault.NotAllowedNow follows = follows.1
+
+pub undone_so : (said : Happened) (old mid : World) (device : ℕ) (event : Event) (fault : StepFault) (nodes : List Node) (ts tables : List DeviceTable) (sent sent' : List Sent) (streams streams' : List Stream) → record { nodes = nodes; tables = ts; sent = sent; streams = streams } ≡ old → said ≡ comes device event mid → mid.tables ≡ ts → CameTo ts device event (Err fault) tables → sent' ≡ sent → streams' ≡ streams → ActFollows said old (Err (Step fault)) (record { nodes = nodes; tables = tables; sent = sent'; streams = streams' })
+undone_so said old mid device event fault nodes ts tables sent sent' streams streams' seen so same came unsent unstreamed =
+    let kept : came.after ≡ came.before = kept_at came.before came.after (step came.before event) fault came.follows in
+    let there : tables ≡ ts = came.leaves ∙ ap (set ts device) kept ∙ set_there ts device came.before came.is in
+    let at : slice_get mid.tables device ≡ Some came.before = ap (λ (l : List DeviceTable). slice_get l device) same ∙ came.is in
+    refused_at said old mid _ device event came.before came.after fault so at came.follows
+    (ap (λ (l : List DeviceTable). record { nodes = nodes; tables = l; sent = sent'; streams = streams' }) there
+    ∙ ap (λ (l : List Sent). record { nodes = nodes; tables = ts; sent = l; streams = streams' }) unsent
+    ∙ ap (λ (l : List Stream). record { nodes = nodes; tables = ts; sent = sent; streams = l }) unstreamed
+    ∙ seen)
+
+-- what the code leaves is the world in which the answer was spread
+pub done_so : (said : Happened) (old mid : World) (device : ℕ) (event : Event) (answer : Answer) (node : Node) (tables : List DeviceTable) (sent : List Sent) (streams : List Stream) → said ≡ comes device event mid → CameTo mid.tables device event (Ok answer) tables → slice_get mid.nodes device ≡ Some node → sent ≡ mid.sent ++ map (sent_by node) answer.datagrams → streams ≡ answered device answer mid.streams → ActFollows said old (Ok (Some answer)) (record { nodes = mid.nodes; tables = tables; sent = sent; streams = streams })
+done_so said old mid device event answer node tables sent streams so came at sent_is streams_is =
+    let from : node_at mid device ≡ node = get_or_from_slice_get mid.nodes device node (record { 0 = 0 }) at in
+    let here : sent ≡ mid.sent ++ map (sent_by (node_at mid device)) answer.datagrams = sent_is ∙ ap (λ (n : Node). mid.sent ++ map (sent_by n) answer.datagrams) (sym from) in
+    rw (here, streams_is) (answered_so said old mid device event answer tables so came)
+
+-- DELIVERIES
+
+plain_spread : (device : ℕ) (w : World) (delivery : Delivery) → spread device (plain_answer (Delivered delivery)) w ≡ w
+unfolding frames_sent notices_told
+plain_spread device w delivery = ap (λ (sent : List Sent). record w { sent = sent }) (append-nil w.sent)
+
+pub delivered_so : (old w : World) (device index : ℕ) (sent : Sent) (delivery : Delivery) (answer : Answer) (tables : List DeviceTable) → w ≡ old → slice_get w.sent index ≡ Some sent → WasDelivered w.tables device sent.from sent.bytes delivery tables → answer ≡ plain_answer (Delivered delivery) → ActFollows (delivered device old (slice_get old.tables device) (slice_get old.sent index)) old (Ok (Some answer)) (record w { tables = tables })
+delivered_so old w device index sent delivery answer tables seen found was plain =
+    let event = Datagram sent.from sent.bytes in
+    let said = plain_answer (Delivered delivery) in
+    let happened : delivered device w (slice_get w.tables device) (slice_get w.sent index) ≡ Ok (Some (record { device = device; event = event; answer = said }), record w { tables = tables }) =
+    ap (λ (t : Option DeviceTable). delivered device w t (slice_get w.sent index)) was.is
+    ∙ ap (delivered device w (Some was.before)) found
+    ∙ came_is device event w was.before (Ok (said, was.after)) was.is was.follows
+    ∙ ap (λ (ts : List DeviceTable). Ok (Some (record { device = device; event = event; answer = said }), spread device said (record w { tables = ts }))) (sym was.leaves)
+    ∙ ap (λ (v : World). Ok (Some (record { device = device; event = event; answer = said }), v)) (plain_spread device (record w { tables = tables }) delivery) in
+    (Some (record { device = device; event = event; answer = said }), sym (ap (λ (v : World). delivered device v (slice_get v.tables device) (slice_get v.sent index)) seen) ∙ happened, ap Some plain)
+
+pub delivered_nowhere : (w : World) (device : ℕ) (found : Option Sent) → length w.tables ≤ device → delivered device w (slice_get w.tables device) found ≡ Err NoSuchDevice
+delivered_nowhere w device found le = ap (λ (t : Option DeviceTable). delivered device w t found) (get_past w.tables device le)
+
+pub delivered_nothing : (w : World) (device : ℕ) (found : Option Sent) → device < length w.tables → found ≡ None → delivered device w (slice_get w.tables device) found ≡ Err NeverSent
+delivered_nothing w device found lt none =
+    let there = get_there w.tables device lt in
+    ap (λ (t : Option DeviceTable). delivered device w t found) there.1 ∙ ap (delivered device w (Some there.0)) none
+
+-- WHAT COMES OVER A STREAM
+
+-- the device stands in the world as it is seen
+pub stands : (nodes : List Node) (tables : List DeviceTable) (sent : List Sent) (streams : List Stream) (w : World) (device : ℕ) (node : Node) → record { nodes = nodes; tables = tables; sent = sent; streams = streams } ≡ w → length nodes ≡ length tables → slice_get nodes device ≡ Some node → (device < length w.tables) × (slice_get w.nodes device ≡ Some node)
+stands nodes tables sent streams w device node seen long is =
+    let lt : device < length nodes = some_within nodes device node is in
+    let within : device < length tables = omega arith in
+    (subst (λ (v : World). device < length v.tables) seen within, subst (λ (v : World). slice_get v.nodes device ≡ Some node) seen is)
+
+takes : (d : Direction) (s : Stream) (ends : Ends) → Some ends ≡ Some (ends_of s) → taker d s ≡ taker_in d ends
+takes Forth s ends is = let e = is in cc
+takes Back s ends is = let e = is in cc
+
+gives : (d : Direction) (s : Stream) (ends : Ends) → Some ends ≡ Some (ends_of s) → giver d s ≡ giver_in d ends
+gives Forth s ends is = let e = is in cc
+gives Back s ends is = let e = is in cc
+
+front_is : (n : ℕ) (d : Direction) (w : World) (s : Stream) (queue : List Item) (item : Item) → Some item ≡ slice_get queue 0 → taken n d w s queue ≡ comes (taker d s) (event_of_item n (node_at w (giver d s)) item) (without_front n d w)
+front_is n d w s [] item is = absurd (let e = is in cc)
+front_is n d w s (first ∷ rest) item is = ap (λ (i : Item). comes (taker d s) (event_of_item n (node_at w (giver d s)) i) (without_front n d w)) (let e = is in let same : first ≡ item = cc in same)
+
+pub taken_is : (n : ℕ) (d : Direction) (w : World) (o : Option Stream) (ends : Ends) (item : Item) → Some ends ≡ option_map ends_of o → Some item ≡ front_of d o → taken_at n d w o ≡ comes (taker_in d ends) (event_of_item n (node_at w (giver_in d ends)) item) (without_front n d w)
+taken_is n d w None ends item there first = absurd (let e = there in cc)
+taken_is n d w (Some s) ends item there first =
+    front_is n d w s (side_of d s).queue item first
+    ∙ ap (λ (i : ℕ). comes i (event_of_item n (node_at w (giver d s)) item) (without_front n d w)) (takes d s ends there)
+    ∙ ap (λ (i : ℕ). comes (taker_in d ends) (event_of_item n (node_at w i) item) (without_front n d w)) (gives d s ends there)
+
+-- the same in the world as it is seen, with what the code looked up
+pub comes_over : (n : ℕ) (d : Direction) (v w : World) (ends : Ends) (item : Item) (device giver : ℕ) (peer : Node) (event : Event) → v ≡ w → Some ends ≡ option_map ends_of (slice_get v.streams n) → Some item ≡ front_of d (slice_get v.streams n) → device ≡ taker_in d ends → giver ≡ giver_in d ends → peer ≡ node_at v giver → event ≡ event_of_item n peer item → taken_at n d w (slice_get w.streams n) ≡ comes device event (without_front n d w)
+comes_over n d v w ends item device giver peer event seen there first taker_is giver_is peer_is event_is =
+    let known : peer ≡ node_at v (giver_in d ends) = peer_is ∙ ap (node_at v) giver_is in
+    let same : event ≡ event_of_item n (node_at v (giver_in d ends)) item = event_is ∙ ap (λ (p : Node). event_of_item n p item) known in
+    let so : taken_at n d v (slice_get v.streams n) ≡ comes device event (without_front n d v) =
+    taken_is n d v (slice_get v.streams n) ends item there first
+    ∙ ap (λ (i : ℕ). comes i (event_of_item n (node_at v (giver_in d ends)) item) (without_front n d v)) (sym taker_is)
+    ∙ ap (λ (e : Event). comes device e (without_front n d v)) (sym same) in
+    subst (λ (u : World). taken_at n d u (slice_get u.streams n) ≡ comes device event (without_front n d u)) seen so
+
+pub comes_over_possibly : (n : ℕ) (d : Direction) (v w : World) (ends : Ends) (item : Item) (device : ℕ) → v ≡ w → Some ends ≡ option_map ends_of (slice_get v.streams n) → Some item ≡ front_of d (slice_get v.streams n) → device ≡ taker_in d ends → device < length w.tables → IsPossible (taken_at n d w (slice_get w.streams n))
+comes_over_possibly n d v w ends item device seen there first taker_is within =
+    let event : Event = event_of_item n (node_at v (giver_in d ends)) item in
+    let so = comes_over n d v w ends item device (giver_in d ends) (node_at v (giver_in d ends)) event seen there first taker_is refl refl refl in
+    subst (λ (r : Happened). IsPossible r) (sym so) (comes_possibly device event (without_front n d w) within)

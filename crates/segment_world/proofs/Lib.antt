@@ -1,0 +1,5 @@
+mod Acts
+mod CameTo
+mod Listing
+mod Projecting
+mod Sending

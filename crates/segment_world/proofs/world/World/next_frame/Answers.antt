@@ -1,0 +1,34 @@
+use Rattle.std.proofs.Common.{slice_get, sym, ap, ◌∙◌}
+use Rattle.stream_queues.specs.Streams.{with_stream, taken_from, answered}
+use Rattle.segment_world.specs.World.{World, comes, without_front, taken_at}
+use Rattle.segment_world.proofs.Acts.{done_so, undone_so}
+use Rattle.segment_world.proofs.world.World.next_frame.Goals as goal
+
+pub returns-in-Ok-step_at : goal.returns-in-Ok-step_at
+returns-in-Ok-step_at g c =
+    let seen : World = record { nodes = c.self.inside.nodes.items; tables = c.self.inside.members.items; sent = c.self.inside.log.sent; streams = c.self.inside.streams.streams } in
+    let n = c.args.stream in
+    let d = c.args.direction in
+    let coming = c.in-Ok.coming in
+    let is = c.in-Ok.ensures.coming in
+    let answer = c.in-Ok-step_at.answer in
+    done_so (taken_at n d c.args.self.now (slice_get c.args.self.now.streams n)) c.args.self.now (without_front n d seen) coming.device coming.event answer coming.node c.step_at.new.members.items c.spread.new.log.sent c.spread.new.streams.streams
+    (is.is ∙ ap (λ (w : World). comes coming.device coming.event (without_front n d w)) (sym c.self.view_is))
+    c.in-Ok-step_at.ensures
+    (ap (λ (w : World). slice_get w.nodes coming.device) c.self.view_is ∙ is.node)
+    (rw c.make_room.ensures.sent at c.spread.ensures.sent)
+    (c.spread.ensures.streams ∙ ap (answered coming.device answer) (c.take_front.ensures.streams ∙ ap (with_stream (taken_from d) n) c.make_room.ensures.streams))
+
+pub returns : goal.returns
+returns g c =
+    let n = c.args.stream in
+    let d = c.args.direction in
+    let coming = c.in-Ok.coming in
+    let is = c.in-Ok.ensures.coming in
+    undone_so (taken_at n d c.args.self.now (slice_get c.args.self.now.streams n)) c.args.self.now (without_front n d c.args.self.now) coming.device coming.event c.in-Err-step_at.fault _ c.self.inside.members.items c.step_at.new.members.items _ c.make_room.new.log.sent _ c.make_room.new.streams.streams
+    c.self.view_is
+    is.is
+    (sym (ap (λ (w : World). w.tables) c.self.view_is))
+    c.in-Err-step_at.ensures
+    c.make_room.ensures.sent
+    c.make_room.ensures.streams

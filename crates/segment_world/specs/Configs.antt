@@ -1,0 +1,52 @@
+-- What a world is made of, and the world as it opens.
+use Rattle.std.specs.Prelude.{◌≡◌, ℕ, ◌==◌, ◌||◌, if◌then◌else◌, Bool, false, List, [], ◌∷◌, map, Option, Some, None}
+use Rattle.std.specs.List.{list_any}
+use Rattle.cip_types.specs.declared.names.Node.{Node}
+use Rattle.cip_events.specs.declared.profile_fault.ProfileFault.{ProfileFault}
+use Rattle.cip_tables.specs.declared.table.Config.{Config}
+use Rattle.cip_tables.specs.Step.{opening_table, config_fault, node_of, incarnation_of}
+use Rattle.segment_world.specs.declared.configs.Key.{Key}
+use Rattle.segment_world.specs.declared.configs.Key.TheVariants.{Incarnation, Address}
+use Rattle.segment_world.specs.declared.fault.WorldFault.{WorldFault}
+use Rattle.segment_world.specs.declared.fault.WorldFault.TheVariants.{SameIncarnation, SameNode, Profile, OutOfMemory}
+use Rattle.segment_world.specs.World.{World}
+
+abbrev pub node_of_config : Config → Node
+node_of_config config = node_of (opening_table config)
+
+-- the byte that the ids of a device begin with, or the number that its address is
+abbrev pub key_in : Key → Config → ℕ
+key_in Incarnation config = incarnation_of (opening_table config)
+key_in Address config = (node_of_config config).0
+
+-- no device has been at work, nothing was sent, no stream was opened
+abbrev pub opening_world : List Config → World
+opening_world configs = record { nodes = map node_of_config configs; tables = map opening_table configs; sent = []; streams = [] }
+
+-- two configurations have one key
+unfoldable pub any_twice : Key → List Config → Bool
+any_twice key [] = false
+any_twice key (config ∷ configs) = list_any (λ other. key_in key other == key_in key config) configs || any_twice key configs
+
+abbrev pub fault_or : Option ProfileFault → Option ProfileFault → Option ProfileFault
+fault_or None later = later
+fault_or (Some fault) later = Some fault
+
+-- the first fault of a configuration, of the first that has one
+unfoldable pub first_fault : List Config → Option ProfileFault
+first_fault [] = None
+first_fault (config ∷ configs) = fault_or (config_fault config) (first_fault configs)
+
+abbrev pub profile_fault_of : Option ProfileFault → Option WorldFault
+profile_fault_of None = None
+profile_fault_of (Some fault) = Some (Profile fault)
+
+-- what is wrong with the configurations of a world: connection ids would be given twice, an address would not name
+-- one device, a device cannot be made
+abbrev pub world_fault : List Config → Option WorldFault
+world_fault configs = if any_twice Incarnation configs then Some SameIncarnation else if any_twice Address configs then Some SameNode else profile_fault_of (first_fault configs)
+
+-- memory is wanted only where nothing is wrong
+abbrev pub IsRefused : Option WorldFault → WorldFault → Type 0
+IsRefused wrong OutOfMemory = wrong ≡ None
+IsRefused wrong fault = wrong ≡ Some fault

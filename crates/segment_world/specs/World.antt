@@ -1,0 +1,132 @@
+-- A segment of devices: their tables, every datagram that was ever sent, and the streams between them; and what
+-- one act does to it.
+--
+-- Datagrams are delivered to whom an act says, in any order, once, many times or never, but only as they were sent
+-- and in the name of whom they were sent by. Streams may be cut, but neither lose, repeat nor reorder what they carry.
+use Rattle.std.specs.Prelude.{ℕ, ◌==◌, ◌&&◌, not, nat_lt, Bool, true, false, List, [], ◌∷◌, ◌++◌, map, set, length, slice_get, slice_index_or, Option, Some, None, Result, Ok, Err}
+use Rattle.cip_types.specs.declared.names.Node.{Node}
+use Rattle.cip_events.specs.declared.event.Answer.{Answer}
+use Rattle.cip_events.specs.declared.event.Event.{Event}
+use Rattle.cip_events.specs.declared.event.Event.TheVariants as event
+use Rattle.cip_events.specs.declared.event.Sending.{Sending}
+use Rattle.cip_events.specs.declared.event.StepFault.{StepFault}
+use Rattle.cip_tables.specs.declared.table.DeviceTable.{DeviceTable}
+use Rattle.cip_tables.specs.Step.{DeviceNext, step}
+use Rattle.sent_log.specs.Log.{Sent}
+use Rattle.stream_queues.specs.declared.direction.Direction.{Direction}
+use Rattle.stream_queues.specs.Streams.{Item, Opening, Queued, Ending, Stream, side_of, taker, giver, with_stream, answered, taken_from, fresh_stream, cut_stream}
+use Rattle.segment_world.specs.declared.act.Act.{Act}
+use Rattle.segment_world.specs.declared.act.Act.TheVariants.{Local, Deliver, NextFrame, OpenStream, CutStream}
+use Rattle.segment_world.specs.declared.act.Call.{Call}
+use Rattle.segment_world.specs.declared.act.Call.TheVariants as call
+use Rattle.segment_world.specs.declared.act.ActFault.{ActFault}
+use Rattle.segment_world.specs.declared.act.ActFault.TheVariants.{NoSuchDevice, NeverSent, StreamEmpty, NoSuchStream, Step}
+
+-- the addresses of the devices, their tables, what was sent, and the streams: devices are told by their places
+pub record World : Type 0 where
+  pub nodes : List Node
+  pub tables : List DeviceTable
+  pub sent : List Sent
+  pub streams : List Stream
+
+-- an event of a device, with its answer
+pub record Told : Type 0 where
+  pub device : ℕ
+  pub event : Event
+  pub answer : Answer
+
+-- what an act tells, if it is an event of a device, and the world after it; or why it is none
+abbrev pub Happened : Type 0
+Happened = Result (Option Told × World) ActFault
+
+abbrev pub node_at : World → ℕ → Node
+node_at w device = slice_index_or w.nodes device (record { 0 = 0 })
+
+-- AN EVENT COMES TO A DEVICE
+
+-- a datagram of an answer is sent once, whoever consumes it
+abbrev pub sent_by : Node → Sending → Sent
+sent_by node sending = record { from = node; bytes = sending.bytes }
+
+-- what the device sends is there from now on
+abbrev pub spread : ℕ → Answer → World → World
+spread device answer w = record w {
+  sent = w.sent ++ map (sent_by (node_at w device)) answer.datagrams;
+  streams = answered device answer w.streams;
+}
+
+abbrev pub comes_so : ℕ → Event → World → Result DeviceNext StepFault → Happened
+comes_so device event w (Err fault) = Err (Step fault)
+comes_so device event w (Ok next) = Ok (Some (record { device = device; event = event; answer = next.0 }), spread device next.0 (record w { tables = set w.tables device next.1 }))
+
+abbrev pub comes_to : ℕ → Event → World → Option DeviceTable → Happened
+comes_to device event w None = Err NoSuchDevice
+comes_to device event w (Some t) = comes_so device event w (step t event)
+
+abbrev pub comes : ℕ → Event → World → Happened
+comes device event w = comes_to device event w (slice_get w.tables device)
+
+-- EVENTS OF A DEVICE
+
+abbrev pub event_of_call : Call → Event
+event_of_call (call.Write point bytes) = event.Write point bytes
+event_of_call (call.Read point) = event.Read point
+event_of_call (call.Mode run) = event.Mode run
+event_of_call (call.Start slot) = event.Start slot
+event_of_call (call.Stop slot) = event.Stop slot
+event_of_call (call.Tick ms) = event.Tick ms
+
+abbrev pub delivered : ℕ → World → Option DeviceTable → Option Sent → Happened
+delivered device w None sent = Err NoSuchDevice
+delivered device w (Some t) None = Err NeverSent
+delivered device w (Some t) (Some sent) = comes device (event.Datagram sent.from sent.bytes) w
+
+-- what an end of a stream takes, as its event
+abbrev pub event_of_item : ℕ → Node → Item → Event
+event_of_item n peer Opening = event.StreamOpened n peer
+event_of_item n peer (Queued bytes) = event.Frame n bytes
+event_of_item n peer Ending = event.StreamCut n
+
+abbrev pub without_front : ℕ → Direction → World → World
+without_front n direction w = record w { streams = with_stream (taken_from direction) n w.streams }
+
+-- the first that waits is taken, and stays where the device does not answer it
+abbrev pub taken : ℕ → Direction → World → Stream → List Item → Happened
+taken n direction w s [] = Err StreamEmpty
+taken n direction w s (item ∷ rest) = comes (taker direction s) (event_of_item n (node_at w (giver direction s)) item) (without_front n direction w)
+
+abbrev pub taken_at : ℕ → Direction → World → Option Stream → Happened
+taken_at n direction w None = Err NoSuchStream
+taken_at n direction w (Some s) = taken n direction w s (side_of direction s).queue
+
+-- STREAMS
+
+-- two devices of the world
+abbrev pub are_two : ℕ → ℕ → World → Bool
+are_two from to w = nat_lt from (length w.tables) && nat_lt to (length w.tables) && not (from == to)
+
+-- a stream's number has 16 bits
+abbrev pub most_streams : ℕ
+most_streams = 65536
+
+abbrev pub opened_if : ℕ → ℕ → World → Bool → Bool → Happened
+opened_if from to w false numbered = Err NoSuchDevice
+opened_if from to w true false = Err NoSuchStream
+opened_if from to w true true = Ok (None, record w { streams = w.streams ++ fresh_stream from to ∷ [] })
+
+abbrev pub cut_if : ℕ → World → Bool → Happened
+cut_if n w true = Err NoSuchStream
+cut_if n w false = Ok (None, record w { streams = with_stream cut_stream n w.streams })
+
+abbrev pub cut_at : ℕ → World → Option Stream → Happened
+cut_at n w None = Err NoSuchStream
+cut_at n w (Some s) = cut_if n w s.ended
+
+-- ACTS
+
+abbrev pub happens : World → Act → Happened
+happens w (Local device call) = comes device (event_of_call call) w
+happens w (Deliver index device) = delivered device w (slice_get w.tables device) (slice_get w.sent index)
+happens w (NextFrame stream direction) = taken_at stream direction w (slice_get w.streams stream)
+happens w (OpenStream from to) = opened_if from to w (are_two from to w) (nat_lt (length w.streams) most_streams)
+happens w (CutStream stream) = cut_at stream w (slice_get w.streams stream)

@@ -1,0 +1,135 @@
+//! What a world is made of.
+
+ghost use Rattle.std.specs.Prelude.{◌≡◌, ◌<◌, ◌+◌, ◌==◌, true, false, None, Some, IfOk, IfErr, drop, length, map};
+ghost use Rattle.std.specs.List.{list_any};
+ghost use Rattle.cip_tables.specs.Step.{opening_table, config_fault};
+ghost use Rattle.segment_world.specs.Configs.{key_in, any_twice, first_fault, world_fault, node_of_config};
+
+use crate::fault::WorldFault;
+use crate::member::Member;
+use cip_events::ProfileFault;
+use cip_tables::{Config, Device};
+use cip_types::{Node, OutOfMemory};
+use std::alloc::Global;
+
+/// What tells a device from all others.
+#[derive(Clone, Copy)]
+pub enum Key {
+    /// The byte that its connection ids begin with.
+    Incarnation,
+    /// Its address.
+    Address,
+}
+
+fn node_of(config: &Config) -> Node
+    ensures { result ≡ node_of_config config.now }
+{
+    match config {
+        Config::Adapter(profile) => profile.node,
+        Config::Scanner(profile) => profile.node,
+    }
+}
+
+fn key_of(key: Key, config: &Config) -> u32
+    ensures { result ≡ key_in key config.now }
+{
+    match key {
+        Key::Incarnation => match config {
+            Config::Adapter(profile) => u32::from(profile.incarnation),
+            Config::Scanner(profile) => u32::from(profile.incarnation),
+        },
+        Key::Address => node_of(config).0,
+    }
+}
+
+fn has_key(key: Key, configs: &[Config], value: u32) -> bool
+    ensures { result ≡ list_any (λ config. key_in key config == value) configs.now }
+{
+    configs.iter().any(|config| key_of(key, config) == value)
+}
+
+/// The configurations behind a place.
+fn later(configs: &[Config], place: usize) -> &[Config]
+    requires { place < length configs.now }
+    ensures { result.now ≡ drop (place + 1) configs.now }
+{
+    &configs[place + 1..]
+}
+
+/// Whether two configurations have one key.
+fn any_twice(key: Key, configs: &[Config]) -> bool
+    ensures { result ≡ any_twice key configs.now }
+{
+    for (place, config) in configs.iter().enumerate() {
+        if has_key(key, later(configs, place), key_of(key, config)) {
+            return true;
+        }
+    }
+    false
+}
+
+fn config_fault(config: &Config) -> Option<ProfileFault>
+    ensures { result ≡ config_fault config.now }
+{
+    match config {
+        Config::Adapter(profile) => profile.check().err(),
+        Config::Scanner(profile) => profile.check().err(),
+    }
+}
+
+/// The first fault of a configuration, of the first that has one.
+fn first_fault(configs: &[Config]) -> Option<ProfileFault>
+    ensures { result ≡ first_fault configs.now }
+{
+    for config in configs {
+        if let Some(fault) = config_fault(config) {
+            return Some(fault);
+        }
+    }
+    None
+}
+
+/// What is wrong with the configurations of a world. Takes no memory.
+pub fn world_fault(configs: &[Config]) -> Option<WorldFault>
+    ensures { result ≡ world_fault configs.now }
+{
+    if any_twice(Key::Incarnation, configs) {
+        return Some(WorldFault::SameIncarnation);
+    }
+    if any_twice(Key::Address, configs) {
+        return Some(WorldFault::SameNode);
+    }
+    match first_fault(configs) {
+        Some(fault) => Some(WorldFault::Profile(fault)),
+        None => None,
+    }
+}
+
+/// The addresses of the devices, in order.
+pub fn nodes_of(alloc: Global, configs: &[Config]) -> Result<Vec<Node>, OutOfMemory>
+    ensures { IfOk result (λ nodes. nodes.items ≡ map node_of_config configs.now) }
+{
+    let mut nodes = Vec::new(alloc);
+    for config in configs {
+        nodes.push(node_of(config))?;
+    }
+    Ok(nodes)
+}
+
+/// Fresh devices of configurations none of which has a fault, in order.
+pub fn members_of<A: Device + Drop, S: Device + Drop>(
+    alloc: Global,
+    configs: Vec<Config>,
+) -> Result<Vec<Member<A, S>>, OutOfMemory>
+    requires adapter { A.ADAPTER ≡ true }
+    requires scanner { S.ADAPTER ≡ false }
+    requires good { first_fault configs.items ≡ None }
+    ensures { IfOk result (λ members. members.items ≡ map opening_table configs.items) }
+{
+    let mut members = Vec::new(alloc);
+    for config in configs {
+        let member = Member::new(alloc, config)?;
+        members.push(member)?;
+    }
+    Ok(members)
+}

@@ -1,0 +1,6 @@
+mod Frames
+mod Live
+mod Loops
+mod Spares
+mod Views
+mod Ways

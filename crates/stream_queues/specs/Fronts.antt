@@ -1,0 +1,21 @@
+-- What is read of a stream: its ends, and what waits first.
+use Rattle.std.specs.Prelude.{slice_get, Option, Some, None}
+use Rattle.stream_queues.specs.declared.direction.Direction.{Direction}
+use Rattle.stream_queues.specs.declared.front.Front.{Front}
+use Rattle.stream_queues.specs.declared.front.Front.TheVariants as front
+use Rattle.stream_queues.specs.declared.links.Ends.{Ends}
+use Rattle.stream_queues.specs.Streams.{Item, Opening, Queued, Ending, Stream, side_of}
+
+-- the ends of a stream
+abbrev pub ends_of : Stream → Ends
+ends_of s = record { from = s.from; to = s.to; ended = s.ended }
+
+abbrev pub view_front : Front → Item
+view_front front.Opening = Opening
+view_front (front.Frame bytes) = Queued bytes.now
+view_front front.Ending = Ending
+
+-- what waits first in a direction of a stream
+abbrev pub front_of : Direction → Option Stream → Option Item
+front_of direction None = None
+front_of direction (Some s) = slice_get (side_of direction s).queue 0

@@ -1,0 +1,154 @@
+-- Streams between the devices of a segment: what waits on them, and what a device's answer does to them.
+use Rattle.std.specs.Prelude.{ℕ, ◌==◌, ◌||◌, Bool, true, false, if◌then◌else◌, List, [], ◌∷◌, ◌++◌, set, slice_get, Option, Some, None}
+use Rattle.cip_events.specs.declared.event.Answer.{Answer}
+use Rattle.cip_events.specs.declared.event.Frame.{Frame}
+use Rattle.cip_events.specs.declared.event.Recipient.{Recipient}
+use Rattle.cip_events.specs.declared.event.Recipient.TheVariants as recipient
+use Rattle.cip_events.specs.declared.event.Notice.{Notice}
+use Rattle.cip_events.specs.declared.event.Notice.TheVariants.{Opened, Closed, Expired, Dropped, Replaced, StreamClosed, Slot, Refused, NoIds}
+use Rattle.stream_queues.specs.declared.direction.Direction.{Direction}
+use Rattle.stream_queues.specs.declared.direction.Direction.TheVariants.{Forth, Back}
+
+-- what waits in one direction of a stream: the mark that it opens, a frame, or the mark that it is cut
+pub data Item : Type 0 where
+  Opening : Item
+  Queued : List ℕ → Item
+  Ending : Item
+
+-- one direction: whether its end has taken the mark that the stream opens, and what waits for that end, in order
+pub record Side : Type 0 where
+  pub taken : Bool
+  pub queue : List Item
+
+-- A stream from one device to another, both told by their places. `forth` runs to the device that accepted it,
+-- `back` to the one that opened it.
+pub record Stream : Type 0 where
+  pub from : ℕ
+  pub to : ℕ
+  pub ended : Bool
+  pub forth : Side
+  pub back : Side
+
+-- DIRECTIONS
+
+abbrev pub side_of : Direction → Stream → Side
+side_of Forth s = s.forth
+side_of Back s = s.back
+
+abbrev pub with_side : Direction → Stream → Side → Stream
+with_side Forth s side = record s { forth = side }
+with_side Back s side = record s { back = side }
+
+-- the device that takes what runs in a direction, and the one that sends it
+abbrev pub taker : Direction → Stream → ℕ
+taker Forth s = s.to
+taker Back s = s.from
+
+abbrev pub giver : Direction → Stream → ℕ
+giver Forth s = s.from
+giver Back s = s.to
+
+-- The direction in which a device sends over a stream: none where the stream has ended, or where it is no stream
+-- of the device.
+abbrev pub way_between : ℕ → Bool → ℕ → ℕ → Option Direction
+way_between device ended from to = if ended then None else if from == device then Some Forth else if to == device then Some Back else None
+
+abbrev pub way_from : ℕ → Stream → Option Direction
+way_from device s = way_between device s.ended s.from s.to
+
+-- ONE STREAM AMONG ALL
+
+-- the stream of this number, if there is one, is changed so
+abbrev pub changed : (Stream → Stream) → List Stream → ℕ → Option Stream → List Stream
+changed change streams n None = streams
+changed change streams n (Some s) = set streams n (change s)
+
+abbrev pub with_stream : (Stream → Stream) → ℕ → List Stream → List Stream
+with_stream change n streams = changed change streams n (slice_get streams n)
+
+-- WHAT A DEVICE SENDS
+
+abbrev pub queued : Item → Side → Side
+queued item side = record side { queue = side.queue ++ item ∷ [] }
+
+abbrev pub sent_so : List ℕ → Stream → Option Direction → Stream
+sent_so bytes s None = s
+sent_so bytes s (Some direction) = with_side direction s (queued (Queued bytes) (side_of direction s))
+
+-- a frame of the device waits for the other end; what cannot be sent is lost
+abbrev pub sent_over : ℕ → List ℕ → Stream → Stream
+sent_over device bytes s = sent_so bytes s (way_from device s)
+
+-- frames for a peer answer requests that came over no stream
+abbrev pub frame_sent : ℕ → List Stream → List ℕ → Recipient → List Stream
+frame_sent device streams bytes (recipient.Stream n) = with_stream (sent_over device bytes) n streams
+frame_sent device streams bytes (recipient.Peer node) = streams
+
+unfoldable pub frames_sent : ℕ → List Stream → List Frame → List Stream
+frames_sent device streams [] = streams
+frames_sent device streams (frame ∷ frames) = frames_sent device (frame_sent device streams frame.bytes frame.to) frames
+
+-- HOW A STREAM ENDS
+
+abbrev pub emptied : Side → Side
+emptied side = record side { queue = [] }
+
+-- nothing waits but the mark that the stream is cut, for an end that has taken the one that it opens
+abbrev pub ended_side : Side → Side
+ended_side side = record side { queue = if side.taken then Ending ∷ [] else [] }
+
+-- both ends are to learn that the stream is cut
+abbrev pub cut_stream : Stream → Stream
+cut_stream s = record s { ended = true; forth = ended_side s.forth; back = ended_side s.back }
+
+-- one end ends the stream, so that the other alone is to learn it
+abbrev pub closed_so : Stream → Option Direction → Stream
+closed_so s None = s
+closed_so s (Some Forth) = record s { ended = true; forth = ended_side s.forth; back = emptied s.back }
+closed_so s (Some Back) = record s { ended = true; forth = emptied s.forth; back = ended_side s.back }
+
+abbrev pub closed_by : ℕ → Stream → Stream
+closed_by device s = closed_so s (way_from device s)
+
+-- of what a device tells, the end of a stream alone changes streams
+abbrev pub notice_told : ℕ → List Stream → Notice → List Stream
+notice_told device streams (StreamClosed n) = with_stream (closed_by device) n streams
+notice_told device streams (Opened triad id) = streams
+notice_told device streams (Closed triad) = streams
+notice_told device streams (Expired triad) = streams
+notice_told device streams (Dropped triad) = streams
+notice_told device streams (Replaced triad) = streams
+notice_told device streams (Slot slot state) = streams
+notice_told device streams (Refused slot reason) = streams
+notice_told device streams (NoIds slot) = streams
+
+unfoldable pub notices_told : ℕ → List Stream → List Notice → List Stream
+notices_told device streams [] = streams
+notices_told device streams (notice ∷ notices) = notices_told device (notice_told device streams notice) notices
+
+-- the streams after a device's answer: first its frames are sent, then what it tells ends streams
+abbrev pub answered : ℕ → Answer → List Stream → List Stream
+answered device answer streams = notices_told device (frames_sent device streams answer.frames) answer.notices
+
+-- WHAT IS TAKEN
+
+abbrev pub is_opening : Item → Bool
+is_opening Opening = true
+is_opening (Queued bytes) = false
+is_opening Ending = false
+
+-- the first that waits is taken
+abbrev pub without_first : Side → List Item → Side
+without_first side [] = side
+without_first side (item ∷ rest) = record side { taken = side.taken || is_opening item; queue = rest }
+
+abbrev pub taken_from : Direction → Stream → Stream
+taken_from direction s = with_side direction s (without_first (side_of direction s) (side_of direction s).queue)
+
+-- A STREAM THAT IS OPENED
+
+abbrev pub fresh_side : Side
+fresh_side = record { taken = false; queue = Opening ∷ [] }
+
+abbrev pub fresh_stream : ℕ → ℕ → Stream
+fresh_stream from to = record { from = from; to = to; ended = false; forth = fresh_side; back = fresh_side }

@@ -1,0 +1,220 @@
+//! Streams, and what waits on them.
+
+ghost use Rattle.std.specs.Prelude.{◌≡◌, ◌≤◌, ◌<◌, ◌+◌, ◌∷◌, [], ◌++◌, length, slice_get, OnOk, OnErr};
+ghost use Rattle.std.specs.Option.{option_map};
+ghost use Rattle.stream_queues.specs.Streams.{fresh_stream, with_stream, sent_over, frame_sent, frames_sent, closed_by, notice_told, notices_told, cut_stream, taken_from};
+ghost use Rattle.stream_queues.specs.Queues.{AreShort};
+ghost use Rattle.stream_queues.specs.Fronts.{ends_of, view_front, front_of};
+
+use crate::buffers::{Buffers, MOST_FRAMES};
+use crate::direction::Direction;
+use crate::front::Front;
+use crate::links::{Ends, Link, link_at, put_link};
+use crate::waiting::{Waiting, drop_frames, first};
+use cip_events::{Frame, Notice, Recipient};
+use cip_types::OutOfMemory;
+use std::alloc::Global;
+use std::marker::Model;
+
+/// Streams between devices, numbered from 0 in the order in which they were opened, which contracts see as their
+/// list, with the number of frames for which there is room.
+#[derive(Drop)]
+pub struct Streams {
+    links: Vec<Link>,
+    waiting: Vec<Waiting>,
+    buffers: Buffers,
+}
+
+impl Model for Streams {
+    ghost use Rattle.std.specs.Prelude.{◌-◌, min};
+    ghost use Rattle.std.specs.Vec.{vec_len, vec_capacity};
+    ghost use Rattle.stream_queues.specs.Queues.{Queues, streams_in, AreLive};
+
+    ghost Value = { Queues };
+
+    ghost view = { λ s. record { streams = streams_in 0 s.waiting.items s.links.items; room = min (vec_capacity s.waiting - vec_len s.waiting) s.buffers } };
+
+    ghost invariant = { λ s. AreLive s.links.items s.waiting.items };
+}
+
+impl Streams {
+    /// No streams. Takes no memory.
+    #[tactic(auto, unfolding(crate::specs::Queues::streams_in, crate::specs::Queues::AreLive))]
+    pub fn new(alloc: Global) -> Streams
+        ensures { result.streams ≡ [] }
+    {
+        Streams {
+            links: Vec::new(alloc),
+            waiting: Vec::new(alloc),
+            buffers: Buffers::new(alloc),
+        }
+    }
+
+    /// How many streams were opened.
+    pub fn len(&self) -> usize
+        ensures { result ≡ length self.now.streams }
+    {
+        self.links.len()
+    }
+
+    /// The ends of the stream of this number.
+    pub fn ends(&self, number: u16) -> Option<Ends>
+        ensures { result ≡ option_map ends_of (slice_get self.now.streams number) }
+    {
+        let Some(link) = link_at(&self.links, number) else {
+            return None;
+        };
+        Some(Ends {
+            from: link.from,
+            to: link.to,
+            ended: link.ended,
+        })
+    }
+
+    /// Makes room for the frames of an answer. After want of memory the streams are as they were.
+    pub fn make_room(&mut self) -> Result<(), OutOfMemory>
+        ensures streams { self.new.streams ≡ self.old.streams }
+        ensures room { OnOk result (64 ≤ self.new.room) }
+    {
+        self.waiting.reserve(MOST_FRAMES)?;
+        self.buffers.refill()
+    }
+
+    /// Opens a stream from a device to another, on which the marks that it opens wait for both. After want of
+    /// memory the streams are as they were.
+    pub fn open(&mut self, from: u32, to: u32) -> Result<(), OutOfMemory>
+        ensures opened { OnOk result (self.new.streams ≡ self.old.streams ++ fresh_stream from to ∷ []) }
+        ensures kept { OnErr result (self.new.streams ≡ self.old.streams) }
+    {
+        self.links.push(Link::new(from, to))?;
+        Ok(())
+    }
+
+    /// Queues a frame that a device sends over a stream.
+    fn send_over(&mut self, device: u32, number: u16, bytes: &[u8])
+        requires room { 0 < self.old.room }
+        requires size { length bytes.now ≤ 2048 }
+        ensures streams { self.new.streams ≡ with_stream (sent_over device bytes.now) number self.old.streams }
+        ensures room { self.old.room ≤ self.new.room + 1 }
+    {
+        let Some(link) = link_at(&self.links, number) else {
+            return;
+        };
+        let Some(direction) = link.way_from(device) else {
+            return;
+        };
+        let bytes = self.buffers.filled(bytes);
+        self.waiting.push_reserved(Waiting {
+            stream: number,
+            direction,
+            bytes,
+        });
+    }
+
+    fn send_frame(&mut self, device: u32, frame: &Frame)
+        requires room { 0 < self.old.room }
+        requires size { length frame.now.bytes ≤ 2048 }
+        ensures streams { self.new.streams ≡ frame_sent device self.old.streams frame.now.bytes frame.now.to }
+        ensures room { self.old.room ≤ self.new.room + 1 }
+    {
+        match frame.to {
+            Recipient::Stream(number) => self.send_over(device, number, frame.bytes.as_slice()),
+            Recipient::Peer(_) => {}
+        }
+    }
+
+    /// Queues the frames of a device's answer, for which there is room, and which have at most 2,048 bytes each.
+    /// Takes no memory.
+    pub fn send_frames(&mut self, device: u32, frames: &[Frame])
+        requires room { length frames.now ≤ self.old.room }
+        requires size { AreShort frames.now }
+        ensures { self.new.streams ≡ frames_sent device self.old.streams frames.now }
+    {
+        for frame in frames {
+            self.send_frame(device, frame);
+        }
+    }
+
+    /// Ends a stream that is one of a device's.
+    fn close_by(&mut self, device: u32, number: u16)
+        ensures { self.new.streams ≡ with_stream (closed_by device) number self.old.streams }
+    {
+        let Some(link) = link_at(&self.links, number) else {
+            return;
+        };
+        let Some(direction) = link.way_from(device) else {
+            return;
+        };
+        put_link(&mut self.links, number, link.closed(direction));
+        drop_frames(&mut self.waiting, number);
+    }
+
+    fn tell_notice(&mut self, device: u32, notice: &Notice)
+        ensures { self.new.streams ≡ notice_told device self.old.streams notice.now }
+    {
+        if let Notice::StreamClosed(number) = notice {
+            self.close_by(device, *number);
+        }
+    }
+
+    /// Ends the streams of which a device's answer tells that they end. Takes no memory.
+    pub fn tell_notices(&mut self, device: u32, notices: &[Notice])
+        ensures { self.new.streams ≡ notices_told device self.old.streams notices.now }
+    {
+        for notice in notices {
+            self.tell_notice(device, notice);
+        }
+    }
+
+    /// Cuts the stream of this number, if there is one, so that both ends are to learn it. Takes no memory.
+    pub fn cut(&mut self, number: u16)
+        ensures { self.new.streams ≡ with_stream cut_stream number self.old.streams }
+    {
+        let Some(link) = link_at(&self.links, number) else {
+            return;
+        };
+        put_link(&mut self.links, number, link.cut());
+        drop_frames(&mut self.waiting, number);
+    }
+
+    /// What waits first in a direction of the stream of this number.
+    pub fn front(&self, number: u16, direction: Direction) -> Option<Front<'_>>
+        ensures { option_map view_front result ≡ front_of direction (slice_get self.now.streams number) }
+    {
+        let Some(link) = link_at(&self.links, number) else {
+            return None;
+        };
+        let end = link.end(direction);
+        if link.ended {
+            return if end.ending {
+                Some(Front::Ending)
+            } else {
+                None
+            };
+        }
+        if !end.taken {
+            return Some(Front::Opening);
+        }
+        let Some(place) = first(&self.waiting, number, direction) else {
+            return None;
+        };
+        Some(Front::Frame(self.waiting[place].bytes.as_slice()))
+    }
+
+    /// Takes what waits first in a direction, if something waits. Takes no memory.
+    pub fn take_front(&mut self, number: u16, direction: Direction)
+        ensures streams { self.new.streams ≡ with_stream (taken_from direction) number self.old.streams }
+        ensures room { self.old.room ≤ self.new.room }
+    {
+        let Some(link) = link_at(&self.links, number) else {
+            return;
+        };
+        if link.is_marked(direction) {
+            put_link(&mut self.links, number, link.after(direction));
+            return;
+        }
+        if let Some(first) = first(&self.waiting, number, direction) {
+            let _taken = self.waiting.remove(first);
+        }
+    }
+}

@@ -1,0 +1,4 @@
+pub mod Playing
+pub mod Streams
+pub mod Datagrams
+pub mod Faults
