@@ -1,0 +1,183 @@
+-- What one act does: nothing but to streams, or it is one event of one device, which the device answers. Of what waits
+-- on streams the same holds after it.
+use Rattle.std.proofs.Common.{◌≡◌, ℕ, Bool, true, false, cond, List, [], ◌∷◌, ◌++◌, set, slice_get, Option, Some, None, Result, Ok, Err, IfOk, refl}
+use Rattle.std.specs.List.{AllByRecursion}
+use Rattle.cip_events.specs.declared.event.Event.{Event}
+use Rattle.cip_events.specs.declared.event.Event.TheVariants.{Request, StreamOpened, Frame, StreamCut, Datagram, Write, Read, Tick, Mode, Start, Stop}
+use Rattle.cip_events.specs.declared.event.StepFault.{StepFault}
+use Rattle.cip_types.specs.declared.names.Node.{Node}
+use Rattle.cip_tables.specs.declared.table.DeviceTable.{DeviceTable}
+use Rattle.cip_tables.specs.Step.{DeviceNext, step}
+use Rattle.sent_log.specs.Log.{Sent}
+use Rattle.stream_queues.specs.declared.direction.Direction.{Direction}
+use Rattle.stream_queues.specs.declared.direction.Direction.TheVariants.{Forth, Back}
+use Rattle.stream_queues.specs.Streams.{Item, Opening, Queued, Ending, Side, Stream, side_of, taker, giver, changed, with_stream, ended_side, cut_stream, without_first, taken_from, fresh_stream}
+use Rattle.segment_world.specs.declared.act.Act.{Act}
+use Rattle.segment_world.specs.declared.act.Act.TheVariants.{Local, Deliver, NextFrame, OpenStream, CutStream}
+use Rattle.segment_world.specs.declared.act.Call.{Call}
+use Rattle.segment_world.specs.declared.act.Call.TheVariants as call
+use Rattle.segment_world.specs.declared.act.ActFault.{ActFault}
+use Rattle.segment_world.specs.World.{World, Told, Happened, spread, comes, comes_to, comes_so, event_of_call, delivered, event_of_item, node_at, without_front, taken, taken_at, are_two, opened_if, cut_if, cut_at, happens}
+use Rattle.segment_world.specs.Story.{Story, goes_on, tells, runs}
+use Rattle.schedule_laws.proofs.Lists.{all_both, all_set, all_get}
+
+-- WHAT WAITS
+
+abbrev pub ItemHolds : (List ℕ → Type 0) → Item → Type 0
+ItemHolds Q Opening = Unit {0}
+ItemHolds Q (Queued bytes) = Q bytes
+ItemHolds Q Ending = Unit {0}
+
+abbrev pub SideHolds : (List ℕ → Type 0) → Side → Type 0
+SideHolds Q side = AllByRecursion (ItemHolds Q) side.queue
+
+-- it holds of each frame that waits on the stream
+pub record StreamHolds (Q : List ℕ → Type 0) (s : Stream) : Type 0 where
+  pub forth : SideHolds Q s.forth
+  pub back : SideHolds Q s.back
+
+abbrev pub StreamsHold : (List ℕ → Type 0) → List Stream → Type 0
+StreamsHold Q streams = AllByRecursion (StreamHolds Q) streams
+
+changed_holds : (Q : List ℕ → Type 0) (change : Stream → Stream) → ((s : Stream) → StreamHolds Q s → StreamHolds Q (change s)) → (streams : List Stream) (n : ℕ) (found : Option Stream) → slice_get streams n ≡ found → StreamsHold Q streams → StreamsHold Q (changed change streams n found)
+changed_holds Q change keeps streams n None is all = all
+changed_holds Q change keeps streams n (Some s) is all =
+    all_set (StreamHolds Q) streams n (change s) all (keeps s (all_get (StreamHolds Q) streams n s all is))
+
+pub with_stream_holds : (Q : List ℕ → Type 0) (change : Stream → Stream) → ((s : Stream) → StreamHolds Q s → StreamHolds Q (change s)) → (n : ℕ) (streams : List Stream) → StreamsHold Q streams → StreamsHold Q (with_stream change n streams)
+with_stream_holds Q change keeps n streams all = changed_holds Q change keeps streams n (slice_get streams n) refl all
+
+first_taken : (Q : List ℕ → Type 0) (side : Side) (queue : List Item) → side.queue ≡ queue → AllByRecursion (ItemHolds Q) queue → SideHolds Q (without_first side queue)
+first_taken Q side [] is all = rw is tt
+first_taken Q side (item ∷ rest) is all = all.1
+
+taken_holds : (Q : List ℕ → Type 0) (d : Direction) (s : Stream) → StreamHolds Q s → StreamHolds Q (taken_from d s)
+taken_holds Q Forth s all = record { forth = first_taken Q s.forth s.forth.queue refl all.forth; back = all.back }
+taken_holds Q Back s all = record { forth = all.forth; back = first_taken Q s.back s.back.queue refl all.back }
+
+pub ended_holds : (Q : List ℕ → Type 0) (side : Side) → SideHolds Q (ended_side side)
+ended_holds Q side = mark_holds side.taken where
+  mark_holds : (taken : Bool) → AllByRecursion (ItemHolds Q) (cond taken (Ending ∷ []) [])
+  mark_holds true = (tt, tt)
+  mark_holds false = tt
+
+cut_holds : (Q : List ℕ → Type 0) (s : Stream) → StreamHolds Q s → StreamHolds Q (cut_stream s)
+cut_holds Q s all = record { forth = ended_holds Q s.forth; back = ended_holds Q s.back }
+
+side_holds : (Q : List ℕ → Type 0) (d : Direction) (s : Stream) → StreamHolds Q s → SideHolds Q (side_of d s)
+side_holds Q Forth s all = all.forth
+side_holds Q Back s all = all.back
+
+-- AN ACT
+
+-- an event in a world: a frame of which it holds, and no request but over a stream
+abbrev pub EventHolds : (List ℕ → Type 0) → Event → Type 0
+EventHolds Q (Request peer bytes) = ⊥
+EventHolds Q (StreamOpened stream peer) = Unit {0}
+EventHolds Q (Frame stream bytes) = Q bytes
+EventHolds Q (StreamCut stream) = Unit {0}
+EventHolds Q (Datagram peer bytes) = Unit {0}
+EventHolds Q (Write point bytes) = Unit {0}
+EventHolds Q (Read point) = Unit {0}
+EventHolds Q (Tick ms) = Unit {0}
+EventHolds Q (Mode run) = Unit {0}
+EventHolds Q (Start slot) = Unit {0}
+EventHolds Q (Stop slot) = Unit {0}
+
+-- an event of a device, which answers it; the streams are those that the event leaves as it is taken
+pub record Came (Q : List ℕ → Type 0) (w : World) (told : Told) (new : World) : Type 0 where
+  pub streams : List Stream
+  pub before : DeviceTable
+  pub after : DeviceTable
+  pub is : slice_get w.tables told.device ≡ Some before
+  pub stepped : step before told.event ≡ Ok (told.answer, after)
+  pub leaves : new ≡ spread told.device told.answer (record w { tables = set w.tables told.device after; streams = streams })
+  pub queued : StreamsHold Q streams
+  pub event : EventHolds Q told.event
+
+-- no event: streams alone are others
+pub record Rests (Q : List ℕ → Type 0) (w : World) (new : World) : Type 0 where
+  pub tables : new.tables ≡ w.tables
+  pub sent : new.sent ≡ w.sent
+  pub queued : StreamsHold Q new.streams
+
+abbrev pub Moves : (List ℕ → Type 0) → World → Option Told × World → Type 0
+Moves Q w (None, new) = Rests Q w new
+Moves Q w (Some told, new) = Came Q w told new
+
+so_moves : (Q : List ℕ → Type 0) (w : World) (streams : List Stream) (device : ℕ) (event : Event) (t : DeviceTable) (said : Result DeviceNext StepFault) → slice_get w.tables device ≡ Some t → step t event ≡ said → StreamsHold Q streams → EventHolds Q event → IfOk (comes_so device event (record w { streams = streams }) said) (Moves Q w)
+so_moves Q w streams device event t (Err fault) at is queued holds = tt
+so_moves Q w streams device event t (Ok next) at is queued holds =
+    record { streams = streams; before = t; after = next.1; is = at; stepped = is; leaves = refl; queued = queued; event = holds }
+
+to_moves : (Q : List ℕ → Type 0) (w : World) (streams : List Stream) (device : ℕ) (event : Event) (o : Option DeviceTable) → slice_get w.tables device ≡ o → StreamsHold Q streams → EventHolds Q event → IfOk (comes_to device event (record w { streams = streams }) o) (Moves Q w)
+to_moves Q w streams device event None at queued holds = tt
+to_moves Q w streams device event (Some t) at queued holds = so_moves Q w streams device event t (step t event) at refl queued holds
+
+comes_moves : (Q : List ℕ → Type 0) (w : World) (streams : List Stream) (device : ℕ) (event : Event) → StreamsHold Q streams → EventHolds Q event → IfOk (comes device event (record w { streams = streams })) (Moves Q w)
+comes_moves Q w streams device event queued holds = to_moves Q w streams device event (slice_get w.tables device) refl queued holds
+
+called_holds : (Q : List ℕ → Type 0) (c : Call) → EventHolds Q (event_of_call c)
+called_holds Q (call.Write point bytes) = tt
+called_holds Q (call.Read point) = tt
+called_holds Q (call.Mode run) = tt
+called_holds Q (call.Start slot) = tt
+called_holds Q (call.Stop slot) = tt
+called_holds Q (call.Tick ms) = tt
+
+delivered_moves : (Q : List ℕ → Type 0) (device : ℕ) (w : World) (t : Option DeviceTable) (sent : Option Sent) → StreamsHold Q w.streams → IfOk (delivered device w t sent) (Moves Q w)
+delivered_moves Q device w None sent queued = tt
+delivered_moves Q device w (Some t) None queued = tt
+delivered_moves Q device w (Some t) (Some sent) queued = comes_moves Q w w.streams device (Datagram sent.from sent.bytes) queued tt
+
+item_holds : (Q : List ℕ → Type 0) (n : ℕ) (peer : Node) (item : Item) → ItemHolds Q item → EventHolds Q (event_of_item n peer item)
+item_holds Q n peer Opening holds = tt
+item_holds Q n peer (Queued bytes) holds = holds
+item_holds Q n peer Ending holds = tt
+
+taken_moves : (Q : List ℕ → Type 0) (n : ℕ) (d : Direction) (w : World) (s : Stream) (queue : List Item) → StreamsHold Q w.streams → AllByRecursion (ItemHolds Q) queue → IfOk (taken n d w s queue) (Moves Q w)
+taken_moves Q n d w s [] queued all = tt
+taken_moves Q n d w s (item ∷ rest) queued all =
+    comes_moves Q w (with_stream (taken_from d) n w.streams) (taker d s) (event_of_item n (node_at w (giver d s)) item)
+    (with_stream_holds Q (taken_from d) (taken_holds Q d) n w.streams queued) (item_holds Q n (node_at w (giver d s)) item all.0)
+
+taken_at_moves : (Q : List ℕ → Type 0) (n : ℕ) (d : Direction) (w : World) (o : Option Stream) → slice_get w.streams n ≡ o → StreamsHold Q w.streams → IfOk (taken_at n d w o) (Moves Q w)
+taken_at_moves Q n d w None is queued = tt
+taken_at_moves Q n d w (Some s) is queued =
+    taken_moves Q n d w s (side_of d s).queue queued (side_holds Q d s (all_get (StreamHolds Q) w.streams n s queued is))
+
+opened_moves : (Q : List ℕ → Type 0) (from to : ℕ) (w : World) (two numbered : Bool) → StreamsHold Q w.streams → IfOk (opened_if from to w two numbered) (Moves Q w)
+opened_moves Q from to w false numbered queued = tt
+opened_moves Q from to w true false queued = tt
+opened_moves Q from to w true true queued =
+    record { tables = refl; sent = refl; queued = all_both (StreamHolds Q) w.streams (fresh_stream from to ∷ []) queued (record { forth = (tt, tt); back = (tt, tt) }, tt) }
+
+cut_moves : (Q : List ℕ → Type 0) (n : ℕ) (w : World) (ended : Bool) → StreamsHold Q w.streams → IfOk (cut_if n w ended) (Moves Q w)
+cut_moves Q n w true queued = tt
+cut_moves Q n w false queued = record { tables = refl; sent = refl; queued = with_stream_holds Q cut_stream (cut_holds Q) n w.streams queued }
+
+cut_at_moves : (Q : List ℕ → Type 0) (n : ℕ) (w : World) (o : Option Stream) → StreamsHold Q w.streams → IfOk (cut_at n w o) (Moves Q w)
+cut_at_moves Q n w None queued = tt
+cut_at_moves Q n w (Some s) queued = cut_moves Q n w s.ended queued
+
+pub act_moves : (Q : List ℕ → Type 0) (w : World) (act : Act) → StreamsHold Q w.streams → IfOk (happens w act) (Moves Q w)
+act_moves Q w (Local device c) queued = comes_moves Q w w.streams device (event_of_call c) queued (called_holds Q c)
+act_moves Q w (Deliver index device) queued = delivered_moves Q device w (slice_get w.tables device) (slice_get w.sent index) queued
+act_moves Q w (NextFrame stream direction) queued = taken_at_moves Q stream direction w (slice_get w.streams stream) refl queued
+act_moves Q w (OpenStream from to) queued = opened_moves Q from to w (are_two from to w) _ queued
+act_moves Q w (CutStream stream) queued = cut_at_moves Q stream w (slice_get w.streams stream) queued
+
+-- A SCHEDULE
+
+-- what each act keeps of a story
+abbrev pub ActsKeep : (Story → Type 0) → Type 0
+ActsKeep I = (story : Story) (act : Act) → I story → IfOk (goes_on story.told (happens story.world act)) I
+
+told_keeps : (I : Story → Type 0) → ActsKeep I → (so_far : Result Story ActFault) (act : Act) → IfOk so_far I → IfOk (tells so_far act) I
+told_keeps I keeps (Err fault) act holds = tt
+told_keeps I keeps (Ok story) act holds = keeps story act holds
+
+pub runs_keep : (I : Story → Type 0) → ActsKeep I → (acts : List Act) (so_far : Result Story ActFault) → IfOk so_far I → IfOk (runs so_far acts) I
+unfolding runs
+runs_keep I keeps [] so_far holds = holds
+runs_keep I keeps (act ∷ acts) so_far holds = runs_keep I keeps acts (tells so_far act) (told_keeps I keeps so_far act holds)
