@@ -1,0 +1,24 @@
+-- The replay of stored events, one event longer.
+use Rattle.std.proofs.Common.{◌≡◌, ℕ, ◌<◌, ◌+◌, List, [], ◌∷◌, ◌++◌, length, get_or, drop, Ok, refl, sym, ap, ◌∙◌}
+use Rattle.std.proofs.lemmas.List.{drop_more}
+use Rattle.cip_events.specs.declared.event.Answer.{Answer}
+use Rattle.cip_events.specs.declared.event.Event.{Event}
+use Rattle.cip_tables.specs.declared.table.DeviceTable.{DeviceTable}
+use Rattle.cip_tables.specs.Step.{step}
+use Rattle.cip_tables.specs.Run.{table_of, table_after}
+
+pub after_one_more : (t : DeviceTable) (events : List Event) (event : Event) → table_after t (events ++ event ∷ []) ≡ table_of (table_after t events) (step (table_after t events) event)
+after_one_more t [] event = refl
+after_one_more t (x ∷ xs) event = after_one_more (table_of t (step t x)) xs event
+
+-- an event that is answered leads to the table behind it
+pub after_answered : (t : DeviceTable) (events : List Event) (event : Event) (answer : Answer) (next : DeviceTable) → step (table_after t events) event ≡ Ok (answer, next) → next ≡ table_after t (events ++ event ∷ [])
+after_answered t events event answer next is = sym (after_one_more t events event ∙ ap (table_of (table_after t events)) is)
+
+-- .. so that its answer is that of the step to it
+pub answered : (t : DeviceTable) (events : List Event) (event : Event) (answer : Answer) (next : DeviceTable) → step (table_after t events) event ≡ Ok (answer, next) → step (table_after t events) event ≡ Ok (answer, table_after t (events ++ event ∷ []))
+answered t events event answer next is = is ∙ ap (λ (n : DeviceTable). Ok (answer, n)) (after_answered t events event answer next is)
+
+-- the run from the i-th event on
+pub replay_drop : (t u : DeviceTable) (events : List Event) (i : ℕ) (event : Event) → i < length events → event ≡ get_or events i event → u ≡ table_after t (event ∷ []) → table_after u (drop (i + 1) events) ≡ table_after t (drop i events)
+replay_drop t u events i event lt is next = rw (next, drop_more events i event lt, ← is) refl

@@ -1,0 +1,170 @@
+//! All segments of one device.
+
+ghost use Rattle.std.specs.Prelude.{◌≡◌, ◌↔◌, ◌<◌, ◌^◌, [], ◌∷◌, true, None, sum, IfOk, IfSome, IsTrue, slice_get, option_copied};
+ghost use Rattle.cip_tables.specs.Step.{opening_table, config_fault, makes_adapter, same_kind};
+ghost use Rattle.cip_tables.specs.Run.{table_after};
+ghost use Rattle.device_lock.specs.Histories.{history_of, place_in, Follow};
+
+use crate::segment::Segment;
+use cip_tables::{Config, Device, Event, NewFault, StepFault};
+use cip_types::OutOfMemory;
+use std::alloc::Global;
+use std::marker::Model;
+
+/// What happened at one device since it was made: its configuration and all its events, which segments gave that
+/// follow on one another. Contracts see the configuration, the events in one list, and how many of them each
+/// segment had.
+#[derive(Drop)]
+pub struct History {
+    config: Config,
+    events: Vec<Event>,
+    counts: Vec<usize>,
+}
+
+impl Model for History {
+    ghost use Rattle.std.specs.Prelude.{◌≡◌, sum, length};
+    ghost use Rattle.device_lock.specs.Histories.{HistoryValue};
+
+    ghost Value = { HistoryValue };
+
+    ghost view = { λ h. record { config = h.config; events = h.events.items; counts = h.counts.items } };
+
+    ghost invariant = { λ h. sum h.counts.items ≡ length h.events.items };
+}
+
+impl History {
+    /// The history that segments of a device give, in their order.
+    ///
+    /// None only where they do not follow on one another, as `follow` tells, or memory was refused.
+    pub fn new<D: Device + Drop>(
+        alloc: Global,
+        config: Config,
+        segments: Vec<Segment>,
+    ) -> Option<History>
+        requires valid { config_fault config ≡ None }
+        requires kind { same_kind D.ADAPTER (makes_adapter config) ≡ true }
+        ensures history { IfSome result (λ history. history ≡ history_of config segments.items) }
+        ensures follow { IfSome result (λ _. Follow (opening_table config) segments.items) }
+    {
+        match History::follow::<D>(alloc, &config, segments.as_slice()) {
+            Ok(true) => joined(alloc, config, segments).ok(),
+            _ => None,
+        }
+    }
+
+    /// Whether the first segment opens with the table of a fresh device, and each further one with the table that
+    /// the events of the one before lead to. No segments do.
+    pub fn follow<D: Device + Drop>(
+        alloc: Global,
+        config: &Config,
+        segments: &[Segment],
+    ) -> Result<bool, OutOfMemory>
+        requires valid { config_fault config.now ≡ None }
+        requires kind { same_kind D.ADAPTER (makes_adapter config.now) ≡ true }
+        ensures { IfOk result (λ answer. IsTrue answer ↔ Follow (opening_table config.now) segments.now) }
+    {
+        let mut device = fresh::<D>(alloc, config)?;
+        for segment in segments {
+            if !device.copy()?.same(&segment.opening) {
+                return Ok(false);
+            }
+            replay(&mut device, segment.events.as_slice())?;
+        }
+        Ok(true)
+    }
+
+    /// What the device was made of. Takes no memory.
+    pub fn config(&self) -> &Config
+        ensures { result.now ≡ self.now.config }
+    {
+        &self.config
+    }
+
+    /// The events of all segments. Takes no memory.
+    pub fn events(&self) -> &[Event]
+        ensures { result.now ≡ self.now.events }
+    {
+        self.events.as_slice()
+    }
+
+    /// The event at a place, from 0. Takes no memory.
+    pub fn event(&self, place: usize) -> Option<&Event>
+        ensures { option_copied result ≡ slice_get self.now.events place }
+    {
+        self.events.get(place)
+    }
+
+    /// The place of the event that has a segment and an index in a receipt; None where there is no such segment,
+    /// or it has no such event. Takes no memory.
+    pub fn place_of(&self, segment: u16, index: u32) -> Option<usize>
+        ensures { result ≡ place_in self.now.counts segment index }
+    {
+        let count = self.counts.get(usize::from(segment))?;
+        let index = index as usize;
+        if index >= *count {
+            return None;
+        }
+        let _few = self.events.len();
+        Some(total(&self.counts[..usize::from(segment)]) + index)
+    }
+}
+
+// A fresh device.
+fn fresh<D: Device + Drop>(alloc: Global, config: &Config) -> Result<D, OutOfMemory>
+    requires valid { config_fault config.now ≡ None }
+    requires kind { same_kind D.ADAPTER (makes_adapter config.now) ≡ true }
+    ensures { IfOk result (λ device. D.table device ≡ opening_table config.now) }
+{
+    match D::new(alloc, config.copy(alloc)?) {
+        Ok(device) => Ok(device),
+        Err(NewFault::OutOfMemory) => Err(OutOfMemory),
+        Err(_) => unreachable!(),
+    }
+}
+
+// Runs a device over stored events.
+fn replay<D: Device>(device: &mut D, events: &[Event]) -> Result<(), OutOfMemory>
+    ensures { IfOk result (λ _. D.table device.new ≡ table_after (D.table device.old) events.now) }
+{
+    for event in events {
+        repeat(device, event)?;
+    }
+    Ok(())
+}
+
+// One stored event. Where the device refuses it, it stays as it was.
+fn repeat<D: Device>(device: &mut D, event: &Event) -> Result<(), OutOfMemory>
+    ensures { IfOk result (λ _. D.table device.new ≡ table_after (D.table device.old) (event.now ∷ [])) }
+{
+    match device.step(event) {
+        Ok(_) => Ok(()),
+        Err(StepFault::OutOfMemory) => Err(OutOfMemory),
+        Err(_) => Ok(()),
+    }
+}
+
+// How many events some segments have.
+fn total(counts: &[usize]) -> usize
+    requires { sum counts.now < 2 ^ 64 }
+    ensures { result ≡ sum counts.now }
+{
+    counts.iter().sum()
+}
+
+// The history of segments, whose events it takes out of them.
+fn joined(alloc: Global, config: Config, segments: Vec<Segment>) -> Result<History, OutOfMemory>
+    ensures { IfOk result (λ history. history ≡ history_of config segments.items) }
+{
+    let mut counts = Vec::with_capacity(alloc, segments.len())?;
+    let mut events = Vec::new(alloc);
+    for segment in segments {
+        let mut more = segment.events.into_vec();
+        counts.push(more.len())?;
+        events.append(&mut more)?;
+    }
+    Ok(History {
+        config,
+        events,
+        counts,
+    })
+}
