@@ -48,6 +48,13 @@ impl MemoryPort {
         self.sent.as_slice()
     }
 
+    /// How many calls were made, the failed ones among them.
+    pub fn calls(&self) -> u64
+        ensures { result ≡ self.now.calls }
+    {
+        self.calls
+    }
+
     /// Counts a call. Whether it is the one that fails.
     fn is_failing(&mut self) -> bool
         ensures { self.new ≡ record self.old { calls = self.new.calls } }
