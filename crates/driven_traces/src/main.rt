@@ -1,0 +1,154 @@
+//! Drives an adapter over memory by the traces that the command line names: a tick and what comes after it make a
+//! turn. Prints what is sent, and then shows for each call of the port that its failure ends the run there.
+#![tactic(auto)]
+
+mod script;
+
+use cip_events::NewFault;
+use cip_tables::{Device, TableCopy};
+use cip_types::{Node, OutOfMemory};
+use plain_engine::PlainAdapter;
+use script::{Script, read_script};
+use std::alloc::{AllocError, Global};
+use std::env;
+use std::fs::{self, Files};
+use std::io;
+use std::process::ExitCode;
+use thiserror::Error;
+use trace_text::TraceFault;
+use udp_runner::{MemoryPort, Port, RunFault, Sent, SteppedClock, drive};
+
+/// Why a trace is not driven.
+#[derive(Debug, Drop, Error)]
+enum Failure {
+    #[error("no memory")]
+    OutOfMemory,
+    #[error("an event that comes over no port")]
+    Event,
+    #[error("{0}")]
+    Trace(#[from] TraceFault),
+    #[error("{0}")]
+    New(#[from] NewFault),
+    #[error("{0}")]
+    Run(#[from] RunFault),
+    #[error("{0}")]
+    Io(#[from] io::Error),
+}
+
+impl From<OutOfMemory> for Failure {
+    fn from(_error: OutOfMemory) -> Failure {
+        Failure::OutOfMemory
+    }
+}
+
+impl From<AllocError> for Failure {
+    fn from(_error: AllocError) -> Failure {
+        Failure::OutOfMemory
+    }
+}
+
+/// What became of a run: its answer, what went over the port, and the table that the device has then.
+#[derive(Drop)]
+struct Driven {
+    outcome: Result<u64, RunFault>,
+    port: MemoryPort,
+    table: TableCopy,
+}
+
+/// Drives a fresh adapter by the trace, over a port that fails at the call of that number.
+fn play(alloc: Global, text: &[u8], fails_at: u64) -> Result<Driven, Failure> {
+    let Script {
+        config,
+        times,
+        inputs,
+        turns,
+    } = read_script(alloc, text)?;
+    let mut port = MemoryPort::new(alloc, inputs, fails_at);
+    let mut clock = SteppedClock { times };
+    let mut device = PlainAdapter::new(alloc, config)?;
+    let outcome = drive(&mut port, &mut device, &mut clock, turns);
+    Ok(Driven {
+        outcome,
+        port,
+        table: device.copy()?,
+    })
+}
+
+/// Whether the run ended at that call of the port, and sent what the whole run sends up to there.
+fn ends_at(part: &Driven, call: u64, whole: &Driven) -> bool {
+    matches!(part.outcome, Err(RunFault::Port(_)))
+        && part.port.calls() == call
+        && part.port.failures() == 1
+        && whole.port.sent().starts_with(part.port.sent())
+}
+
+/// Whether a failure of each call ends the run there. The last call of a run is to be a send: the device then
+/// stands after the event whose answer could not be sent, as it does where nothing fails.
+fn ends_everywhere(alloc: Global, text: &[u8], whole: &Driven) -> Result<bool, Failure> {
+    let mut last = false;
+    for call in 1..=whole.port.calls() {
+        let part = play(alloc, text, call)?;
+        if !ends_at(&part, call, whole) {
+            return Ok(false);
+        }
+        last = part.table.same(&whole.table);
+    }
+    Ok(last)
+}
+
+fn print_sent(rt: &impl Print, alloc: Global, sent: &Sent) -> Result<(), Failure> {
+    match sent {
+        Sent::Frame { stream, bytes } => {
+            let digits = hex::encode(alloc, bytes.as_slice())?;
+            println!(rt; "frame {stream} {digits}")?;
+        }
+        Sent::Datagram { node, bytes } => {
+            let Node(address) = *node;
+            let [a, b, c, d] = address.to_be_bytes();
+            let digits = hex::encode(alloc, bytes.as_slice())?;
+            println!(rt; "datagram {a}.{b}.{c}.{d} {digits}")?;
+        }
+        Sent::Close { stream } => println!(rt; "close {stream}")?,
+    }
+    Ok(())
+}
+
+/// Drives an adapter by the trace of this file.
+fn show<R: AllocGlobal + Files + Print>(rt: &R, name: &str) -> Result<(), Failure> {
+    let text = fs::read(rt, name)?;
+    let whole = play(rt.alloc(), text.as_slice(), 0)?;
+    let events = match &whole.outcome {
+        Ok(events) => *events,
+        Err(fault) => return Err(Failure::Run(*fault)),
+    };
+    println!(rt; "{name}: {events} events")?;
+    for sent in whole.port.sent() {
+        print_sent(rt, rt.alloc(), sent)?;
+    }
+    let calls = whole.port.calls();
+    let said = if ends_everywhere(rt.alloc(), text.as_slice(), &whole)? {
+        "each ends the run where it fails"
+    } else {
+        "one does not end the run where it fails"
+    };
+    println!(rt; "{name}: of {calls} calls {said}")?;
+    Ok(())
+}
+
+/// Drives an adapter by each of the traces whose files the command line names.
+fn main(rt: HostRuntime) -> ExitCode {
+    let Ok(words) = env::args(&rt) else {
+        return ExitCode::from(2);
+    };
+    let Ok(words) = words.collect::<Vec<String>>(rt.alloc()) else {
+        return ExitCode::from(2);
+    };
+    let mut status = 0;
+    for name in words.iter().skip(1) {
+        if let Err(failure) = show(&rt, name.as_str()) {
+            status = 1;
+            let _ = println!(rt; "{name}: {failure}");
+        }
+    }
+    ExitCode::from(status)
+}

@@ -1,0 +1,71 @@
+//! Turns of a trace: a tick and what comes after it make one.
+
+use crate::Failure;
+use cip_tables::{Config, Event};
+use std::alloc::Global;
+use std::collections::VecDeque;
+use trace_text::read_trace;
+use udp_runner::Input;
+
+/// What a device is made of, and what its clock and its port give in its turns.
+#[derive(Drop)]
+pub struct Script {
+    pub config: Config,
+    pub times: VecDeque<u64>,
+    pub inputs: VecDeque<Option<Input>>,
+    pub turns: u32,
+}
+
+impl Script {
+    fn push(&mut self, ms: u32, input: Option<Input>) -> Result<(), Failure> {
+        let Ok(()) = self.times.push_back(u64::from(ms)) else {
+            return Err(Failure::OutOfMemory);
+        };
+        let Ok(()) = self.inputs.push_back(input) else {
+            return Err(Failure::OutOfMemory);
+        };
+        self.turns = self.turns.saturating_add(1);
+        Ok(())
+    }
+}
+
+/// What comes over a port where this happens at a device, if it comes over one.
+fn input_of(event: Event) -> Option<Input> {
+    match event {
+        Event::StreamOpened { stream, peer } => Some(Input::Opened { stream, peer }),
+        Event::Frame { stream, bytes } => Some(Input::Frame { stream, bytes }),
+        Event::StreamCut { stream } => Some(Input::Cut { stream }),
+        Event::Datagram { peer, bytes } => Some(Input::Datagram { peer, bytes }),
+        _ => None,
+    }
+}
+
+/// The turns of a trace.
+pub fn read_script(alloc: Global, text: &[u8]) -> Result<Script, Failure> {
+    let trace = read_trace(alloc, text)?;
+    let mut script = Script {
+        config: trace.config,
+        times: VecDeque::new(alloc),
+        inputs: VecDeque::new(alloc),
+        turns: 0,
+    };
+    let mut passed = None;
+    for (event, _) in trace.events.into_vec() {
+        if let Event::Tick { ms } = event {
+            if let Some(before) = passed {
+                script.push(before, None)?;
+            }
+            passed = Some(ms);
+        } else {
+            let Some(input) = input_of(event) else {
+                return Err(Failure::Event);
+            };
+            script.push(passed.unwrap_or(0), Some(input))?;
+            passed = None;
+        }
+    }
+    if let Some(last) = passed {
+        script.push(last, None)?;
+    }
+    Ok(script)
+}

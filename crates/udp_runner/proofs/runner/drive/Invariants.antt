@@ -1,0 +1,27 @@
+use Rattle.std.proofs.Common.{◌≡◌, ◌+◌, ◌-◌, ◌*◌, ◌≤◌, ℕ, drop, true}
+use Rattle.cip_tables.specs.declared.table.DeviceTable.{DeviceTable}
+use Rattle.udp_runner.specs.declared.fault.RunFault.{RunFault}
+use Rattle.udp_runner.specs.Tape.{Tape}
+use Rattle.udp_runner.specs.Turns.{Drives, Stops, events_of}
+use Rattle.udp_runner.proofs.runner.drive.Given as goal
+
+-- what is left of the turns goes on to a run of all
+abbrev pub invariant-loop : goal.invariant-loop
+invariant-loop g l =
+    let coming = g.C.Clock.coming in
+    let tape = g.P.Port.tape in
+    let table = g.D.Device.table in
+    record {
+      few : l.count ≤ 2 * l.counter;
+      counted : g.P.Port.failed l.port ≡ g.P.Port.failed l.initial.port;
+      inputs : g.P.Port.tells ≡ true → (tape l.port).coming ≡ drop l.counter (tape l.initial.port).coming;
+      times : g.C.Clock.tells ≡ true → coming l.clock ≡ drop l.counter (coming l.initial.clock);
+      runs :
+          g.P.Port.tells ≡ true → g.C.Clock.tells ≡ true → (m : ℕ) (s : Tape) (t : DeviceTable)
+          → Drives (events_of (l.turns - l.counter) (coming l.clock) (tape l.port).coming) m (tape l.port) s (table l.device) t
+          → Drives (events_of l.turns (coming l.initial.clock) (tape l.initial.port).coming) (l.count + m) (tape l.initial.port) s (table l.initial.device) t;
+      stops :
+          g.P.Port.tells ≡ true → g.C.Clock.tells ≡ true → (fault : RunFault) (s : Tape) (t : DeviceTable)
+          → Stops fault (events_of (l.turns - l.counter) (coming l.clock) (tape l.port).coming) (tape l.port) s (table l.device) t
+          → Stops fault (events_of l.turns (coming l.initial.clock) (tape l.initial.port).coming) (tape l.initial.port) s (table l.initial.device) t;
+    }

@@ -1,0 +1,26 @@
+-- What a port gives and was given to send.
+use Rattle.std.specs.Prelude.{List, [], ◌∷◌, ◌++◌, Option}
+use Rattle.udp_runner.specs.declared.input.Input.{Input}
+use Rattle.udp_runner.specs.declared.output.Sent.{Sent}
+
+-- the answers to the next receives, and all that was sent
+pub record Tape : Type 0 where
+  pub coming : List (Option Input)
+  pub sent : List Sent
+
+-- the first, where a list that is used up goes on with one value
+abbrev pub first_or : {X : Type 0} → X → List X → X
+first_or default [] = default
+first_or default (x ∷ xs) = x
+
+abbrev pub rest_of : {X : Type 0} → List X → List X
+rest_of [] = []
+rest_of (x ∷ xs) = xs
+
+-- the tape after a receive
+abbrev pub with_taken : Tape → Tape
+with_taken tape = record tape { coming = rest_of tape.coming }
+
+-- the tape after these were sent
+abbrev pub with_sent : Tape → List Sent → Tape
+with_sent tape sent = record tape { sent = tape.sent ++ sent }

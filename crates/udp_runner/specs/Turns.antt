@@ -1,0 +1,107 @@
+-- Runs of a device over a port and a clock: the events of the turns, what their answers send, and where a run
+-- stands that a fault ended.
+use Rattle.std.specs.Prelude.{◌≡◌, ◌⊎◌, ℕ, zero, suc, ◌+◌, nat_lt, min, List, [], ◌∷◌, ◌++◌, length, Option, Some, None, Result, Ok, Err, if◌then◌else◌}
+use Rattle.cip_events.specs.declared.event.Answer.{Answer}
+use Rattle.cip_events.specs.declared.event.Event.{Event}
+use Rattle.cip_events.specs.declared.event.Event.TheVariants as event
+use Rattle.cip_events.specs.declared.event.StepFault.{StepFault}
+use Rattle.cip_events.specs.Clock.{longest_tick}
+use Rattle.cip_events.specs.Outcomes.{Follows}
+use Rattle.cip_tables.specs.declared.table.DeviceTable.{DeviceTable}
+use Rattle.cip_tables.specs.Run.{table_of, table_after}
+use Rattle.cip_tables.specs.Step.{step}
+use Rattle.udp_runner.specs.declared.fault.RunFault.{RunFault}
+use Rattle.udp_runner.specs.declared.fault.RunFault.TheVariants as run
+use Rattle.udp_runner.specs.declared.input.Input.{Input}
+use Rattle.udp_runner.specs.declared.input.Input.TheVariants as input
+use Rattle.udp_runner.specs.declared.output.Sent.{Sent}
+use Rattle.udp_runner.specs.Sending.{answer_sent, SendsSome}
+use Rattle.udp_runner.specs.Tape.{Tape, first_or, rest_of}
+
+-- THE EVENTS
+
+-- the tick of a turn, where time passed: what is above the longest tick is dropped
+abbrev pub ticks_of : ℕ → List Event
+ticks_of ms = if nat_lt 0 ms then event.Tick (min ms longest_tick) ∷ [] else []
+
+-- what happens at the device where an input comes
+abbrev pub event_of : Input → Event
+event_of (input.Opened stream peer) = event.StreamOpened stream peer
+event_of (input.Frame stream bytes) = event.Frame stream bytes
+event_of (input.Cut stream) = event.StreamCut stream
+event_of (input.Datagram peer bytes) = event.Datagram peer bytes
+
+-- the event of a receive, if something came
+abbrev pub inputs_of : Option Input → List Event
+inputs_of None = []
+inputs_of (Some given) = event_of given ∷ []
+
+-- the events of one turn: the tick, then the input
+abbrev pub turn_of : List ℕ → List (Option Input) → List Event
+turn_of times coming = ticks_of (first_or 0 times) ++ inputs_of (first_or None coming)
+
+-- turn by turn, the tick and the input that the clock and the port give
+abbrev pub events_of : ℕ → List ℕ → List (Option Input) → List Event
+events_of zero times coming = []
+events_of (suc turns) times coming = turn_of times coming ++ events_of turns (rest_of times) (rest_of coming)
+
+-- WHAT IS SENT
+
+-- what a step has sent: a refused one nothing
+abbrev pub step_sent : Result (Answer × DeviceTable) StepFault → List Sent
+step_sent (Ok next) = answer_sent next.0
+step_sent (Err fault) = []
+
+-- what the answers to the events have sent, in order
+abbrev pub all_sent : DeviceTable → List Event → List Sent
+all_sent table [] = []
+all_sent table (e ∷ es) = step_sent (step table e) ++ all_sent (table_of table (step table e)) es
+
+-- RUNS
+
+-- The device took these events, so many of them, and all that their answers have sent was sent.
+pub record Drives (events : List Event) (count : ℕ) (old new : Tape) (before after : DeviceTable) : Type 0 where
+  pub sends : new.sent ≡ old.sent ++ all_sent before events
+  pub table : after ≡ table_after before events
+  pub counts : count ≡ length events
+
+-- The device took the next of these events, and not all that its answer has sent was sent.
+pub record StopsSending (events : List Event) (old new : Tape) (before after : DeviceTable) : Type 0 where
+  pub taken : Event
+  pub left : List Event
+  pub parts : events ≡ taken ∷ left
+  pub sends : SendsSome old new (step_sent (step before taken))
+  pub table : after ≡ table_of before (step before taken)
+
+-- The device took none of these events, and nothing was sent.
+pub record StopsReceiving (old new : Tape) (before after : DeviceTable) : Type 0 where
+  pub sends : new ≡ old
+  pub table : after ≡ before
+
+-- The device refused the next of these events, and nothing was sent. It is as it was.
+pub record StopsStepping (fault : StepFault) (events : List Event) (old new : Tape) (before after : DeviceTable) : Type 0 where
+  pub refused : Event
+  pub left : List Event
+  pub parts : events ≡ refused ∷ left
+  pub follows : Follows (step before refused) before (Err fault) after
+  pub sends : new ≡ old
+
+-- what a fault leaves undone of these events
+abbrev pub Halts : RunFault → List Event → Tape → Tape → DeviceTable → DeviceTable → Type 0
+Halts (run.Port fault) events old new before after = StopsReceiving old new before after ⊎ StopsSending events old new before after
+Halts (run.Step fault) events old new before after = StopsStepping fault events old new before after
+
+-- A fault ended a run of these events: the device took the first ones, and all that their answers have sent was
+-- sent; what the fault left undone is of the others.
+pub record Stops (fault : RunFault) (events : List Event) (old new : Tape) (before after : DeviceTable) : Type 0 where
+  pub done : List Event
+  pub left : List Event
+  pub parts : events ≡ done ++ left
+  pub middle : Tape
+  pub sends : middle.sent ≡ old.sent ++ all_sent before done
+  pub halts : Halts fault left middle new (table_after before done) after
+
+-- the port is blamed exactly where its count of failures rose
+abbrev pub Blames : ℕ → ℕ → RunFault → Type 0
+Blames before after (run.Port fault) = after ≡ before + 1
+Blames before after (run.Step fault) = after ≡ before

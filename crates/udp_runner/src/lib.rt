@@ -1,0 +1,18 @@
+//! Drives a device over a port and a clock: ports and clocks, turns of a device, and a port over memory with
+//! a stepped clock.
+#![tactic(auto)]
+
+mod fault;
+mod input;
+mod memory;
+mod output;
+mod port;
+mod runner;
+mod sending;
+
+pub use fault::{PortFault, RunFault};
+pub use input::Input;
+pub use memory::{MemoryPort, SteppedClock};
+pub use output::{Output, Sent};
+pub use port::{Clock, Port};
+pub use runner::drive;

@@ -1,0 +1,131 @@
+//! A port over memory, which tells all that goes through it, and a clock that is stepped.
+
+ghost use Rattle.std.specs.Prelude.{◌≡◌, ◌∷◌, ◌++◌, [], true, OnOk, OnErr};
+ghost use Rattle.udp_runner.specs.Sending.{view_output};
+
+use crate::fault::PortFault;
+use crate::input::Input;
+use crate::output::{Output, Sent};
+use crate::port::{Clock, Port};
+use cip_types::OutOfMemory;
+use std::alloc::Global;
+use std::collections::VecDeque;
+
+/// Gives inputs from a list, and then nothing; keeps what it sends. One of its calls, receives and sends counted
+/// together from 1, can be made to fail.
+///
+/// It keeps the allocator that it was made with.
+#[derive(Drop)]
+pub struct MemoryPort {
+    alloc: Global,
+    inputs: VecDeque<Option<Input>>,
+    sent: Vec<Sent>,
+    failures: u64,
+    calls: u64,
+    fails_at: u64,
+}
+
+impl MemoryPort {
+    /// A port that gives these inputs, and fails at the call of that number: at 0 it never fails.
+    pub fn new(alloc: Global, inputs: VecDeque<Option<Input>>, fails_at: u64) -> MemoryPort
+        ensures tape { ⟦<MemoryPort as Port>⟧.tape result ≡ record { coming = inputs.items; sent = [] } }
+        ensures failed { ⟦<MemoryPort as Port>⟧.failed result ≡ 0 }
+    {
+        MemoryPort {
+            alloc,
+            inputs,
+            sent: Vec::new(alloc),
+            failures: 0,
+            calls: 0,
+            fails_at,
+        }
+    }
+
+    /// All that was sent.
+    pub fn sent(&self) -> &[Sent]
+        ensures { result.now ≡ (⟦<MemoryPort as Port>⟧.tape self.now).sent }
+    {
+        self.sent.as_slice()
+    }
+
+    /// How many calls were made, the failed ones among them.
+    pub fn calls(&self) -> u64
+        ensures { result ≡ self.now.calls }
+    {
+        self.calls
+    }
+
+    /// Counts a call. Whether it is the one that fails.
+    fn is_failing(&mut self) -> bool
+        ensures { self.new ≡ record self.old { calls = self.new.calls } }
+    {
+        self.calls = self.calls.saturating_add(1);
+        self.calls == self.fails_at
+    }
+}
+
+impl Port for MemoryPort {
+    ghost tells = { true };
+
+    ghost tape = { λ port. record { coming = port.inputs.items; sent = port.sent.items } };
+
+    ghost failed = { λ port. port.failures };
+
+    fn failures(&self) -> u64 {
+        self.failures
+    }
+
+    fn receive(&mut self) -> Result<Option<Input>, PortFault> {
+        if self.is_failing() {
+            self.failures += 1;
+            return Err(PortFault::Receive);
+        }
+        match self.inputs.pop_front() {
+            None => Ok(None),
+            Some(input) => Ok(input),
+        }
+    }
+
+    fn send(&mut self, output: &Output<'_>) -> Result<(), PortFault> {
+        if self.is_failing() {
+            self.failures += 1;
+            return Err(PortFault::Send);
+        }
+        match keep(self.alloc, &mut self.sent, output) {
+            Ok(()) => Ok(()),
+            Err(OutOfMemory) => {
+                self.failures += 1;
+                Err(PortFault::Memory)
+            }
+        }
+    }
+}
+
+/// Keeps what is sent.
+fn keep(alloc: Global, sent: &mut Vec<Sent>, output: &Output<'_>) -> Result<(), OutOfMemory>
+    ensures ok { OnOk result (sent.new.items ≡ sent.old.items ++ view_output output.now ∷ []) }
+    ensures err { OnErr result (sent.new.items ≡ sent.old.items) }
+{
+    let copy = output.copy(alloc)?;
+    sent.push(copy)?;
+    Ok(())
+}
+
+/// A clock that is stepped: it gives times from a list, and then 0.
+#[derive(Drop)]
+pub struct SteppedClock {
+    pub times: VecDeque<u64>,
+}
+
+impl Clock for SteppedClock {
+    ghost tells = { true };
+
+    ghost coming = { λ clock. clock.times.items };
+
+    fn passed(&mut self) -> u64 {
+        match self.times.pop_front() {
+            None => 0,
+            Some(ms) => ms,
+        }
+    }
+}

@@ -1,0 +1,48 @@
+//! What a port is given to send.
+
+ghost use Rattle.std.specs.Prelude.{◌≡◌, IfOk};
+ghost use Rattle.udp_runner.specs.Sending.{view_output};
+
+use cip_types::{Items, Node, OutOfMemory};
+use std::alloc::Global;
+
+/// One thing that goes out over a port. Its bytes are lent.
+#[derive(Clone, Copy)]
+pub enum Output<'a> {
+    /// A message over a stream.
+    Frame { stream: u16, bytes: &'a [u8] },
+    /// A class 1 datagram to one node.
+    Datagram { node: Node, bytes: &'a [u8] },
+    /// The end of a stream. Its number is free again.
+    Close { stream: u16 },
+}
+
+/// One thing that went out over a port, with bytes of its own.
+#[derive(PartialEq, Drop)]
+pub enum Sent {
+    /// A message over a stream.
+    Frame { stream: u16, bytes: Items<u8> },
+    /// A class 1 datagram to one node.
+    Datagram { node: Node, bytes: Items<u8> },
+    /// The end of a stream.
+    Close { stream: u16 },
+}
+
+impl Output<'_> {
+    /// The same with bytes of its own.
+    pub fn copy(&self, alloc: Global) -> Result<Sent, OutOfMemory>
+        ensures { IfOk result (λ sent. sent ≡ view_output self.now) }
+    {
+        Ok(match self {
+            Output::Frame { stream, bytes } => Sent::Frame {
+                stream: *stream,
+                bytes: Items::copy_of(alloc, bytes)?,
+            },
+            Output::Datagram { node, bytes } => Sent::Datagram {
+                node: *node,
+                bytes: Items::copy_of(alloc, bytes)?,
+            },
+            Output::Close { stream } => Sent::Close { stream: *stream },
+        })
+    }
+}

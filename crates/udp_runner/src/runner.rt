@@ -1,0 +1,114 @@
+//! Turns of a device.
+
+ghost use Rattle.std.specs.Prelude.{◌≡◌, ◌<◌, ◌+◌, ◌-◌, ◌^◌, ◌∷◌, [], ℕ, true, None, drop, IfOk, IfErr, OnOk};
+ghost use Rattle.udp_runner.specs.Turns.{Blames, Drives, Stops, events_of, inputs_of, ticks_of, turn_of};
+ghost use Rattle.udp_runner.specs.Tape.{first_or, rest_of};
+
+use crate::fault::RunFault;
+use crate::port::{Clock, Port};
+use crate::sending::send_answer;
+use cip_events::Event;
+use cip_tables::Device;
+
+/// The longest tick, in milliseconds.
+const LONGEST_TICK: u64 = 60_000;
+
+/// Drives the device for some turns, and answers the number of its events.
+///
+/// A turn asks the clock once. Where time passed, the device takes a tick of at most 60,000 ms, what is above is
+/// dropped, and what it answers is sent. Then the turn takes at most one input, and sends what the device answers:
+/// the frames, the datagrams, each once to each of its nodes, and the ends of the streams that closed.
+///
+/// `Port` is answered only where the port's count of failures rose. The device then stands after the event whose
+/// answer was not wholly sent or, where nothing could be received, after its last event; after `Step` it stands
+/// after its last event.
+pub fn drive<P: Port, D: Device, C: Clock>(
+    port: &mut P,
+    device: &mut D,
+    clock: &mut C,
+    turns: u32,
+) -> Result<u64, RunFault>
+    requires { P.failed port.old < 2 ^ 64 - 1 }
+    ensures run { IfOk result (λ count. P.tells ≡ true → C.tells ≡ true → Drives (events_of turns (C.coming clock.old) (P.tape port.old).coming) count (P.tape port.old) (P.tape port.new) (D.table device.old) (D.table device.new)) }
+    ensures inputs { OnOk result (P.tells ≡ true → (P.tape port.new).coming ≡ drop turns (P.tape port.old).coming) }
+    ensures times { OnOk result (C.tells ≡ true → C.coming clock.new ≡ drop turns (C.coming clock.old)) }
+    ensures stopped { IfErr result (λ fault. P.tells ≡ true → C.tells ≡ true → Stops fault (events_of turns (C.coming clock.old) (P.tape port.old).coming) (P.tape port.old) (P.tape port.new) (D.table device.old) (D.table device.new)) }
+    ensures worked { OnOk result (P.failed port.new ≡ P.failed port.old) }
+    ensures blamed { IfErr result (Blames (P.failed port.old) (P.failed port.new)) }
+{
+    let mut count = 0;
+    for _ in 0..turns {
+        count += turn(port, device, clock)?;
+    }
+    Ok(count)
+}
+
+/// One turn: the tick first, then an input.
+fn turn<P: Port, D: Device, C: Clock>(
+    port: &mut P,
+    device: &mut D,
+    clock: &mut C,
+) -> Result<u64, RunFault>
+    requires { P.failed port.old < 2 ^ 64 - 1 }
+    ensures run { IfOk result (λ count. P.tells ≡ true → C.tells ≡ true → Drives (turn_of (C.coming clock.old) (P.tape port.old).coming) count (P.tape port.old) (P.tape port.new) (D.table device.old) (D.table device.new)) }
+    ensures times { OnOk result (C.tells ≡ true → C.coming clock.new ≡ rest_of (C.coming clock.old)) }
+    ensures inputs { OnOk result (P.tells ≡ true → (P.tape port.new).coming ≡ rest_of (P.tape port.old).coming) }
+    ensures few { IfOk result (λ count. count < 3) }
+    ensures stopped { IfErr result (λ fault. P.tells ≡ true → C.tells ≡ true → Stops fault (turn_of (C.coming clock.old) (P.tape port.old).coming) (P.tape port.old) (P.tape port.new) (D.table device.old) (D.table device.new)) }
+    ensures worked { OnOk result (P.failed port.new ≡ P.failed port.old) }
+    ensures blamed { IfErr result (Blames (P.failed port.old) (P.failed port.new)) }
+{
+    let ms = clock.passed();
+    let ticked = tick(port, device, ms)?;
+    let taken = take_input(port, device)?;
+    Ok(ticked + taken)
+}
+
+/// The tick of a turn, if time passed.
+fn tick<P: Port, D: Device>(port: &mut P, device: &mut D, ms: u64) -> Result<u64, RunFault>
+    requires { P.failed port.old < 2 ^ 64 - 1 }
+    ensures run { IfOk result (λ count. P.tells ≡ true → Drives (ticks_of ms) count (P.tape port.old) (P.tape port.new) (D.table device.old) (D.table device.new)) }
+    ensures inputs { OnOk result (P.tells ≡ true → (P.tape port.new).coming ≡ (P.tape port.old).coming) }
+    ensures few { IfOk result (λ count. count < 2) }
+    ensures stopped { IfErr result (λ fault. P.tells ≡ true → Stops fault (ticks_of ms) (P.tape port.old) (P.tape port.new) (D.table device.old) (D.table device.new)) }
+    ensures worked { OnOk result (P.failed port.new ≡ P.failed port.old) }
+    ensures blamed { IfErr result (Blames (P.failed port.old) (P.failed port.new)) }
+{
+    if ms == 0 {
+        return Ok(0);
+    }
+    let ms = ms.min(LONGEST_TICK) as u32;
+    act(port, device, &Event::Tick { ms })?;
+    Ok(1)
+}
+
+/// The input of a turn, if something came.
+fn take_input<P: Port, D: Device>(port: &mut P, device: &mut D) -> Result<u64, RunFault>
+    requires { P.failed port.old < 2 ^ 64 - 1 }
+    ensures run { IfOk result (λ count. P.tells ≡ true → Drives (inputs_of (first_or None (P.tape port.old).coming)) count (P.tape port.old) (P.tape port.new) (D.table device.old) (D.table device.new)) }
+    ensures inputs { OnOk result (P.tells ≡ true → (P.tape port.new).coming ≡ rest_of (P.tape port.old).coming) }
+    ensures few { IfOk result (λ count. count < 2) }
+    ensures stopped { IfErr result (λ fault. P.tells ≡ true → Stops fault (inputs_of (first_or None (P.tape port.old).coming)) (P.tape port.old) (P.tape port.new) (D.table device.old) (D.table device.new)) }
+    ensures worked { OnOk result (P.failed port.new ≡ P.failed port.old) }
+    ensures blamed { IfErr result (Blames (P.failed port.old) (P.failed port.new)) }
+{
+    let Some(input) = port.receive()? else {
+        return Ok(0);
+    };
+    act(port, device, &input.into_event())?;
+    Ok(1)
+}
+
+/// One event, and what its answer has sent.
+fn act<P: Port, D: Device>(port: &mut P, device: &mut D, event: &Event) -> Result<(), RunFault>
+    requires { P.failed port.old < 2 ^ 64 - 1 }
+    ensures run { OnOk result (P.tells ≡ true → Drives (event.now ∷ []) 1 (P.tape port.old) (P.tape port.new) (D.table device.old) (D.table device.new)) }
+    ensures inputs { OnOk result (P.tells ≡ true → (P.tape port.new).coming ≡ (P.tape port.old).coming) }
+    ensures stopped { IfErr result (λ fault. P.tells ≡ true → Stops fault (event.now ∷ []) (P.tape port.old) (P.tape port.new) (D.table device.old) (D.table device.new)) }
+    ensures worked { OnOk result (P.failed port.new ≡ P.failed port.old) }
+    ensures blamed { IfErr result (Blames (P.failed port.old) (P.failed port.new)) }
+{
+    let answer = device.step(event)?;
+    send_answer(port, &answer)?;
+    Ok(())
+}
