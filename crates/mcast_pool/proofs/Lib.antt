@@ -1,0 +1,4 @@
+mod Places
+mod Keeping
+mod Limits
+mod Joining

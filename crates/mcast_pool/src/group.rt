@@ -1,0 +1,145 @@
+//! One producer and whom it serves.
+
+ghost use Rattle.std.specs.Prelude.{◌≡◌, ◌≤◌, ◌+◌, ◌^◌, true, ◌||◌};
+ghost use Rattle.cip_productions.specs.Productions.{is_on_change, is_production_due};
+ghost use Rattle.mcast_pool.specs.Groups.{has_number, serves, is_last, begun, one_more, touched_production, touched, produced_group, produced_if_due, written_and_changed, is_at_once, is_new_at_once, FitsGroup, MayProduce};
+
+use cip_netparams::Trigger;
+use cip_productions::{
+    Producer, Production, changed, held, is_free, is_produced_on_change, is_production_due,
+    produced,
+};
+use cip_types::Ms;
+
+/// A producer with its actual packet interval in milliseconds, and how many connections it serves.
+#[derive(Clone, Copy)]
+pub struct Group {
+    pub producer: Producer,
+    /// Whether other connections of the point may join it.
+    pub shared: bool,
+    pub api: u32,
+    pub subscribers: u32,
+}
+
+pub(crate) fn has_number(group: &Group, number: u32) -> bool
+    ensures { result ≡ has_number number group.now }
+{
+    group.producer.production.producer == number
+}
+
+pub(crate) fn serves(group: &Group, point: u32) -> bool
+    ensures { result ≡ serves point group.now }
+{
+    group.shared && group.producer.point == point
+}
+
+/// Whether a group serves one connection alone.
+pub(crate) fn is_last(group: &Group) -> bool
+    ensures { result ≡ is_last group.now }
+{
+    group.subscribers == 1
+}
+
+/// A group of one connection.
+pub(crate) fn begun(producer: Producer, shared: bool, api: u32) -> Group
+    ensures { result ≡ begun producer shared api }
+{
+    Group {
+        producer,
+        shared,
+        api,
+        subscribers: 1,
+    }
+}
+
+fn with_production(group: Group, production: Production) -> Group
+    ensures { result ≡ record group { producer = record group.producer { production = production } } }
+{
+    Group {
+        producer: Producer {
+            production,
+            ..group.producer
+        },
+        ..group
+    }
+}
+
+/// A producer that has new data: one that produces at changes of state, and may not yet, is due when it may.
+fn touched_production(production: Production, clock: Ms) -> Production
+    requires time { clock.0 ≤ 2 ^ 48 }
+    requires due { production.due.0 ≤ 2 ^ 48 + 10000 }
+    ensures { result ≡ touched_production clock production }
+{
+    let written = Production {
+        written: true,
+        ..production
+    };
+    match production.trigger {
+        Trigger::ChangeOfState if !is_free(&production, clock) => held(written),
+        _ => written,
+    }
+}
+
+/// A group whose producer has new data, where the point is its own.
+pub(crate) fn touched(group: Group, clock: Ms, point: u32) -> Group
+    requires time { clock.0 ≤ 2 ^ 48 }
+    requires fits { FitsGroup group }
+    ensures { result ≡ touched clock point group }
+{
+    if group.producer.point != point {
+        return group;
+    }
+    with_production(group, touched_production(group.producer.production, clock))
+}
+
+/// A group whose producer has produced.
+pub(crate) fn produced_group(group: Group, clock: Ms) -> Group
+    requires time { clock.0 ≤ 2 ^ 48 }
+    requires fits { FitsGroup group }
+    ensures { result ≡ produced_group clock group }
+{
+    with_production(group, produced(group.producer.production, clock, group.api))
+}
+
+/// The same, where it was due.
+pub(crate) fn produced_if_due(group: Group, clock: Ms) -> Group
+    requires time { clock.0 ≤ 2 ^ 48 }
+    requires fits { FitsGroup group }
+    ensures { result ≡ produced_if_due clock group }
+{
+    if is_production_due(&group.producer.production, clock) {
+        produced_group(group, clock)
+    } else {
+        group
+    }
+}
+
+/// A group whose producer has new data and has done what a write asks of it, where the point is its own.
+pub(crate) fn written_and_changed(group: Group, clock: Ms, point: u32) -> Group
+    requires time { clock.0 ≤ 2 ^ 48 }
+    requires fits { FitsGroup group }
+    ensures { result ≡ written_and_changed clock point group }
+{
+    if group.producer.point != point {
+        return group;
+    }
+    let written = Production {
+        written: true,
+        ..group.producer.production
+    };
+    with_production(group, changed(written, clock, group.api))
+}
+
+pub(crate) fn is_at_once(group: &Group, clock: Ms, point: u32) -> bool
+    requires { clock.0 ≤ 2 ^ 48 }
+    ensures { result ≡ is_at_once clock point group.now }
+{
+    group.producer.point == point && is_produced_on_change(&group.producer.production, clock)
+}
+
+pub(crate) fn is_new_at_once(group: &Group, clock: Ms, point: u32) -> bool
+    requires { clock.0 ≤ 2 ^ 48 }
+    ensures { result ≡ is_new_at_once clock point group.now }
+{
+    group.producer.production.written && is_at_once(group, clock, point)
+}

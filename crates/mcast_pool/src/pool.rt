@@ -1,0 +1,239 @@
+//! The producers of a device's connections.
+
+ghost use Rattle.std.specs.Prelude.{◌≡◌, ◌≤◌, ◌<◌, ◌+◌, ◌^◌, ◌++◌, ◌∷◌, [], Some, None, find, filter, length, map, is_some, true, IfOk, vec_len, vec_capacity};
+ghost use Rattle.std.specs.Option.{option_map};
+ghost use Rattle.cip_datagram.specs.Datagram.{datagram_text};
+ghost use Rattle.cip_productions.specs.Productions.{production_datagram};
+ghost use Rattle.mcast_pool.specs.Groups.{has_number, begun, production_of, touched, produced_group, produced_if_due, written_and_changed, is_at_once, is_new_at_once, numbered, IsInUse, subscribers, joined_group, change_first, joined_by, joined, left, is_last, lowest, FitsGroup, MayProduce, AreGroups};
+
+use crate::group::{Group, begun};
+use crate::groups::{
+    count_at_once, find_group, lowest_at_once, place_for, place_of, produce_all, produce_at,
+    subscribe, touch_all, unsubscribe, write_all,
+};
+use cip_datagram::{Datagram, write_datagram};
+use cip_productions::{Producer, Production, next_count};
+use cip_types::{ConnId, Ms, OutOfMemory};
+use std::alloc::Global;
+use std::marker::Model;
+
+/// The most connections that the producers of a device serve.
+///
+/// Volume 1, chapter 3, Connection Manager object: how many connections there can be is the device's
+/// choice.
+pub const MOST_SUBSCRIBERS: usize = 64;
+
+/// The producers of a device's connections, which contracts see as their groups, in the order in which they
+/// began. Only `new` takes memory.
+///
+/// Volume 1, chapter 3, class 1 transport; Volume 2, chapter 3, multicast connections.
+#[derive(Drop)]
+pub struct Pool {
+    groups: Vec<Group>,
+}
+
+impl Model for Pool {
+    ghost use Rattle.std.specs.Prelude.{List};
+    ghost use Rattle.mcast_pool.specs.declared.group.Group.{Group};
+    ghost use Rattle.std.specs.Prelude.{vec_capacity};
+    ghost use Rattle.mcast_pool.specs.Groups.{IsPool};
+
+    ghost Value = { List Group };
+
+    ghost view = { λ p. p.groups.items };
+
+    ghost invariant = { λ p. IsPool p.groups.items (vec_capacity p.groups) };
+}
+
+/// What who joins gets: the connection id and the number of the producer, and whether it begins it.
+#[derive(Clone, Copy)]
+pub struct Joined {
+    pub id: ConnId,
+    pub number: u32,
+    pub fresh: bool,
+}
+
+/// What who joins this producer is told.
+fn told(producer: &Producer, fresh: bool) -> Joined
+    ensures { result ≡ record { id = producer.now.id; number = producer.now.production.producer; fresh = fresh } }
+{
+    Joined {
+        id: producer.id,
+        number: producer.production.producer,
+        fresh,
+    }
+}
+
+/// Appends the next datagram of a producer, whose data these are. Takes no memory.
+fn append_datagram(producer: &Producer, input: &[u8], out: &mut Vec<u8>)
+    requires short { length input.now ≤ 65533 }
+    requires room { vec_len out.old + (20 + length input.now) ≤ vec_capacity out.old }
+    ensures { out.new.items ≡ out.old.items ++ datagram_text (production_datagram producer.now.id producer.now.production input.now) }
+{
+    let datagram = Datagram {
+        connection: producer.id,
+        sequence: producer.production.sequence,
+        count: next_count(&producer.production),
+        data: input,
+    };
+    write_datagram(&datagram, out);
+}
+
+impl Pool {
+    /// No producers, with room for all that there can be. Want of memory is the only fault.
+    pub fn new(alloc: Global) -> Result<Self, OutOfMemory>
+        ensures { IfOk result (λ pool. pool ≡ []) }
+    {
+        Ok(Pool {
+            groups: Vec::with_capacity(alloc, MOST_SUBSCRIBERS)?,
+        })
+    }
+
+    /// How many producers there are. Takes no memory.
+    pub fn len(&self) -> usize
+        ensures len { result ≡ length self.now }
+        ensures groups { AreGroups self.now }
+        ensures few { subscribers self.now ≤ 64 }
+    {
+        self.groups.len()
+    }
+
+    /// The producers, in the order in which they began. Takes no memory.
+    pub fn as_slice(&self) -> &[Group]
+        ensures groups { result.now ≡ self.now }
+        ensures sound { AreGroups self.now }
+    {
+        &self.groups
+    }
+
+    /// The group of a producer's number. Takes no memory.
+    pub fn group(&self, number: u32) -> Option<Group>
+        ensures { result ≡ numbered number self.now }
+    {
+        find_group(&self.groups, number)
+    }
+
+    /// A connection joins the group of its producer's point, where it shares its producer and there is such a
+    /// group; else it begins its producer, with its own id, number and production. Takes no memory.
+    ///
+    /// Volume 2, chapter 3, multicast connections.
+    pub fn join(&mut self, producer: Producer, shared: bool, api: u32) -> Joined
+        requires few { subscribers self.old < 64 }
+        requires fits { FitsGroup (begun producer shared api) }
+        requires unused { joined_group shared producer.point self.old ≡ None → numbered producer.production.producer self.old ≡ None }
+        ensures joined { result ≡ joined_by producer (joined_group shared producer.point self.old) }
+        ensures groups { self.new ≡ joined (begun producer shared api) self.old }
+    {
+        match place_for(&self.groups, shared, producer.point) {
+            Some(at) => {
+                let serving = subscribe(&mut self.groups, at, producer.point);
+                told(&serving, false)
+            }
+            None => {
+                self.groups.push_reserved(begun(producer, shared, api));
+                told(&producer, true)
+            }
+        }
+    }
+
+    /// A connection leaves its producer, which is gone with the last one. True where that one is gone. Takes no
+    /// memory.
+    pub fn leave(&mut self, number: u32) -> bool
+        requires { IsInUse number self.old }
+        ensures last { Some result ≡ option_map is_last (numbered number self.old) }
+        ensures groups { self.new ≡ left number self.old }
+    {
+        let at = place_of(&self.groups, number).unwrap();
+        unsubscribe(&mut self.groups, number, at)
+    }
+
+    /// The producers of a point have new data; one that produces at changes of state, and may not yet, is due
+    /// when it may. Takes no memory.
+    ///
+    /// Volume 1, chapter 3, production triggers and production inhibit time.
+    pub fn touched(&mut self, point: u32, clock: Ms)
+        requires { clock.0 ≤ 2 ^ 48 }
+        ensures { self.new ≡ map (touched clock point) self.old }
+    {
+        touch_all(&mut self.groups, clock, point);
+    }
+
+    /// How many producers of a point a change of state makes produce at once. Takes no memory.
+    ///
+    /// Volume 1, chapter 3, production triggers and production inhibit time.
+    pub fn at_once(&self, point: u32, clock: Ms) -> usize
+        requires { clock.0 ≤ 2 ^ 48 }
+        ensures { result ≡ length (filter (is_at_once clock point) self.now) }
+    {
+        count_at_once(&self.groups, clock, point)
+    }
+
+    /// The lowest number of those that have not produced their new data yet. Takes no memory.
+    pub fn next_at_once(&self, point: u32, clock: Ms) -> Option<u32>
+        requires { clock.0 ≤ 2 ^ 48 }
+        ensures { result ≡ lowest (is_new_at_once clock point) self.now }
+    {
+        lowest_at_once(&self.groups, clock, point)
+    }
+
+    /// A producer produces: its next datagram is appended, with these data, a run/idle header among them where
+    /// there is one, and it goes on. Takes no memory.
+    ///
+    /// Volume 1, chapter 3, class 1 transport; Volume 2, chapter 2, sequenced address item.
+    pub fn produce(&mut self, number: u32, clock: Ms, input: &[u8], out: &mut Vec<u8>)
+        requires time { clock.0 ≤ 2 ^ 48 }
+        requires may { MayProduce clock (numbered number self.old) }
+        requires short { length input.now ≤ 65533 }
+        requires room { vec_len out.old + (20 + length input.now) ≤ vec_capacity out.old }
+        ensures datagram { Some out.new.items ≡ option_map (λ group. out.old.items ++ datagram_text (production_datagram group.producer.id group.producer.production input.now)) (numbered number self.old) }
+        ensures groups { self.new ≡ change_first (has_number number) (produced_group clock) self.old }
+    {
+        let at = place_of(&self.groups, number).unwrap();
+        append_datagram(&self.groups[at].producer, input, out);
+        produce_at(&mut self.groups, number, at, clock);
+    }
+
+    /// All producers that are due have produced. Takes no memory.
+    ///
+    /// Volume 1, chapter 3, production triggers.
+    pub fn produce_due(&mut self, clock: Ms)
+        requires { clock.0 ≤ 2 ^ 48 }
+        ensures { self.new ≡ map (produced_if_due clock) self.old }
+    {
+        produce_all(&mut self.groups, clock);
+    }
+
+    /// The producers of a point have new data, and those that a change of state makes produce at once have
+    /// produced. Takes no memory.
+    ///
+    /// Volume 1, chapter 3, production triggers and production inhibit time.
+    pub fn write(&mut self, point: u32, clock: Ms)
+        requires { clock.0 ≤ 2 ^ 48 }
+        ensures { self.new ≡ map (written_and_changed clock point) self.old }
+    {
+        write_all(&mut self.groups, clock, point);
+    }
+
+    /// When a producer is due. Takes no memory.
+    pub fn due(&self, number: u32) -> Ms
+        requires { IsInUse number self.now }
+        ensures { Some result ≡ option_map (λ group. group.producer.production.due) (numbered number self.now) }
+    {
+        find_group(&self.groups, number)
+            .unwrap()
+            .producer
+            .production
+            .due
+    }
+
+    /// The production of a producer. Takes no memory.
+    pub fn production(&self, number: u32) -> Production
+        requires { IsInUse number self.now }
+        ensures { Some result ≡ option_map production_of (numbered number self.now) }
+    {
+        find_group(&self.groups, number)
+            .unwrap()
+            .producer
+            .production
+    }
+}
