@@ -11,6 +11,7 @@ mod late_reply;
 mod race;
 mod refusals;
 mod scene;
+mod story;
 
 use fault::RunFault;
 

@@ -3,6 +3,7 @@
 use crate::devices::{ADAPTER, FIRST, SECOND};
 use crate::fault::RunFault;
 use crate::scene::{Player, Scene};
+use cip_types::OutOfMemory;
 use segment_world::{Act, Call};
 use std::alloc::Global;
 
@@ -21,78 +22,104 @@ const LATE: Player = Player {
     name: "second",
 };
 
+const TENTH: Player = Player {
+    place: 9,
+    name: "tenth",
+};
+
 /// The output that both want.
-const OUTPUT: Call = Call::Read { point: 150 };
+const OUTPUT: u32 = 150;
 
-/// A scanner opens a stream, registers its session, and opens its connection.
-fn connect(
-    rt: &impl Print,
-    scene: &mut Scene,
-    who: Player,
-    stream: u16,
-) -> Result<(), RunFault> {
-    scene.open_stream(rt, who, DEVICE)?;
-    scene.back(rt, who, stream)?;
-    scene.forth(rt, DEVICE, stream)?;
-    scene.forth(rt, DEVICE, stream)?;
-    scene.back(rt, who, stream)?;
-    scene.call(rt, who, Call::Start { slot: 0 })?;
-    scene.forth(rt, DEVICE, stream)?;
-    scene.back(rt, who, stream)?;
-    scene.call(rt, who, Call::Mode { run: true })
+/// A scanner opens a stream, and registers its session.
+fn register(scene: &mut Scene, who: Player, stream: u16) -> Result<(), OutOfMemory> {
+    scene.open_stream(who, DEVICE)?;
+    scene.back(who, stream)?;
+    scene.forth(DEVICE, stream)?;
+    scene.forth(DEVICE, stream)?;
+    scene.back(who, stream)
 }
 
-/// The first owner's data come to the output, its next datagram does not.
-fn first_owner(rt: &impl Print, scene: &mut Scene) -> Result<(), RunFault> {
-    println!(rt; "# the first scanner opens a connection, and runs")?;
-    connect(rt, scene, EARLY, 0)?;
-    println!(rt; "# its first datagram comes to the output")?;
-    scene.write(rt, EARLY, 0, [0x11, 0x22, 0x33, 0x44])?;
-    scene.call(rt, EARLY, Call::Tick { ms: 1 })?;
-    scene.deliver(rt, DEVICE, 0)?;
-    scene.call(rt, DEVICE, OUTPUT)?;
-    println!(rt; "# its second one is held back, until the connection has timed out")?;
-    scene.write(rt, EARLY, 0, [0xAA; 4])?;
-    scene.call(rt, EARLY, Call::Tick { ms: 9 })?;
-    scene.call(rt, DEVICE, Call::Tick { ms: 160 })?;
-    scene.call(rt, DEVICE, OUTPUT)
+/// A scanner opens its connection, and runs.
+fn connect(scene: &mut Scene, who: Player, stream: u16) -> Result<(), OutOfMemory> {
+    scene.call(who, Call::Start { slot: 0 })?;
+    scene.forth(DEVICE, stream)?;
+    scene.back(who, stream)?;
+    scene.call(who, Call::Mode { run: true })
 }
 
-/// The next owner's data come to the output, and those that were held back do not.
-fn next_owner(rt: &impl Print, scene: &mut Scene) -> Result<(), RunFault> {
-    println!(rt; "# the second scanner opens a connection to the same output, and runs")?;
-    connect(rt, scene, LATE, 1)?;
-    println!(rt; "# its datagram comes to the output")?;
-    scene.write(rt, LATE, 0, [0x0B; 4])?;
-    scene.call(rt, LATE, Call::Tick { ms: 1 })?;
-    scene.deliver(rt, DEVICE, 2)?;
-    println!(rt; "# now the first scanner's second datagram comes: it changes nothing")?;
-    scene.deliver(rt, DEVICE, 1)?;
-    scene.call(rt, DEVICE, OUTPUT)
+/// The first owner's datagram comes to the output.
+fn first_owner(scene: &mut Scene) -> Result<(), OutOfMemory> {
+    scene.note("the first scanner opens a connection, and runs")?;
+    register(scene, EARLY, 0)?;
+    connect(scene, EARLY, 0)?;
+    scene.note("its first datagram comes to the output")?;
+    scene.write(EARLY, 0, [0x11, 0x22, 0x33, 0x44])?;
+    scene.tick(EARLY, 1)?;
+    scene.deliver(DEVICE, 0)?;
+    scene.read(DEVICE, OUTPUT)
+}
+
+/// Its next datagram does not come.
+fn held_back(scene: &mut Scene) -> Result<(), OutOfMemory> {
+    scene.note("its second one is held back, until the connection has timed out")?;
+    scene.write(EARLY, 0, [0xAA; 4])?;
+    scene.tick(EARLY, 9)?;
+    scene.tick(DEVICE, 160)?;
+    scene.read(DEVICE, OUTPUT)
+}
+
+/// The next owner's datagram comes to the output.
+fn next_owner(scene: &mut Scene) -> Result<(), OutOfMemory> {
+    scene.note("the second scanner opens a connection to the same output, and runs")?;
+    register(scene, LATE, 1)?;
+    connect(scene, LATE, 1)?;
+    scene.note("its datagram comes to the output")?;
+    scene.write(LATE, 0, [0x0B; 4])?;
+    scene.tick(LATE, 1)?;
+    scene.deliver(DEVICE, 2)
+}
+
+/// The first owner's datagram that was held back comes after all.
+fn too_late(scene: &mut Scene) -> Result<(), OutOfMemory> {
+    scene.note("now the first scanner's second datagram comes: it changes nothing")?;
+    scene.deliver(DEVICE, 1)?;
+    scene.read(DEVICE, OUTPUT)
 }
 
 /// What is not there does not come.
-fn nothing_more(rt: &impl Print, scene: &mut Scene) -> Result<(), RunFault> {
-    println!(rt; "# a tenth datagram, of which nobody knows")?;
-    scene.deliver(rt, DEVICE, 9)?;
-    println!(rt; "# one at a tenth device")?;
-    scene.deliver(rt, Player { place: 9, name: "tenth" }, 0)?;
-    println!(rt; "# a frame on a stream on which nothing waits")?;
-    scene.forth(rt, DEVICE, 0)?;
-    println!(rt; "# the cut of an eighth stream")?;
-    scene.act(rt, DEVICE, &Act::CutStream { stream: 7 })?;
-    println!(rt; "# a stream from a device to itself")?;
-    scene.open_stream(rt, EARLY, EARLY)?;
-    println!(rt; "# more than a minute at once")?;
-    scene.call(rt, DEVICE, Call::Tick { ms: 60_001 })?;
-    println!(rt; "# none of these changed anything")?;
-    scene.call(rt, DEVICE, OUTPUT)
+fn nothing_comes(scene: &mut Scene) -> Result<(), OutOfMemory> {
+    scene.note("a tenth datagram, of which nobody knows")?;
+    scene.deliver(DEVICE, 9)?;
+    scene.note("one at a tenth device")?;
+    scene.deliver(TENTH, 0)?;
+    scene.note("a frame on a stream on which nothing waits")?;
+    scene.forth(DEVICE, 0)
+}
+
+/// Nor is it done.
+fn nothing_is_done(scene: &mut Scene) -> Result<(), OutOfMemory> {
+    scene.note("the cut of an eighth stream")?;
+    scene.act(DEVICE, &Act::CutStream { stream: 7 })?;
+    scene.note("a stream from a device to itself")?;
+    scene.open_stream(EARLY, EARLY)?;
+    scene.note("more than a minute at once")?;
+    scene.tick(DEVICE, 60_001)?;
+    scene.note("none of these changed anything")?;
+    scene.read(DEVICE, OUTPUT)
+}
+
+fn play(scene: &mut Scene) -> Result<(), OutOfMemory> {
+    first_owner(scene)?;
+    held_back(scene)?;
+    next_owner(scene)?;
+    too_late(scene)?;
+    nothing_comes(scene)?;
+    nothing_is_done(scene)
 }
 
 /// The race of the two owners.
 pub fn late_datagram(rt: &impl Print, alloc: Global) -> Result<(), RunFault> {
     let mut scene = Scene::new(alloc, &[ADAPTER, FIRST, SECOND])?;
-    first_owner(rt, &mut scene)?;
-    next_owner(rt, &mut scene)?;
-    nothing_more(rt, &mut scene)
+    play(&mut scene)?;
+    Ok(print!(rt; "{}", scene.story())?)
 }

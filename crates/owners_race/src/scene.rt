@@ -1,7 +1,8 @@
-//! Devices on a segment whose acts are told.
+//! Devices on a segment, and the story of what happens to them.
 
 use crate::devices::configs;
 use crate::fault::RunFault;
+use crate::story::{push_fault, push_line, push_lines};
 use cip_tables::{Answer, Outcome};
 use cip_types::{Items, OutOfMemory};
 use plain_engine::{PlainAdapter, PlainScanner};
@@ -16,115 +17,146 @@ pub struct Player {
     pub name: &'static str,
 }
 
-/// A segment, and how many events each of its devices has had.
+/// How many events each of three devices has had.
+#[derive(Clone, Copy)]
+struct Counts {
+    first: u64,
+    second: u64,
+    third: u64,
+}
+
+impl Counts {
+    /// The number of the next event of the device at a place.
+    fn next(&mut self, place: u32) -> u64 {
+        match place {
+            0 => {
+                self.first = self.first.wrapping_add(1);
+                self.first
+            }
+            1 => {
+                self.second = self.second.wrapping_add(1);
+                self.second
+            }
+            _ => {
+                self.third = self.third.wrapping_add(1);
+                self.third
+            }
+        }
+    }
+}
+
+/// A segment, and the lines that tell what happened in it.
 #[derive(Drop)]
 pub struct Scene {
     alloc: Global,
     world: World<PlainAdapter, PlainScanner>,
-    events: Vec<u64>,
+    events: Counts,
+    story: String,
 }
 
-fn zeros(alloc: Global, count: usize) -> Result<Vec<u64>, OutOfMemory> {
-    let mut zeros = Vec::new(alloc);
-    zeros.resize(count, 0)?;
-    Ok(zeros)
+/// The lines of an answer, as a device's trace would tell it.
+fn lines_of(alloc: Global, number: u64, answer: Answer) -> Result<String, OutOfMemory> {
+    let outcome: Outcome = Ok(answer);
+    write_outcome(alloc, number, &outcome)
 }
 
 impl Scene {
-    /// A segment of devices of these profiles.
+    /// A segment of devices of these profiles, at most three.
     pub fn new(alloc: Global, texts: &[&[u8]]) -> Result<Scene, RunFault> {
+        let world = World::new(alloc, configs(alloc, texts)?)?;
         Ok(Scene {
             alloc,
-            world: World::new(alloc, configs(alloc, texts)?)?,
-            events: zeros(alloc, texts.len())?,
+            world,
+            events: Counts {
+                first: 0,
+                second: 0,
+                third: 0,
+            },
+            story: String::new(alloc),
         })
     }
 
-    /// One act, which makes an event of this device, if it makes one. Prints what the device answers, as its trace
+    /// What happened so far.
+    pub fn story(&self) -> &str {
+        self.story.as_str()
+    }
+
+    /// A line that tells a reader what comes.
+    pub fn note(&mut self, words: &str) -> Result<(), OutOfMemory> {
+        push_line(&mut self.story, "#", words)
+    }
+
+    /// One act, which makes an event of this device, if it makes one. Tells what the device answers, as its trace
     /// would, behind its name; or why the act did not happen.
-    pub fn act(&mut self, rt: &impl Print, who: Player, act: &Act) -> Result<(), RunFault> {
+    pub fn act(&mut self, who: Player, act: &Act) -> Result<(), OutOfMemory> {
         match self.world.act(act) {
-            Ok(Some(answer)) => self.tell(rt, who, answer),
-            Ok(None) => Ok(()),
-            Err(fault) => Ok(println!(rt; "{fault}")?),
-        }
-    }
-
-    fn count(&mut self, who: Player) -> u64 {
-        match self.events.get_mut(who.place as usize) {
-            Some(count) => {
-                *count = count.wrapping_add(1);
-                *count
+            Ok(Some(answer)) => {
+                let lines = lines_of(self.alloc, self.events.next(who.place), answer)?;
+                push_lines(&mut self.story, who.name, lines.as_str())
             }
-            None => 0,
+            Ok(None) => Ok(()),
+            Err(fault) => push_fault(self.alloc, &mut self.story, fault),
         }
-    }
-
-    fn tell(&mut self, rt: &impl Print, who: Player, answer: Answer) -> Result<(), RunFault> {
-        let number = self.count(who);
-        let outcome: Outcome = Ok(answer);
-        let text = write_outcome(self.alloc, number, &outcome)?;
-        let name = who.name;
-        for line in text.lines() {
-            println!(rt; "{name} {line}")?;
-        }
-        Ok(())
     }
 
     /// A device's application does something, or time passes at it.
-    pub fn call(&mut self, rt: &impl Print, who: Player, call: Call) -> Result<(), RunFault> {
+    pub fn call(&mut self, who: Player, call: Call) -> Result<(), OutOfMemory> {
         let act = Act::Local {
             device: who.place,
             call,
         };
-        self.act(rt, who, &act)
+        self.act(who, &act)
+    }
+
+    /// Time passes at a device.
+    pub fn tick(&mut self, who: Player, ms: u32) -> Result<(), OutOfMemory> {
+        self.call(who, Call::Tick { ms })
     }
 
     /// The application of a device sets four bytes.
-    pub fn write(
-        &mut self,
-        rt: &impl Print,
-        who: Player,
-        point: u32,
-        bytes: [u8; 4],
-    ) -> Result<(), RunFault> {
+    pub fn write(&mut self, who: Player, point: u32, bytes: [u8; 4]) -> Result<(), OutOfMemory> {
         let bytes = Items::copy_of(self.alloc, &bytes)?;
-        self.call(rt, who, Call::Write { point, bytes })
+        self.call(who, Call::Write { point, bytes })
+    }
+
+    /// The application of a device asks what a point holds.
+    pub fn read(&mut self, who: Player, point: u32) -> Result<(), OutOfMemory> {
+        self.call(who, Call::Read { point })
     }
 
     /// A device opens a stream to another.
-    pub fn open_stream(&mut self, rt: &impl Print, from: Player, to: Player) -> Result<(), RunFault> {
+    pub fn open_stream(&mut self, from: Player, to: Player) -> Result<(), OutOfMemory> {
         let act = Act::OpenStream {
             from: from.place,
             to: to.place,
         };
-        self.act(rt, from, &act)
+        self.act(from, &act)
     }
 
     /// What waits for the device that accepted a stream comes to it.
-    pub fn forth(&mut self, rt: &impl Print, who: Player, stream: u16) -> Result<(), RunFault> {
+    pub fn forth(&mut self, who: Player, stream: u16) -> Result<(), OutOfMemory> {
         let act = Act::NextFrame {
             stream,
             direction: Direction::Forth,
         };
-        self.act(rt, who, &act)
+        self.act(who, &act)
     }
 
     /// What waits for the device that opened a stream comes to it.
-    pub fn back(&mut self, rt: &impl Print, who: Player, stream: u16) -> Result<(), RunFault> {
+    pub fn back(&mut self, who: Player, stream: u16) -> Result<(), OutOfMemory> {
         let act = Act::NextFrame {
             stream,
             direction: Direction::Back,
         };
-        self.act(rt, who, &act)
+        self.act(who, &act)
     }
 
     /// A datagram that was sent comes to a device.
-    pub fn deliver(&mut self, rt: &impl Print, who: Player, index: usize) -> Result<(), RunFault> {
+    pub fn deliver(&mut self, who: Player, index: usize) -> Result<(), OutOfMemory> {
         let act = Act::Deliver {
             index,
             device: who.place,
         };
-        self.act(rt, who, &act)
+        self.act(who, &act)
     }
 }

@@ -1,0 +1,27 @@
+//! Lines of text.
+
+use cip_types::OutOfMemory;
+use segment_world::ActFault;
+use std::alloc::Global;
+
+/// Appends a line of two parts, with a space between them.
+pub fn push_line(story: &mut String, first: &str, second: &str) -> Result<(), OutOfMemory> {
+    story.push_str(first)?;
+    story.push(' ')?;
+    story.push_str(second)?;
+    Ok(story.push('\n')?)
+}
+
+/// Appends lines, each behind a name.
+pub fn push_lines(story: &mut String, name: &str, lines: &str) -> Result<(), OutOfMemory> {
+    for line in lines.lines() {
+        push_line(story, name, line)?;
+    }
+    Ok(())
+}
+
+/// Appends a line that tells why an act did not happen.
+pub fn push_fault(alloc: Global, story: &mut String, fault: ActFault) -> Result<(), OutOfMemory> {
+    let words = format!(in alloc; "{fault}\n")?;
+    Ok(story.push_str(words.as_str())?)
+}
