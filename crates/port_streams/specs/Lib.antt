@@ -1,0 +1,4 @@
+pub mod Nil
+pub mod Lines
+pub mod Places
+pub mod Routing

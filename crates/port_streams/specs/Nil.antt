@@ -1,0 +1,7 @@
+-- Lists without elements.
+use Rattle.std.specs.Prelude.{Bool, true, false, List, [], ◌∷◌}
+
+-- there is no element
+abbrev pub is_nil : {X : Type 0} → List X → Bool
+is_nil [] = true
+is_nil (x ∷ xs) = false

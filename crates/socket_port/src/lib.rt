@@ -1,0 +1,12 @@
+//! A port over TCP and UDP sockets, and the system's clock.
+#![tactic(auto)]
+
+mod addresses;
+mod calls;
+mod clock;
+mod links;
+mod port;
+
+pub use addresses::{LOOPBACK, loopback, node_of};
+pub use clock::SystemClock;
+pub use port::{OpenFault, SocketPort};

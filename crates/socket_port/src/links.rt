@@ -1,0 +1,193 @@
+//! The sockets of a port: what comes over them, and what goes.
+
+ghost use Rattle.std.specs.Prelude.{◌≤◌, length};
+ghost use Rattle.socket_port.specs.Arrivals.{Fits};
+
+use crate::addresses::{address_of, node_of};
+use crate::calls::{self, Arrival};
+use cip_types::{Items, Node, OutOfMemory};
+use port_streams::{Routes, Streams};
+use std::alloc::Global;
+use std::net::{SocketAddr, TcpListener, TcpStream, UdpSocket};
+use udp_runner::{Input, Output, PortFault};
+
+/// A port has at most so many streams.
+const MOST_STREAMS: u16 = 16;
+
+/// A datagram of UDP has fewer bytes, and no more are read of a stream at once.
+const ROOM: usize = 65_536;
+
+/// Streams come before datagrams once in so many polls.
+const POLLS: u8 = 16;
+
+/// The sockets of a port.
+#[derive(Drop)]
+pub struct Links {
+    alloc: Global,
+    listener: Option<TcpListener>,
+    udp: UdpSocket,
+    streams: Streams<TcpStream>,
+    routes: Routes,
+    buffer: Vec<u8>,
+    first: u16,
+    polls: u8,
+}
+
+impl Links {
+    /// The sockets of a port that has no stream yet.
+    pub fn new(
+        alloc: Global,
+        listener: Option<TcpListener>,
+        udp: UdpSocket,
+        routes: Routes,
+    ) -> Result<Links, OutOfMemory> {
+        Ok(Links {
+            alloc,
+            listener,
+            udp,
+            streams: Streams::new(alloc)?,
+            routes,
+            buffer: vec![in alloc; 0; ROOM]?,
+            first: 0,
+            polls: 0,
+        })
+    }
+
+    /// A stream over a connection. One too many is closed unheard.
+    pub fn welcome(&mut self, peer: Node, socket: TcpStream) {
+        if calls::prepare(&socket).is_err() {
+            return;
+        }
+        let _ = self.streams.accept(peer, socket);
+    }
+
+    /// What is there now. Datagrams come first, and once in a while the streams, so that neither holds up the
+    /// other.
+    pub fn poll(&mut self) -> Result<Option<Input>, PortFault> {
+        let turn = self.polls % POLLS;
+        self.polls = turn + 1;
+        if turn == 0 {
+            if let Some(input) = self.poll_streams()? {
+                return Ok(Some(input));
+            }
+            return self.poll_datagrams();
+        }
+        if let Some(input) = self.poll_datagrams()? {
+            return Ok(Some(input));
+        }
+        self.poll_streams()
+    }
+
+    /// The datagram that is there now.
+    fn poll_datagrams(&mut self) -> Result<Option<Input>, PortFault> {
+        let Some((count, from)) = calls::receive(&self.udp, &mut self.buffer)? else {
+            return Ok(None);
+        };
+        let Some(peer) = node_of(from) else {
+            return Ok(None);
+        };
+        match Items::copy_of(self.alloc, &self.buffer[..count]) {
+            Ok(bytes) => Ok(Some(Input::Datagram { peer, bytes })),
+            Err(OutOfMemory) => Err(PortFault::Memory),
+        }
+    }
+
+    /// What is there of the streams now. They take turns.
+    fn poll_streams(&mut self) -> Result<Option<Input>, PortFault> {
+        self.accept()?;
+        let first = self.first % MOST_STREAMS;
+        for offset in 0..MOST_STREAMS {
+            let number = (first + offset) % MOST_STREAMS;
+            if let Some(input) = self.poll_stream(number)? {
+                self.first = number + 1;
+                return Ok(Some(input));
+            }
+        }
+        Ok(None)
+    }
+
+    /// Takes the connection that waits.
+    fn accept(&mut self) -> Result<(), PortFault> {
+        let Some(listener) = &self.listener else {
+            return Ok(());
+        };
+        let Some((socket, from)) = calls::accept(listener)? else {
+            return Ok(());
+        };
+        if let Some(peer) = node_of(from) {
+            self.welcome(peer, socket);
+        }
+        Ok(())
+    }
+
+    /// What is there of one stream now.
+    fn poll_stream(&mut self, number: u16) -> Result<Option<Input>, PortFault> {
+        match read(&self.streams, number, &mut self.buffer) {
+            Arrival::Nothing => {}
+            Arrival::End => self.streams.end(number),
+            Arrival::Bytes(count) => self.hear(number, count)?,
+        }
+        Ok(self.streams.next(number))
+    }
+
+    /// Bytes came over a stream, and stand in the buffer. Where there is no memory for them, they are lost, and
+    /// with them the stream.
+    fn hear(&mut self, number: u16, count: usize) -> Result<(), PortFault>
+        requires { count ≤ length self.old.buffer.items }
+    {
+        let heard = self.streams.hear(number, &self.buffer[..count]);
+        if heard.is_err() {
+            self.streams.end(number);
+            return Err(PortFault::Memory);
+        }
+        Ok(())
+    }
+
+    /// Sends an output.
+    pub fn send(&mut self, output: &Output<'_>) -> Result<(), PortFault> {
+        match output {
+            Output::Frame { stream, bytes } => {
+                self.send_frame(*stream, bytes);
+                Ok(())
+            }
+            Output::Datagram { node, bytes } => self.send_datagram(*node, bytes),
+            Output::Close { stream } => {
+                self.streams.close(*stream);
+                Ok(())
+            }
+        }
+    }
+
+    /// Sends a message over a stream. One that does not take it at once ends.
+    fn send_frame(&mut self, number: u16, bytes: &[u8]) {
+        if !is_taken(&self.streams, number, bytes) {
+            self.streams.end(number);
+        }
+    }
+
+    /// Sends a datagram to a node, if there is a way to it.
+    fn send_datagram(&mut self, node: Node, bytes: &[u8]) -> Result<(), PortFault> {
+        match self.routes.destination_of(node) {
+            Some(to) => calls::send(&self.udp, bytes, address_of(to)),
+            None => Ok(()),
+        }
+    }
+}
+
+/// Reads what came over a stream, if it is to be read.
+fn read(streams: &Streams<TcpStream>, number: u16, buffer: &mut [u8]) -> Arrival
+    ensures { Fits result (length buffer.new) }
+{
+    match streams.to_read(number) {
+        Some(socket) => calls::read(socket, buffer),
+        None => Arrival::Nothing,
+    }
+}
+
+/// Whether a stream takes all of a message. What goes to one that ended is dropped.
+fn is_taken(streams: &Streams<TcpStream>, number: u16, bytes: &[u8]) -> bool {
+    match streams.to_write(number) {
+        Some(socket) => calls::write(socket, bytes),
+        None => true,
+    }
+}

@@ -1,0 +1,163 @@
+//! A port over sockets.
+
+ghost use Rattle.std.specs.Prelude.{◌≡◌, IfOk};
+
+use crate::addresses::{LOOPBACK, loopback, node_of};
+use crate::calls;
+use crate::links::Links;
+use cip_types::OutOfMemory;
+use port_streams::{Destination, Routes};
+use std::alloc::Global;
+use std::io::ErrorKind;
+use std::net::{Net, TcpListener, TcpStream, UdpSocket};
+use std::rt::Clock as System;
+use std::time::Duration;
+use std::{io, thread};
+use udp_runner::{Input, Output, Port, PortFault};
+
+/// Why a port cannot be made.
+#[derive(Clone, Copy, Debug, PartialEq, Eq)]
+pub enum OpenFault {
+    /// A socket could not be bound, connected or prepared.
+    Socket,
+    /// A growth of memory was refused.
+    OutOfMemory,
+}
+
+impl From<io::Error> for OpenFault {
+    fn from(error: io::Error) -> OpenFault {
+        match error.kind() {
+            ErrorKind::OutOfMemory => OpenFault::OutOfMemory,
+            _ => OpenFault::Socket,
+        }
+    }
+}
+
+impl From<OutOfMemory> for OpenFault {
+    fn from(_refused: OutOfMemory) -> OpenFault {
+        OpenFault::OutOfMemory
+    }
+}
+
+/// A port over a UDP socket and the streams of a TCP listener, or over one stream.
+#[derive(Drop)]
+pub struct SocketPort<R: System + Drop> {
+    rt: R,
+    links: Links,
+    failures: u64,
+}
+
+impl<R: System + Drop> SocketPort<R> {
+    /// An adapter's port: peers open its streams at this listener.
+    pub fn listening(
+        alloc: Global,
+        rt: R,
+        listener: TcpListener,
+        udp: UdpSocket,
+        routes: Routes,
+    ) -> Result<Self, OpenFault>
+        ensures { IfOk result (λ port. port.failures ≡ 0) }
+    {
+        listener.set_nonblocking(true)?;
+        udp.set_nonblocking(true)?;
+        let links = Links::new(alloc, Some(listener), udp, routes)?;
+        Ok(SocketPort {
+            rt,
+            links,
+            failures: 0,
+        })
+    }
+
+    /// A scanner's port: this connection is its stream 0, which it gives first.
+    pub fn connected(
+        alloc: Global,
+        rt: R,
+        stream: TcpStream,
+        udp: UdpSocket,
+        routes: Routes,
+    ) -> Result<Self, OpenFault>
+        ensures { IfOk result (λ port. port.failures ≡ 0) }
+    {
+        let peer = node_of(stream.peer_addr()?).ok_or(OpenFault::Socket)?;
+        calls::prepare(&stream)?;
+        udp.set_nonblocking(true)?;
+        let mut links = Links::new(alloc, None, udp, routes)?;
+        links.welcome(peer, stream);
+        Ok(SocketPort {
+            rt,
+            links,
+            failures: 0,
+        })
+    }
+
+    /// What came within a millisecond.
+    fn next_input(&mut self) -> Result<Option<Input>, PortFault>
+        ensures { self.new.failures ≡ self.old.failures }
+    {
+        if let Some(input) = self.links.poll()? {
+            return Ok(Some(input));
+        }
+        thread::sleep(&self.rt, Duration::from_millis(1));
+        self.links.poll()
+    }
+}
+
+impl<R: System + Net<Listener = TcpListener, Stream = TcpStream> + Drop> SocketPort<R> {
+    /// An adapter's port on 127.0.0.1, at these ports of TCP and UDP. All its datagrams go to the UDP port of its
+    /// peer on this host.
+    pub fn adapter(alloc: Global, rt: R, tcp: u16, udp: u16, peer: u16) -> Result<Self, OpenFault>
+        ensures { IfOk result (λ port. port.failures ≡ 0) }
+    {
+        let listener = TcpListener::bind(&rt, loopback(tcp))?;
+        let socket = UdpSocket::bind(&rt, loopback(udp))?;
+        SocketPort::listening(alloc, rt, listener, socket, to_loopback(peer))
+    }
+
+    /// A scanner's port on 127.0.0.1, at this port of UDP, connected to an adapter's port of TCP. All its datagrams
+    /// go to the UDP port of its peer on this host.
+    pub fn scanner(alloc: Global, rt: R, tcp: u16, udp: u16, peer: u16) -> Result<Self, OpenFault>
+        ensures { IfOk result (λ port. port.failures ≡ 0) }
+    {
+        let socket = UdpSocket::bind(&rt, loopback(udp))?;
+        let stream = TcpStream::connect(&rt, loopback(tcp))?;
+        SocketPort::connected(alloc, rt, stream, socket, to_loopback(peer))
+    }
+}
+
+/// All datagrams go to this port of this host.
+fn to_loopback(port: u16) -> Routes {
+    Routes::One(Destination {
+        node: LOOPBACK,
+        port,
+    })
+}
+
+impl<R: System + Drop> Port for SocketPort<R> {
+    ghost use Rattle.std.specs.Prelude.{false, []};
+
+    ghost tells = { false };
+
+    ghost tape = { λ port. record { coming = []; sent = [] } };
+
+    ghost failed = { λ port. port.failures };
+
+    fn failures(&self) -> u64 {
+        self.failures
+    }
+
+    fn receive(&mut self) -> Result<Option<Input>, PortFault> {
+        let came = self.next_input();
+        if came.is_err() {
+            self.failures += 1;
+        }
+        came
+    }
+
+    fn send(&mut self, output: &Output<'_>) -> Result<(), PortFault> {
+        let sent = self.links.send(output);
+        if sent.is_err() {
+            self.failures += 1;
+        }
+        sent
+    }
+}
