@@ -170,11 +170,12 @@ scanner_keeps back few G t happens a next is whole kept slots =
 abbrev From : ScannerProfile → ℕ → ℕ → OfSlots
 From profile request first number config state = config.multicast ≡ false → StateFrom profile request first state
 
-wants_from : (t now : ScannerTable) (config : SlotConfig) (to first : ℕ) (multicast : Bool) → config.multicast ≡ multicast → multicast ≡ false → CanDraw t to now config → first ≤ t.next_id → WantsFrom t.profile first (cond multicast None (Some (connection_id now.profile now.next_id)))
-wants_from t now config to first true is single can below = absurd cc
-wants_from t now config to first false is single can below =
+wants_from : (t now : ScannerTable) (config : SlotConfig) (to first : ℕ) (multicast : Bool) → config.multicast ≡ multicast → multicast ≡ false → CanDraw t to now config → first ≤ t.next_id → to ≤ 2 ^ 24 → WantsFrom t.profile first (cond multicast None (Some (connection_id now.profile now.next_id)))
+wants_from t now config to first true is single can below room = absurd cc
+wants_from t now config to first false is single can below room =
+    let under = can.left is in
     let counts = can.counts in
-    record { counter = now.next_id; is = ap (λ (p : ScannerProfile). connection_id p now.next_id) counts.profile; begins = omega (arith, below, counts.ids) }
+    record { counter = now.next_id; is = ap (λ (p : ScannerProfile). connection_id p now.next_id) counts.profile; begins = omega (arith, below, counts.ids); ends = omega (arith, under, room) }
 
 id_same : (a b : ConnId) → (a.0 == b.0) ≡ true → a ≡ b
 id_same a b is = let e : a.0 ≡ b.0 = grind (arith, nat_tests) in ap (λ (n : ℕ). conn n) e where
@@ -185,8 +186,8 @@ wanted_from : (profile : ScannerProfile) (first : ℕ) (wanted : Option ConnId) 
 wanted_from profile first None id is wants = absurd wants
 wanted_from profile first (Some asked) id is wants = subst (IsFrom profile first) (id_same asked id is) wants
 
-from_kept : (request first : ℕ) (t : ScannerTable) (to : ℕ) (happens : Event) → first ≤ t.next_id → Kept (From t.profile request first) t to happens
-from_kept request first t to happens below = record {
+from_kept : (request first : ℕ) (t : ScannerTable) (to : ℕ) (happens : Event) → first ≤ t.next_id → to ≤ 2 ^ 24 → Kept (From t.profile request first) t to happens
+from_kept request first t to happens below room = record {
   rests = λ number config single. tt;
   times_out = λ number config c is single. tt;
   closes = λ number config c close same is single. tt;
@@ -194,15 +195,15 @@ from_kept request first t to happens below = record {
       let before = is single (omega (arith, over, opening)) in
       subst (IsFrom t.profile first) (ap (λ (l : Link). l.t_o_id) (sym link)) before;
   opens = λ number config now o can asked wanted single over.
-      subst (WantsFrom t.profile first) (sym (ap (λ (w : Wanted). w.t_o_id) wanted)) (wants_from t now config to first config.multicast refl single can below);
+      subst (WantsFrom t.profile first) (sym (ap (λ (w : Wanted). w.t_o_id) wanted)) (wants_from t now config to first config.multicast refl single can below room);
   establishes = λ number config o success c waits replied asked opening link is single over.
       let before = is single (omega (arith, over, opening)) in
       subst (IsFrom t.profile first) (ap (λ (l : Link). l.t_o_id) (sym link)) (wanted_from t.profile first o.wanted.t_o_id success.t_o_id asked before);
 }
 
 pub steps_keep_from : ItemsReadBack → AnswersAreSmall → StepsKeepFrom
-steps_keep_from back few request first t happens a next is whole below slots =
-    scanner_keeps back few (From t.profile request first) t happens a next is whole (from_kept request first t next.next_id happens below) slots
+steps_keep_from back few request first t happens a next is whole below room slots =
+    scanner_keeps back few (From t.profile request first) t happens a next is whole (from_kept request first t next.next_id happens below room) slots
 
 -- ---- what establishes a slot
 

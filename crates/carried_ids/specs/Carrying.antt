@@ -51,11 +51,12 @@ StepsCarryIds =
 
 -- OPENINGS OF A SCANNER
 
--- the id is one of the scanner's, with a counter from this one on
+-- the id is one of the scanner's, with a counter of 24 bits from this one on
 pub record IsFrom (profile : ScannerProfile) (first : ℕ) (id : ConnId) : Type 0 where
   pub counter : ℕ
   pub is : id ≡ connection_id profile counter
   pub begins : first ≤ counter
+  pub ends : counter < 2 ^ 24
 
 abbrev pub WantsFrom : ScannerProfile → ℕ → Option ConnId → Type 0
 WantsFrom profile first None = ⊥
@@ -80,7 +81,7 @@ SlotsFrom profile request first t = AllByRecursion (PlaceFrom profile request fi
 abbrev pub StepsKeepFrom : Type 0
 StepsKeepFrom =
     (request first : ℕ) (t : ScannerTable) (event : Event) (answer : Answer) (next : ScannerTable) →
-    scanner_step t event ≡ Ok (answer, next) → IsWholeDevice (Scanner t) → first ≤ t.next_id →
+    scanner_step t event ≡ Ok (answer, next) → IsWholeDevice (Scanner t) → first ≤ t.next_id → next.next_id ≤ 2 ^ 24 →
     SlotsFrom t.profile request first t → SlotsFrom t.profile request first next
 
 -- WHAT ESTABLISHES A SLOT

@@ -29,7 +29,7 @@ pub faultless : (configs : List Config) → world_fault configs ≡ None → Fau
 faultless configs none =
     faultless_step (any_twice Incarnation configs) (any_twice Address configs) configs (profile_fault_of (first_fault configs)) refl (no_fault (first_fault configs)) none
 
-both_none : (a b : Option ProfileFault) → fault_or a b ≡ None → (a ≡ None) × (b ≡ None)
+pub both_none : (a b : Option ProfileFault) → fault_or a b ≡ None → (a ≡ None) × (b ≡ None)
 both_none None b is = (refl, is)
 both_none (Some fault) b is = absurd (let e = is in cc)
 

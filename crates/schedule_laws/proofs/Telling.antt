@@ -16,7 +16,8 @@ use Rattle.segment_world.specs.World.{World, Told, Happened, spread, happens}
 use Rattle.segment_world.specs.Story.{Story, told_more, goes_on, runs, begins, is_of, event_told, events_of}
 use Rattle.schedule_laws.specs.Stories.{led_by, led_to}
 use Rattle.schedule_laws.proofs.Lists.{set_own, set_other}
-use Rattle.schedule_laws.proofs.Moves.{ItemHolds, StreamsHold, Came, Moves, act_moves, runs_keep}
+use Rattle.schedule_laws.specs.Ids.{ItemHolds, StreamsHold}
+use Rattle.schedule_laws.proofs.Moves.{Came, Moves, act_moves, runs_keep}
 
 -- the event, where it is the device's, was answered as its step says
 pub record Answers (t : DeviceTable) (told : Told) : Type 0 where
