@@ -139,12 +139,12 @@ found_passes p (first ∷ rows) row is = passes_step (p first) p first row (find
 -- ---- one device from a moment on
 
 -- what each of its steps keeps
-abbrev StepsKeepIt : (DeviceTable → Type 0) → Type 0
+abbrev pub StepsKeepIt : (DeviceTable → Type 0) → Type 0
 StepsKeepIt R = (t : DeviceTable) (happens : Event) (a : Answer) (u : DeviceTable) → step t happens ≡ Ok (a, u) → IsWholeDevice t → IsWholeDevice u → R t → R u
 
-record Kept (R : DeviceTable → Type 0) (q : Openings) (device : ℕ) (story : Story) : Type 0 where
-  drawn : Drawn q story.world
-  holds : (t : DeviceTable) → slice_get story.world.tables device ≡ Some t → R t
+pub record Kept (R : DeviceTable → Type 0) (q : Openings) (device : ℕ) (story : Story) : Type 0 where
+  pub drawn : Drawn q story.world
+  pub holds : (t : DeviceTable) → slice_get story.world.tables device ≡ Some t → R t
 
 moved_kept : StepLaws → (R : DeviceTable → Type 0) → StepsKeepIt R → (q : Openings) (device : ℕ) (story : Story) (moved : Option Told × World) → Kept R q device story → Moves (FrameIds (Passes (is_drawn story.world.tables))) story.world moved → Drawn q moved.1 → (x : DeviceTable) → slice_get moved.1.tables device ≡ Some x → R x
 moved_kept laws R keep q device story (None, new) kept rests drawn x there = kept.holds x (sym (ap (λ (l : List DeviceTable). slice_get l device) rests.tables) ∙ there)
@@ -166,7 +166,7 @@ act_kept laws R keep q device story (Ok moved) kept moves =
     let drawn = moved_drawn laws q story.world moved kept.drawn moves in
     record { drawn = drawn; holds = moved_kept laws R keep q device story moved kept moves drawn }
 
-runs_kept : StepLaws → (R : DeviceTable → Type 0) → StepsKeepIt R → (q : Openings) (device : ℕ) (was now : Story) (acts : List Act) → runs (Ok was) acts ≡ Ok now → Kept R q device was → Kept R q device now
+pub runs_kept : StepLaws → (R : DeviceTable → Type 0) → StepsKeepIt R → (q : Openings) (device : ℕ) (was now : Story) (acts : List Act) → runs (Ok was) acts ≡ Ok now → Kept R q device was → Kept R q device now
 runs_kept laws R keep q device was now acts ran kept =
     subst (λ (r : Result Story ActFault). IfOk r (Kept R q device)) ran
     (runs_keep (Kept R q device) (λ story act is. act_kept laws R keep q device story (happens story.world act) is (act_moves (FrameIds (Passes (is_drawn story.world.tables))) story.world act is.drawn.streams)) acts (Ok was) kept)
@@ -175,7 +175,7 @@ runs_kept laws R keep q device was now acts ran kept =
 abbrev HasByte : ℕ → DeviceTable → Type 0
 HasByte byte t = incarnation_of t ≡ byte
 
-byte_kept : StepLaws → (q : Openings) (device : ℕ) (t u : DeviceTable) (was now : Story) (acts : List Act) → runs (Ok was) acts ≡ Ok now → Drawn q was.world → slice_get was.world.tables device ≡ Some t → slice_get now.world.tables device ≡ Some u → incarnation_of u ≡ incarnation_of t
+pub byte_kept : StepLaws → (q : Openings) (device : ℕ) (t u : DeviceTable) (was now : Story) (acts : List Act) → runs (Ok was) acts ≡ Ok now → Drawn q was.world → slice_get was.world.tables device ≡ Some t → slice_get now.world.tables device ≡ Some u → incarnation_of u ≡ incarnation_of t
 byte_kept laws q device t u was now acts ran drawn at_was at_now =
     (runs_kept laws (HasByte (incarnation_of t)) (λ x happens a y stepped whole whole_y same. step_same laws x happens a y stepped ∙ same) q device was now acts ran
     (record { drawn = drawn; holds = λ x at. ap incarnation_of (some_is x t (sym at ∙ at_was)) })).holds u at_now
@@ -183,7 +183,7 @@ byte_kept laws q device t u was now acts ran drawn at_was at_now =
 -- ---- the moment
 
 -- as an earlier moment it has what the start has
-at_moment : StepLaws → (start : World) (was now : Story) → IdsAreDrawn start → Moments start was now → Drawn (λ device opening. true) was.world
+pub at_moment : StepLaws → (start : World) (was now : Story) → IdsAreDrawn start → Moments start was now → Drawn (λ device opening. true) was.world
 at_moment laws start was now ids moments = runs_drawn laws (λ device opening. true) (record { world = start; told = [] }) was moments.early moments.first (all_drawn start ids)
 
 own_from : (device : ℕ) (t : AdapterTable) (n : ℕ) → t.next_id ≤ n → known_from device t device n ≡ true

@@ -8,3 +8,4 @@ pub mod Tests
 pub mod Drawing
 pub mod OpeningIds
 pub mod Later
+pub mod LaterSlots

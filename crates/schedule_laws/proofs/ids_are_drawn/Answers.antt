@@ -1,4 +1,3 @@
-use Rattle.schedule_laws.proofs.Later.{ids_to_come_are_unsent, later_groups, later_connections}
 use Rattle.schedule_laws.proofs.Drawing.{schedules_keep}
 use Rattle.schedule_laws.proofs.OpeningIds.{opening_worlds}
 use Rattle.schedule_laws.proofs.ids_are_drawn.Goals as goal
