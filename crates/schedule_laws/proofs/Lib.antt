@@ -9,3 +9,4 @@ pub mod Drawing
 pub mod OpeningIds
 pub mod Later
 pub mod LaterSlots
+mod ScheduleSamples
