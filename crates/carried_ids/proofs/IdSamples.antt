@@ -1,5 +1,5 @@
 -- The ids that requests, replies and datagrams tell: samples, by hand.
-use Rattle.std.proofs.Common.{◌≡◌, ◌≢◌, ℕ, ◌==◌, ◌||◌, Bool, true, false, List, [], ◌∷◌, ◌++◌, Some, None, refl, arith}
+use Rattle.std.proofs.Common.{◌≡◌, ℕ, ◌==◌, ◌||◌, true, false, List, refl}
 use Rattle.cip_datagram.specs.Reading.{datagram_reading}
 use Rattle.cip_epath.specs.Reading as paths
 use Rattle.cip_fwdopen.specs.Close.{close_reading}

@@ -1,7 +1,7 @@
 -- What a step of a device does with connection ids: it carries those that were there or came with the event, and draws
 -- the next ones; and which slot of a scanner becomes established (Volume 1, chapter 3, network connection ids and
 -- Forward_Open service).
-use Rattle.std.specs.Prelude.{◌≡◌, ◌⊎◌, ℕ, ◌+◌, ◌*◌, ◌^◌, ◌<◌, ◌≤◌, Bool, true, false, List, Option, Some, None, Ok}
+use Rattle.std.specs.Prelude.{◌≡◌, ◌⊎◌, ℕ, ◌^◌, ◌<◌, ◌≤◌, Bool, true, false, Option, Some, None, Ok}
 use Rattle.std.specs.List.{AllByRecursion, Contains}
 use Rattle.cip_types.specs.declared.names.ConnId.{ConnId}
 use Rattle.cip_events.specs.declared.event.Answer.{Answer}

@@ -1,6 +1,5 @@
 -- What holds of ids holds of more: the ids of tables, frames and datagrams, where more pass the test.
-use Rattle.std.proofs.Common.{◌≡◌, ℕ, Bool, true, false, List, Option, Some, None, Result, Ok, Err}
-use Rattle.std.specs.List.{AllByRecursion}
+use Rattle.std.proofs.Common.{ℕ, Bool, List, Option, Some, None, Result, Ok, Err}
 use Rattle.cip_types.specs.declared.names.ConnId.{ConnId}
 use Rattle.cip_datagram.specs.declared.datagram.DatagramFault.{DatagramFault}
 use Rattle.cip_datagram.specs.Datagram.{DatagramFields}
@@ -18,15 +17,14 @@ use Rattle.cip_fwdopen.specs.declared.reply.OpenAnswer.{OpenAnswer}
 use Rattle.cip_fwdopen.specs.declared.reply.OpenAnswer.TheVariants as answer
 use Rattle.cip_fwdopen.specs.Reply.{open_reply_reading}
 use Rattle.cip_router.specs.Asking.{AskedFields, nothing, refused, closing, assembly, opening, asked_reading}
-use Rattle.adapter_table.specs.declared.row.Row.{Row}
 use Rattle.scanner_table.specs.declared.slot.SlotState.{SlotState}
 use Rattle.scanner_table.specs.declared.slot.SlotState.TheVariants.{Idle, Opening, Established, TimedOut, Closing}
 use Rattle.scanner_table.specs.Replies.{reply_told}
-use Rattle.scanner_table.specs.Slots.{Place, places}
+use Rattle.scanner_table.specs.Slots.{places}
 use Rattle.cip_tables.specs.declared.table.DeviceTable.{DeviceTable}
 use Rattle.cip_tables.specs.declared.table.DeviceTable.TheVariants.{Adapter, Scanner}
-use Rattle.stream_queues.specs.Streams.{Item, Opening as Opens, Queued, Ending, Side, Stream}
-use Rattle.carried_ids.specs.Ids.{AskedIds, ToldIds, PayloadIds, PacketIds, MessageIds, FrameIds, ReadId, DatagramId, RowIds, EventIds, WantedId, StateIds}
+use Rattle.stream_queues.specs.Streams.{Item, Opening as Opens, Queued, Ending, Stream}
+use Rattle.carried_ids.specs.Ids.{AskedIds, ToldIds, PacketIds, MessageIds, FrameIds, ReadId, DatagramId, RowIds, EventIds, WantedId, StateIds}
 use Rattle.carried_ids.specs.Carrying.{Passes, PlaceIds, TableIds}
 use Rattle.schedule_laws.specs.Ids.{ItemHolds, StreamHolds, StreamsHold}
 use Rattle.schedule_laws.proofs.Lists.{all_more}

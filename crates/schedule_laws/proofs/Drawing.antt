@@ -1,6 +1,6 @@
 -- Every schedule keeps that no id stands anywhere that a device has still to draw; with it goes what is known of the opening
 -- numbers of each adapter's connections.
-use Rattle.std.proofs.Common.{◌≡◌, ◌≢◌, ◌≤◌, ◌<◌, ◌⊎◌, inl, inr, ℕ, ◌+◌, ◌*◌, ◌^◌, Bool, true, false, List, [], ◌∷◌, ◌++◌, map, set, slice_get, Option, Some, None, Result, Ok, Err, IfOk, refl, sym, ◌∙◌, ap, subst, arith}
+use Rattle.std.proofs.Common.{◌≡◌, ◌≤◌, inl, inr, ℕ, Bool, true, List, [], ◌∷◌, map, set, slice_get, Option, Some, None, Result, Ok, Err, IfOk, refl, sym, ◌∙◌, ap, subst, arith}
 use Rattle.std.specs.List.{AllByRecursion}
 use Rattle.cip_types.specs.declared.names.Node.{Node}
 use Rattle.cip_events.specs.declared.event.Answer.{Answer}
@@ -23,14 +23,13 @@ use Rattle.cip_tables.specs.declared.table.DeviceTable.TheVariants.{Adapter, Sca
 use Rattle.cip_tables.specs.Step.{DeviceNext, as_adapter, as_scanner, step, incarnation_of}
 use Rattle.cip_tables.specs.Sound.{StepsCountOn}
 use Rattle.cip_tables.specs.Whole.{IsWholeDevice, next_id_of, RunsKeepWhole}
-use Rattle.sent_log.specs.Log.{Sent}
 use Rattle.segment_world.specs.declared.act.Act.{Act}
 use Rattle.segment_world.specs.declared.act.ActFault.{ActFault}
-use Rattle.segment_world.specs.World.{World, Told, Happened, node_at, sent_by, spread, happens}
-use Rattle.segment_world.specs.Story.{Story, told_more, goes_on, runs, begins}
-use Rattle.carried_ids.specs.Ids.{FrameIds, HasFrameIds, HasDatagramId, AnswerIds, FromTo, IdsFromTo}
+use Rattle.segment_world.specs.World.{World, Told, Happened, node_at, sent_by, happens}
+use Rattle.segment_world.specs.Story.{Story, goes_on, runs}
+use Rattle.carried_ids.specs.Ids.{FrameIds, HasDatagramId}
 use Rattle.carried_ids.specs.Carrying.{Passes, TableIds, StepsCarryIds}
-use Rattle.schedule_laws.specs.Ids.{is_to_come, is_drawn, AreApart, StreamsHold, SentHolds, any_opening, IdsAreDrawn, SchedulesKeepIdsDrawn}
+use Rattle.schedule_laws.specs.Ids.{is_drawn, AreApart, StreamsHold, SentHolds, IdsAreDrawn, SchedulesKeepIdsDrawn}
 use Rattle.schedule_laws.proofs.Lists.{all_both, all_more}
 use Rattle.schedule_laws.proofs.Moves.{answered_holds, Came, Rests, Moves, act_moves, runs_keep}
 use Rattle.schedule_laws.proofs.Carrying.{More, frame_more, datagram_more, table_more, streams_more, event_more}
@@ -100,7 +99,6 @@ whole_room (Scanner u) whole = whole.table.ids
 
 -- ---- an event
 
-
 sent_more : (node : Node) (P : ℕ → Type 0) (datagrams : List Sending) → AllByRecursion (HasDatagramId P) datagrams → AllByRecursion (SentHolds P) (map (sent_by node) datagrams)
 sent_more node P [] ids = tt
 sent_more node P (sending ∷ datagrams) ids = (ids.0, sent_more node P datagrams ids.1)
@@ -118,19 +116,19 @@ came_drawn laws q w new told drawn came =
     let tables = set w.tables told.device came.after in
     let now = Passes (is_drawn (set w.tables told.device came.after)) in
     let more : More (Passes (is_drawn w.tables)) now = λ id passes.
-        let parts = drawn_parts w.tables id passes in
-        parts_drawn tables id parts.0 (any_set id w.tables told.device came.before came.after at same counts parts.1) in
+    let parts = drawn_parts w.tables id passes in
+    parts_drawn tables id parts.0 (any_set id w.tables told.device came.before came.after at same counts parts.1) in
     let begins : (e : ℕ) (x : DeviceTable) → slice_get tables e ≡ Some x → 1 ≤ incarnation_of x = λ e x there.
-        elim (set_cases w.tables told.device e came.before came.after x at there) [
-          | inl own ↦ subst (λ (y : DeviceTable). 1 ≤ incarnation_of y) (sym own.1) (let i = drawn.apart.begins told.device came.before at in omega (arith, i, same))
-          | inr other ↦ drawn.apart.begins e x other.1
-        ] in
+    elim (set_cases w.tables told.device e came.before came.after x at there) [
+      | inl own ↦ subst (λ (y : DeviceTable). 1 ≤ incarnation_of y) (sym own.1) (let i = drawn.apart.begins told.device came.before at in omega (arith, i, same))
+      | inr other ↦ drawn.apart.begins e x other.1
+    ] in
     let done = laws.carry (is_drawn tables) (q told.device) came.before told.event told.answer came.after came.stepped whole_t
-        (λ id passes. (drawn_parts tables id passes).0) (zero_drawn tables begins)
-        (λ counter from below. now_drawn w.tables told.device came.before came.after counter drawn.apart at same below (whole_room came.after whole_u))
-        (λ n from below. drawn.opens told.device came.before at n from)
-        (event_more (Passes (is_drawn w.tables)) now more told.event came.event)
-        (table_more (is_drawn w.tables) (is_drawn tables) (q told.device) more came.before (drawn.tables told.device came.before at)) in
+    (λ id passes. (drawn_parts tables id passes).0) (zero_drawn tables begins)
+    (λ counter from below. now_drawn w.tables told.device came.before came.after counter drawn.apart at same below (whole_room came.after whole_u))
+    (λ n from below. drawn.opens told.device came.before at n from)
+    (event_more (Passes (is_drawn w.tables)) now more told.event came.event)
+    (table_more (is_drawn w.tables) (is_drawn tables) (q told.device) more came.before (drawn.tables told.device came.before at)) in
     subst (Drawn q) (sym came.leaves) (record {
       whole = λ e x there. elim (set_cases w.tables told.device e came.before came.after x at there) [
         | inl own ↦ subst IsWholeDevice (sym own.1) whole_u

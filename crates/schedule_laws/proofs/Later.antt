@@ -1,37 +1,24 @@
 -- What begins after a moment accepts nothing that was sent by then.
-use Rattle.std.proofs.Common.{◌≡◌, ◌≢◌, ◌≤◌, ◌<◌, ◌⊎◌, inl, inr, ℕ, zero, suc, ◌+◌, ◌*◌, ◌^◌, ◌==◌, ◌&&◌, ◌||◌, nat_le, Bool, true, false, cond, List, [], ◌∷◌, ◌++◌, length, set, slice_get, slice_index_or, find, Option, Some, None, Result, Ok, Err, IfOk, refl, sym, ◌∙◌, ap, subst, arith}
+use Rattle.std.proofs.Common.{◌≡◌, ◌≢◌, ◌≤◌, ◌<◌, inl, inr, ℕ, zero, suc, ◌+◌, ◌*◌, ◌^◌, ◌==◌, ◌&&◌, ◌||◌, nat_le, Bool, true, false, cond, List, [], ◌∷◌, length, set, slice_get, slice_index_or, find, Option, Some, None, Result, Ok, Err, IfOk, refl, sym, ◌∙◌, ap, subst, arith}
 use Rattle.std.specs.List.{AllByRecursion, Contains, list_any}
-use Rattle.std.proofs.lemmas.Bool.{and_parts, or_parts}
+use Rattle.std.proofs.lemmas.Bool.{and_parts}
 use Rattle.std.proofs.lemmas.Bool.Decides.{nat_tests}
-use Rattle.std.proofs.lemmas.List.Elements.{Contains-append_left, Contains-append_right, Contains-push}
 use Rattle.cip_types.specs.declared.names.ConnId.{ConnId}
 use Rattle.cip_types.specs.declared.names.Node.{Node}
 use Rattle.cip_datagram.specs.declared.datagram.DatagramFault.{DatagramFault}
 use Rattle.cip_datagram.specs.Datagram.{DatagramFields}
 use Rattle.cip_datagram.specs.Reading.{datagram_reading}
-use Rattle.cip_events.specs.Answers.{is_accepted}
 use Rattle.cip_events.specs.declared.event.Answer.{Answer}
 use Rattle.cip_events.specs.declared.event.Event.{Event}
 use Rattle.adapter_table.specs.declared.profile.Profile.{Profile}
 use Rattle.adapter_table.specs.declared.row.Row.{Row}
 use Rattle.adapter_table.specs.declared.table.AdapterTable.{AdapterTable}
-use Rattle.adapter_table.specs.Datagrams.{is_for, row_delivery}
-use Rattle.adapter_table.specs.Newest.{Acceptance, was_opened_as, acceptance_of, accepted_by, accepted_found, accepted_read, accepted_at}
+use Rattle.adapter_table.specs.Datagrams.{is_for}
+use Rattle.adapter_table.specs.Newest.{Acceptance, was_opened_as, accepted_found, accepted_read}
 use Rattle.adapter_table.specs.Opening.{connection_id}
 use Rattle.adapter_table.specs.Productions.{producer_of}
 use Rattle.adapter_table.specs.Rows.{Each, is_established}
 use Rattle.adapter_table.specs.Sound.{IdsAreDrawn as RowIdsAreDrawn, MulticastIdIsDrawn}
-use Rattle.scanner_table.specs.declared.profile.ScannerProfile.{ScannerProfile}
-use Rattle.scanner_table.specs.declared.profile.SlotConfig.{SlotConfig}
-use Rattle.scanner_table.specs.declared.slot.Connection.{Connection}
-use Rattle.scanner_table.specs.declared.slot.Slot.{Slot}
-use Rattle.scanner_table.specs.declared.slot.SlotState.{SlotState}
-use Rattle.scanner_table.specs.declared.slot.SlotState.TheVariants.{Idle, Opening, Established, TimedOut, Closing}
-use Rattle.scanner_table.specs.declared.table.ScannerTable.{ScannerTable}
-use Rattle.scanner_table.specs.Asking as scanner_ids
-use Rattle.scanner_table.specs.Datagrams as slots
-use Rattle.scanner_table.specs.Slots.{Place, places_from, places, is_with}
-use Rattle.scanner_table.specs.Whole.{FitsState, SlotsFit}
 use Rattle.cip_tables.specs.declared.table.DeviceTable.{DeviceTable}
 use Rattle.cip_tables.specs.declared.table.DeviceTable.TheVariants.{Adapter, Scanner}
 use Rattle.cip_tables.specs.Step.{incarnation_of, step}
@@ -41,13 +28,13 @@ use Rattle.segment_world.specs.declared.act.Act.{Act}
 use Rattle.segment_world.specs.declared.act.ActFault.{ActFault}
 use Rattle.segment_world.specs.World.{World, Told, Happened, happens}
 use Rattle.segment_world.specs.Story.{Story, goes_on, runs}
-use Rattle.carried_ids.specs.Ids.{FrameIds, ReadId, DatagramId, RowIds}
+use Rattle.carried_ids.specs.Ids.{FrameIds, ReadId, RowIds}
 use Rattle.carried_ids.specs.Carrying.{Passes, TableIds}
 use Rattle.schedule_laws.specs.Ids.{is_to_come, is_drawn, any_opening, SentHolds, IdsAreDrawn, Moments, IdsToComeAreUnsent, LaterConnectionsAcceptNoneOfIt, LaterGroupsSentNoneOfIt}
-use Rattle.schedule_laws.proofs.Lists.{some_is, all_more}
+use Rattle.schedule_laws.proofs.Lists.{some_is}
 use Rattle.schedule_laws.proofs.Moves.{Moves, act_moves, runs_keep}
 use Rattle.schedule_laws.proofs.Tests.{false_unless, not_both, so_comes, drawn_parts, none_at, set_cases}
-use Rattle.schedule_laws.proofs.Drawing.{StepLaws, Openings, Drawn, StoryDrawn, step_same, moved_drawn, runs_drawn, all_drawn}
+use Rattle.schedule_laws.proofs.Drawing.{StepLaws, Openings, Drawn, step_same, moved_drawn, runs_drawn, all_drawn}
 
 -- ---- what a list contains
 
@@ -206,9 +193,10 @@ or_right false b is = is
 
 marked : (P : ℕ → Type 0) (q : ℕ → Bool) (rows : List Row) → ((row : Row) → list_any (was_opened_as row.opening) rows ≡ true → q row.opening ≡ true) → AllByRecursion (RowIds P (Passes any_opening)) rows → AllByRecursion (RowIds P (Passes q)) rows
 marked P q [] each all = tt
-marked P q (row ∷ rows) each all =
-    (record { o_t = all.0.o_t; t_o = all.0.t_o; opening = each row (row_itself row.opening row rows refl) },
-      marked P q rows (λ other stands. each other (or_right (was_opened_as other.opening row) (list_any (was_opened_as other.opening) rows) stands)) all.1)
+marked P q (row ∷ rows) each all = (
+  record { o_t = all.0.o_t; t_o = all.0.t_o; opening = each row (row_itself row.opening row rows refl) },
+  marked P q rows (λ other stands. each other (or_right (was_opened_as other.opening row) (list_any (was_opened_as other.opening) rows) stands)) all.1,
+)
 
 mark_table : (ids q : ℕ → Bool) (x : DeviceTable) → ((a : AdapterTable) → x ≡ Adapter a → (row : Row) → list_any (was_opened_as row.opening) a.rows ≡ true → q row.opening ≡ true) → TableIds ids any_opening x → TableIds ids q x
 mark_table ids q (Adapter a) each table = marked (Passes ids) q a.rows (each a refl) table

@@ -1,13 +1,11 @@
 -- A point to point slot that is opened after a moment takes nothing that was sent by then; and a slot is established by
 -- the reply to its own request alone.
-use Rattle.std.proofs.Common.{◌≡◌, ◌≢◌, ◌≤◌, ◌<◌, ℕ, suc, ◌+◌, ◌*◌, ◌^◌, ◌==◌, ◌&&◌, Bool, true, false, List, [], ◌∷◌, ◌++◌, slice_get, Option, Some, None, Result, Ok, Err, refl, sym, ◌∙◌, ap, subst, append_assoc, arith}
-use Rattle.std.specs.List.{AllByRecursion, Contains}
+use Rattle.std.proofs.Common.{◌≡◌, ◌≢◌, ◌≤◌, ℕ, suc, ◌+◌, ◌*◌, ◌^◌, ◌==◌, Bool, true, false, List, [], ◌∷◌, ◌++◌, Result, Ok, Err, refl, sym, ◌∙◌, ap, subst, arith}
+use Rattle.std.specs.List.{AllByRecursion}
 use Rattle.std.proofs.lemmas.Bool.{and_parts}
 use Rattle.std.proofs.lemmas.Bool.Decides.{nat_tests}
 use Rattle.cip_types.specs.declared.names.ConnId.{ConnId}
 use Rattle.cip_types.specs.declared.names.Node.{Node}
-use Rattle.cip_datagram.specs.Datagram.{DatagramFields}
-use Rattle.cip_datagram.specs.Reading.{datagram_reading}
 use Rattle.cip_events.specs.declared.event.Answer.{Answer}
 use Rattle.cip_events.specs.declared.event.Event.{Event}
 use Rattle.cip_events.specs.declared.event.StepFault.{StepFault}
@@ -30,18 +28,17 @@ use Rattle.cip_tables.specs.Run.{table_of}
 use Rattle.adapter_table.specs.declared.table.AdapterTable.{AdapterTable}
 use Rattle.adapter_table.specs.Requests.{Next}
 use Rattle.adapter_table.specs.Step.{adapter_step}
-use Rattle.cip_tables.specs.Step.{DeviceNext, as_adapter, as_scanner, incarnation_of, step}
+use Rattle.cip_tables.specs.Step.{DeviceNext, as_adapter, as_scanner, step}
 use Rattle.cip_tables.specs.Whole.{IsWholeDevice, next_id_of, RunsKeepWhole}
-use Rattle.segment_world.specs.World.{World, Told}
-use Rattle.segment_world.specs.Story.{Story, is_of}
-use Rattle.carried_ids.specs.Carrying.{IsFrom, WantsFrom, StateFrom, PlaceFrom, SlotsFrom, StepsKeepFrom, PlaceCame, RepliesEstablish}
+use Rattle.segment_world.specs.Story.{is_of}
+use Rattle.carried_ids.specs.Carrying.{IsFrom, StateFrom, PlaceFrom, SlotsFrom, StepsKeepFrom, RepliesEstablish}
 use Rattle.schedule_laws.specs.Stories.{led_by, led_to}
 use Rattle.schedule_laws.specs.Ids.{LaterSlotsTakeNoneOfIt, RepliesEstablishTheirOwn}
 use Rattle.schedule_laws.proofs.Lists.{some_is}
 use Rattle.schedule_laws.proofs.Tests.{false_unless}
-use Rattle.schedule_laws.proofs.Telling.{Answers, AnswersIf, Tells, led_both, tells_rest, tells_first, is_run, outcomes_of, same_place, Leads, story_leads}
-use Rattle.schedule_laws.proofs.Drawing.{StepLaws, Drawn, runs_drawn}
-use Rattle.schedule_laws.proofs.Later.{all_contains, unsent, StepsKeepIt, Kept, runs_kept, byte_kept, at_moment}
+use Rattle.schedule_laws.proofs.Telling.{Answers, AnswersIf, Tells, led_both, tells_rest, tells_first, is_run, outcomes_of, same_place, story_leads}
+use Rattle.schedule_laws.proofs.Drawing.{StepLaws}
+use Rattle.schedule_laws.proofs.Later.{all_contains, unsent, StepsKeepIt, runs_kept, at_moment}
 
 -- ---- the scanner's step
 
@@ -134,7 +131,7 @@ later_slots laws keeps start was now device t u place c s d ids moments at_was a
     let whole = drawn.whole device (Scanner t) at_was in
     let first : GoesOn t.profile t.next_request t.next_id (Scanner t) = (refl, omega arith, fits_from t.profile t.next_request t.next_id t.clock.0 0 t.profile.slots t.slots whole.table.slots) in
     let kept = runs_kept laws (GoesOn t.profile t.next_request t.next_id) (goes_device laws keeps t.profile t.next_request t.next_id) (λ e o. true) device was now moments.late moments.rest
-        (record { drawn = drawn; holds = λ x at. subst (GoesOn t.profile t.next_request t.next_id) (some_is (Scanner t) x (sym at_was ∙ at)) first }) in
+    (record { drawn = drawn; holds = λ x at. subst (GoesOn t.profile t.next_request t.next_id) (some_is (Scanner t) x (sym at_was ∙ at)) first }) in
     let goes = kept.holds (Scanner u) at_now in
     let from = established_from t.profile t.next_request t.next_id place c (all_contains (PlaceFrom t.profile t.next_request t.next_id) (places u) place goes.2 among) single is over in
     let value : c.link.t_o_id.0 ≡ t.profile.incarnation * 2 ^ 24 + from.counter = ap (λ (i : ConnId). i.0) from.is in
@@ -156,7 +153,7 @@ replies_establish_their_own runs_whole law start acts story device t u v before 
     let answers : Answers (led_to t device before) told = subst (λ (b : Bool). AnswersIf b (led_to t device before) told) mine rest.0 in
     let stepped : step (Scanner u) told.event ≡ Ok (told.answer, answers.next) = subst (λ (x : DeviceTable). step x told.event ≡ Ok (told.answer, answers.next)) there answers.is in
     let left : led_to t device (before ++ told ∷ []) ≡ answers.next =
-        led_both t device before (told ∷ []) ∙ ap (λ (c : Bool). led_by c (led_to t device before) told) mine ∙ ap (table_of (led_to t device before)) answers.is in
+    led_both t device before (told ∷ []) ∙ ap (λ (c : Bool). led_by c (led_to t device before) told) mine ∙ ap (table_of (led_to t device before)) answers.is in
     let next : answers.next ≡ Scanner v = sym left ∙ then_there in
     let so : step (Scanner u) told.event ≡ Ok (told.answer, Scanner v) = subst (λ (x : DeviceTable). step (Scanner u) told.event ≡ Ok (told.answer, x)) next stepped in
     let run = is_run t device before (tells_first t device before (told ∷ after) tells) in

@@ -1,6 +1,6 @@
 -- What one act does: nothing but to streams, or it is one event of one device, which the device answers. Of what waits
 -- on streams the same holds after it.
-use Rattle.std.proofs.Common.{◌≡◌, ℕ, Bool, true, false, cond, List, [], ◌∷◌, ◌++◌, set, slice_get, Option, Some, None, Result, Ok, Err, IfOk, refl}
+use Rattle.std.proofs.Common.{◌≡◌, ℕ, Bool, true, false, cond, List, [], ◌∷◌, set, slice_get, Option, Some, None, Result, Ok, Err, IfOk, refl}
 use Rattle.std.specs.List.{AllByRecursion}
 use Rattle.cip_events.specs.declared.event.Answer.{Answer}
 use Rattle.cip_events.specs.declared.event.Event.{Event}
@@ -23,7 +23,7 @@ use Rattle.segment_world.specs.declared.act.Act.TheVariants.{Local, Deliver, Nex
 use Rattle.segment_world.specs.declared.act.Call.{Call}
 use Rattle.segment_world.specs.declared.act.Call.TheVariants as call
 use Rattle.segment_world.specs.declared.act.ActFault.{ActFault}
-use Rattle.segment_world.specs.World.{World, Told, Happened, spread, comes, comes_to, comes_so, event_of_call, delivered, event_of_item, node_at, without_front, taken, taken_at, are_two, opened_if, cut_if, cut_at, happens}
+use Rattle.segment_world.specs.World.{World, Told, spread, comes, comes_to, comes_so, event_of_call, delivered, event_of_item, node_at, taken, taken_at, are_two, opened_if, cut_if, cut_at, happens}
 use Rattle.segment_world.specs.Story.{Story, goes_on, tells, runs}
 use Rattle.schedule_laws.specs.Ids.{ItemHolds, SideHolds, StreamHolds, StreamsHold}
 use Rattle.schedule_laws.proofs.Lists.{all_both, all_set, all_get}

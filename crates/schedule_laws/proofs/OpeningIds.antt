@@ -1,14 +1,10 @@
 -- A world that begins from configurations with nothing wrong has no ids anywhere.
-use Rattle.std.proofs.Common.{◌≡◌, ◌≢◌, ◌≤◌, ◌<◌, ℕ, zero, suc, ◌+◌, ◌==◌, ◌||◌, Bool, true, false, List, [], ◌∷◌, map, slice_get, Option, Some, None, refl, sym, ◌∙◌, ap, subst, arith}
+use Rattle.std.proofs.Common.{◌≡◌, ◌≢◌, ◌≤◌, ℕ, zero, suc, ◌==◌, Bool, false, List, [], ◌∷◌, map, slice_get, Some, None, refl, sym, ◌∙◌, ap, subst, arith}
 use Rattle.std.specs.List.{AllByRecursion, list_any}
 use Rattle.std.proofs.lemmas.Bool.{or_parts}
 use Rattle.std.proofs.lemmas.Bool.Decides.{nat_tests}
-use Rattle.cip_types.specs.Cases.{Case, first_case}
-use Rattle.cip_events.specs.declared.profile_fault.ProfileFault.{ProfileFault}
-use Rattle.adapter_table.specs.declared.profile.Profile.{Profile}
 use Rattle.adapter_table.specs.Profiles as adapter_profiles
 use Rattle.adapter_table.specs.Shaping.{all_pass}
-use Rattle.scanner_table.specs.declared.profile.ScannerProfile.{ScannerProfile}
 use Rattle.scanner_table.specs.declared.profile.SlotConfig.{SlotConfig}
 use Rattle.scanner_table.specs.Profiles as scanner_profiles
 use Rattle.scanner_table.specs.Slots.{places_from}
@@ -17,11 +13,11 @@ use Rattle.cip_tables.specs.declared.table.Config.{Config}
 use Rattle.cip_tables.specs.declared.table.Config.TheVariants as config
 use Rattle.cip_tables.specs.declared.table.DeviceTable.{DeviceTable}
 use Rattle.cip_tables.specs.Step.{opening_table, config_fault, incarnation_of}
-use Rattle.cip_tables.specs.Whole.{IsWholeDevice, FreshDevicesAreWhole}
+use Rattle.cip_tables.specs.Whole.{FreshDevicesAreWhole}
 use Rattle.segment_world.specs.declared.configs.Key.TheVariants.{Incarnation}
-use Rattle.segment_world.specs.Configs.{key_in, any_twice, first_fault, fault_or, opening_world, world_fault}
+use Rattle.segment_world.specs.Configs.{key_in, any_twice, first_fault}
 use Rattle.carried_ids.specs.Carrying.{Passes, PlaceIds, TableIds}
-use Rattle.schedule_laws.specs.Ids.{is_drawn, AreApart, any_opening, IdsAreDrawn, AreBytes, OpeningWorldsHaveIdsDrawn}
+use Rattle.schedule_laws.specs.Ids.{is_drawn, any_opening, AreBytes, OpeningWorldsHaveIdsDrawn}
 use Rattle.schedule_laws.proofs.Lists.{some_is}
 use Rattle.schedule_laws.proofs.Openings.{faultless, both_none, opens_whole}
 

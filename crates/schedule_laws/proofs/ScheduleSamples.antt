@@ -1,6 +1,5 @@
 -- Ids that are still to come, and what a schedule tells of one device: samples, by hand.
-use Rattle.std.proofs.Common.{◌≡◌, ◌≢◌, ℕ, Bool, true, false, List, [], ◌∷◌, refl, arith}
-use Rattle.std.specs.List.{Contains}
+use Rattle.std.proofs.Common.{◌≡◌, ℕ, true, false, List, [], ◌∷◌, refl, arith}
 use Rattle.cip_datagram.specs.Reading.{datagram_reading}
 use Rattle.cip_epath.specs.Reading as paths
 use Rattle.cip_fwdopen.specs.Close.{close_reading}
@@ -8,7 +7,6 @@ use Rattle.cip_fwdopen.specs.Open.{open_reading}
 use Rattle.cip_fwdopen.specs.Request.{request_reading}
 use Rattle.cip_netparams.specs.Word.{params16}
 use Rattle.cip_router.specs.Asking.{asked_reading}
-use Rattle.cip_events.specs.declared.event.Answer.{Answer}
 use Rattle.cip_events.specs.declared.event.Event.{Event}
 use Rattle.cip_events.specs.declared.event.Event.TheVariants.{Datagram, Tick}
 use Rattle.cip_events.specs.declared.event.Notice.TheVariants.{Closed}
@@ -19,7 +17,6 @@ use Rattle.adapter_table.specs.Closing.{closed_table}
 use Rattle.adapter_table.specs.Datagrams.{accepted_table, received}
 use Rattle.adapter_table.specs.Opening.{opened_row, opened_table}
 use Rattle.adapter_table.specs.Requests.{admitted_open, served_open, served_close, requested}
-use Rattle.adapter_table.specs.Ticks.{clocked_table, expired_table, produced_table, tick}
 use Rattle.cip_tables.specs.Step.{step}
 use Rattle.cip_tables.specs.Run.{table_of}
 use Rattle.table_samples.specs.Datagrams.{datagram, running}

@@ -4,15 +4,14 @@ use Rattle.std.specs.List.{AllByRecursion}
 use Rattle.std.proofs.lemmas.Bool.Decides.{nat_tests}
 use Rattle.cip_events.specs.declared.event.Answer.{Answer}
 use Rattle.cip_events.specs.declared.event.Event.{Event}
-use Rattle.cip_events.specs.declared.event.StepFault.{StepFault}
 use Rattle.cip_events.specs.Outcomes.{Outcome}
 use Rattle.cip_tables.specs.declared.table.DeviceTable.{DeviceTable}
-use Rattle.cip_tables.specs.Step.{DeviceNext, step}
+use Rattle.cip_tables.specs.Step.{step}
 use Rattle.cip_tables.specs.Run.{Runs, table_of, performed}
 use Rattle.stream_queues.specs.Streams.{Item, Opening, Queued, Ending, Stream}
 use Rattle.segment_world.specs.declared.act.Act.{Act}
 use Rattle.segment_world.specs.declared.act.ActFault.{ActFault}
-use Rattle.segment_world.specs.World.{World, Told, Happened, spread, happens}
+use Rattle.segment_world.specs.World.{World, Told, Happened, happens}
 use Rattle.segment_world.specs.Story.{Story, told_more, goes_on, runs, begins, is_of, event_told, events_of}
 use Rattle.schedule_laws.specs.Stories.{led_by, led_to}
 use Rattle.schedule_laws.proofs.Lists.{set_own, set_other}

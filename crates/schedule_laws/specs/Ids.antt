@@ -1,7 +1,7 @@
 -- Connection ids in every schedule of many devices: none stands anywhere that a device has still to draw. So an id names
 -- what it was drawn for, and a connection accepts nothing that was sent before its id was drawn (Volume 1, chapter 3,
 -- network connection ids).
-use Rattle.std.specs.Prelude.{ℕ, ◌≡◌, ◌≢◌, ◌+◌, ◌*◌, ◌^◌, ◌<◌, ◌≤◌, ◌&&◌, not, nat_lt, nat_le, Bool, true, false, List, [], ◌∷◌, ◌++◌, slice_get, Option, Some, None, Ok}
+use Rattle.std.specs.Prelude.{ℕ, ◌≡◌, ◌≢◌, ◌+◌, ◌*◌, ◌^◌, ◌<◌, ◌≤◌, ◌&&◌, not, nat_lt, nat_le, Bool, true, false, List, [], ◌∷◌, ◌++◌, slice_get, Some, None, Ok}
 use Rattle.std.specs.List.{AllByRecursion, Contains, list_any}
 use Rattle.cip_datagram.specs.Datagram.{DatagramFields}
 use Rattle.cip_datagram.specs.Reading.{datagram_reading}

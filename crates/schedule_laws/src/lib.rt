@@ -6,8 +6,10 @@ ghost use Rattle.schedule_laws.specs.Owners.{OwnersFollow, OpenedOwnersFollow};
 ghost use Rattle.schedule_laws.specs.Ids.{SchedulesKeepIdsDrawn, OpeningWorldsHaveIdsDrawn, IdsToComeAreUnsent, LaterConnectionsAcceptNoneOfIt, LaterSlotsTakeNoneOfIt, LaterGroupsSentNoneOfIt, RepliesEstablishTheirOwn};
 
 use adapter_table::laws as adapters;
-use carried_ids::{ids_are_carried, ids_are_drawn_with_openings};
-use carried_ids::replies_establish_their_own_slot as replies_of_steps;
+use carried_ids::{
+    ids_are_carried, ids_are_drawn_with_openings,
+    replies_establish_their_own_slot as replies_of_steps,
+};
 use cip_tables::laws as tables;
 use owner_laws::owners_follow_one_another as owners_of_runs;
 use scanner_laws::counters_never_fall;
