@@ -1,13 +1,12 @@
 -- A step of an adapter carries ids: those of its connections, and those that it sends, were there before, came with the
 -- event, or are drawn.
-use Rattle.std.proofs.Common.{◌≡◌, ◌≤◌, ◌<◌, ℕ, ◌+◌, ◌*◌, ◌^◌, ◌==◌, nat_lt, Bool, true, false, cond, not, List, [], ◌∷◌, ◌++◌, length, map, filter, find, Option, Some, None, Result, Ok, Err, refl, sym, ◌∙◌, ap, subst, arith, length-append}
-use Rattle.std.specs.List.{AllByRecursion, filter_map, list_any}
+use Rattle.std.proofs.Common.{◌≡◌, ◌≤◌, ℕ, ◌+◌, ◌==◌, nat_lt, Bool, true, false, cond, not, List, [], ◌++◌, length, map, filter, find, Option, Some, None, Result, Ok, Err, refl, sym, ap, subst, arith, length-append}
+use Rattle.std.specs.List.{AllByRecursion, filter_map}
 use Rattle.std.specs.Option.{IfSome, option_map}
 use Rattle.std.specs.Result.{result_ok}
 use Rattle.std.specs.Str.{bytes_eq}
 use Rattle.cip_types.specs.declared.names.Ms.{Ms}
 use Rattle.cip_types.specs.declared.names.Node.{Node}
-use Rattle.cip_types.specs.declared.names.Triad.{Triad}
 use Rattle.cip_types.specs.Fields.{fields_text}
 use Rattle.cip_types.specs.Order.{in_order}
 use Rattle.cip_datagram.specs.declared.datagram.DatagramFault.{DatagramFault}
@@ -22,19 +21,14 @@ use Rattle.cip_encap.specs.Reading.{message_reading}
 use Rattle.cip_encap.specs.Packet.{PacketFields, packet_widths, packet_numbers, socket_count, socket_items, packet_text}
 use Rattle.cip_encap.specs.PacketReading.{behind_socket, are_sockets, packet_reading}
 use Rattle.cip_encap.specs.ReadsBack.{ItemsReadBack}
-use Rattle.cip_epath.specs.declared.fault.PathFault.{PathFault}
 use Rattle.cip_epath.specs.Path.{PathFields}
 use Rattle.cip_epath.specs.Reading.{path_reading}
 use Rattle.cip_fwdopen.specs.Open.{OpenFields}
 use Rattle.cip_fwdopen.specs.Close.{CloseFields, closed_text}
 use Rattle.cip_fwdopen.specs.Get.{got_text}
 use Rattle.cip_fwdopen.specs.Reply.{opened_text, refused_text}
-use Rattle.cip_events.specs.declared.event.Answer.{Answer}
-use Rattle.cip_events.specs.declared.event.Delivery.{Delivery}
 use Rattle.cip_events.specs.declared.event.Event.{Event}
 use Rattle.cip_events.specs.declared.event.Event.TheVariants as event
-use Rattle.cip_events.specs.declared.event.Frame.{Frame}
-use Rattle.cip_events.specs.declared.event.Sending.{Sending}
 use Rattle.cip_events.specs.declared.event.StepFault.{StepFault}
 use Rattle.cip_events.specs.declared.event.StepFault.TheVariants.{NotAllowedNow, TickTooLong, ClockEnd, WrongLength}
 use Rattle.cip_events.specs.declared.event.Verdict.TheVariants.{Done}
@@ -53,34 +47,32 @@ use Rattle.cip_router.specs.Asking.{AskedFields, nothing, refused, closing, asse
 use Rattle.cip_router.specs.Commands.{command_of, is_silent}
 use Rattle.cip_router.specs.Frames.{Echo, FrameFields, headless, misfit, whole, echo_of, misfit_of, frame_fields, FrameReply, services, registered, other_version, router_reply, services_text, protocol_text, socket_of, reply_message, frame_reading}
 use Rattle.cip_router.specs.Frames as frames
-use Rattle.cip_router.specs.Refusals.{status_fault, refusal_fault, status_code, refusal_code}
+use Rattle.cip_router.specs.Refusals.{status_fault, refusal_fault, status_code}
 use Rattle.cip_router.specs.Replies.{ReplyFields, opened, closed, got, reply_text}
 use Rattle.cip_router.specs.Replies as replies
 use Rattle.adapter_table.specs.declared.profile.InputPoint.{InputPoint}
-use Rattle.adapter_table.specs.declared.profile.Profile.{Profile}
 use Rattle.adapter_table.specs.declared.row.Row.{Row}
 use Rattle.adapter_table.specs.declared.row.State.{State}
 use Rattle.adapter_table.specs.declared.row.State.TheVariants.{Established, TimedOut}
 use Rattle.adapter_table.specs.declared.table.AdapterTable.{AdapterTable}
-use Rattle.adapter_table.specs.declared.table.PointValue.{PointValue}
 use Rattle.adapter_table.specs.declared.table.Stream.{Stream}
 use Rattle.adapter_table.specs.declared.admission.Consumer.{Consumer}
 use Rattle.adapter_table.specs.Profiles.{is_at}
 use Rattle.adapter_table.specs.Points.{bytes_at}
-use Rattle.adapter_table.specs.Rows.{has_triad, is_member, others, written_state, written_row}
-use Rattle.adapter_table.specs.Checks.{Check, View, Points, Admitted, checks, drawn_ids, first_of, group_of, joined, named_points, points_of, path_check, consumer_of, input_of, is_multicast, admitted_at, judged, view_of, verdict, admission}
-use Rattle.adapter_table.specs.Opening.{makes_room, connection_id, opened_t_o_id, opened_row, opened_table, opened_reply}
-use Rattle.adapter_table.specs.Closing.{stays, staying, without_triad, closed_table}
+use Rattle.adapter_table.specs.Rows.{has_triad, is_member, written_state, written_row}
+use Rattle.adapter_table.specs.Checks.{Check, Points, Admitted, drawn_ids, group_of, joined, named_points, points_of, path_check, consumer_of, input_of, is_multicast, judged, view_of, verdict, admission}
+use Rattle.adapter_table.specs.Opening.{opened_t_o_id, opened_row, opened_table}
+use Rattle.adapter_table.specs.Closing.{stays, without_triad, closed_table}
 use Rattle.adapter_table.specs.Datagrams.{is_for, accepted_row, accepted_if_for, row_delivery, accepted_table, delivered, found_datagram, datagram_of, received}
 use Rattle.adapter_table.specs.Productions as productions
 use Rattle.adapter_table.specs.Productions.{state_producer, producer_in, producers, production_of, is_due, due_producers, due_productions, produced_state, produced_row, produces_on_change, producers_on_change, productions_on_change, changed_state, changed_row}
-use Rattle.adapter_table.specs.Requests.{Next, Served, judged_open, admitted_open, served_open, close_of, served_close, is_value_attribute, router_refusal, get_of, assembly_of, served_assembly, served}
+use Rattle.adapter_table.specs.Requests.{Next, Served, judged_open, admitted_open, served_open, close_of, served_close, is_value_attribute, router_refusal, assembly_of, served_assembly, served}
 use Rattle.adapter_table.specs.Streams.{is_stream, is_taken, with_stream, without_stream, has_session, registered_table, stream_opened, cut_of, stream_cut}
-use Rattle.adapter_table.specs.Encapsulation.{Handled, refusal, unanswered, session_begun, session_ended, register_session, request_replied, packet_replied, send_rr_data, handled, reply_frames, framed, misfit_answer, frame_answer, frame_of, frame}
+use Rattle.adapter_table.specs.Encapsulation.{Handled, refusal, unanswered, session_begun, session_ended, register_session, request_replied, packet_replied, handled, reply_frames, framed, frame_answer, frame_of, frame}
 use Rattle.adapter_table.specs.Ticks.{has_expired, expired_row, expired_rows, clocked_table, expired_table, produced_table, elapsed, tick}
-use Rattle.adapter_table.specs.Step.{read_of, read, written_table, changed_table, write_answer, written, write_of, write, adapter_step}
+use Rattle.adapter_table.specs.Step.{read_of, read, written_table, changed_table, written, write_of, write, adapter_step}
 use Rattle.answer_sizes.specs.Sizes.{IsShortFrame, IsSmall}
-use Rattle.carried_ids.specs.Ids.{AskedIds, PayloadIds, PacketIds, MessageIds, FrameIds, DatagramId, HasFrameIds, HasDatagramId, AnswerIds, RowIds, FromTo, IdsFromTo, EventIds}
+use Rattle.carried_ids.specs.Ids.{AskedIds, PayloadIds, PacketIds, MessageIds, FrameIds, HasFrameIds, HasDatagramId, AnswerIds, RowIds, FromTo, IdsFromTo, EventIds}
 use Rattle.carried_ids.proofs.Lists.{all_both, all_more, all_filtered, all_mapped, all_found, all_ordered, all_firsts, all_made}
 use Rattle.carried_ids.proofs.Texts.{either, Cuts, message_ids, packet_ids, datagram_id}
 use Rattle.carried_ids.proofs.Payloads.{opened_ids, closed_ids, got_ids, refused_ids}

@@ -1,26 +1,19 @@
 -- What each step of a device does with ids, and what establishes a slot of a scanner.
 use Rattle.std.proofs.Common.{◌≡◌, ◌≤◌, ◌<◌, ◌⊎◌, inl, inr, ℕ, ◌+◌, ◌*◌, ◌^◌, ◌==◌, Bool, true, false, cond, List, [], ◌∷◌, ◌++◌, Option, Some, None, Result, Ok, Err, refl, sym, ◌∙◌, ap, subst, append_assoc, arith}
 use Rattle.std.specs.List.{AllByRecursion, Contains}
-use Rattle.std.specs.Int.{w32}
 use Rattle.std.proofs.lemmas.Bool.Decides.{nat_tests}
 use Rattle.std.proofs.lemmas.List.Elements.{Contains-append_left, Contains-append_right, Contains-push}
 use Rattle.cip_types.specs.declared.names.ConnId.{ConnId}
-use Rattle.cip_encap.specs.declared.message.EncapFault.{EncapFault}
 use Rattle.cip_encap.specs.declared.packet.ItemFault.{ItemFault}
 use Rattle.cip_encap.specs.Message.{MessageFields}
 use Rattle.cip_encap.specs.Packet.{PacketFields}
 use Rattle.cip_encap.specs.PacketReading.{packet_reading}
-use Rattle.cip_encap.specs.Reading.{message_reading}
 use Rattle.cip_encap.specs.ReadsBack.{ItemsReadBack}
 use Rattle.cip_events.specs.declared.event.Answer.{Answer}
 use Rattle.cip_events.specs.declared.event.Event.{Event}
-use Rattle.cip_events.specs.declared.event.Event.TheVariants as event
-use Rattle.cip_events.specs.declared.event.Reason.{Reason}
 use Rattle.cip_events.specs.declared.event.StepFault.{StepFault}
 use Rattle.cip_fwdopen.specs.declared.reply.Opened.{Opened}
-use Rattle.cip_fwdopen.specs.declared.reply.OpenAnswer.{OpenAnswer}
-use Rattle.cip_fwdopen.specs.declared.reply.OpenAnswer.TheVariants as answer
-use Rattle.conn_state.specs.Answers.{is_wanted_id, link_of}
+use Rattle.conn_state.specs.Answers.{is_wanted_id}
 use Rattle.conn_state.specs.declared.names.Link.{Link}
 use Rattle.conn_state.specs.declared.names.Wanted.{Wanted}
 use Rattle.adapter_table.specs.declared.table.AdapterTable.{AdapterTable}
@@ -28,29 +21,26 @@ use Rattle.adapter_table.specs.Requests.{Next}
 use Rattle.adapter_table.specs.Step.{adapter_step}
 use Rattle.scanner_table.specs.declared.profile.ScannerProfile.{ScannerProfile}
 use Rattle.scanner_table.specs.declared.profile.SlotConfig.{SlotConfig}
-use Rattle.scanner_table.specs.declared.slot.Closing as closing_slots
-use Rattle.scanner_table.specs.declared.slot.Connection.{Connection}
-use Rattle.scanner_table.specs.declared.slot.Opening as asked_slots
 use Rattle.scanner_table.specs.declared.slot.SlotState.{SlotState}
 use Rattle.scanner_table.specs.declared.slot.SlotState.TheVariants.{Idle, Opening, Established, TimedOut, Closing}
 use Rattle.scanner_table.specs.declared.table.ScannerTable.{ScannerTable}
 use Rattle.scanner_table.specs.Asking.{connection_id, next_t_o_id, id_or_zero}
 use Rattle.scanner_table.specs.Effects.{Next as ScannerNext}
-use Rattle.scanner_table.specs.Replies.{reply_told, packet_told, command_told, open_told}
+use Rattle.scanner_table.specs.Replies.{packet_told, command_told, open_told}
 use Rattle.scanner_table.specs.Slots.{Place, places}
 use Rattle.scanner_table.specs.Step.{scanner_step}
 use Rattle.scanner_laws.specs.Newest.{came_from}
 use Rattle.cip_tables.specs.declared.table.DeviceTable.{DeviceTable}
 use Rattle.cip_tables.specs.declared.table.DeviceTable.TheVariants.{Adapter, Scanner}
-use Rattle.cip_tables.specs.Step.{DeviceNext, as_adapter, as_scanner, step, incarnation_of}
+use Rattle.cip_tables.specs.Step.{DeviceNext, as_adapter, as_scanner, step}
 use Rattle.cip_tables.specs.Whole.{IsWholeDevice, next_id_of}
 use Rattle.answer_sizes.specs.Sizes.{IsSmall, AnswersAreSmall}
-use Rattle.carried_ids.specs.Ids.{ToldIds, PacketIds, MessageIds, FrameIds, AnswerIds, RowIds, FromTo, IdsFromTo, EventIds, WantedId, LinkIds, StateIds, Replied}
-use Rattle.carried_ids.specs.Carrying.{Passes, PlaceIds, TableIds, StepsCarryIds, IsFrom, WantsFrom, StateFrom, PlaceFrom, SlotsFrom, StepsKeepFrom, Waits, Stands, IsAnswered, StateCame, PlaceCame, RepliesEstablish}
-use Rattle.carried_ids.proofs.Texts.{either, again, same_again, Cuts}
+use Rattle.carried_ids.specs.Ids.{ToldIds, PacketIds, MessageIds, FrameIds, AnswerIds, RowIds, IdsFromTo, EventIds, WantedId, LinkIds, StateIds, Replied}
+use Rattle.carried_ids.specs.Carrying.{Passes, TableIds, StepsCarryIds, IsFrom, WantsFrom, StateFrom, StepsKeepFrom, Stands, IsAnswered, StateCame, PlaceCame, RepliesEstablish}
+use Rattle.carried_ids.proofs.Texts.{either, same_again, Cuts}
 use Rattle.carried_ids.proofs.AdapterIds as adapters
 use Rattle.carried_ids.proofs.AdapterIds.{adapter_holds}
-use Rattle.carried_ids.proofs.Slots.{OfSlots, PlaceHolds, SlotsHold, Counts, CanDraw, Kept, Asks}
+use Rattle.carried_ids.proofs.Slots.{OfSlots, SlotsHold, CanDraw, Kept}
 use Rattle.carried_ids.proofs.ScannerIds as scanners
 use Rattle.carried_ids.proofs.ScannerIds.{Sends, scanner_holds}
 
@@ -140,14 +130,14 @@ unfolding step
 steps_carry back few ids openings (Adapter t) happens a next is whole fits zero_passes drawn numbers event_ids table =
     let small = few (Adapter t) happens a next whole is in
     let done = adapter_carries (Passes ids) (Passes openings) t (adapter_step t happens) a next is
-        (adapter_holds back (Passes ids) (Passes openings) (cuts_passing ids fits) (next_id_of next) t happens (drawn, numbers) event_ids table) small in
+    (adapter_holds back (Passes ids) (Passes openings) (cuts_passing ids fits) (next_id_of next) t happens (drawn, numbers) event_ids table) small in
     (subst (TableIds ids openings) (sym done.1) done.3, done.2)
 steps_carry back few ids openings (Scanner t) happens a next is whole fits zero_passes drawn numbers event_ids table =
     let small = few (Scanner t) happens a next whole is in
     let done = scanner_carries (ById (Passes ids)) (Passes ids) (scanner_step t happens) a next is
-        (scanner_holds back (ById (Passes ids)) (Passes ids) (cuts_passing ids fits) (λ number config c link. link.0) (next_id_of next) t happens
-        (ids_kept (Passes ids) t (next_id_of next) happens drawn event_ids)
-        (λ now config can. zero_or (Passes ids) (next_t_o_id now config) zero_passes (next_wanted_id (Passes ids) t now config (next_id_of next) can drawn)) table) small in
+    (scanner_holds back (ById (Passes ids)) (Passes ids) (cuts_passing ids fits) (λ number config c link. link.0) (next_id_of next) t happens
+    (ids_kept (Passes ids) t (next_id_of next) happens drawn event_ids)
+    (λ now config can. zero_or (Passes ids) (next_t_o_id now config) zero_passes (next_wanted_id (Passes ids) t now config (next_id_of next) can drawn)) table) small in
     (subst (TableIds ids openings) (sym done.1) done.3, done.2)
 
 -- ---- openings of a scanner
@@ -170,11 +160,12 @@ scanner_keeps back few G t happens a next is whole kept slots =
 abbrev From : ScannerProfile → ℕ → ℕ → OfSlots
 From profile request first number config state = config.multicast ≡ false → StateFrom profile request first state
 
-wants_from : (t now : ScannerTable) (config : SlotConfig) (to first : ℕ) (multicast : Bool) → config.multicast ≡ multicast → multicast ≡ false → CanDraw t to now config → first ≤ t.next_id → WantsFrom t.profile first (cond multicast None (Some (connection_id now.profile now.next_id)))
-wants_from t now config to first true is single can below = absurd cc
-wants_from t now config to first false is single can below =
+wants_from : (t now : ScannerTable) (config : SlotConfig) (to first : ℕ) (multicast : Bool) → config.multicast ≡ multicast → multicast ≡ false → CanDraw t to now config → first ≤ t.next_id → to ≤ 2 ^ 24 → WantsFrom t.profile first (cond multicast None (Some (connection_id now.profile now.next_id)))
+wants_from t now config to first true is single can below room = absurd cc
+wants_from t now config to first false is single can below room =
+    let under = can.left is in
     let counts = can.counts in
-    record { counter = now.next_id; is = ap (λ (p : ScannerProfile). connection_id p now.next_id) counts.profile; begins = omega (arith, below, counts.ids) }
+    record { counter = now.next_id; is = ap (λ (p : ScannerProfile). connection_id p now.next_id) counts.profile; begins = omega (arith, below, counts.ids); ends = omega (arith, under, room) }
 
 id_same : (a b : ConnId) → (a.0 == b.0) ≡ true → a ≡ b
 id_same a b is = let e : a.0 ≡ b.0 = grind (arith, nat_tests) in ap (λ (n : ℕ). conn n) e where
@@ -185,8 +176,8 @@ wanted_from : (profile : ScannerProfile) (first : ℕ) (wanted : Option ConnId) 
 wanted_from profile first None id is wants = absurd wants
 wanted_from profile first (Some asked) id is wants = subst (IsFrom profile first) (id_same asked id is) wants
 
-from_kept : (request first : ℕ) (t : ScannerTable) (to : ℕ) (happens : Event) → first ≤ t.next_id → Kept (From t.profile request first) t to happens
-from_kept request first t to happens below = record {
+from_kept : (request first : ℕ) (t : ScannerTable) (to : ℕ) (happens : Event) → first ≤ t.next_id → to ≤ 2 ^ 24 → Kept (From t.profile request first) t to happens
+from_kept request first t to happens below room = record {
   rests = λ number config single. tt;
   times_out = λ number config c is single. tt;
   closes = λ number config c close same is single. tt;
@@ -194,15 +185,15 @@ from_kept request first t to happens below = record {
       let before = is single (omega (arith, over, opening)) in
       subst (IsFrom t.profile first) (ap (λ (l : Link). l.t_o_id) (sym link)) before;
   opens = λ number config now o can asked wanted single over.
-      subst (WantsFrom t.profile first) (sym (ap (λ (w : Wanted). w.t_o_id) wanted)) (wants_from t now config to first config.multicast refl single can below);
+      subst (WantsFrom t.profile first) (sym (ap (λ (w : Wanted). w.t_o_id) wanted)) (wants_from t now config to first config.multicast refl single can below room);
   establishes = λ number config o success c waits replied asked opening link is single over.
       let before = is single (omega (arith, over, opening)) in
       subst (IsFrom t.profile first) (ap (λ (l : Link). l.t_o_id) (sym link)) (wanted_from t.profile first o.wanted.t_o_id success.t_o_id asked before);
 }
 
 pub steps_keep_from : ItemsReadBack → AnswersAreSmall → StepsKeepFrom
-steps_keep_from back few request first t happens a next is whole below slots =
-    scanner_keeps back few (From t.profile request first) t happens a next is whole (from_kept request first t next.next_id happens below) slots
+steps_keep_from back few request first t happens a next is whole below room slots =
+    scanner_keeps back few (From t.profile request first) t happens a next is whole (from_kept request first t next.next_id happens below room) slots
 
 -- ---- what establishes a slot
 

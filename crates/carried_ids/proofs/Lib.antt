@@ -5,3 +5,4 @@ pub mod AdapterIds
 pub mod Slots
 pub mod ScannerIds
 pub mod Carrying
+mod IdSamples

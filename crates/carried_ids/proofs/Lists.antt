@@ -1,5 +1,5 @@
 -- What holds of each element of a list holds of each of what filters, orders and maps make of it.
-use Rattle.std.proofs.Common.{◌≡◌, ℕ, Bool, true, false, cond, List, [], ◌∷◌, ◌++◌, map, filter, find, Option, Some, None, refl, subst}
+use Rattle.std.proofs.Common.{◌≡◌, Bool, List, [], ◌∷◌, ◌++◌, map, filter, find, Option, Some, None, refl}
 use Rattle.std.specs.List.{AllByRecursion, filter_map}
 use Rattle.std.specs.Option.{IfSome}
 use Rattle.cip_types.specs.Order.{inserted, in_order, differs, first_of_each}

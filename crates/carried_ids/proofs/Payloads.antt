@@ -1,7 +1,7 @@
 -- The ids that requests and replies tell as they are read: a request tells the T->O id that it asks for, the success of an
 -- opening both ids, and nothing else tells any.
-use Rattle.std.proofs.Common.{◌≡◌, ◌≢◌, ◌<◌, ℕ, ◌^◌, ◌+◌, ◌*◌, ◌%◌, ◌==◌, ◌&&◌, ltb, Bool, true, false, cond, List, [], ◌∷◌, ◌++◌, length, take, drop, slice_index, Option, Some, None, Result, Ok, Err, refl, sym, ◌∙◌, ap, subst, arith}
-use Rattle.std.specs.Int.{Width, w8, w16, w32, byte_len, from_le_bytes}
+use Rattle.std.proofs.Common.{◌≡◌, ◌<◌, ℕ, ◌==◌, ltb, Bool, true, false, cond, List, [], ◌∷◌, ◌++◌, length, take, drop, slice_index, Option, Some, None, Result, Ok, Err, refl, sym, subst, arith}
+use Rattle.std.specs.Int.{w8, w32, from_le_bytes}
 use Rattle.std.specs.Option.{option_map}
 use Rattle.std.proofs.lemmas.Bool.{le-ltb}
 use Rattle.std.proofs.lemmas.Bool.Decides.{nat_tests}
@@ -13,23 +13,22 @@ use Rattle.cip_epath.specs.declared.fault.PathFault.{PathFault}
 use Rattle.cip_epath.specs.declared.path.Target.{Target}
 use Rattle.cip_epath.specs.Reading.{target_reading, segments_at, segment_at, logical_at, value_at}
 use Rattle.cip_fwdopen.specs.declared.fault.ReadFault.{ReadFault}
-use Rattle.cip_fwdopen.specs.declared.fault.ReadFault.TheVariants.{NotEnough}
 use Rattle.cip_fwdopen.specs.declared.reply.Opened.{Opened}
 use Rattle.cip_fwdopen.specs.declared.reply.OpenAnswer.{OpenAnswer}
 use Rattle.cip_fwdopen.specs.declared.reply.OpenAnswer.TheVariants as answer
 use Rattle.cip_fwdopen.specs.Readings.{answer_of, seen}
 use Rattle.cip_fwdopen.specs.Front.{parted, front_at}
-use Rattle.cip_fwdopen.specs.Request.{RequestFields, request_widths, request_path_len, with_target, request_of, request_reading}
+use Rattle.cip_fwdopen.specs.Request.{request_widths, request_path_len, with_target, request_of, request_reading}
 use Rattle.cip_fwdopen.specs.Open.{OpenFields, open_widths, path_len, open_of, open_reading, open_numbers, open_text}
-use Rattle.cip_fwdopen.specs.Close.{CloseFields, close_reading, close_text, closed_text}
+use Rattle.cip_fwdopen.specs.Close.{CloseFields, close_reading, closed_text}
 use Rattle.cip_fwdopen.specs.Get.{got_text}
-use Rattle.cip_fwdopen.specs.Reply.{reply_service, opened_service, opened_widths, opened_numbers, opened_text, extra_text, failure_text, refused_text, reply_widths, extras_len, fault_of, application_len, opened_of, failure_reading, opened_reading, refused_by, answer_reading, with_answer, Unread, unread, unread_reading, reply_of, open_reply_reading}
-use Rattle.cip_router.specs.Asking.{AskedFields, asked_open, asked_close, asked_manager, is_manager, asked_object, asked_of, asked_reading, refused}
+use Rattle.cip_fwdopen.specs.Reply.{reply_service, opened_service, opened_widths, opened_numbers, opened_text, extra_text, failure_text, refused_text, reply_widths, extras_len, fault_of, application_len, opened_of, failure_reading, opened_reading, refused_by, answer_reading, with_answer, unread, unread_reading, reply_of, open_reply_reading}
+use Rattle.cip_router.specs.Asking.{asked_open, asked_close, asked_manager, is_manager, asked_of, asked_reading, refused}
 use Rattle.cip_router.specs.declared.refusal.Status.TheVariants as status
 use Rattle.scanner_table.specs.Asking.{manager, manager_text}
 use Rattle.scanner_table.specs.Replies.{serviced, reply_told}
 use Rattle.carried_ids.specs.Ids.{AskedIds, ToldIds, PayloadIds}
-use Rattle.carried_ids.proofs.Texts.{either, again, cut, fields_cut, all_cut, same_again}
+use Rattle.carried_ids.proofs.Texts.{either, again, cut, fields_cut, all_cut}
 
 -- ---- requests
 

@@ -1,6 +1,6 @@
 -- A step of a scanner keeps what holds of its slots, and what it sends tells ids of connections and those that it asks
 -- for.
-use Rattle.std.proofs.Common.{◌≡◌, ◌≤◌, ◌<◌, ℕ, ◌+◌, ◌^◌, ◌==◌, ◌&&◌, nat_lt, Bool, true, false, cond, List, [], ◌∷◌, ◌++◌, length, map, filter, find, slice_get, Option, Some, None, Result, Ok, Err, refl, sym, ◌∙◌, ap, subst, arith}
+use Rattle.std.proofs.Common.{◌≡◌, ◌≤◌, ℕ, ◌+◌, ◌==◌, ◌&&◌, nat_lt, Bool, true, false, cond, List, [], ◌∷◌, length, map, filter, find, slice_get, Option, Some, None, Result, Ok, Err, refl, sym, subst, arith}
 use Rattle.std.specs.List.{AllByRecursion, Contains}
 use Rattle.std.proofs.lemmas.List.Elements.{Contains-append_left, Contains-append_right, Contains-push}
 use Rattle.std.specs.Option.{IfSome}
@@ -19,7 +19,6 @@ use Rattle.cip_encap.specs.ReadsBack.{ItemsReadBack}
 use Rattle.cip_events.specs.declared.event.Event.{Event}
 use Rattle.cip_events.specs.declared.event.Event.TheVariants as event
 use Rattle.cip_events.specs.declared.event.Reason.{Reason}
-use Rattle.cip_events.specs.declared.event.Sending.{Sending}
 use Rattle.cip_events.specs.declared.event.StepFault.{StepFault}
 use Rattle.cip_events.specs.declared.event.StepFault.TheVariants as fault
 use Rattle.cip_events.specs.Clock.{longest_tick, clock_end}
@@ -43,9 +42,9 @@ use Rattle.scanner_table.specs.declared.table.TargetStream.{TargetStream}
 use Rattle.scanner_table.specs.Asking.{Request, registering, opening, closing, Sent, is_large, manager_text, open_service, sent_message, sent_frame}
 use Rattle.scanner_table.specs.Closing.{idle_slot, target_lost, closing_slot, close_asked, resigned_place, closed_within, stopped, stopped_at}
 use Rattle.scanner_table.specs.Datagrams.{is_for, accepted_connection, accepted_table, delivered, accepted, sized, connected, state_received, received_at, received_as, received}
-use Rattle.scanner_table.specs.Effects.{Next, Effect, changed, counted, sent_answer, done}
+use Rattle.scanner_table.specs.Effects.{Next, Effect, changed, counted, done}
 use Rattle.scanner_table.specs.Encapsulation.{registering_on, stream_opened, cut_of, stream_cut, is_registered, session_begun, session_failed, registered, ignored, waits_for, is_awaiting, replied, replied_to, told, frame_answer, frame_of, frame}
-use Rattle.scanner_table.specs.Opening.{has_request, exhausted, opened, resigned, target_opened}
+use Rattle.scanner_table.specs.Opening.{has_request, exhausted, resigned}
 use Rattle.scanner_table.specs.Points.{write_length, write_at, write, written_place, output_slot, read_at, read, same_mode, moded_slot, moded_table, mode, wanted_slot, started, start_state, start_at, start, stop_of, stop}
 use Rattle.scanner_table.specs.Productions.{written_state, state_production, slot_production, state_is_due, is_due, by_due, due_places, due_productions, produced_state, produced_slot, produced_table}
 use Rattle.scanner_table.specs.Replies.{open_told, answered}
@@ -54,12 +53,12 @@ use Rattle.scanner_table.specs.Slots.{Place, places, is_numbered, place_at, is_w
 use Rattle.scanner_table.specs.Step.{scanner_step}
 use Rattle.scanner_table.specs.Ticks.{clocked_table, elapsed, ticked, tick}
 use Rattle.answer_sizes.specs.Sizes.{IsShortFrame, IsSmall}
-use Rattle.carried_ids.specs.Ids.{PacketIds, HasFrameIds, HasDatagramId, AnswerIds, Replied}
+use Rattle.carried_ids.specs.Ids.{PacketIds, HasFrameIds, HasDatagramId, AnswerIds}
 use Rattle.carried_ids.proofs.Lists.{all_filtered, all_found, all_made, all_mapped, all_ordered}
 use Rattle.carried_ids.proofs.Texts.{either, Cuts, message_ids, packet_ids, datagram_id}
 use Rattle.carried_ids.proofs.Payloads.{request_ids, close_request_ids}
 use Rattle.carried_ids.proofs.AdapterIds.{plain_protocol, few_bytes}
-use Rattle.carried_ids.proofs.Slots.{OfSlots, PlaceHolds, SlotsHold, Known, known_places, with_slot_holds, mapped_places, mapped_slots, Counts, Kept, RequestId, SentId, Asks, EffectHolds, same_counts, changed_counts, changed_holds, opened_holds, target_holds, lost_holds, elapsed_holds, SaysSo, answered_holds}
+use Rattle.carried_ids.proofs.Slots.{OfSlots, PlaceHolds, SlotsHold, Known, known_places, with_slot_holds, mapped_places, mapped_slots, Kept, RequestId, SentId, Asks, EffectHolds, same_counts, changed_counts, changed_holds, opened_holds, target_holds, lost_holds, elapsed_holds, SaysSo, answered_holds}
 
 -- ---- requests that are sent
 
@@ -241,12 +240,11 @@ read_holds G P to t (Some place) slots = λ below small. (record { frames = tt; 
 
 mode_holds : (G : OfSlots) (P : ℕ → Type 0) (to : ℕ) (t : ScannerTable) (happens : Event) → Kept G t to happens → (run : Bool) → SlotsHold G t → NextHolds G P to (mode t run)
 unfolding mode
-mode_holds G P to t happens kept run slots = λ below small.
-    (
-      record { frames = tt; datagrams = tt },
-      either (SlotsHold G) (same_mode run t.run) t (moded_table t run) slots
+mode_holds G P to t happens kept run slots = λ below small. (
+  record { frames = tt; datagrams = tt },
+  either (SlotsHold G) (same_mode run t.run) t (moded_table t run) slots
       (mapped_places G moded_slot (λ place holds. either (λ (s : Slot). G place.number place.config s.state) (is_owner place.config.kind) _ _ (written_holds G to t happens kept place.number place.config place.slot.state holds) holds) 0 t.profile.slots t.slots slots),
-    )
+)
 
 state_started : ItemsReadBack → (G : OfSlots) (P : ℕ → Type 0) → Cuts P → (to : ℕ) (t : ScannerTable) (happens : Event) → Kept G t to happens → Asks P t to → (place : Place) (state : SlotState) → Known G t.profile.slots place → SlotsHold G t → OkHolds G P to (start_state t place state)
 state_started back G P cuts to t happens kept asks place Idle known slots =
@@ -254,7 +252,7 @@ state_started back G P cuts to t happens kept asks place Idle known slots =
     either (OkHolds G P to) place.slot.wanted (Err fault.NotAllowedNow) (Ok (done (started t place (wanted_slot t place.slot)))) tt
     (done_holds back G P cuts to (started t place (wanted_slot t place.slot))
     (λ below. opened_holds G P t to happens kept asks (with_slot t place.number slot) (record place { slot = slot }) (changed_counts t place slot) below
-      (with_slot_holds G t.profile.slots t place slot refl known.there known.holds slots) (record { there = known.there; holds = known.holds })))
+    (with_slot_holds G t.profile.slots t place slot refl known.there known.holds slots) (record { there = known.there; holds = known.holds })))
 state_started back G P cuts to t happens kept asks place (Opening o) known slots = tt
 state_started back G P cuts to t happens kept asks place (Established c) known slots = tt
 state_started back G P cuts to t happens kept asks place (TimedOut link) known slots = tt

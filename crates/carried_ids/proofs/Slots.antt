@@ -1,12 +1,9 @@
 -- What holds of each slot of a scanner by its number, its configuration and its state, and how a step keeps it: slots
 -- rest, open, are established by replies, go on, time out and close.
-use Rattle.std.proofs.Common.{◌≡◌, ◌≤◌, ◌<◌, ℕ, zero, suc, ◌+◌, ◌*◌, ◌^◌, ◌==◌, ◌&&◌, not, nat_lt, Bool, true, false, cond, List, [], ◌∷◌, ◌++◌, length, map, filter, find, slice_get, slice_set, Option, Some, None, Result, Ok, Err, refl, sym, ◌∙◌, ap, subst, arith}
+use Rattle.std.proofs.Common.{◌≡◌, ◌≤◌, ◌<◌, ℕ, zero, suc, ◌+◌, not, Bool, true, false, cond, List, [], ◌∷◌, map, filter, slice_get, slice_set, Option, Some, None, Result, Ok, Err, refl, sym, ◌∙◌, ap, subst, arith}
 use Rattle.std.specs.List.{AllByRecursion}
-use Rattle.std.specs.Option.{IfSome}
 use Rattle.std.proofs.lemmas.Bool.{and_parts}
-use Rattle.std.proofs.lemmas.Bool.Decides.{nat_tests}
 use Rattle.cip_types.specs.Cases.{first_case}
-use Rattle.cip_types.specs.declared.names.ConnId.{ConnId}
 use Rattle.cip_types.specs.declared.names.Mismatch.{Mismatch}
 use Rattle.cip_types.specs.declared.names.Node.{Node}
 use Rattle.cip_events.specs.declared.event.Event.{Event}
@@ -17,7 +14,6 @@ use Rattle.cip_events.specs.declared.event.Reason.TheVariants as reason
 use Rattle.cip_fwdopen.specs.declared.reply.Opened as made
 use Rattle.cip_fwdopen.specs.declared.reply.OpenAnswer.{OpenAnswer}
 use Rattle.cip_fwdopen.specs.declared.reply.OpenAnswer.TheVariants as answer
-use Rattle.conn_state.specs.declared.names.Wanted.{Wanted}
 use Rattle.conn_state.specs.Answers.{answer_tests, is_wanted_id, link_of}
 use Rattle.scanner_table.specs.declared.profile.ScannerProfile.{ScannerProfile}
 use Rattle.scanner_table.specs.declared.profile.SlotConfig.{SlotConfig}
@@ -29,17 +25,17 @@ use Rattle.scanner_table.specs.declared.slot.SlotState.{SlotState}
 use Rattle.scanner_table.specs.declared.slot.SlotState.TheVariants.{Idle, Opening, Established, TimedOut, Closing}
 use Rattle.scanner_table.specs.declared.table.ScannerTable.{ScannerTable}
 use Rattle.scanner_table.specs.declared.table.Session.{Session}
-use Rattle.scanner_table.specs.Slots.{Place, places_from, places, is_numbered, place_at, is_with, with_slot}
-use Rattle.scanner_table.specs.Asking.{Request, registering, opening, closing, Sent, is_large, next_t_o_id, next_wanted, id_or_zero, open_fields, close_fields, numbered}
-use Rattle.scanner_table.specs.Effects.{Effect, nothing, after, and_then, on_each, changed, counted, asked}
-use Rattle.scanner_table.specs.Opening.{has_request, can_open, id_after, drawn, later, opening_slot, resigned, exhausted, open_asked, opened_within, opened, is_ready_place, ready_places, ready_opened, target_opened}
-use Rattle.scanner_table.specs.Closing.{idle_slot, given_up_state, given_up, target_lost, closing_slot, close_asked, resigned_place, closed_within}
-use Rattle.scanner_table.specs.Replies.{is_id_free, new_connection, established_slot, failed_slot, refused, judged_success, answered}
+use Rattle.scanner_table.specs.Slots.{Place, places_from, places, is_with, with_slot}
+use Rattle.scanner_table.specs.Asking.{Request, registering, opening, closing, Sent, next_t_o_id, next_wanted, id_or_zero}
+use Rattle.scanner_table.specs.Effects.{Effect, after, and_then, on_each, changed, counted}
+use Rattle.scanner_table.specs.Opening.{can_open, drawn, opening_slot, resigned, exhausted, open_asked, opened_within, opened, is_ready_place, ready_places, ready_opened, target_opened}
+use Rattle.scanner_table.specs.Closing.{idle_slot, given_up_state, given_up, target_lost}
+use Rattle.scanner_table.specs.Replies.{is_id_free, new_connection, established_slot, failed_slot, judged_success, answered}
 use Rattle.scanner_table.specs.Sessions.{session_with}
 use Rattle.scanner_table.specs.Ticks.{by_deadline, has_expired, expired_places, expired_state, expired, all_expired, is_overdue, all_given_up, elapsed}
 use Rattle.carried_ids.specs.Ids.{Replied}
 use Rattle.carried_ids.specs.Carrying.{Waits}
-use Rattle.carried_ids.proofs.Lists.{all_both, all_filtered, all_found, all_ordered}
+use Rattle.carried_ids.proofs.Lists.{all_both, all_filtered, all_ordered}
 use Rattle.carried_ids.proofs.Texts.{either}
 
 abbrev pub OfSlots : Type 1
@@ -220,7 +216,7 @@ within_holds G P old to happens kept asks now place (Some session) counts below 
     (λ under.
     let can : CanDraw old to now place.config = record { counts = counts; left = left_below place.config.multicast now.next_id to under } in
     let slots = with_slot_holds G old.profile.slots (counted (drawn now place.config)) place (opening_slot now place) (ap (λ (p : ScannerProfile). p.slots) counts.profile) known.there
-        (kept.opens place.number place.config now _ can refl refl) holds in
+    (kept.opens place.number place.config now _ can refl refl) holds in
     record { slots = slots; sent = (asks now place.config can, tt) })
     (λ under. changed_holds G P old now place (resigned place.slot) (notice.NoIds place.number ∷ []) counts known.there (kept.rests place.number place.config) holds) below
 

@@ -1,11 +1,11 @@
 -- What is read of texts that were written, whether or not their numbers fit: each number as its field cuts it.
-use Rattle.std.proofs.Common.{◌≡◌, ◌<◌, ◌≤◌, ℕ, ◌^◌, ◌+◌, ◌-◌, ltb, Bool, true, false, cond, List, [], ◌∷◌, ◌++◌, length, take, drop, Option, Some, None, Result, Ok, Err, refl, sym, ◌∙◌, ap, subst, append_assoc, arith}
+use Rattle.std.proofs.Common.{◌≡◌, ◌<◌, ◌≤◌, ℕ, ◌^◌, ◌+◌, ◌-◌, ltb, Bool, true, false, cond, List, [], ◌∷◌, ◌++◌, length, Option, Some, Ok, Err, refl, sym, ◌∙◌, ap, subst, append_assoc, arith}
 use Rattle.std.specs.Int.{Width, w8, w16, w32, w64, w128, byte_len, from_le_bytes, to_le_bytes}
 use Rattle.std.proofs.lemmas.Bool.{le-ltb}
 use Rattle.std.proofs.lemmas.List.{take_at, drop_at, length-append, append-nil}
 use Rattle.std.proofs.lemmas.Nat.{from_le_bytes-to_le_bytes_4}
 use Rattle.cip_types.specs.Fields.{fields_text, field_at, fields_at}
-use Rattle.cip_types.specs.Texts.{Found, whole, short, long, Tailed, tail_found}
+use Rattle.cip_types.specs.Texts.{Tailed}
 use Rattle.cip_datagram.specs.declared.datagram.DatagramFault.TheVariants as fault
 use Rattle.cip_datagram.specs.Datagram.{DatagramFields, datagram_widths, datagram_numbers, datagram_text}
 use Rattle.cip_datagram.specs.Reading.{are_items, sized_reading, parts_reading, found_reading, datagram_reading}
@@ -13,7 +13,7 @@ use Rattle.cip_encap.specs.declared.message.EncapFault.TheVariants as encap_faul
 use Rattle.cip_encap.specs.declared.packet.SocketAddress.{SocketAddress}
 use Rattle.cip_encap.specs.Message.{MessageFields, header_widths, header_numbers, message_text}
 use Rattle.cip_encap.specs.Reading as messages
-use Rattle.cip_encap.specs.Packet.{PacketFields, packet_text}
+use Rattle.cip_encap.specs.Packet.{packet_text}
 use Rattle.cip_encap.specs.PacketReading.{packet_reading}
 use Rattle.cip_encap.specs.ReadsBack.{ItemsReadBack}
 use Rattle.carried_ids.specs.Ids.{PayloadIds, PacketIds, MessageIds, FrameIds, ReadId, DatagramId}

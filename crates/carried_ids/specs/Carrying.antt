@@ -1,7 +1,7 @@
 -- What a step of a device does with connection ids: it carries those that were there or came with the event, and draws
 -- the next ones; and which slot of a scanner becomes established (Volume 1, chapter 3, network connection ids and
 -- Forward_Open service).
-use Rattle.std.specs.Prelude.{◌≡◌, ◌⊎◌, ℕ, ◌+◌, ◌*◌, ◌^◌, ◌<◌, ◌≤◌, Bool, true, false, List, Option, Some, None, Ok}
+use Rattle.std.specs.Prelude.{◌≡◌, ◌⊎◌, ℕ, ◌^◌, ◌<◌, ◌≤◌, Bool, true, false, Option, Some, None, Ok}
 use Rattle.std.specs.List.{AllByRecursion, Contains}
 use Rattle.cip_types.specs.declared.names.ConnId.{ConnId}
 use Rattle.cip_events.specs.declared.event.Answer.{Answer}
@@ -51,11 +51,12 @@ StepsCarryIds =
 
 -- OPENINGS OF A SCANNER
 
--- the id is one of the scanner's, with a counter from this one on
+-- the id is one of the scanner's, with a counter of 24 bits from this one on
 pub record IsFrom (profile : ScannerProfile) (first : ℕ) (id : ConnId) : Type 0 where
   pub counter : ℕ
   pub is : id ≡ connection_id profile counter
   pub begins : first ≤ counter
+  pub ends : counter < 2 ^ 24
 
 abbrev pub WantsFrom : ScannerProfile → ℕ → Option ConnId → Type 0
 WantsFrom profile first None = ⊥
@@ -80,7 +81,7 @@ SlotsFrom profile request first t = AllByRecursion (PlaceFrom profile request fi
 abbrev pub StepsKeepFrom : Type 0
 StepsKeepFrom =
     (request first : ℕ) (t : ScannerTable) (event : Event) (answer : Answer) (next : ScannerTable) →
-    scanner_step t event ≡ Ok (answer, next) → IsWholeDevice (Scanner t) → first ≤ t.next_id →
+    scanner_step t event ≡ Ok (answer, next) → IsWholeDevice (Scanner t) → first ≤ t.next_id → next.next_id ≤ 2 ^ 24 →
     SlotsFrom t.profile request first t → SlotsFrom t.profile request first next
 
 -- WHAT ESTABLISHES A SLOT

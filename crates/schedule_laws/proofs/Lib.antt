@@ -3,3 +3,10 @@ pub mod Moves
 pub mod Telling
 pub mod Openings
 pub mod OwnersFollowing
+pub mod Carrying
+pub mod Tests
+pub mod Drawing
+pub mod OpeningIds
+pub mod Later
+pub mod LaterSlots
+mod ScheduleSamples

@@ -1,5 +1,5 @@
 -- Lists by their places, and what holds of each element.
-use Rattle.std.proofs.Common.{◌≡◌, ◌≢◌, ℕ, zero, suc, List, [], ◌∷◌, ◌++◌, set, slice_get, Option, Some, None, refl, sym, ap, subst}
+use Rattle.std.proofs.Common.{◌≡◌, ◌≢◌, ℕ, zero, suc, List, [], ◌∷◌, ◌++◌, set, slice_get, Some, None, refl, ap, subst}
 use Rattle.std.specs.List.{AllByRecursion}
 
 pub some_is : {X : Type 0} (x y : X) → Some x ≡ Some y → x ≡ y

@@ -1,8 +1,14 @@
 -- What one act does: nothing but to streams, or it is one event of one device, which the device answers. Of what waits
 -- on streams the same holds after it.
-use Rattle.std.proofs.Common.{◌≡◌, ℕ, Bool, true, false, cond, List, [], ◌∷◌, ◌++◌, set, slice_get, Option, Some, None, Result, Ok, Err, IfOk, refl}
+use Rattle.std.proofs.Common.{◌≡◌, ℕ, Bool, true, false, cond, List, [], ◌∷◌, set, slice_get, Option, Some, None, Result, Ok, Err, IfOk, refl}
 use Rattle.std.specs.List.{AllByRecursion}
+use Rattle.cip_events.specs.declared.event.Answer.{Answer}
 use Rattle.cip_events.specs.declared.event.Event.{Event}
+use Rattle.cip_events.specs.declared.event.Frame.{Frame as SentFrame}
+use Rattle.cip_events.specs.declared.event.Notice.{Notice}
+use Rattle.cip_events.specs.declared.event.Notice.TheVariants as notice
+use Rattle.cip_events.specs.declared.event.Recipient.{Recipient}
+use Rattle.cip_events.specs.declared.event.Recipient.TheVariants as recipient
 use Rattle.cip_events.specs.declared.event.Event.TheVariants.{Request, StreamOpened, Frame, StreamCut, Datagram, Write, Read, Tick, Mode, Start, Stop}
 use Rattle.cip_events.specs.declared.event.StepFault.{StepFault}
 use Rattle.cip_types.specs.declared.names.Node.{Node}
@@ -11,33 +17,18 @@ use Rattle.cip_tables.specs.Step.{DeviceNext, step}
 use Rattle.sent_log.specs.Log.{Sent}
 use Rattle.stream_queues.specs.declared.direction.Direction.{Direction}
 use Rattle.stream_queues.specs.declared.direction.Direction.TheVariants.{Forth, Back}
-use Rattle.stream_queues.specs.Streams.{Item, Opening, Queued, Ending, Side, Stream, side_of, taker, giver, changed, with_stream, ended_side, cut_stream, without_first, taken_from, fresh_stream}
+use Rattle.stream_queues.specs.Streams.{Item, Opening, Queued, Ending, Side, Stream, side_of, taker, giver, way_from, changed, with_stream, queued, sent_so, sent_over, frame_sent, frames_sent, ended_side, cut_stream, closed_so, closed_by, notice_told, notices_told, answered, without_first, taken_from, fresh_stream}
 use Rattle.segment_world.specs.declared.act.Act.{Act}
 use Rattle.segment_world.specs.declared.act.Act.TheVariants.{Local, Deliver, NextFrame, OpenStream, CutStream}
 use Rattle.segment_world.specs.declared.act.Call.{Call}
 use Rattle.segment_world.specs.declared.act.Call.TheVariants as call
 use Rattle.segment_world.specs.declared.act.ActFault.{ActFault}
-use Rattle.segment_world.specs.World.{World, Told, Happened, spread, comes, comes_to, comes_so, event_of_call, delivered, event_of_item, node_at, without_front, taken, taken_at, are_two, opened_if, cut_if, cut_at, happens}
+use Rattle.segment_world.specs.World.{World, Told, spread, comes, comes_to, comes_so, event_of_call, delivered, event_of_item, node_at, taken, taken_at, are_two, opened_if, cut_if, cut_at, happens}
 use Rattle.segment_world.specs.Story.{Story, goes_on, tells, runs}
+use Rattle.schedule_laws.specs.Ids.{ItemHolds, SideHolds, StreamHolds, StreamsHold}
 use Rattle.schedule_laws.proofs.Lists.{all_both, all_set, all_get}
 
 -- WHAT WAITS
-
-abbrev pub ItemHolds : (List ℕ → Type 0) → Item → Type 0
-ItemHolds Q Opening = Unit {0}
-ItemHolds Q (Queued bytes) = Q bytes
-ItemHolds Q Ending = Unit {0}
-
-abbrev pub SideHolds : (List ℕ → Type 0) → Side → Type 0
-SideHolds Q side = AllByRecursion (ItemHolds Q) side.queue
-
--- it holds of each frame that waits on the stream
-pub record StreamHolds (Q : List ℕ → Type 0) (s : Stream) : Type 0 where
-  pub forth : SideHolds Q s.forth
-  pub back : SideHolds Q s.back
-
-abbrev pub StreamsHold : (List ℕ → Type 0) → List Stream → Type 0
-StreamsHold Q streams = AllByRecursion (StreamHolds Q) streams
 
 changed_holds : (Q : List ℕ → Type 0) (change : Stream → Stream) → ((s : Stream) → StreamHolds Q s → StreamHolds Q (change s)) → (streams : List Stream) (n : ℕ) (found : Option Stream) → slice_get streams n ≡ found → StreamsHold Q streams → StreamsHold Q (changed change streams n found)
 changed_holds Q change keeps streams n None is all = all
@@ -67,6 +58,54 @@ cut_holds Q s all = record { forth = ended_holds Q s.forth; back = ended_holds Q
 side_holds : (Q : List ℕ → Type 0) (d : Direction) (s : Stream) → StreamHolds Q s → SideHolds Q (side_of d s)
 side_holds Q Forth s all = all.forth
 side_holds Q Back s all = all.back
+
+-- WHAT A DEVICE ANSWERS
+
+queued_holds : (Q : List ℕ → Type 0) (bytes : List ℕ) (side : Side) → Q bytes → SideHolds Q side → SideHolds Q (queued (Queued bytes) side)
+queued_holds Q bytes side holds all = all_both (ItemHolds Q) side.queue (Queued bytes ∷ []) all (holds, tt)
+
+sent_so_holds : (Q : List ℕ → Type 0) (bytes : List ℕ) (s : Stream) (way : Option Direction) → Q bytes → StreamHolds Q s → StreamHolds Q (sent_so bytes s way)
+sent_so_holds Q bytes s None holds all = all
+sent_so_holds Q bytes s (Some Forth) holds all = record { forth = queued_holds Q bytes s.forth holds all.forth; back = all.back }
+sent_so_holds Q bytes s (Some Back) holds all = record { forth = all.forth; back = queued_holds Q bytes s.back holds all.back }
+
+frame_sent_holds : (Q : List ℕ → Type 0) (device : ℕ) (streams : List Stream) (bytes : List ℕ) (to : Recipient) → Q bytes → StreamsHold Q streams → StreamsHold Q (frame_sent device streams bytes to)
+frame_sent_holds Q device streams bytes (recipient.Stream n) holds all = with_stream_holds Q (sent_over device bytes) (λ s is. sent_so_holds Q bytes s (way_from device s) holds is) n streams all
+frame_sent_holds Q device streams bytes (recipient.Peer node) holds all = all
+
+abbrev pub BytesHold : (List ℕ → Type 0) → SentFrame → Type 0
+BytesHold Q frame = Q frame.bytes
+
+frames_sent_hold : (Q : List ℕ → Type 0) (device : ℕ) (streams : List Stream) (frames : List SentFrame) → AllByRecursion (BytesHold Q) frames → StreamsHold Q streams → StreamsHold Q (frames_sent device streams frames)
+unfolding frames_sent
+frames_sent_hold Q device streams [] holds all = all
+frames_sent_hold Q device streams (frame ∷ frames) holds all =
+    frames_sent_hold Q device (frame_sent device streams frame.bytes frame.to) frames holds.1 (frame_sent_holds Q device streams frame.bytes frame.to holds.0 all)
+
+closed_so_holds : (Q : List ℕ → Type 0) (s : Stream) (way : Option Direction) → StreamHolds Q s → StreamHolds Q (closed_so s way)
+closed_so_holds Q s None all = all
+closed_so_holds Q s (Some Forth) all = record { forth = ended_holds Q s.forth; back = tt }
+closed_so_holds Q s (Some Back) all = record { forth = tt; back = ended_holds Q s.back }
+
+notice_holds : (Q : List ℕ → Type 0) (device : ℕ) (streams : List Stream) (told : Notice) → StreamsHold Q streams → StreamsHold Q (notice_told device streams told)
+notice_holds Q device streams (notice.StreamClosed n) all = with_stream_holds Q (closed_by device) (λ s is. closed_so_holds Q s (way_from device s) is) n streams all
+notice_holds Q device streams (notice.Opened triad id) all = all
+notice_holds Q device streams (notice.Closed triad) all = all
+notice_holds Q device streams (notice.Expired triad) all = all
+notice_holds Q device streams (notice.Dropped triad) all = all
+notice_holds Q device streams (notice.Replaced triad) all = all
+notice_holds Q device streams (notice.Slot slot state) all = all
+notice_holds Q device streams (notice.Refused slot reason) all = all
+notice_holds Q device streams (notice.NoIds slot) all = all
+
+notices_hold : (Q : List ℕ → Type 0) (device : ℕ) (streams : List Stream) (notices : List Notice) → StreamsHold Q streams → StreamsHold Q (notices_told device streams notices)
+unfolding notices_told
+notices_hold Q device streams [] all = all
+notices_hold Q device streams (told ∷ notices) all = notices_hold Q device (notice_told device streams told) notices (notice_holds Q device streams told all)
+
+-- it holds of what waits after an answer, where it holds of the answer's frames
+pub answered_holds : (Q : List ℕ → Type 0) (device : ℕ) (answer : Answer) (streams : List Stream) → AllByRecursion (BytesHold Q) answer.frames → StreamsHold Q streams → StreamsHold Q (answered device answer streams)
+answered_holds Q device answer streams frames all = notices_hold Q device (frames_sent device streams answer.frames) answer.notices (frames_sent_hold Q device streams answer.frames frames all)
 
 -- AN ACT
 

@@ -1,5 +1,5 @@
 -- A world that begins from configurations with nothing wrong has whole tables.
-use Rattle.std.proofs.Common.{◌≡◌, ℕ, zero, suc, Bool, true, false, cond, List, [], ◌∷◌, map, slice_get, Option, Some, None, refl, sym, subst}
+use Rattle.std.proofs.Common.{◌≡◌, ℕ, zero, suc, Bool, true, false, cond, List, [], ◌∷◌, map, slice_get, Option, Some, None, refl, subst}
 use Rattle.cip_events.specs.declared.profile_fault.ProfileFault.{ProfileFault}
 use Rattle.cip_tables.specs.declared.table.Config.{Config}
 use Rattle.cip_tables.specs.declared.table.DeviceTable.{DeviceTable}
@@ -29,7 +29,7 @@ pub faultless : (configs : List Config) → world_fault configs ≡ None → Fau
 faultless configs none =
     faultless_step (any_twice Incarnation configs) (any_twice Address configs) configs (profile_fault_of (first_fault configs)) refl (no_fault (first_fault configs)) none
 
-both_none : (a b : Option ProfileFault) → fault_or a b ≡ None → (a ≡ None) × (b ≡ None)
+pub both_none : (a b : Option ProfileFault) → fault_or a b ≡ None → (a ≡ None) × (b ≡ None)
 both_none None b is = (refl, is)
 both_none (Some fault) b is = absurd (let e = is in cc)
 

@@ -1,5 +1,5 @@
 -- Owners follow one another in every schedule, since they do over every run of a device.
-use Rattle.std.proofs.Common.{◌≡◌, ◌≢◌, ◌<◌, ℕ, zero, suc, ◌==◌, ◌&&◌, find, slice_index_or, Bool, true, false, cond, List, [], ◌∷◌, ◌++◌, map, filter, slice_get, Option, Some, None, Result, Ok, Err, refl, sym, ◌∙◌, ap, subst, inl, inr, ◌⊎◌, append_assoc, arith}
+use Rattle.std.proofs.Common.{◌≡◌, ◌<◌, ℕ, zero, suc, ◌==◌, ◌&&◌, find, slice_index_or, Bool, true, false, cond, List, [], ◌∷◌, ◌++◌, map, filter, Option, Some, None, Result, Ok, Err, refl, sym, ◌∙◌, ap, subst, inl, inr, append_assoc, arith}
 use Rattle.std.specs.List.{Contains}
 use Rattle.std.proofs.lemmas.Bool.Decides.{nat_tests}
 use Rattle.std.proofs.lemmas.List.Elements.{Contains-append_cases}
@@ -11,7 +11,6 @@ use Rattle.cip_events.specs.Answers.{is_accepted}
 use Rattle.cip_events.specs.declared.event.Answer.{Answer}
 use Rattle.cip_events.specs.declared.event.Event.{Event}
 use Rattle.cip_events.specs.declared.event.Event.TheVariants.{Datagram}
-use Rattle.cip_events.specs.declared.event.Notice.{Notice}
 use Rattle.cip_events.specs.declared.event.StepFault.{StepFault}
 use Rattle.adapter_table.specs.declared.profile.Profile.{Profile}
 use Rattle.adapter_table.specs.declared.row.Row.{Row}
@@ -23,15 +22,14 @@ use Rattle.adapter_table.specs.Rows.{drivers}
 use Rattle.adapter_table.specs.Step.{adapter_step}
 use Rattle.cip_tables.specs.declared.table.DeviceTable.{DeviceTable}
 use Rattle.cip_tables.specs.declared.table.DeviceTable.TheVariants.{Adapter, Scanner}
-use Rattle.cip_tables.specs.Run.{table_of, performed}
 use Rattle.cip_tables.specs.Step.{step, as_adapter, DeviceNext}
 use Rattle.cip_tables.specs.Whole.{IsWholeDevice, FreshDevicesAreWhole}
-use Rattle.owner_laws.specs.Turns.{Turn, brought, ended, brought_by, brought_found, brought_read, brought_at, has_ended, ended_turn, ended_at, told, turns_at, turns, EndsStandBetween}
+use Rattle.owner_laws.specs.Turns.{Turn, brought, ended, brought_found, brought_read, brought_at, has_ended, ended_turn, ended_at, told, turns_at, turns, EndsStandBetween}
 use Rattle.segment_world.specs.World.{Told}
 use Rattle.segment_world.specs.Story.{is_of, events_of}
 use Rattle.schedule_laws.specs.Stories.{led_by, led_to}
 use Rattle.schedule_laws.specs.Owners.{Brings, Ends, EndsWithin, EndsBetween, OwnersFollow, OpenedOwnersFollow}
-use Rattle.schedule_laws.proofs.Telling.{Answers, AnswersIf, Tells, led_both, tells_rest, tells_first, is_run, is_performed, outcomes_of, same_place, Leads, story_leads}
+use Rattle.schedule_laws.proofs.Telling.{Answers, AnswersIf, Tells, led_both, tells_rest, tells_first, is_run, is_performed, outcomes_of, same_place, story_leads}
 use Rattle.schedule_laws.proofs.Openings.{faultless, opens_whole}
 
 -- TURNS OF WHAT WAS TOLD
@@ -198,12 +196,12 @@ parted point t device a b before middle after first second one other =
     let turn_b = brings_turn point t3 device b second other.adapter other.own (sym at3 ∙ other.there) other.brings in
     turns_both point t device before (first ∷ (middle ++ second ∷ after))
     ∙ ap (λ (l : List Turn). turns_told point t device before ++ l)
-      (ap (λ (l : List Turn). l ++ turns_told point t2 device (middle ++ second ∷ after)) turn_a
-      ∙ ap (λ (l : List Turn). brought a ∷ l)
-        (turns_both point t2 device middle (second ∷ after)
-        ∙ ap (λ (l : List Turn). turns_told point t2 device middle ++ l) (ap (λ (l : List Turn). l ++ turns_told point (led_by (is_of device second) t3 second) device after) turn_b)
-        ∙ ap (λ (x : DeviceTable). turns_told point x device middle ++ brought b ∷ turns_told point (led_by (is_of device second) t3 second) device after) (sym at2)
-        ∙ ap (λ (x : DeviceTable). turns_told point (led_to t device (before ++ first ∷ [])) device middle ++ brought b ∷ turns_told point x device after) (sym at4)))
+    (ap (λ (l : List Turn). l ++ turns_told point t2 device (middle ++ second ∷ after)) turn_a
+    ∙ ap (λ (l : List Turn). brought a ∷ l)
+    (turns_both point t2 device middle (second ∷ after)
+    ∙ ap (λ (l : List Turn). turns_told point t2 device middle ++ l) (ap (λ (l : List Turn). l ++ turns_told point (led_by (is_of device second) t3 second) device after) turn_b)
+    ∙ ap (λ (x : DeviceTable). turns_told point x device middle ++ brought b ∷ turns_told point (led_by (is_of device second) t3 second) device after) (sym at2)
+    ∙ ap (λ (x : DeviceTable). turns_told point (led_to t device (before ++ first ∷ [])) device middle ++ brought b ∷ turns_told point x device after) (sym at4)))
 
 within : (t : DeviceTable) (device point opening : ℕ) (before middle : List Told) → Located (led_to t device before) device point opening middle → EndsWithin t device point opening before middle
 within t device point opening before middle found =
@@ -228,8 +226,8 @@ ends_between_told : EndsStandBetween → (t : DeviceTable) (device : ℕ) (xs : 
 ends_between_told law t device xs whole tells = λ point a b before middle after first second is one other differ.
     let parts = sym (ap (turns point t) (sym (is_performed device xs))) ∙ turns_are point t device xs ∙ ap (turns_told point t device) is ∙ parted point t device a b before middle after first second one other in
     let end = law point t (led_to t device xs) (events_of device xs) (outcomes_of device xs) (turns_told point t device before)
-        (turns_told point (led_to t device (before ++ first ∷ [])) device middle) (turns_told point (led_to t device (before ++ first ∷ (middle ++ second ∷ []))) device after)
-        a b whole (is_run t device xs tells) parts differ in
+    (turns_told point (led_to t device (before ++ first ∷ [])) device middle) (turns_told point (led_to t device (before ++ first ∷ (middle ++ second ∷ []))) device after)
+    a b whole (is_run t device xs tells) parts differ in
     within t device point a (before ++ first ∷ []) middle
     (locate point a (led_to t device (before ++ first ∷ [])) device middle (tells_middle t device before middle after first second (subst (Tells t device) is tells)) end)
 

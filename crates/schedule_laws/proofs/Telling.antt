@@ -4,19 +4,19 @@ use Rattle.std.specs.List.{AllByRecursion}
 use Rattle.std.proofs.lemmas.Bool.Decides.{nat_tests}
 use Rattle.cip_events.specs.declared.event.Answer.{Answer}
 use Rattle.cip_events.specs.declared.event.Event.{Event}
-use Rattle.cip_events.specs.declared.event.StepFault.{StepFault}
 use Rattle.cip_events.specs.Outcomes.{Outcome}
 use Rattle.cip_tables.specs.declared.table.DeviceTable.{DeviceTable}
-use Rattle.cip_tables.specs.Step.{DeviceNext, step}
+use Rattle.cip_tables.specs.Step.{step}
 use Rattle.cip_tables.specs.Run.{Runs, table_of, performed}
 use Rattle.stream_queues.specs.Streams.{Item, Opening, Queued, Ending, Stream}
 use Rattle.segment_world.specs.declared.act.Act.{Act}
 use Rattle.segment_world.specs.declared.act.ActFault.{ActFault}
-use Rattle.segment_world.specs.World.{World, Told, Happened, spread, happens}
+use Rattle.segment_world.specs.World.{World, Told, Happened, happens}
 use Rattle.segment_world.specs.Story.{Story, told_more, goes_on, runs, begins, is_of, event_told, events_of}
 use Rattle.schedule_laws.specs.Stories.{led_by, led_to}
 use Rattle.schedule_laws.proofs.Lists.{set_own, set_other}
-use Rattle.schedule_laws.proofs.Moves.{ItemHolds, StreamsHold, Came, Moves, act_moves, runs_keep}
+use Rattle.schedule_laws.specs.Ids.{ItemHolds, StreamsHold}
+use Rattle.schedule_laws.proofs.Moves.{Came, Moves, act_moves, runs_keep}
 
 -- the event, where it is the device's, was answered as its step says
 pub record Answers (t : DeviceTable) (told : Told) : Type 0 where

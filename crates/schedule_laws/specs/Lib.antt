@@ -1,2 +1,3 @@
 pub mod Stories
 pub mod Owners
+pub mod Ids

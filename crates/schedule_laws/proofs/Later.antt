@@ -1,0 +1,278 @@
+-- What begins after a moment accepts nothing that was sent by then.
+use Rattle.std.proofs.Common.{◌≡◌, ◌≢◌, ◌≤◌, ◌<◌, inl, inr, ℕ, zero, suc, ◌+◌, ◌*◌, ◌^◌, ◌==◌, ◌&&◌, ◌||◌, nat_le, Bool, true, false, cond, List, [], ◌∷◌, length, set, slice_get, slice_index_or, find, Option, Some, None, Result, Ok, Err, IfOk, refl, sym, ◌∙◌, ap, subst, arith}
+use Rattle.std.specs.List.{AllByRecursion, Contains, list_any}
+use Rattle.std.proofs.lemmas.Bool.{and_parts}
+use Rattle.std.proofs.lemmas.Bool.Decides.{nat_tests}
+use Rattle.cip_types.specs.declared.names.ConnId.{ConnId}
+use Rattle.cip_types.specs.declared.names.Node.{Node}
+use Rattle.cip_datagram.specs.declared.datagram.DatagramFault.{DatagramFault}
+use Rattle.cip_datagram.specs.Datagram.{DatagramFields}
+use Rattle.cip_datagram.specs.Reading.{datagram_reading}
+use Rattle.cip_events.specs.declared.event.Answer.{Answer}
+use Rattle.cip_events.specs.declared.event.Event.{Event}
+use Rattle.adapter_table.specs.declared.profile.Profile.{Profile}
+use Rattle.adapter_table.specs.declared.row.Row.{Row}
+use Rattle.adapter_table.specs.declared.table.AdapterTable.{AdapterTable}
+use Rattle.adapter_table.specs.Datagrams.{is_for}
+use Rattle.adapter_table.specs.Newest.{Acceptance, was_opened_as, accepted_found, accepted_read}
+use Rattle.adapter_table.specs.Opening.{connection_id}
+use Rattle.adapter_table.specs.Productions.{producer_of}
+use Rattle.adapter_table.specs.Rows.{Each, is_established}
+use Rattle.adapter_table.specs.Sound.{IdsAreDrawn as RowIdsAreDrawn, MulticastIdIsDrawn}
+use Rattle.cip_tables.specs.declared.table.DeviceTable.{DeviceTable}
+use Rattle.cip_tables.specs.declared.table.DeviceTable.TheVariants.{Adapter, Scanner}
+use Rattle.cip_tables.specs.Step.{incarnation_of, step}
+use Rattle.cip_tables.specs.Whole.{IsWholeDevice, next_id_of}
+use Rattle.sent_log.specs.Log.{Sent}
+use Rattle.segment_world.specs.declared.act.Act.{Act}
+use Rattle.segment_world.specs.declared.act.ActFault.{ActFault}
+use Rattle.segment_world.specs.World.{World, Told, Happened, happens}
+use Rattle.segment_world.specs.Story.{Story, goes_on, runs}
+use Rattle.carried_ids.specs.Ids.{FrameIds, ReadId, RowIds}
+use Rattle.carried_ids.specs.Carrying.{Passes, TableIds}
+use Rattle.schedule_laws.specs.Ids.{is_to_come, is_drawn, any_opening, SentHolds, IdsAreDrawn, Moments, IdsToComeAreUnsent, LaterConnectionsAcceptNoneOfIt, LaterGroupsSentNoneOfIt}
+use Rattle.schedule_laws.proofs.Lists.{some_is}
+use Rattle.schedule_laws.proofs.Moves.{Moves, act_moves, runs_keep}
+use Rattle.schedule_laws.proofs.Tests.{false_unless, not_both, so_comes, drawn_parts, none_at, set_cases}
+use Rattle.schedule_laws.proofs.Drawing.{StepLaws, Openings, Drawn, step_same, moved_drawn, runs_drawn, all_drawn}
+
+-- ---- what a list contains
+
+contains_step : {X : Type 0} (P : X → Type 0) (y : X) (xs : List X) (x : X) (k : ℕ) → k < length (y ∷ xs) → slice_index_or (y ∷ xs) k x ≡ x → P y → (Contains xs x → P x) → P x
+contains_step P y xs x zero lt is here more = subst P is here
+contains_step P y xs x (suc k) lt is here more = more (k, omega (arith, lt), is)
+
+pub all_contains : {X : Type 0} (P : X → Type 0) (xs : List X) (x : X) → AllByRecursion P xs → Contains xs x → P x
+all_contains P [] x all there = absurd (omega (arith, there.1))
+all_contains P (y ∷ xs) x all there = contains_step P y xs x there.0 there.1 there.2 all.0 (λ later. all_contains P xs x all.1 later)
+
+each_contains : (P : Row → Type 0) (rows : List Row) (row : Row) → Each P rows → Contains rows row → P row
+each_contains P [] x all there = absurd (omega (arith, there.1))
+each_contains P (y ∷ xs) x all there = contains_step P y xs x there.0 there.1 there.2 all.0 (λ later. each_contains P xs x all.1 later)
+
+-- ---- what was sent
+
+-- the id of a datagram that was sent is none that a device has still to draw
+pub sent_id : (w : World) (s : Sent) (d : DatagramFields) → AllByRecursion (SentHolds (Passes (is_drawn w.tables))) w.sent → Contains w.sent s → datagram_reading s.bytes ≡ Ok d → Passes (is_drawn w.tables) d.connection
+sent_id w s d all there reads =
+    let id = all_contains (SentHolds (Passes (is_drawn w.tables))) w.sent s all there in
+    subst (ReadId (Passes (is_drawn w.tables))) reads id
+
+-- so it is no id of this device with a counter from the next one on
+pub unsent : (w : World) (device : ℕ) (t : DeviceTable) (counter : ℕ) (s : Sent) (d : DatagramFields) → AllByRecursion (SentHolds (Passes (is_drawn w.tables))) w.sent → slice_get w.tables device ≡ Some t → next_id_of t ≤ counter → counter < 16777216 → Contains w.sent s → datagram_reading s.bytes ≡ Ok d → d.connection ≢ incarnation_of t * 16777216 + counter
+unsent w device t counter s d all at from below there reads is =
+    let none = none_at d.connection w.tables device t (drawn_parts w.tables d.connection (sent_id w s d all there reads)).1 at in
+    not_both (is_to_come d.connection t) (so_comes d.connection t (record { from = omega (arith, is, from); below = omega (arith, is, below) })) none
+
+pub ids_to_come_are_unsent : IdsToComeAreUnsent
+ids_to_come_are_unsent w device t counter s d ids at from below there reads is =
+    unsent w device t counter s d ids.sent at from (omega (arith, below)) there reads (omega (arith, is))
+
+-- ---- connections of an adapter
+
+abbrev known_if : AdapterTable → ℕ → Bool → Bool
+known_if t opening true = nat_le t.next_id opening || list_any (was_opened_as opening) t.rows
+known_if t opening false = true
+
+-- what is known of opening numbers from a moment on: they stood then, or are drawn later
+abbrev known_from : ℕ → AdapterTable → Openings
+known_from device t e opening = known_if t opening (e == device)
+
+equal_is : (n : ℕ) → (n == n) ≡ true
+equal_is n = grind (arith, nat_tests)
+
+same_is : (a b : ℕ) → (a == b) ≡ true → a ≡ b
+same_is a b is = grind (arith, nat_tests)
+
+is_same : (a b : ℕ) → a ≡ b → (a == b) ≡ true
+is_same a b is = grind (arith, nat_tests)
+
+le_is : (a b : ℕ) → nat_le a b ≡ true → a ≤ b
+le_is a b is = grind (arith, nat_tests)
+
+is_le : (a b : ℕ) → a ≤ b → nat_le a b ≡ true
+is_le a b is = grind (arith, nat_tests)
+
+adapter_same : (a b : AdapterTable) → Adapter a ≡ Adapter b → a ≡ b
+adapter_same a b is = ap (λ (x : DeviceTable). adapter_or x) is where
+  adapter_or : DeviceTable → AdapterTable
+  adapter_or (Adapter x) = x
+  adapter_or (Scanner x) = a
+
+abbrev HasDrawnId : Profile → ℕ → Row → Type 0
+HasDrawnId profile next row = (row.o_t_id ≡ connection_id profile row.opening) × (row.opening < next)
+
+found_step : (P : Row → Type 0) (b : Bool) (first row : Row) (rest : Option Row) → cond b (Some first) rest ≡ Some row → P first → (rest ≡ Some row → P row) → P row
+found_step P true first row rest is here more = let same : first ≡ row = cc in subst P same here
+found_step P false first row rest is here more = more is
+
+rows_found : (p : Row → Bool) (profile : Profile) (next : ℕ) (rows : List Row) (row : Row) → find p rows ≡ Some row → RowIdsAreDrawn profile next rows → HasDrawnId profile next row
+rows_found p profile next [] row is drawn = absurd (let e = is in cc)
+rows_found p profile next (first ∷ rows) row is drawn =
+    found_step (HasDrawnId profile next) (p first) first row (find p rows) is (drawn.0, drawn.1) (λ later. rows_found p profile next rows row later drawn.2)
+
+all_found : (P : Row → Type 0) (p : Row → Bool) (rows : List Row) (row : Row) → find p rows ≡ Some row → AllByRecursion P rows → P row
+all_found P p [] row is all = absurd (let e = is in cc)
+all_found P p (first ∷ rows) row is all = found_step P (p first) first row (find p rows) is all.0 (λ later. all_found P p rows row later all.1)
+
+passes_step : (b : Bool) (p : Row → Bool) (first row : Row) (rest : Option Row) → p first ≡ b → cond b (Some first) rest ≡ Some row → (rest ≡ Some row → p row ≡ true) → p row ≡ true
+passes_step true p first row rest passes is more = let same : first ≡ row = cc in subst (λ (r : Row). p r ≡ true) same passes
+passes_step false p first row rest passes is more = more is
+
+found_passes : (p : Row → Bool) (rows : List Row) (row : Row) → find p rows ≡ Some row → p row ≡ true
+found_passes p [] row is = absurd (let e = is in cc)
+found_passes p (first ∷ rows) row is = passes_step (p first) p first row (find p rows) refl is (λ later. found_passes p rows row later)
+
+-- ---- one device from a moment on
+
+-- what each of its steps keeps
+abbrev pub StepsKeepIt : (DeviceTable → Type 0) → Type 0
+StepsKeepIt R = (t : DeviceTable) (happens : Event) (a : Answer) (u : DeviceTable) → step t happens ≡ Ok (a, u) → IsWholeDevice t → IsWholeDevice u → R t → R u
+
+pub record Kept (R : DeviceTable → Type 0) (q : Openings) (device : ℕ) (story : Story) : Type 0 where
+  pub drawn : Drawn q story.world
+  pub holds : (t : DeviceTable) → slice_get story.world.tables device ≡ Some t → R t
+
+moved_kept : StepLaws → (R : DeviceTable → Type 0) → StepsKeepIt R → (q : Openings) (device : ℕ) (story : Story) (moved : Option Told × World) → Kept R q device story → Moves (FrameIds (Passes (is_drawn story.world.tables))) story.world moved → Drawn q moved.1 → (x : DeviceTable) → slice_get moved.1.tables device ≡ Some x → R x
+moved_kept laws R keep q device story (None, new) kept rests drawn x there = kept.holds x (sym (ap (λ (l : List DeviceTable). slice_get l device) rests.tables) ∙ there)
+moved_kept laws R keep q device story (Some told, new) kept came drawn x there =
+    let tables : new.tables ≡ set story.world.tables told.device came.after = ap (λ (w : World). w.tables) came.leaves in
+    let now : slice_get (set story.world.tables told.device came.after) device ≡ Some x = sym (ap (λ (l : List DeviceTable). slice_get l device) tables) ∙ there in
+    elim (set_cases story.world.tables told.device device came.before came.after x came.is now) [
+      | inl own ↦
+          let before = kept.holds came.before (ap (slice_get story.world.tables) own.0 ∙ came.is) in
+          let whole = kept.drawn.whole told.device came.before came.is in
+          let whole_x = drawn.whole device x there in
+          subst R (sym own.1) (keep came.before told.event told.answer came.after came.stepped whole (subst IsWholeDevice own.1 whole_x) before)
+      | inr other ↦ kept.holds x other.1
+    ]
+
+act_kept : StepLaws → (R : DeviceTable → Type 0) → StepsKeepIt R → (q : Openings) (device : ℕ) (story : Story) (said : Happened) → Kept R q device story → IfOk said (Moves (FrameIds (Passes (is_drawn story.world.tables))) story.world) → IfOk (goes_on story.told said) (Kept R q device)
+act_kept laws R keep q device story (Err fault) kept moves = tt
+act_kept laws R keep q device story (Ok moved) kept moves =
+    let drawn = moved_drawn laws q story.world moved kept.drawn moves in
+    record { drawn = drawn; holds = moved_kept laws R keep q device story moved kept moves drawn }
+
+pub runs_kept : StepLaws → (R : DeviceTable → Type 0) → StepsKeepIt R → (q : Openings) (device : ℕ) (was now : Story) (acts : List Act) → runs (Ok was) acts ≡ Ok now → Kept R q device was → Kept R q device now
+runs_kept laws R keep q device was now acts ran kept =
+    subst (λ (r : Result Story ActFault). IfOk r (Kept R q device)) ran
+    (runs_keep (Kept R q device) (λ story act is. act_kept laws R keep q device story (happens story.world act) is (act_moves (FrameIds (Passes (is_drawn story.world.tables))) story.world act is.drawn.streams)) acts (Ok was) kept)
+
+-- the byte of its ids stays
+abbrev HasByte : ℕ → DeviceTable → Type 0
+HasByte byte t = incarnation_of t ≡ byte
+
+pub byte_kept : StepLaws → (q : Openings) (device : ℕ) (t u : DeviceTable) (was now : Story) (acts : List Act) → runs (Ok was) acts ≡ Ok now → Drawn q was.world → slice_get was.world.tables device ≡ Some t → slice_get now.world.tables device ≡ Some u → incarnation_of u ≡ incarnation_of t
+byte_kept laws q device t u was now acts ran drawn at_was at_now =
+    (runs_kept laws (HasByte (incarnation_of t)) (λ x happens a y stepped whole whole_y same. step_same laws x happens a y stepped ∙ same) q device was now acts ran
+    (record { drawn = drawn; holds = λ x at. ap incarnation_of (some_is x t (sym at ∙ at_was)) })).holds u at_now
+
+-- ---- the moment
+
+-- as an earlier moment it has what the start has
+pub at_moment : StepLaws → (start : World) (was now : Story) → IdsAreDrawn start → Moments start was now → Drawn (λ device opening. true) was.world
+at_moment laws start was now ids moments = runs_drawn laws (λ device opening. true) (record { world = start; told = [] }) was moments.early moments.first (all_drawn start ids)
+
+own_from : (device : ℕ) (t : AdapterTable) (n : ℕ) → t.next_id ≤ n → known_from device t device n ≡ true
+own_from device t n from = ap (λ (b : Bool). known_if t n b) (equal_is device) ∙ ap (λ (b : Bool). b || list_any (was_opened_as n) t.rows) (is_le t.next_id n from)
+
+opens_step : (b : Bool) (device e n : ℕ) (t : AdapterTable) (x : DeviceTable) (tables : List DeviceTable) → (e == device) ≡ b → slice_get tables device ≡ Some (Adapter t) → slice_get tables e ≡ Some x → next_id_of x ≤ n → known_if t n b ≡ true
+opens_step true device e n t x tables is at there from =
+    let same = same_is e device is in
+    let table : x ≡ Adapter t = some_is x (Adapter t) (sym there ∙ ap (slice_get tables) same ∙ at) in
+    let counts : next_id_of x ≡ t.next_id = ap next_id_of table in
+    ap (λ (b : Bool). b || list_any (was_opened_as n) t.rows) (is_le t.next_id n (omega (arith, counts, from)))
+opens_step false device e n t x tables is at there from = refl
+
+row_itself : (n : ℕ) (row : Row) (rows : List Row) → row.opening ≡ n → list_any (was_opened_as n) (row ∷ rows) ≡ true
+row_itself n row rows same = ap (λ (b : Bool). b || list_any (was_opened_as n) rows) (is_same row.opening n same)
+
+or_right : (a b : Bool) → b ≡ true → (a || b) ≡ true
+or_right true b is = refl
+or_right false b is = is
+
+marked : (P : ℕ → Type 0) (q : ℕ → Bool) (rows : List Row) → ((row : Row) → list_any (was_opened_as row.opening) rows ≡ true → q row.opening ≡ true) → AllByRecursion (RowIds P (Passes any_opening)) rows → AllByRecursion (RowIds P (Passes q)) rows
+marked P q [] each all = tt
+marked P q (row ∷ rows) each all = (
+  record { o_t = all.0.o_t; t_o = all.0.t_o; opening = each row (row_itself row.opening row rows refl) },
+  marked P q rows (λ other stands. each other (or_right (was_opened_as other.opening row) (list_any (was_opened_as other.opening) rows) stands)) all.1,
+)
+
+mark_table : (ids q : ℕ → Bool) (x : DeviceTable) → ((a : AdapterTable) → x ≡ Adapter a → (row : Row) → list_any (was_opened_as row.opening) a.rows ≡ true → q row.opening ≡ true) → TableIds ids any_opening x → TableIds ids q x
+mark_table ids q (Adapter a) each table = marked (Passes ids) q a.rows (each a refl) table
+mark_table ids q (Scanner s) each table = table
+
+mark_step : (b : Bool) (device e n : ℕ) (t a : AdapterTable) (x : DeviceTable) (tables : List DeviceTable) → (e == device) ≡ b → slice_get tables device ≡ Some (Adapter t) → slice_get tables e ≡ Some x → x ≡ Adapter a → list_any (was_opened_as n) a.rows ≡ true → known_if t n b ≡ true
+mark_step true device e n t a x tables is at there table stands =
+    let same = same_is e device is in
+    let own : a ≡ t = adapter_same a t (sym table ∙ some_is x (Adapter t) (sym there ∙ ap (slice_get tables) same ∙ at)) in
+    or_right (nat_le t.next_id n) (list_any (was_opened_as n) t.rows) (subst (λ (y : AdapterTable). list_any (was_opened_as n) y.rows ≡ true) own stands)
+mark_step false device e n t a x tables is at there table stands = refl
+
+-- from the moment on it is known of each connection whether it stood then
+marked_moment : (device : ℕ) (t : AdapterTable) (w : World) → slice_get w.tables device ≡ Some (Adapter t) → Drawn (λ e opening. true) w → Drawn (known_from device t) w
+marked_moment device t w at drawn = record {
+  whole = drawn.whole;
+  apart = drawn.apart;
+  tables = λ e x there. mark_table (is_drawn w.tables) (known_from device t e) x (λ a table row stands. mark_step (e == device) device e row.opening t a x w.tables refl at there table stands) (drawn.tables e x there);
+  opens = λ e x there n from. opens_step (e == device) device e n t x w.tables refl at there from;
+  sent = drawn.sent;
+  streams = drawn.streams;
+}
+
+-- ---- connections of an adapter
+
+none_by : (b c : Bool) (x : Acceptance) → b ≡ false → cond (b && c) (x ∷ []) [] ≡ []
+none_by true c x is = absurd (let e = is in cc)
+none_by false c x is = refl
+
+left_known : (a b : Bool) → (a || b) ≡ true → b ≡ false → a ≡ true
+left_known true b is none = refl
+left_known false b is none = not_both b is none
+
+later_row : (was : World) (device : ℕ) (t u : AdapterTable) (opening : ℕ) (peer : Node) (s : Sent) (d : DatagramFields) (row : Row) (ids : ℕ → Bool) → AllByRecursion (SentHolds (Passes (is_drawn was.tables))) was.sent → slice_get was.tables device ≡ Some (Adapter t) → u.profile.incarnation ≡ t.profile.incarnation → IsWholeDevice (Adapter u) → TableIds ids (known_from device t device) (Adapter u) → list_any (was_opened_as opening) t.rows ≡ false → Contains was.sent s → datagram_reading s.bytes ≡ Ok d → find (is_for peer d.connection) u.rows ≡ Some row → was_opened_as opening row ≡ false
+later_row was device t u opening peer s d row ids all at byte whole table none there reads found =
+    false_unless (was_opened_as opening row) (λ is.
+    let same = same_is row.opening opening is in
+    let passes = found_passes (is_for peer d.connection) u.rows row found in
+    let parts = and_parts (is_established row) ((row.peer.0 == peer.0) && (row.o_t_id.0 == d.connection)) passes in
+    let own = and_parts (row.peer.0 == peer.0) (row.o_t_id.0 == d.connection) parts.1 in
+    let id = same_is row.o_t_id.0 d.connection own.1 in
+    let drawn_id = rows_found (is_for peer d.connection) u.profile u.next_id u.rows row found whole.sound.ids_are_drawn in
+    let value : row.o_t_id.0 ≡ u.profile.incarnation * 2 ^ 24 + row.opening = ap (λ (i : ConnId). i.0) drawn_id.0 in
+    let marks = (all_found (RowIds (Passes ids) (Passes (known_from device t device))) (is_for peer d.connection) u.rows row found table).opening in
+    let known : known_if t row.opening true ≡ true = ap (λ (b : Bool). known_if t row.opening b) (sym (equal_is device)) ∙ marks in
+    let stood : list_any (was_opened_as row.opening) t.rows ≡ false = ap (λ (n : ℕ). list_any (was_opened_as n) t.rows) same ∙ none in
+    let from = le_is t.next_id row.opening (left_known (nat_le t.next_id row.opening) (list_any (was_opened_as row.opening) t.rows) known stood) in
+    let room = whole.sound.ids_are_left in
+    let below = drawn_id.1 in
+    unsent was device (Adapter t) row.opening s d all at from (omega (arith, room, below)) there reads (omega (arith, id, value, byte)))
+
+accepts_none : (opening : ℕ) (u : AdapterTable) (peer : Node) (reading : Result DatagramFields DatagramFault) → ((d : DatagramFields) (row : Row) → reading ≡ Ok d → find (is_for peer d.connection) u.rows ≡ Some row → was_opened_as opening row ≡ false) → accepted_read opening u peer reading ≡ []
+accepts_none opening u peer (Err fault) later = refl
+accepts_none opening u peer (Ok d) later = found_none (find (is_for peer d.connection) u.rows) refl where
+  found_none : (found : Option Row) → find (is_for peer d.connection) u.rows ≡ found → accepted_found opening u.profile d found ≡ []
+  found_none None is = refl
+  found_none (Some row) is = none_by (was_opened_as opening row) _ _ (later d row refl is)
+
+pub later_connections : StepLaws → LaterConnectionsAcceptNoneOfIt
+later_connections laws start was now device opening t u s ids moments at_was at_now none there =
+    let drawn = at_moment laws start was now ids moments in
+    let later = runs_drawn laws (known_from device t) was now moments.late moments.rest (marked_moment device t was.world at_was drawn) in
+    let byte = byte_kept laws (λ e o. true) device (Adapter t) (Adapter u) was now moments.late moments.rest drawn at_was at_now in
+    accepts_none opening u s.from (datagram_reading s.bytes)
+    (λ d row reads found. later_row was.world device t u opening s.from s d row (is_drawn now.world.tables) drawn.sent at_was byte (later.whole device (Adapter u) at_now) (later.tables device (Adapter u) at_now) none there reads found)
+
+-- ---- groups
+
+pub later_groups : StepLaws → LaterGroupsSentNoneOfIt
+later_groups laws start was now device t u row s d ids moments at_was at_now among lives multicast from there reads is =
+    let drawn = at_moment laws start was now ids moments in
+    let later = runs_drawn laws (λ e o. true) was now moments.late moments.rest drawn in
+    let byte : u.profile.incarnation ≡ t.profile.incarnation = byte_kept laws (λ e o. true) device (Adapter t) (Adapter u) was now moments.late moments.rest drawn at_was at_now in
+    let whole = later.whole device (Adapter u) at_now in
+    let id = each_contains (MulticastIdIsDrawn u.profile u.next_id) u.rows row whole.sound.producers.multicast among lives multicast in
+    let value : row.t_o_id.0 ≡ u.profile.incarnation * 2 ^ 24 + (producer_of row.state + 1) = ap (λ (i : ConnId). i.0) id.0 in
+    let room = whole.sound.ids_are_left in
+    let below = id.1 in
+    unsent was.world device (Adapter t) (producer_of row.state + 1) s d drawn.sent at_was (omega (arith, from)) (omega (arith, room, below)) there reads (omega (arith, is, value, byte))

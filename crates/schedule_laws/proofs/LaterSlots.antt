@@ -1,0 +1,161 @@
+-- A point to point slot that is opened after a moment takes nothing that was sent by then; and a slot is established by
+-- the reply to its own request alone.
+use Rattle.std.proofs.Common.{◌≡◌, ◌≢◌, ◌≤◌, ℕ, suc, ◌+◌, ◌*◌, ◌^◌, ◌==◌, Bool, true, false, List, [], ◌∷◌, ◌++◌, Result, Ok, Err, refl, sym, ◌∙◌, ap, subst, arith}
+use Rattle.std.specs.List.{AllByRecursion}
+use Rattle.std.proofs.lemmas.Bool.{and_parts}
+use Rattle.std.proofs.lemmas.Bool.Decides.{nat_tests}
+use Rattle.cip_types.specs.declared.names.ConnId.{ConnId}
+use Rattle.cip_types.specs.declared.names.Node.{Node}
+use Rattle.cip_events.specs.declared.event.Answer.{Answer}
+use Rattle.cip_events.specs.declared.event.Event.{Event}
+use Rattle.cip_events.specs.declared.event.StepFault.{StepFault}
+use Rattle.scanner_table.specs.declared.profile.ScannerProfile.{ScannerProfile}
+use Rattle.scanner_table.specs.declared.profile.SlotConfig.{SlotConfig}
+use Rattle.scanner_table.specs.declared.slot.Connection.{Connection}
+use Rattle.scanner_table.specs.declared.slot.Slot.{Slot}
+use Rattle.scanner_table.specs.declared.slot.SlotState.{SlotState}
+use Rattle.scanner_table.specs.declared.slot.SlotState.TheVariants.{Idle, Opening, Established, TimedOut, Closing}
+use Rattle.scanner_table.specs.declared.table.ScannerTable.{ScannerTable}
+use Rattle.scanner_table.specs.Datagrams.{is_for}
+use Rattle.scanner_table.specs.Effects.{Next as ScannerNext}
+use Rattle.scanner_table.specs.Replies.{state_consumes}
+use Rattle.scanner_table.specs.Slots.{Place, places_from, places, is_with}
+use Rattle.scanner_table.specs.Step.{scanner_step}
+use Rattle.scanner_table.specs.Whole.{FitsState, SlotsFit}
+use Rattle.cip_tables.specs.declared.table.DeviceTable.{DeviceTable}
+use Rattle.cip_tables.specs.declared.table.DeviceTable.TheVariants.{Adapter, Scanner}
+use Rattle.cip_tables.specs.Run.{table_of}
+use Rattle.adapter_table.specs.declared.table.AdapterTable.{AdapterTable}
+use Rattle.adapter_table.specs.Requests.{Next}
+use Rattle.adapter_table.specs.Step.{adapter_step}
+use Rattle.cip_tables.specs.Step.{DeviceNext, as_adapter, as_scanner, step}
+use Rattle.cip_tables.specs.Whole.{IsWholeDevice, next_id_of, RunsKeepWhole}
+use Rattle.segment_world.specs.Story.{is_of}
+use Rattle.carried_ids.specs.Carrying.{IsFrom, StateFrom, PlaceFrom, SlotsFrom, StepsKeepFrom, RepliesEstablish}
+use Rattle.schedule_laws.specs.Stories.{led_by, led_to}
+use Rattle.schedule_laws.specs.Ids.{LaterSlotsTakeNoneOfIt, RepliesEstablishTheirOwn}
+use Rattle.schedule_laws.proofs.Lists.{some_is}
+use Rattle.schedule_laws.proofs.Tests.{false_unless}
+use Rattle.schedule_laws.proofs.Telling.{Answers, AnswersIf, Tells, led_both, tells_rest, tells_first, is_run, outcomes_of, same_place, story_leads}
+use Rattle.schedule_laws.proofs.Drawing.{StepLaws}
+use Rattle.schedule_laws.proofs.Later.{all_contains, unsent, StepsKeepIt, runs_kept, at_moment}
+
+-- ---- the scanner's step
+
+abbrev ok_of : DeviceNext → Result DeviceNext StepFault
+ok_of n = Ok n
+
+ok_inside : (x y : DeviceNext) → ok_of x ≡ ok_of y → x ≡ y
+ok_inside x y e = cc
+
+scanner_inside : (x y : ScannerTable) → Scanner x ≡ Scanner y → x ≡ y
+scanner_inside x y e = ap (λ (t : DeviceTable). scanner_or t) e where
+  scanner_or : DeviceTable → ScannerTable
+  scanner_or (Scanner t) = t
+  scanner_or (Adapter t) = x
+
+-- where a scanner's device answers, its table's step is this
+stepped_so : (a : Answer) (v : ScannerTable) (said : Result ScannerNext StepFault) → as_scanner said ≡ Ok (a, Scanner v) → said ≡ Ok (a, v)
+stepped_so a v (Err fault) is = absurd (let e = is in cc)
+stepped_so a v (Ok n) is =
+    let e = ok_inside (n.0, Scanner n.1) (a, Scanner v) is in
+    let answer : n.0 ≡ a = ap (λ (p : DeviceNext). p.0) e in
+    let table : n.1 ≡ v = scanner_inside n.1 v (ap (λ (p : DeviceNext). p.1) e) in
+    ap (λ (x : Answer). Ok (x, n.1)) answer ∙ ap (λ (x : ScannerTable). Ok (a, x)) table
+
+device_stepped : (u v : ScannerTable) (happens : Event) (a : Answer) → step (Scanner u) happens ≡ Ok (a, Scanner v) → scanner_step u happens ≡ Ok (a, v)
+unfolding step
+device_stepped u v happens a is = stepped_so a v (scanner_step u happens) is
+
+-- ---- slots that are opened later
+
+fits_from : (profile : ScannerProfile) (request first clock n : ℕ) (configs : List SlotConfig) (slots : List Slot) → SlotsFit request clock configs slots → AllByRecursion (PlaceFrom profile request first) (places_from n configs slots)
+fits_from profile request first clock n [] slots fit = tt
+fits_from profile request first clock n (config ∷ configs) [] fit = tt
+fits_from profile request first clock n (config ∷ configs) (slot ∷ slots) fit =
+    (λ single. state_from profile request first clock slot.wanted slot.state fit.0.state, fits_from profile request first clock (suc n) configs slots fit.1)
+  where
+    state_from : (profile : ScannerProfile) (request first clock : ℕ) (wanted : Bool) (state : SlotState) → FitsState request clock wanted state → StateFrom profile request first state
+    state_from profile request first clock wanted Idle is = tt
+    state_from profile request first clock wanted (Opening o) is = λ over. absurd (let below = is.1 in omega (arith, below, over))
+    state_from profile request first clock wanted (Established c) is = λ over. absurd (let below = is.1.opening in omega (arith, below, over))
+    state_from profile request first clock wanted (TimedOut link) is = tt
+    state_from profile request first clock wanted (Closing c) is = tt
+
+-- what a scanner keeps from the moment on
+abbrev GoesOn : ScannerProfile → ℕ → ℕ → DeviceTable → Type 0
+GoesOn profile request first (Scanner u) = (u.profile ≡ profile) × (first ≤ u.next_id) × SlotsFrom profile request first u
+GoesOn profile request first (Adapter a) = Unit {0}
+
+whole_ids : (u : DeviceTable) → IsWholeDevice u → next_id_of u ≤ 16777216
+whole_ids (Adapter u) whole = whole.sound.ids_are_left
+whole_ids (Scanner u) whole = whole.table.ids
+
+goes_scanner : StepLaws → StepsKeepFrom → (profile : ScannerProfile) (request first : ℕ) (t u : ScannerTable) (happens : Event) (a : Answer) → scanner_step t happens ≡ Ok (a, u) → IsWholeDevice (Scanner t) → IsWholeDevice (Scanner u) → GoesOn profile request first (Scanner t) → GoesOn profile request first (Scanner u)
+goes_scanner laws keeps profile request first t u happens a is whole whole_u goes =
+    let counts = laws.scanners t happens (a, u) is in
+    let before = goes.0 in
+    let from = goes.1 in
+    let slots : SlotsFrom t.profile request first t = subst (λ (p : ScannerProfile). SlotsFrom p request first t) (sym before) goes.2 in
+    let room = whole_ids (Scanner u) whole_u in
+    let now = keeps request first t happens a u is whole from (omega (arith, room)) slots in
+    (counts.profile ∙ before, omega (arith, from, counts.ids), subst (λ (p : ScannerProfile). SlotsFrom p request first u) before now)
+
+no_scanner : (a : Answer) (u : ScannerTable) (said : Result Next StepFault) → as_adapter said ≡ Ok (a, Scanner u) → ⊥
+no_scanner a u (Err fault) is = absurd (let e = is in cc)
+no_scanner a u (Ok n) is = let e = ap (λ (p : DeviceNext). p.1) (ok_inside (n.0, Adapter n.1) (a, Scanner u) is) in absurd cc
+
+stays_adapter : (t : AdapterTable) (u : ScannerTable) (happens : Event) (a : Answer) → step (Adapter t) happens ≡ Ok (a, Scanner u) → ⊥
+unfolding step
+stays_adapter t u happens a is = no_scanner a u (adapter_step t happens) is
+
+goes_device : StepLaws → StepsKeepFrom → (profile : ScannerProfile) (request first : ℕ) → StepsKeepIt (GoesOn profile request first)
+goes_device laws keeps profile request first (Scanner t) happens a (Scanner u) is whole whole_u goes = goes_scanner laws keeps profile request first t u happens a (device_stepped t u happens a is) whole whole_u goes
+goes_device laws keeps profile request first (Adapter t) happens a (Adapter u) is whole whole_u goes = tt
+goes_device laws keeps profile request first (Scanner t) happens a (Adapter u) is whole whole_u goes = tt
+goes_device laws keeps profile request first (Adapter t) happens a (Scanner u) is whole whole_u goes = absurd (stays_adapter t u happens a is)
+
+takes_none : (peer : Node) (id : ℕ) (place : Place) (c : Connection) → place.slot.state ≡ Established c → id ≢ c.link.t_o_id.0 → is_for peer id place ≡ false
+takes_none peer id place c is other =
+    false_unless (is_for peer id place) (λ takes.
+    let parts = and_parts (is_with peer place) (state_consumes (record { 0 = id }) place.slot.state) takes in
+    let consumes : (c.link.t_o_id.0 == id) ≡ true = sym (ap (state_consumes (record { 0 = id })) is) ∙ parts.1 in
+    other (sym (same_place c.link.t_o_id.0 id consumes)))
+
+established_from : (profile : ScannerProfile) (request first : ℕ) (place : Place) (c : Connection) → PlaceFrom profile request first place → place.config.multicast ≡ false → place.slot.state ≡ Established c → request ≤ c.opening → IsFrom profile first c.link.t_o_id
+established_from profile request first place c from single is over = (subst (StateFrom profile request first) is (from single)) over
+
+pub later_slots : StepLaws → StepsKeepFrom → LaterSlotsTakeNoneOfIt
+later_slots laws keeps start was now device t u place c s d ids moments at_was at_now among single is over there reads =
+    let drawn = at_moment laws start was now ids moments in
+    let whole = drawn.whole device (Scanner t) at_was in
+    let first : GoesOn t.profile t.next_request t.next_id (Scanner t) = (refl, omega arith, fits_from t.profile t.next_request t.next_id t.clock.0 0 t.profile.slots t.slots whole.table.slots) in
+    let kept = runs_kept laws (GoesOn t.profile t.next_request t.next_id) (goes_device laws keeps t.profile t.next_request t.next_id) (λ e o. true) device was now moments.late moments.rest
+    (record { drawn = drawn; holds = λ x at. subst (GoesOn t.profile t.next_request t.next_id) (some_is (Scanner t) x (sym at_was ∙ at)) first }) in
+    let goes = kept.holds (Scanner u) at_now in
+    let from = established_from t.profile t.next_request t.next_id place c (all_contains (PlaceFrom t.profile t.next_request t.next_id) (places u) place goes.2 among) single is over in
+    let value : c.link.t_o_id.0 ≡ t.profile.incarnation * 2 ^ 24 + from.counter = ap (λ (i : ConnId). i.0) from.is in
+    let begins = from.begins in
+    let ends = from.ends in
+    takes_none s.from d.connection place c is (λ same. unsent was.world device (Scanner t) from.counter s d drawn.sent at_was begins (omega (arith, ends)) there reads (omega (arith, same, value)))
+
+-- ---- replies
+
+same_is : (a b : ℕ) → a ≡ b → (a == b) ≡ true
+same_is a b is = grind (arith, nat_tests)
+
+pub replies_establish_their_own : RunsKeepWhole → RepliesEstablish → RepliesEstablishTheirOwn
+replies_establish_their_own runs_whole law start acts story device t u v before after told ran at whole parts own there then_there =
+    let leads = story_leads start acts story device t ran at in
+    let tells : Tells t device (before ++ told ∷ after) = subst (Tells t device) parts leads.tells in
+    let rest = tells_rest t device before (told ∷ after) tells in
+    let mine : is_of device told ≡ true = same_is told.device device own in
+    let answers : Answers (led_to t device before) told = subst (λ (b : Bool). AnswersIf b (led_to t device before) told) mine rest.0 in
+    let stepped : step (Scanner u) told.event ≡ Ok (told.answer, answers.next) = subst (λ (x : DeviceTable). step x told.event ≡ Ok (told.answer, answers.next)) there answers.is in
+    let left : led_to t device (before ++ told ∷ []) ≡ answers.next =
+    led_both t device before (told ∷ []) ∙ ap (λ (c : Bool). led_by c (led_to t device before) told) mine ∙ ap (table_of (led_to t device before)) answers.is in
+    let next : answers.next ≡ Scanner v = sym left ∙ then_there in
+    let so : step (Scanner u) told.event ≡ Ok (told.answer, Scanner v) = subst (λ (x : DeviceTable). step (Scanner u) told.event ≡ Ok (told.answer, x)) next stepped in
+    let run = is_run t device before (tells_first t device before (told ∷ after) tells) in
+    let whole_u : IsWholeDevice (Scanner u) = subst IsWholeDevice there (runs_whole t (led_to t device before) _ (outcomes_of device before) whole run) in
+    law u told.event told.answer v (device_stepped u v told.event told.answer so) whole_u

@@ -1,0 +1,142 @@
+-- Which ids a device has still to draw, and which none has.
+use Rattle.std.proofs.Common.{◌≡◌, ◌≢◌, ◌≤◌, ◌<◌, ◌⊎◌, inl, inr, ℕ, zero, suc, ◌+◌, ◌*◌, ◌^◌, ◌==◌, ◌&&◌, not, nat_le, nat_lt, Bool, true, false, List, [], ◌∷◌, set, slice_get, Some, refl, sym, ◌∙◌, ap, subst, arith}
+use Rattle.std.specs.List.{list_any}
+use Rattle.std.proofs.lemmas.Bool.{and_parts, or_parts}
+use Rattle.std.proofs.lemmas.Bool.Decides.{nat_tests}
+use Rattle.cip_tables.specs.declared.table.DeviceTable.{DeviceTable}
+use Rattle.cip_tables.specs.Step.{incarnation_of}
+use Rattle.cip_tables.specs.Whole.{next_id_of}
+use Rattle.carried_ids.specs.Carrying.{Passes}
+use Rattle.schedule_laws.specs.Ids.{is_to_come, is_drawn, AreApart}
+use Rattle.schedule_laws.proofs.Lists.{some_is, set_own, set_other}
+
+pub false_unless : (b : Bool) → (b ≡ true → ⊥) → b ≡ false
+false_unless true no_way = absurd (no_way refl)
+false_unless false no_way = refl
+
+pub not_both : {X : Type 0} (b : Bool) → b ≡ true → b ≡ false → X
+not_both true yes_is no_is = absurd (let e = no_is in cc)
+not_both false yes_is no_is = absurd (let e = yes_is in cc)
+
+le_is : (a b : ℕ) → nat_le a b ≡ true → a ≤ b
+le_is a b is = grind (arith, nat_tests)
+
+lt_is : (a b : ℕ) → nat_lt a b ≡ true → a < b
+lt_is a b is = grind (arith, nat_tests)
+
+is_le : (a b : ℕ) → a ≤ b → nat_le a b ≡ true
+is_le a b le = grind (arith, nat_tests)
+
+is_lt : (a b : ℕ) → a < b → nat_lt a b ≡ true
+is_lt a b lt = grind (arith, nat_tests)
+
+and_true : (a b : Bool) → a ≡ true → b ≡ true → (a && b) ≡ true
+and_true true true x y = refl
+and_true true false x y = absurd cc
+and_true false b x y = absurd cc
+
+-- what it means that an id is to come
+pub record Comes (id incarnation next : ℕ) : Type 0 where
+  pub from : incarnation * 16777216 + next ≤ id
+  pub below : id < (incarnation + 1) * 16777216
+
+pub comes_so : (id : ℕ) (t : DeviceTable) → is_to_come id t ≡ true → Comes id (incarnation_of t) (next_id_of t)
+comes_so id t is =
+    let parts = and_parts (nat_le (incarnation_of t * 2 ^ 24 + next_id_of t) id) (nat_lt id ((incarnation_of t + 1) * 2 ^ 24)) is in
+    record { from = le_is _ _ parts.0; below = lt_is _ _ parts.1 }
+
+pub so_comes : (id : ℕ) (t : DeviceTable) → Comes id (incarnation_of t) (next_id_of t) → is_to_come id t ≡ true
+so_comes id t c = and_true _ _ (is_le (incarnation_of t * 2 ^ 24 + next_id_of t) id c.from) (is_lt id ((incarnation_of t + 1) * 2 ^ 24) c.below)
+
+-- the next table of a device has no more to come
+pub comes_less : (id : ℕ) (t u : DeviceTable) → incarnation_of u ≡ incarnation_of t → next_id_of t ≤ next_id_of u → is_to_come id t ≡ false → is_to_come id u ≡ false
+comes_less id t u same counts none =
+    false_unless (is_to_come id u) (λ is.
+    let c = comes_so id u is in
+    not_both (is_to_come id t) (so_comes id t (record { from = omega (arith, c.from, same, counts); below = omega (arith, c.below, same) })) none)
+
+pub any_set : (id : ℕ) (tables : List DeviceTable) (device : ℕ) (t u : DeviceTable) → slice_get tables device ≡ Some t → incarnation_of u ≡ incarnation_of t → next_id_of t ≤ next_id_of u → list_any (is_to_come id) tables ≡ false → list_any (is_to_come id) (set tables device u) ≡ false
+any_set id [] device t u at same counts none = none
+any_set id (x ∷ tables) zero t u at same counts none =
+    let parts = or_parts (is_to_come id x) (list_any (is_to_come id) tables) none in
+    let first : is_to_come id t ≡ false = subst (λ (y : DeviceTable). is_to_come id y ≡ false) (some_is x t at) parts.0 in
+    let now = comes_less id t u same counts first in
+    rw (now) parts.1
+any_set id (x ∷ tables) (suc device) t u at same counts none =
+    let parts = or_parts (is_to_come id x) (list_any (is_to_come id) tables) none in
+    let first = parts.0 in
+    rw (first) (any_set id tables device t u at same counts parts.1)
+
+pub any_none : (id : ℕ) (tables : List DeviceTable) → ((device : ℕ) (t : DeviceTable) → slice_get tables device ≡ Some t → is_to_come id t ≡ false) → list_any (is_to_come id) tables ≡ false
+any_none id [] each = refl
+any_none id (x ∷ tables) each =
+    let first = each 0 x refl in
+    rw (first) (any_none id tables (λ device t at. each (suc device) t at))
+
+pub none_at : (id : ℕ) (tables : List DeviceTable) (device : ℕ) (t : DeviceTable) → list_any (is_to_come id) tables ≡ false → slice_get tables device ≡ Some t → is_to_come id t ≡ false
+none_at id [] device t none at = absurd (let e = at in cc)
+none_at id (x ∷ tables) zero t none at = subst (λ (y : DeviceTable). is_to_come id y ≡ false) (some_is x t at) (or_parts (is_to_come id x) (list_any (is_to_come id) tables) none).0
+none_at id (x ∷ tables) (suc device) t none at = none_at id tables device t (or_parts (is_to_come id x) (list_any (is_to_come id) tables) none).1 at
+
+-- what the test says
+not_is : (b : Bool) → not b ≡ true → b ≡ false
+not_is true is = absurd (let e = is in cc)
+not_is false is = refl
+
+is_not : (b : Bool) → b ≡ false → not b ≡ true
+is_not true is = absurd (let e = is in cc)
+is_not false is = refl
+
+pub drawn_parts : (tables : List DeviceTable) (id : ℕ) → Passes (is_drawn tables) id → (id < 4294967296) × (list_any (is_to_come id) tables ≡ false)
+drawn_parts tables id passes =
+    let parts = and_parts (nat_lt id (2 ^ 32)) (not (list_any (is_to_come id) tables)) passes in
+    (lt_is _ _ parts.0, not_is (list_any (is_to_come id) tables) parts.1)
+
+pub parts_drawn : (tables : List DeviceTable) (id : ℕ) → id < 4294967296 → list_any (is_to_come id) tables ≡ false → Passes (is_drawn tables) id
+parts_drawn tables id fits none = and_true _ _ (is_lt id (2 ^ 32) fits) (is_not (list_any (is_to_come id) tables) none)
+
+-- ---- one table is another
+
+same_is : (a b : ℕ) → (a == b) ≡ true → a ≡ b
+same_is a b is = grind (arith, nat_tests)
+
+other_is : (a b : ℕ) → (a == b) ≡ false → a ≢ b
+other_is a b is = grind (arith, nat_tests)
+
+set_step : (b : Bool) (tables : List DeviceTable) (device e : ℕ) (t u x : DeviceTable) → (e == device) ≡ b → slice_get tables device ≡ Some t → slice_get (set tables device u) e ≡ Some x → ((e ≡ device) × (x ≡ u)) ⊎ ((e ≢ device) × (slice_get tables e ≡ Some x))
+set_step true tables device e t u x is at there =
+    let same = same_is e device is in
+    inl (same, some_is x u (sym there ∙ ap (slice_get (set tables device u)) same ∙ set_own tables device t u at))
+set_step false tables device e t u x is at there =
+    let ne = other_is e device is in
+    inr (ne, sym (set_other tables device e u ne) ∙ there)
+
+pub set_cases : (tables : List DeviceTable) (device e : ℕ) (t u x : DeviceTable) → slice_get tables device ≡ Some t → slice_get (set tables device u) e ≡ Some x → ((e ≡ device) × (x ≡ u)) ⊎ ((e ≢ device) × (slice_get tables e ≡ Some x))
+set_cases tables device e t u x at there = set_step (e == device) tables device e t u x refl at there
+
+-- ---- ids that are drawn now
+
+not_own : (id : ℕ) (u : DeviceTable) (counter : ℕ) → id ≡ incarnation_of u * 16777216 + counter → counter < next_id_of u → is_to_come id u ≡ false
+not_own id u counter is below = false_unless (is_to_come id u) (λ come. let c = comes_so id u come in omega (arith, is, below, c.from))
+
+not_other : (id : ℕ) (x : DeviceTable) (incarnation counter : ℕ) → id ≡ incarnation * 16777216 + counter → counter < 16777216 → incarnation_of x ≢ incarnation → is_to_come id x ≡ false
+not_other id x incarnation counter is below other =
+    false_unless (is_to_come id x) (λ come. let c = comes_so id x come in other (omega (arith, is, below, c.from, c.below)))
+
+pub now_drawn : (tables : List DeviceTable) (device : ℕ) (t u : DeviceTable) (counter : ℕ) → AreApart tables → slice_get tables device ≡ Some t → incarnation_of u ≡ incarnation_of t → counter < next_id_of u → next_id_of u ≤ 16777216 → Passes (is_drawn (set tables device u)) (incarnation_of t * 2 ^ 24 + counter)
+now_drawn tables device t u counter apart at same below room =
+    let id = incarnation_of t * 2 ^ 24 + counter in
+    let byte = apart.ends device t at in
+    parts_drawn (set tables device u) (incarnation_of t * 2 ^ 24 + counter) (omega (arith, below, room, byte))
+    (any_none (incarnation_of t * 2 ^ 24 + counter) (set tables device u) (λ e x there.
+    elim (set_cases tables device e t u x at there) [
+      | inl own ↦ subst (λ (y : DeviceTable). is_to_come id y ≡ false) (sym own.1) (not_own id u counter (omega (arith, same)) below)
+      | inr other ↦ not_other id x (incarnation_of t) counter (omega arith) (omega (arith, below, room)) (λ e_is. other.0 (apart.differ e device x t other.1 at e_is))
+    ]))
+
+-- 0 is no id of a device
+pub zero_drawn : (tables : List DeviceTable) → ((device : ℕ) (t : DeviceTable) → slice_get tables device ≡ Some t → 1 ≤ incarnation_of t) → Passes (is_drawn tables) 0
+zero_drawn tables begins =
+    parts_drawn tables 0 (omega arith) (any_none 0 tables (λ device t at.
+    let some = begins device t at in
+    false_unless (is_to_come 0 t) (λ come. let c = comes_so 0 t come in omega (arith, some, c.from))))

@@ -1,0 +1,156 @@
+-- Connection ids in every schedule of many devices: none stands anywhere that a device has still to draw. So an id names
+-- what it was drawn for, and a connection accepts nothing that was sent before its id was drawn (Volume 1, chapter 3,
+-- network connection ids).
+use Rattle.std.specs.Prelude.{ℕ, ◌≡◌, ◌≢◌, ◌+◌, ◌*◌, ◌^◌, ◌<◌, ◌≤◌, ◌&&◌, not, nat_lt, nat_le, Bool, true, false, List, [], ◌∷◌, ◌++◌, slice_get, Some, None, Ok}
+use Rattle.std.specs.List.{AllByRecursion, Contains, list_any}
+use Rattle.cip_datagram.specs.Datagram.{DatagramFields}
+use Rattle.cip_datagram.specs.Reading.{datagram_reading}
+use Rattle.cip_events.specs.declared.event.Event.TheVariants.{Datagram}
+use Rattle.adapter_table.specs.declared.row.Row.{Row}
+use Rattle.adapter_table.specs.declared.table.AdapterTable.{AdapterTable}
+use Rattle.adapter_table.specs.Newest.{was_opened_as, accepted_at}
+use Rattle.adapter_table.specs.Productions.{producer_of}
+use Rattle.adapter_table.specs.Rows.{is_established}
+use Rattle.scanner_table.specs.declared.slot.Connection.{Connection}
+use Rattle.scanner_table.specs.declared.slot.SlotState.TheVariants.{Established}
+use Rattle.scanner_table.specs.declared.table.ScannerTable.{ScannerTable}
+use Rattle.scanner_table.specs.Datagrams.{is_for}
+use Rattle.scanner_table.specs.Slots.{Place, places}
+use Rattle.cip_tables.specs.declared.table.Config.{Config}
+use Rattle.cip_tables.specs.declared.table.DeviceTable.{DeviceTable}
+use Rattle.cip_tables.specs.declared.table.DeviceTable.TheVariants.{Adapter, Scanner}
+use Rattle.cip_tables.specs.Step.{incarnation_of, opening_table}
+use Rattle.cip_tables.specs.Whole.{IsWholeDevice, next_id_of}
+use Rattle.sent_log.specs.Log.{Sent}
+use Rattle.stream_queues.specs.Streams.{Item, Opening, Queued, Ending, Side, Stream}
+use Rattle.segment_world.specs.declared.act.Act.{Act}
+use Rattle.segment_world.specs.World.{World, Told}
+use Rattle.segment_world.specs.Story.{Story, runs, begins}
+use Rattle.segment_world.specs.Configs.{opening_world, world_fault}
+use Rattle.carried_ids.specs.Ids.{FrameIds, DatagramId}
+use Rattle.carried_ids.specs.Carrying.{Passes, TableIds, PlaceCame}
+use Rattle.schedule_laws.specs.Stories.{led_to}
+
+-- IDS TO COME
+
+-- the device has still to draw the id: it begins with the device's byte, and its counter is the next one or a later one
+abbrev pub is_to_come : ℕ → DeviceTable → Bool
+is_to_come id t = nat_le (incarnation_of t * 2 ^ 24 + next_id_of t) id && nat_lt id ((incarnation_of t + 1) * 2 ^ 24)
+
+-- an id of 32 bits that no device has still to draw
+abbrev pub is_drawn : List DeviceTable → ℕ → Bool
+is_drawn tables id = nat_lt id (2 ^ 32) && not (list_any (is_to_come id) tables)
+
+-- the devices' ids begin with bytes that are not 0 and differ
+pub record AreApart (tables : List DeviceTable) : Type 0 where
+  pub begins : (device : ℕ) (t : DeviceTable) → slice_get tables device ≡ Some t → 1 ≤ incarnation_of t
+  pub ends : (device : ℕ) (t : DeviceTable) → slice_get tables device ≡ Some t → incarnation_of t ≤ 255
+  pub differ : (a b : ℕ) (t u : DeviceTable) → slice_get tables a ≡ Some t → slice_get tables b ≡ Some u → incarnation_of t ≡ incarnation_of u → a ≡ b
+
+-- WHERE IDS STAND
+
+-- it holds of each frame that waits
+abbrev pub ItemHolds : (List ℕ → Type 0) → Item → Type 0
+ItemHolds Q Opening = Unit {0}
+ItemHolds Q (Queued bytes) = Q bytes
+ItemHolds Q Ending = Unit {0}
+
+abbrev pub SideHolds : (List ℕ → Type 0) → Side → Type 0
+SideHolds Q side = AllByRecursion (ItemHolds Q) side.queue
+
+pub record StreamHolds (Q : List ℕ → Type 0) (s : Stream) : Type 0 where
+  pub forth : SideHolds Q s.forth
+  pub back : SideHolds Q s.back
+
+abbrev pub StreamsHold : (List ℕ → Type 0) → List Stream → Type 0
+StreamsHold Q streams = AllByRecursion (StreamHolds Q) streams
+
+abbrev pub SentHolds : (ℕ → Type 0) → Sent → Type 0
+SentHolds P sent = DatagramId P sent.bytes
+
+abbrev pub any_opening : ℕ → Bool
+any_opening opening = true
+
+-- In the world of whole devices no id stands anywhere that a device has still to draw: in no table, in no datagram that was
+-- ever sent, and in no frame that waits on a stream, whether it is read as a request or as a reply.
+pub record IdsAreDrawn (w : World) : Type 0 where
+  pub whole : (device : ℕ) (t : DeviceTable) → slice_get w.tables device ≡ Some t → IsWholeDevice t
+  pub apart : AreApart w.tables
+  pub tables : (device : ℕ) (t : DeviceTable) → slice_get w.tables device ≡ Some t → TableIds (is_drawn w.tables) any_opening t
+  pub sent : AllByRecursion (SentHolds (Passes (is_drawn w.tables))) w.sent
+  pub streams : StreamsHold (FrameIds (Passes (is_drawn w.tables))) w.streams
+
+-- every schedule keeps that
+abbrev pub SchedulesKeepIdsDrawn : Type 0
+SchedulesKeepIdsDrawn =
+    (start : World) (acts : List Act) (story : Story) → runs (begins start) acts ≡ Ok story → IdsAreDrawn start → IdsAreDrawn story.world
+
+-- in the program an incarnation is a byte
+abbrev pub AreBytes : List Config → Type 0
+AreBytes configs = AllByRecursion (λ config. incarnation_of (opening_table config) ≤ 255) configs
+
+-- and a world has it that begins from configurations with nothing wrong
+abbrev pub OpeningWorldsHaveIdsDrawn : Type 0
+OpeningWorldsHaveIdsDrawn = (configs : List Config) → world_fault configs ≡ None → AreBytes configs → IdsAreDrawn (opening_world configs)
+
+-- WHAT WAS SENT BEFORE
+
+-- Two moments of one schedule: the acts of the first part lead from the start to the earlier one, those of the rest to the
+-- later one.
+pub record Moments (start : World) (was now : Story) : Type 0 where
+  pub early : List Act
+  pub late : List Act
+  pub first : runs (begins start) early ≡ Ok was
+  pub rest : runs (Ok was) late ≡ Ok now
+
+-- the ids that a device has still to draw at a moment are on no datagram that was sent by then
+abbrev pub IdsToComeAreUnsent : Type 0
+IdsToComeAreUnsent =
+    (w : World) (device : ℕ) (t : DeviceTable) (counter : ℕ) (s : Sent) (d : DatagramFields) →
+    IdsAreDrawn w → slice_get w.tables device ≡ Some t → next_id_of t ≤ counter → counter < 2 ^ 24 →
+    Contains w.sent s → datagram_reading s.bytes ≡ Ok d → d.connection ≢ incarnation_of t * 2 ^ 24 + counter
+
+-- A connection that an adapter took after a moment, that is, which did not stand there then, accepts no datagram that was
+-- sent by then, from whomever and however late it is delivered.
+abbrev pub LaterConnectionsAcceptNoneOfIt : Type 0
+LaterConnectionsAcceptNoneOfIt =
+    (start : World) (was now : Story) (device opening : ℕ) (t u : AdapterTable) (s : Sent) →
+    IdsAreDrawn start → Moments start was now →
+    slice_get was.world.tables device ≡ Some (Adapter t) → slice_get now.world.tables device ≡ Some (Adapter u) →
+    list_any (was_opened_as opening) t.rows ≡ false → Contains was.world.sent s →
+    accepted_at opening u (Datagram s.from s.bytes) ≡ []
+
+-- The same of a slot of a scanner whose point to point connection it asked for after the moment: no datagram that was sent
+-- by then is for it.
+abbrev pub LaterSlotsTakeNoneOfIt : Type 0
+LaterSlotsTakeNoneOfIt =
+    (start : World) (was now : Story) (device : ℕ) (t u : ScannerTable) (place : Place) (c : Connection) (s : Sent) (d : DatagramFields) →
+    IdsAreDrawn start → Moments start was now →
+    slice_get was.world.tables device ≡ Some (Scanner t) → slice_get now.world.tables device ≡ Some (Scanner u) →
+    Contains (places u) place → place.config.multicast ≡ false → place.slot.state ≡ Established c → t.next_request ≤ c.opening →
+    Contains was.world.sent s → datagram_reading s.bytes ≡ Ok d →
+    is_for s.from d.connection place ≡ false
+
+-- A group of multicast connections that began after the moment, by the number of its producer, has a T->O id that is on no
+-- datagram sent by then: who joins it accepts what the group sent before, and nothing of a producer before it.
+abbrev pub LaterGroupsSentNoneOfIt : Type 0
+LaterGroupsSentNoneOfIt =
+    (start : World) (was now : Story) (device : ℕ) (t u : AdapterTable) (row : Row) (s : Sent) (d : DatagramFields) →
+    IdsAreDrawn start → Moments start was now →
+    slice_get was.world.tables device ≡ Some (Adapter t) → slice_get now.world.tables device ≡ Some (Adapter u) →
+    Contains u.rows row → is_established row ≡ true → row.multicast ≡ true → t.next_id ≤ producer_of row.state →
+    Contains was.world.sent s → datagram_reading s.bytes ≡ Ok d →
+    d.connection ≢ row.t_o_id.0
+
+-- REPLIES
+
+-- In the story of every schedule a slot of a scanner that is established after an event was so by the same opening before it,
+-- or waited for the answer to it, and the event is the success that answers the request of its number. So a reply that is
+-- taken late belongs to the earlier opening.
+abbrev pub RepliesEstablishTheirOwn : Type 0
+RepliesEstablishTheirOwn =
+    (start : World) (acts : List Act) (story : Story) (device : ℕ) (t : DeviceTable) (u v : ScannerTable) (before after : List Told) (told : Told) →
+    runs (begins start) acts ≡ Ok story → slice_get start.tables device ≡ Some t → IsWholeDevice t →
+    story.told ≡ before ++ told ∷ after → told.device ≡ device →
+    led_to t device before ≡ Scanner u → led_to t device (before ++ told ∷ []) ≡ Scanner v →
+    AllByRecursion (PlaceCame u told.event) (places v)
