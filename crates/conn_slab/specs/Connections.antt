@@ -1,0 +1,46 @@
+-- What happens to the connections of an adapter, as a list in opening order.
+use Rattle.std.specs.Prelude.{ℕ, ◌≤◌, ◌==◌, if◌then◌else◌, Bool, List, length, Option, Some, None}
+use Rattle.cip_types.specs.declared.names.Triad.{Triad}
+use Rattle.cip_types.specs.declared.names.Ms.{Ms}
+use Rattle.cip_types.specs.declared.names.Node.{Node}
+use Rattle.adapter_table.specs.declared.row.Row.{Row}
+use Rattle.adapter_table.specs.declared.row.State.TheVariants.{TimedOut}
+use Rattle.adapter_table.specs.Rows.{most_rows, holds_triad}
+use Rattle.adapter_table.specs.Closing.{without_triad}
+use Rattle.adapter_table.specs.Datagrams.{is_for}
+use Rattle.adapter_table.specs.Sound.{TriadsDiffer, IdsDiffer, GroupsAgree, GroupsAloneShare}
+use Rattle.adapter_table.specs.Whole.{RowsFit}
+
+-- the connections without that of the triad, where one is named
+abbrev pub without : Option Triad → List Row → List Row
+without None rows = rows
+without (Some triad) rows = without_triad triad rows
+
+-- the connections of an adapter can be these: few, of different triads and O->T ids, within their limits, and those
+-- that share a producer alike
+pub record AreConnections (rows : List Row) : Type 0 where
+  pub few : length rows ≤ most_rows
+  pub triads : TriadsDiffer rows
+  pub ids : IdsDiffer rows
+  pub fit : RowsFit rows
+  pub agree : GroupsAgree rows
+  pub share : GroupsAloneShare rows
+
+-- a connection whose watchdog has run out
+abbrev pub timed_out : Row → Row
+timed_out row = record row { state = TimedOut }
+
+-- the established connection of the triad times out
+abbrev pub timed_out_if : Triad → Row → Row
+timed_out_if triad row = if holds_triad triad row then timed_out row else row
+
+-- a connection that has accepted a datagram of this number and count, and waits until the deadline
+abbrev pub accepting : ℕ → ℕ → Ms → Row → Row
+accepting number count deadline row = record row { last = Some (record { number = number; count = count }); deadline = deadline }
+
+-- the same, where it is an established one of the peer, with this O->T id
+abbrev pub accepting_if : Node → ℕ → ℕ → ℕ → Ms → Row → Row
+accepting_if peer id number count deadline row = if is_for peer id row then accepting number count deadline row else row
+
+abbrev pub is_opened_at : ℕ → Row → Bool
+is_opened_at opening row = row.opening == opening

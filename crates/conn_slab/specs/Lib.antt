@@ -1,0 +1,4 @@
+pub mod Index
+pub mod Records
+pub mod Layout
+pub mod Connections

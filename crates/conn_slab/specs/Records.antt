@@ -1,0 +1,111 @@
+-- Records of connections, whose productions stand in a pool, and the connections that they are.
+use Rattle.std.specs.Prelude.{ℕ, ◌==◌, ◌&&◌, Bool, false, List, Option, Some, None}
+use Rattle.cip_types.specs.declared.names.Triad.{Triad}
+use Rattle.cip_netparams.specs.declared.Trigger.TheVariants.{Cyclic}
+use Rattle.cip_productions.specs.declared.production.Production.{Production}
+use Rattle.cip_productions.specs.declared.production.Producer.{Producer}
+use Rattle.adapter_table.specs.declared.row.Row.{Row}
+use Rattle.adapter_table.specs.declared.row.State.{State}
+use Rattle.adapter_table.specs.declared.row.State.TheVariants.{Established, TimedOut}
+use Rattle.adapter_table.specs.Productions.{producer_in}
+use Rattle.mcast_pool.specs.declared.group.Group.{Group}
+use Rattle.mcast_pool.specs.Groups.{numbered, joined, left, begun}
+use Rattle.conn_slab.specs.declared.record.Record.{Record}
+use Rattle.conn_slab.specs.declared.record.TriadKey.{TriadKey}
+use Rattle.conn_slab.specs.declared.record.Place.{Place}
+
+-- THE CONNECTION OF A RECORD
+
+-- what is read where a number is that of no producer
+abbrev pub no_production : Production
+no_production = record { producer = 0; sequence = 0; count = 0; written = false; due = record { 0 = 0 }; address = record { 0 = 0 }; trigger = Cyclic; inhibit = 0; last = None }
+
+abbrev pub production_in : Option Group → Production
+production_in None = no_production
+production_in (Some group) = group.producer.production
+
+-- established where it has a producer, with the production of its group
+abbrev pub state_of : List Group → Option ℕ → State
+state_of pool None = TimedOut
+state_of pool (Some number) = Established (production_in (numbered number pool))
+
+abbrev pub row_of : List Group → Record → Row
+row_of pool r = record {
+  triad = r.triad;
+  peer = r.peer;
+  kind = r.kind;
+  consumed = r.consumed;
+  produced = r.produced;
+  o_t_id = r.o_t_id;
+  t_o_id = r.t_o_id;
+  o_t_api = r.o_t_api;
+  t_o_api = r.t_o_api;
+  multiplier = r.multiplier;
+  multicast = r.multicast;
+  opening = r.opening;
+  last = r.last;
+  deadline = r.deadline;
+  state = state_of pool r.producer;
+}
+
+-- THE RECORD OF A CONNECTION
+
+-- the number of its producer, which an established connection has
+abbrev pub number_in : State → Option ℕ
+number_in (Established production) = Some production.producer
+number_in TimedOut = None
+
+abbrev pub record_of : Row → Record
+record_of row = record {
+  triad = row.triad;
+  peer = row.peer;
+  kind = row.kind;
+  consumed = row.consumed;
+  produced = row.produced;
+  o_t_id = row.o_t_id;
+  t_o_id = row.t_o_id;
+  o_t_api = row.o_t_api;
+  t_o_api = row.t_o_api;
+  multiplier = row.multiplier;
+  multicast = row.multicast;
+  opening = row.opening;
+  last = row.last;
+  deadline = row.deadline;
+  producer = number_in row.state;
+}
+
+-- WHAT LEADS TO A RECORD
+
+abbrev pub key_for : Triad → TriadKey
+key_for triad = record { serial = triad.serial; vendor = triad.vendor; originator = triad.originator }
+
+abbrev pub key_of : Record → TriadKey
+key_of r = key_for r.triad
+
+abbrev pub same_key : TriadKey → TriadKey → Bool
+same_key a b = a.serial == b.serial && (a.vendor == b.vendor && a.originator == b.originator)
+
+-- the record is that of the triad
+abbrev pub is_of : TriadKey → Record → Bool
+is_of name r = same_key name (key_of r)
+
+abbrev pub place_of : Record → Place
+place_of r = record { peer = r.peer.0; id = r.o_t_id.0 }
+
+abbrev pub same_place : Place → Place → Bool
+same_place a b = a.peer == b.peer && a.id == b.id
+
+-- PRODUCERS
+
+abbrev pub entered_with : Row → Option Producer → List Group → List Group
+entered_with row None pool = pool
+entered_with row (Some producer) pool = joined (begun producer row.multicast row.t_o_api) pool
+
+-- the pool once a connection has joined its producer, if it has one
+abbrev pub entered : Row → List Group → List Group
+entered row pool = entered_with row (producer_in row) pool
+
+-- the pool once a connection has left its producer, if it has one
+abbrev pub left_by : Option ℕ → List Group → List Group
+left_by None pool = pool
+left_by (Some number) pool = left number pool

@@ -1,0 +1,259 @@
+//! The connections of an adapter.
+
+ghost use Rattle.std.specs.Prelude.{◌≡◌, ◌≤◌, ◌<◌, ◌^◌, ◌++◌, ◌∷◌, [], OnOk, OnErr, IfOk, find, map, length};
+ghost use Rattle.std.specs.List.{list_any};
+ghost use Rattle.slab.specs.Slab.{HasRoomFor};
+ghost use Rattle.indexmap.specs.IndexMap.{spare};
+ghost use Rattle.adapter_table.specs.Rows.{has_triad, holds_triad};
+ghost use Rattle.adapter_table.specs.Closing.{without_triad};
+ghost use Rattle.adapter_table.specs.Datagrams.{is_for};
+ghost use Rattle.conn_slab.specs.Index.{items_of};
+ghost use Rattle.conn_slab.specs.Records.{row_of};
+ghost use Rattle.conn_slab.specs.Layout.{IsTied};
+ghost use Rattle.conn_slab.specs.Connections.{without, AreConnections, timed_out_if, accepting_if, is_opened_at};
+
+use crate::index::{Places, Triads, make_room, put_last, running, take_record};
+use crate::producers::{enter, leave, row_of};
+use crate::record::{Place, Record, key_for, record_of};
+use crate::rows::Rows;
+use adapter_table::{MOST_ROWS, Row};
+use cip_productions::Accepted;
+use cip_types::{ConnId, Ms, Node, OutOfMemory, Triad};
+use mcast_pool::Pool;
+use slab::Slab;
+use std::alloc::Global;
+use std::marker::Model;
+
+/// The connections of an adapter, which contracts see as their list in opening order.
+#[derive(Drop)]
+pub struct Connections {
+    records: Slab<Record>,
+    by_triad: Triads,
+    by_place: Places,
+    pool: Pool,
+}
+
+impl Model for Connections {
+    ghost use Rattle.std.specs.Prelude.{List, map};
+    ghost use Rattle.adapter_table.specs.declared.row.Row.{Row};
+    ghost use Rattle.conn_slab.specs.Index.{items_of};
+    ghost use Rattle.conn_slab.specs.Records.{row_of};
+    ghost use Rattle.conn_slab.specs.Layout.{IsTied};
+
+    ghost Value = { List Row };
+
+    ghost view = { λ c. map (row_of c.pool) (items_of c.records c.by_triad.entries) };
+
+    ghost invariant = { λ c. IsTied c.records c.by_triad.entries c.by_place.entries c.pool };
+}
+
+/// Takes the connection of a triad out. Takes no memory.
+fn take_out(
+    records: &mut Slab<Record>,
+    by_triad: &mut Triads,
+    by_place: &mut Places,
+    pool: &mut Pool,
+    triad: Triad,
+) -> Option<Row>
+    requires { IsTied records.old by_triad.old.entries by_place.old.entries pool.old }
+    ensures tied { IsTied records.new by_triad.new.entries by_place.new.entries pool.new }
+    ensures taken { result ≡ find (has_triad triad) (map (row_of pool.old) (items_of records.old by_triad.old.entries)) }
+    ensures rest { map (row_of pool.new) (items_of records.new by_triad.new.entries) ≡ without_triad triad (map (row_of pool.old) (items_of records.old by_triad.old.entries)) }
+    ensures records_room { HasRoomFor records.old 1 → HasRoomFor records.new 1 }
+    ensures triad_room { spare by_triad.old ≤ spare by_triad.new }
+    ensures place_room { spare by_place.old ≤ spare by_place.new }
+{
+    let _groups = pool.len();
+    let record = take_record(records, by_triad, by_place, key_for(triad))?;
+    let row = row_of(pool, &record);
+    leave(pool, record.producer);
+    Some(row)
+}
+
+/// Puts a connection last, where there is room for it. Takes no memory.
+fn append(
+    records: &mut Slab<Record>,
+    by_triad: &mut Triads,
+    by_place: &mut Places,
+    pool: &mut Pool,
+    row: &Row,
+)
+    requires tied { IsTied records.old by_triad.old.entries by_place.old.entries pool.old }
+    requires fits { AreConnections (map (row_of pool.old) (items_of records.old by_triad.old.entries) ++ row.now ∷ []) }
+    requires records_room { HasRoomFor records.old 1 }
+    requires triad_room { 0 < spare by_triad.old }
+    requires place_room { 0 < spare by_place.old }
+    ensures tied { IsTied records.new by_triad.new.entries by_place.new.entries pool.new }
+    ensures rows { map (row_of pool.new) (items_of records.new by_triad.new.entries) ≡ map (row_of pool.old) (items_of records.old by_triad.old.entries) ++ row.now ∷ [] }
+{
+    let _groups = pool.len();
+    enter(pool, row);
+    put_last(records, by_triad, by_place, record_of(row));
+}
+
+impl Connections {
+    /// No connections, with room for all that there can be. Want of memory is the only fault.
+    pub fn new(alloc: Global) -> Result<Self, OutOfMemory>
+        ensures { IfOk result (λ connections. connections ≡ []) }
+    {
+        Ok(Connections {
+            records: Slab::with_capacity(alloc, MOST_ROWS)?,
+            by_triad: Triads::with_capacity(alloc, MOST_ROWS)?,
+            by_place: Places::with_capacity(alloc, MOST_ROWS)?,
+            pool: Pool::new(alloc)?,
+        })
+    }
+
+    /// How many connections there are. Takes no memory.
+    pub fn len(&self) -> usize
+        ensures len { result ≡ length self.now }
+        ensures few { result ≤ 64 }
+    {
+        self.by_triad.len()
+    }
+
+    /// The connections, in opening order. Takes no memory.
+    pub fn rows(&self) -> Rows<'_>
+        ensures rows { result ≡ self.now }
+        ensures few { length result ≤ 64 }
+    {
+        Rows {
+            records: &self.records,
+            keys: self.by_triad.values(),
+            pool: &self.pool,
+        }
+    }
+
+    /// A copy of the connections, in opening order. Want of memory is the only fault.
+    pub fn to_vec(&self, alloc: Global) -> Result<Vec<Row>, OutOfMemory>
+        ensures { IfOk result (λ rows. rows.items ≡ self.now) }
+    {
+        let mut rows = Vec::with_capacity(alloc, self.by_triad.len())?;
+        for row in self.rows() {
+            rows.push(row)?;
+        }
+        Ok(rows)
+    }
+
+    /// The connection of a triad, in any state. Takes no memory.
+    ///
+    /// Volume 1, chapter 3, connection triad.
+    pub fn of(&self, triad: Triad) -> Option<Row>
+        ensures { result ≡ find (has_triad triad) self.now }
+    {
+        let key = self.by_triad.get(&key_for(triad))?;
+        let record = self.records.get(*key)?;
+        Some(row_of(&self.pool, record))
+    }
+
+    /// The established connection of a peer that has this O->T id. Takes no memory.
+    ///
+    /// Volume 2, chapter 2, sequenced address item.
+    pub fn find(&self, peer: Node, id: ConnId) -> Option<Row>
+        ensures { result ≡ find (is_for peer id.0) self.now }
+    {
+        let place = Place {
+            peer: peer.0,
+            id: id.0,
+        };
+        let (key, _) = running(&self.records, self.by_place.get(&place))?;
+        let record = self.records.get(key)?;
+        Some(row_of(&self.pool, record))
+    }
+
+    /// The connection of an opening number. Takes no memory.
+    pub fn numbered(&self, opening: u32) -> Option<Row>
+        ensures { result ≡ find (is_opened_at opening) self.now }
+    {
+        for row in self.rows() {
+            if row.opening == opening {
+                return Some(row);
+            }
+        }
+        None
+    }
+
+    /// Puts a connection last. Where a triad is named, the connection of that triad is taken out. Want of memory
+    /// is the only fault, and then nothing is changed.
+    ///
+    /// Volume 1, chapter 3, Forward_Open.
+    pub fn open(&mut self, gone: Option<Triad>, row: Row) -> Result<(), OutOfMemory>
+        requires { AreConnections (without gone self.old ++ row ∷ []) }
+        ensures rows { OnOk result (self.new ≡ without gone self.old ++ row ∷ []) }
+        ensures unchanged { OnErr result (self.new ≡ self.old) }
+    {
+        make_room(&mut self.records, &mut self.by_triad, &mut self.by_place)?;
+        if let Some(triad) = gone {
+            take_out(
+                &mut self.records,
+                &mut self.by_triad,
+                &mut self.by_place,
+                &mut self.pool,
+                triad,
+            );
+        }
+        append(
+            &mut self.records,
+            &mut self.by_triad,
+            &mut self.by_place,
+            &mut self.pool,
+            &row,
+        );
+        Ok(())
+    }
+
+    /// Takes the connection of a triad out, in any state. Takes no memory.
+    ///
+    /// Volume 1, chapter 3, Forward_Close.
+    pub fn close(&mut self, triad: Triad) -> Option<Row>
+        ensures taken { result ≡ find (has_triad triad) self.old }
+        ensures rest { self.new ≡ without_triad triad self.old }
+    {
+        take_out(
+            &mut self.records,
+            &mut self.by_triad,
+            &mut self.by_place,
+            &mut self.pool,
+            triad,
+        )
+    }
+
+    /// Lets the established connection of a triad time out, which leaves its producer. False where there is none.
+    /// Takes no memory.
+    ///
+    /// Volume 1, chapter 3, inactivity watchdog.
+    pub fn expire(&mut self, triad: Triad) -> bool
+        ensures found { result ≡ list_any (holds_triad triad) self.old }
+        ensures rows { self.new ≡ map (timed_out_if triad) self.old }
+    {
+        let _groups = self.pool.len();
+        let Some((key, number)) = running(&self.records, self.by_triad.get(&key_for(triad))) else {
+            return false;
+        };
+        let record = &mut self.records[key];
+        record.producer = None;
+        self.pool.leave(number);
+        true
+    }
+
+    /// The established connection of a peer that has this O->T id has accepted a datagram of this number and
+    /// count, and waits until the deadline. False where there is none. Takes no memory.
+    ///
+    /// Volume 1, chapter 3, inactivity watchdog.
+    pub fn accept(&mut self, peer: Node, id: ConnId, accepted: Accepted, deadline: Ms) -> bool
+        ensures found { result ≡ list_any (is_for peer id.0) self.old }
+        ensures rows { self.new ≡ map (accepting_if peer id.0 accepted.number accepted.count deadline) self.old }
+    {
+        let place = Place {
+            peer: peer.0,
+            id: id.0,
+        };
+        let Some((key, _)) = running(&self.records, self.by_place.get(&place)) else {
+            return false;
+        };
+        let record = &mut self.records[key];
+        record.last = Some(accepted);
+        record.deadline = deadline;
+        true
+    }
+}

@@ -1,0 +1,92 @@
+//! Records under keys, and the two indexes that lead to them.
+
+ghost use Rattle.std.specs.Prelude.{◌≡◌, ◌≤◌, ◌<◌, ◌++◌, ◌∷◌, [], None, Some, OnOk, find, filter, not, nat_eq};
+ghost use Rattle.std.specs.Map.{lookup};
+ghost use Rattle.std.specs.Option.{option_copied};
+ghost use Rattle.slab.specs.Slab.{HasRoomFor};
+ghost use Rattle.indexmap.specs.IndexMap.{spare};
+ghost use Rattle.conn_slab.specs.Index.{items_of};
+ghost use Rattle.conn_slab.specs.Records.{key_of, same_key, place_of, same_place, is_of};
+ghost use Rattle.conn_slab.specs.Layout.{AreFiled, running_key};
+
+use crate::record::{Place, Record, TriadKey, key_for, place_of};
+use cip_types::OutOfMemory;
+use indexmap::IndexMap;
+use slab::Slab;
+
+pub(crate) type Triads = IndexMap<TriadKey, usize>;
+
+pub(crate) type Places = IndexMap<Place, usize>;
+
+/// Makes room for one more record.
+pub(crate) fn make_room(
+    records: &mut Slab<Record>,
+    by_triad: &mut Triads,
+    by_place: &mut Places,
+) -> Result<(), OutOfMemory>
+    requires { AreFiled records.old by_triad.old.entries by_place.old.entries }
+    ensures filed { AreFiled records.new by_triad.new.entries by_place.new.entries }
+    ensures items { items_of records.new by_triad.new.entries ≡ items_of records.old by_triad.old.entries }
+    ensures records_room { OnOk result (HasRoomFor records.new 1) }
+    ensures triad_room { OnOk result (0 < spare by_triad.new) }
+    ensures place_room { OnOk result (0 < spare by_place.new) }
+{
+    records.reserve(1)?;
+    by_triad.reserve(1)?;
+    by_place.reserve(1)?;
+    Ok(())
+}
+
+/// Takes the record of a triad out, and out of both indexes. Takes no memory.
+pub(crate) fn take_record(
+    records: &mut Slab<Record>,
+    by_triad: &mut Triads,
+    by_place: &mut Places,
+    name: TriadKey,
+) -> Option<Record>
+    requires { AreFiled records.old by_triad.old.entries by_place.old.entries }
+    ensures filed { AreFiled records.new by_triad.new.entries by_place.new.entries }
+    ensures taken { result ≡ find (is_of name) (items_of records.old by_triad.old.entries) }
+    ensures rest { items_of records.new by_triad.new.entries ≡ filter (λ r. not (is_of name r)) (items_of records.old by_triad.old.entries) }
+    ensures records_room { HasRoomFor records.old 1 → HasRoomFor records.new 1 }
+    ensures triad_room { spare by_triad.old ≤ spare by_triad.new }
+    ensures place_room { spare by_place.old ≤ spare by_place.new }
+{
+    let key = by_triad.shift_remove(&name)?;
+    let record = records.remove(key);
+    by_place.swap_remove(&place_of(&record));
+    Some(record)
+}
+
+/// Puts a record last, where there is room for it. Takes no memory.
+pub(crate) fn put_last(
+    records: &mut Slab<Record>,
+    by_triad: &mut Triads,
+    by_place: &mut Places,
+    opened: Record,
+)
+    requires filed { AreFiled records.old by_triad.old.entries by_place.old.entries }
+    requires new_triad { lookup (same_key (key_of opened)) by_triad.old.entries ≡ None }
+    requires new_place { lookup (same_place (place_of opened)) by_place.old.entries ≡ None }
+    requires records_room { HasRoomFor records.old 1 }
+    requires triad_room { 0 < spare by_triad.old }
+    requires place_room { 0 < spare by_place.old }
+    ensures filed { AreFiled records.new by_triad.new.entries by_place.new.entries }
+    ensures items { items_of records.new by_triad.new.entries ≡ items_of records.old by_triad.old.entries ++ opened ∷ [] }
+{
+    let name = key_for(opened.triad);
+    let place = place_of(&opened);
+    let key = records.insert_reserved(opened);
+    by_triad.insert(name, key).unwrap();
+    by_place.insert(place, key).unwrap();
+}
+
+/// The key that an index gives, if the record under it is established, and the number of its producer.
+pub(crate) fn running(records: &Slab<Record>, key: Option<&usize>) -> Option<(usize, u32)>
+    ensures { result ≡ running_key records.now (option_copied key.entry) }
+{
+    let key = *key?;
+    let record = records.get(key)?;
+    let number = record.producer?;
+    Some((key, number))
+}

@@ -1,0 +1,15 @@
+//! The connections of an adapter: records under keys, found by triad in opening order and by peer and O->T id,
+//! and one producer for each group of them.
+//!
+//! Volume 1, chapter 3, connection object and application connection types; Volume 2, chapter 3, multicast
+//! connections.
+#![tactic(auto)]
+
+mod connections;
+mod index;
+mod producers;
+mod record;
+mod rows;
+
+pub use connections::Connections;
+pub use rows::Rows;

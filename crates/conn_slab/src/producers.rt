@@ -1,0 +1,66 @@
+//! What connections have of their producers.
+
+ghost use Rattle.std.specs.Prelude.{◌≡◌, ◌<◌};
+ghost use Rattle.mcast_pool.specs.Groups.{subscribers};
+ghost use Rattle.conn_slab.specs.Records.{state_of, row_of, entered, left_by};
+ghost use Rattle.conn_slab.specs.Layout.{IsLive, MayEnter};
+
+use crate::record::Record;
+use adapter_table::{Row, State, producer_in};
+use mcast_pool::Pool;
+
+/// The state of a connection whose producer has this number.
+fn state_of(pool: &Pool, producer: Option<u32>) -> State
+    requires { IsLive pool.now producer }
+    ensures { result ≡ state_of pool.now producer }
+{
+    match producer {
+        Some(number) => State::Established(pool.production(number)),
+        None => State::TimedOut,
+    }
+}
+
+/// The connection of a record.
+pub(crate) fn row_of(pool: &Pool, record: &Record) -> Row
+    requires { IsLive pool.now record.now.producer }
+    ensures { result ≡ row_of pool.now record.now }
+{
+    Row {
+        triad: record.triad,
+        peer: record.peer,
+        kind: record.kind,
+        consumed: record.consumed,
+        produced: record.produced,
+        o_t_id: record.o_t_id,
+        t_o_id: record.t_o_id,
+        o_t_api: record.o_t_api,
+        t_o_api: record.t_o_api,
+        multiplier: record.multiplier,
+        multicast: record.multicast,
+        opening: record.opening,
+        last: record.last,
+        deadline: record.deadline,
+        state: state_of(pool, record.producer),
+    }
+}
+
+/// A connection joins the producer of its group, or begins its own. Takes no memory.
+pub(crate) fn enter(pool: &mut Pool, row: &Row)
+    requires few { subscribers pool.old < 64 }
+    requires may { MayEnter row.now pool.old }
+    ensures { pool.new ≡ entered row.now pool.old }
+{
+    if let Some(producer) = producer_in(row) {
+        pool.join(producer, row.multicast, row.t_o_api);
+    }
+}
+
+/// A connection leaves its producer. Takes no memory.
+pub(crate) fn leave(pool: &mut Pool, producer: Option<u32>)
+    requires { IsLive pool.old producer }
+    ensures { pool.new ≡ left_by producer pool.old }
+{
+    if let Some(number) = producer {
+        pool.leave(number);
+    }
+}

@@ -1,0 +1,94 @@
+//! A connection without its production.
+
+ghost use Rattle.std.specs.Prelude.{◌≡◌};
+ghost use Rattle.conn_slab.specs.Records.{number_in, record_of, key_of, key_for, place_of};
+
+use adapter_table::{Row, State};
+use cip_productions::{Accepted, Kind};
+use cip_types::{ConnId, Ms, Node, Triad};
+
+/// What the index of triads is kept by.
+#[derive(Clone, Copy, PartialEq, Eq, Hash)]
+pub(crate) struct TriadKey {
+    pub(crate) serial: u16,
+    pub(crate) vendor: u16,
+    pub(crate) originator: u32,
+}
+
+/// Where the datagrams of a connection come from: its peer, and the O->T id that they carry.
+#[derive(Clone, Copy, PartialEq, Eq, Hash)]
+pub(crate) struct Place {
+    pub(crate) peer: u32,
+    pub(crate) id: u32,
+}
+
+/// A connection; an established one has the number of its producer.
+#[derive(Clone, Copy)]
+pub(crate) struct Record {
+    pub(crate) triad: Triad,
+    pub(crate) peer: Node,
+    pub(crate) kind: Kind,
+    pub(crate) consumed: u32,
+    pub(crate) produced: u32,
+    pub(crate) o_t_id: ConnId,
+    pub(crate) t_o_id: ConnId,
+    pub(crate) o_t_api: u32,
+    pub(crate) t_o_api: u32,
+    pub(crate) multiplier: u8,
+    pub(crate) multicast: bool,
+    pub(crate) opening: u32,
+    pub(crate) last: Option<Accepted>,
+    pub(crate) deadline: Ms,
+    pub(crate) producer: Option<u32>,
+}
+
+fn number_in(state: State) -> Option<u32>
+    ensures { result ≡ number_in state }
+{
+    match state {
+        State::Established(production) => Some(production.producer),
+        State::TimedOut => None,
+    }
+}
+
+/// The record of a connection.
+pub(crate) fn record_of(row: &Row) -> Record
+    ensures { result ≡ record_of row.now }
+{
+    Record {
+        triad: row.triad,
+        peer: row.peer,
+        kind: row.kind,
+        consumed: row.consumed,
+        produced: row.produced,
+        o_t_id: row.o_t_id,
+        t_o_id: row.t_o_id,
+        o_t_api: row.o_t_api,
+        t_o_api: row.t_o_api,
+        multiplier: row.multiplier,
+        multicast: row.multicast,
+        opening: row.opening,
+        last: row.last,
+        deadline: row.deadline,
+        producer: number_in(row.state),
+    }
+}
+
+pub(crate) fn key_for(triad: Triad) -> TriadKey
+    ensures { result ≡ key_for triad }
+{
+    TriadKey {
+        serial: triad.serial,
+        vendor: triad.vendor,
+        originator: triad.originator,
+    }
+}
+
+pub(crate) fn place_of(record: &Record) -> Place
+    ensures { result ≡ place_of record.now }
+{
+    Place {
+        peer: record.peer.0,
+        id: record.o_t_id.0,
+    }
+}
