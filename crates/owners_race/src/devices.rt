@@ -7,13 +7,16 @@ use std::alloc::Global;
 use trace_text::read_trace;
 
 /// The adapter at 192.168.1.10, with output 150, input 100 and configuration 151.
-pub const ADAPTER: &[u8] = b"adapter 16 192.168.1.10 255.255.255.0 1 12 7 2 3\noutput 150 4 zero zero\ninput 100 4\nconfig 151 0\nheartbeat 152 153\n";
+pub const ADAPTER: &[u8] =
+    b"adapter 16 192.168.1.10 255.255.255.0 1 12 7 2 3\noutput 150 4 zero zero\ninput 100 4\nconfig 151 0\nheartbeat 152 153\n";
 
 /// A scanner at 192.168.1.20, which waits 2,000 ms for an answer, and 3,000 ms for another try.
-pub const FIRST: &[u8] = b"scanner 32 192.168.1.20 4660 305419896 2000 3000\nslot 192.168.1.10 exclusive 151 150 100 4 4 10000 10000 2 p2p - -\n";
+pub const FIRST: &[u8] =
+    b"scanner 32 192.168.1.20 4660 305419896 2000 3000\nslot 192.168.1.10 exclusive 151 150 100 4 4 10000 10000 2 p2p - -\n";
 
 /// A scanner at 192.168.1.21, which wants the same output.
-pub const SECOND: &[u8] = b"scanner 33 192.168.1.21 4660 305419897 2000 3000\nslot 192.168.1.10 exclusive 151 150 100 4 4 10000 10000 2 p2p - -\n";
+pub const SECOND: &[u8] =
+    b"scanner 33 192.168.1.21 4660 305419897 2000 3000\nslot 192.168.1.10 exclusive 151 150 100 4 4 10000 10000 2 p2p - -\n";
 
 /// What a device is made of, by the lines of its profile.
 pub fn config(alloc: Global, lines: &[u8]) -> Result<Config, RunFault> {

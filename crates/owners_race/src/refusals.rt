@@ -9,7 +9,8 @@ use segment_world::World;
 use std::alloc::Global;
 
 /// A scanner at the address of the first one.
-const NEIGHBOUR: &[u8] = b"scanner 33 192.168.1.20 4660 305419897 2000 3000\nslot 192.168.1.10 exclusive 151 150 100 4 4 10000 10000 2 p2p - -\n";
+const NEIGHBOUR: &[u8] =
+    b"scanner 33 192.168.1.20 4660 305419897 2000 3000\nslot 192.168.1.10 exclusive 151 150 100 4 4 10000 10000 2 p2p - -\n";
 
 /// Prints why no segment is made of these devices.
 fn tell(rt: &impl Print, alloc: Global, configs: Vec<Config>) -> Result<(), RunFault> {
