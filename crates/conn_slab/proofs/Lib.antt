@@ -6,3 +6,4 @@ mod Listed
 mod Walk
 mod Running
 mod Effects
+mod Changes

@@ -4,7 +4,8 @@ ghost use Rattle.std.specs.Prelude.{◌≡◌, ◌≤◌, ◌<◌, ◌^◌, ◌+
 ghost use Rattle.std.specs.List.{list_any};
 ghost use Rattle.slab.specs.Slab.{HasRoomFor};
 ghost use Rattle.indexmap.specs.IndexMap.{spare};
-ghost use Rattle.adapter_table.specs.Rows.{has_triad, holds_triad};
+ghost use Rattle.adapter_table.specs.Rows.{has_triad, holds_triad, written_row};
+ghost use Rattle.adapter_table.specs.Productions.{produced_row, changed_row};
 ghost use Rattle.adapter_table.specs.Closing.{without_triad};
 ghost use Rattle.adapter_table.specs.Datagrams.{is_for};
 ghost use Rattle.conn_slab.specs.Index.{items_of};
@@ -255,5 +256,25 @@ impl Connections {
         record.last = Some(accepted);
         record.deadline = deadline;
         true
+    }
+
+    /// The producers that are due have produced. Takes no memory.
+    ///
+    /// Volume 1, chapter 3, production triggers.
+    pub fn produce(&mut self, clock: Ms)
+        requires { clock.0 ≤ 2 ^ 48 }
+        ensures { self.new ≡ map (produced_row clock) self.old }
+    {
+        self.pool.produce_due(clock);
+    }
+
+    /// The producers of a point have new data and have done what a write asks of them. Takes no memory.
+    ///
+    /// Volume 1, chapter 3, production triggers and production inhibit time.
+    pub fn write(&mut self, point: u32, clock: Ms)
+        requires { clock.0 ≤ 2 ^ 48 }
+        ensures { self.new ≡ map (changed_row clock point) (map (written_row point) self.old) }
+    {
+        self.pool.write(point, clock);
     }
 }
