@@ -69,11 +69,7 @@ pub fn adapter(alloc: Global) -> Result<PlainAdapter, BenchFault> {
 }
 
 /// Opens a connection, and gives its O->T id.
-pub fn open(
-    alloc: Global,
-    device: &mut PlainAdapter,
-    bytes: &[u8],
-) -> Result<ConnId, BenchFault> {
+pub fn open(alloc: Global, device: &mut PlainAdapter, bytes: &[u8]) -> Result<ConnId, BenchFault> {
     let answer = device.step(&Event::Request {
         peer: PEER,
         bytes: Items::copy_of(alloc, bytes)?,
