@@ -19,10 +19,10 @@ const TICKS: u32 = 900;
 const MOST: u8 = 64;
 
 /// Who opens all connections and sends all datagrams.
-pub const PEER: Node = Node(0xC0A8_0114);
+const PEER: Node = Node(0xC0A8_0114);
 
 /// A Forward_Open of an exclusive owner of output 150 for input 100, both point to point at 10 ms.
-pub const OWN: [u8; 50] = [
+const OWN: [u8; 50] = [
     0x54, 2, 0x20, 6, 0x24, 1, 0x0A, 0x0E, 0, 0, 0, 0, 1, 0, 0, 0x20, 1, 0, 0x34, 0x12, 0x78, 0x56,
     0x34, 0x12, 2, 0, 0, 0, 0x10, 0x27, 0, 0, 0x0A, 0x48, 0x10, 0x27, 0, 0, 6, 0x48, 1, 4, 0x20, 4,
     0x24, 0x97, 0x2C, 0x96, 0x2C, 0x64,
@@ -64,12 +64,12 @@ fn profile(alloc: Global) -> Result<Profile, OutOfMemory> {
 }
 
 /// An adapter without connections.
-pub fn adapter(alloc: Global) -> Result<PlainAdapter, BenchFault> {
+fn adapter(alloc: Global) -> Result<PlainAdapter, BenchFault> {
     Ok(PlainAdapter::new(alloc, Config::Adapter(profile(alloc)?))?)
 }
 
 /// Opens a connection, and gives its O->T id.
-pub fn open(alloc: Global, device: &mut PlainAdapter, bytes: &[u8]) -> Result<ConnId, BenchFault> {
+fn open(alloc: Global, device: &mut PlainAdapter, bytes: &[u8]) -> Result<ConnId, BenchFault> {
     let answer = device.step(&Event::Request {
         peer: PEER,
         bytes: Items::copy_of(alloc, bytes)?,
@@ -92,18 +92,13 @@ fn open_gatherers(alloc: Global, device: &mut PlainAdapter, count: u8) -> Result
     Ok(())
 }
 
-/// The owner's datagram with this number, and data of its own.
-pub fn numbered(owner: ConnId, number: u32) -> [u8; 28] {
+/// Sends the owner's datagram with this number, and data of its own.
+fn send(device: &mut PlainAdapter, owner: ConnId, number: u32) -> Delivery {
     let mut bytes = DATAGRAM;
     [bytes[6], bytes[7], bytes[8], bytes[9]] = owner.0.to_le_bytes();
     [bytes[10], bytes[11], bytes[12], bytes[13]] = number.to_le_bytes();
     [bytes[18], bytes[19]] = [bytes[10], bytes[11]];
-    bytes
-}
-
-/// Sends the owner's datagram with this number.
-fn send(device: &mut PlainAdapter, owner: ConnId, number: u32) -> Delivery {
-    device.deliver(PEER, &numbered(owner, number))
+    device.deliver(PEER, &bytes)
 }
 
 /// Sends so many datagrams, each of which has to be applied.

@@ -3,7 +3,6 @@
 use cip_encap::SplitFault;
 use cip_tables::{NewFault, StepFault};
 use cip_types::OutOfMemory;
-use device_lock::BookFault;
 use std::alloc::AllocError;
 use std::io;
 use thiserror::Error;
@@ -11,7 +10,7 @@ use thiserror::Error;
 /// Why a run ends early.
 #[derive(Debug, Drop, Error)]
 pub enum BenchFault {
-    #[error("the one word that may follow is check, wheel, splitter, datagrams, engine, scanner or book")]
+    #[error("the one word that may follow is check, wheel, splitter, datagrams, engine or scanner")]
     Usage,
     #[error("no memory")]
     OutOfMemory,
@@ -23,8 +22,6 @@ pub enum BenchFault {
     New(#[from] NewFault),
     #[error(transparent)]
     Step(#[from] StepFault),
-    #[error(transparent)]
-    Book(#[from] BookFault),
     #[error(transparent)]
     Io(#[from] io::Error),
 }

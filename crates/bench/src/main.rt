@@ -3,11 +3,9 @@
 //! With no word, or the word `check`: short runs, and what they came to. With the word `wheel`: the wheel
 //! beside a sorted list and a binary heap. `splitter`: a stream of messages that comes in pieces beside a
 //! copy of the pieces. `datagrams`: writing datagrams beside a copy of their data. `engine`: datagrams and
-//! ticks at a plain adapter, `scanner`: at a plain scanner, on one thread, with no network. `book`: steps of a
-//! plain adapter in a book beside steps without one.
+//! ticks at a plain adapter, `scanner`: at a plain scanner, on one thread, with no network.
 #![tactic(auto)]
 
-mod book;
 mod clock;
 mod datagrams;
 mod engine;
@@ -50,7 +48,6 @@ fn bench(
         "datagrams" => datagrams::print_times(rt, alloc),
         "engine" => engine::print_times(rt, alloc),
         "scanner" => scanner::print_times(rt, alloc),
-        "book" => book::print_times(rt, alloc),
         _ => Err(BenchFault::Usage),
     }
 }
