@@ -1,7 +1,6 @@
 //! Why a run ends early.
 
 use cip_encap::SplitFault;
-use cip_tables::{NewFault, StepFault};
 use cip_types::OutOfMemory;
 use std::alloc::AllocError;
 use std::io;
@@ -10,7 +9,7 @@ use thiserror::Error;
 /// Why a run ends early.
 #[derive(Debug, Drop, Error)]
 pub enum BenchFault {
-    #[error("the one word that may follow is check, wheel, splitter, datagrams, engine or scanner")]
+    #[error("the one word that may follow is check, wheel, splitter or datagrams")]
     Usage,
     #[error("no memory")]
     OutOfMemory,
@@ -18,10 +17,6 @@ pub enum BenchFault {
     Differs,
     #[error(transparent)]
     Split(#[from] SplitFault),
-    #[error(transparent)]
-    New(#[from] NewFault),
-    #[error(transparent)]
-    Step(#[from] StepFault),
     #[error(transparent)]
     Io(#[from] io::Error),
 }

@@ -1,19 +1,16 @@
-//! How long the parts of the line take, each beside a plain way of the same work.
+//! How long the codecs and the wheel take, each beside a plain way of the same work.
 //!
 //! With no word, or the word `check`: short runs, and what they came to. With the word `wheel`: the wheel
 //! beside a sorted list and a binary heap. `splitter`: a stream of messages that comes in pieces beside a
-//! copy of the pieces. `datagrams`: writing datagrams beside a copy of their data. `engine`: datagrams and
-//! ticks at a plain adapter, `scanner`: at a plain scanner, on one thread, with no network.
+//! copy of the pieces. `datagrams`: writing datagrams beside a copy of their data.
 #![tactic(auto)]
 
 mod clock;
 mod datagrams;
-mod engine;
 mod fault;
 mod heap;
 mod list;
 mod race;
-mod scanner;
 mod splitter;
 mod timers;
 mod wheel;
@@ -27,9 +24,7 @@ use std::rt::CpuClock;
 fn check(rt: &(impl Print + CpuClock), alloc: Global) -> Result<(), BenchFault> {
     race::check(rt, alloc)?;
     splitter::check(rt, alloc)?;
-    datagrams::check(rt, alloc)?;
-    engine::check(rt, alloc)?;
-    scanner::check(rt, alloc)
+    datagrams::check(rt, alloc)
 }
 
 /// Does what the word asks for.
@@ -46,8 +41,6 @@ fn bench(
         "wheel" => race::print_times(rt, alloc),
         "splitter" => splitter::print_times(rt, alloc),
         "datagrams" => datagrams::print_times(rt, alloc),
-        "engine" => engine::print_times(rt, alloc),
-        "scanner" => scanner::print_times(rt, alloc),
         _ => Err(BenchFault::Usage),
     }
 }

@@ -50,13 +50,43 @@ pub fn check(rt: &impl Print, alloc: Global) -> Result<(), BenchFault> {
     Ok(())
 }
 
-/// The nanoseconds of a tick.
-fn tick_nanos<T: Timers>(rt: &impl CpuClock, mut load: Load<T>) -> Result<u64, BenchFault> {
+/// The nanoseconds of all ticks.
+fn tick_nanos<T: Timers>(rt: &impl CpuClock, load: &mut Load<T>) -> Result<u64, BenchFault> {
     let start = cpu_nanos(rt)?;
     for _ in 0..TICKS {
         load.step()?;
     }
-    Ok(cpu_nanos(rt)?.wrapping_sub(start) / u64::from(TICKS))
+    Ok(cpu_nanos(rt)?.wrapping_sub(start))
+}
+
+fn wheel_nanos(
+    rt: &impl CpuClock,
+    alloc: Global,
+    count: u64,
+    work: Work,
+) -> Result<u64, BenchFault> {
+    let wheel = Wheel::new(alloc, count as usize)?;
+    tick_nanos(rt, &mut Load::new(alloc, wheel, count, work)?)
+}
+
+fn list_nanos(
+    rt: &impl CpuClock,
+    alloc: Global,
+    count: u64,
+    work: Work,
+) -> Result<u64, BenchFault> {
+    let list = SortedList::new(alloc, count as usize)?;
+    tick_nanos(rt, &mut Load::new(alloc, list, count, work)?)
+}
+
+fn heap_nanos(
+    rt: &impl CpuClock,
+    alloc: Global,
+    count: u64,
+    work: Work,
+) -> Result<u64, BenchFault> {
+    let heap = Heap::new(alloc, count as usize)?;
+    tick_nanos(rt, &mut Load::new(alloc, heap, count, work)?)
 }
 
 /// A line on the three, each the best of some rounds.
@@ -67,18 +97,18 @@ fn report(
     name: &str,
     work: Work,
 ) -> Result<(), BenchFault> {
-    let room = count as usize;
     let (mut wheel, mut list, mut heap) = (u64::MAX, u64::MAX, u64::MAX);
     for _ in 0..ROUNDS {
-        let load = Load::new(alloc, Wheel::new(alloc, room)?, count, work)?;
-        wheel = wheel.min(tick_nanos(rt, load)?);
-        let load = Load::new(alloc, SortedList::new(alloc, room)?, count, work)?;
-        list = list.min(tick_nanos(rt, load)?);
-        let load = Load::new(alloc, Heap::new(alloc, room)?, count, work)?;
-        heap = heap.min(tick_nanos(rt, load)?);
+        wheel = wheel.min(wheel_nanos(rt, alloc, count, work)?);
+        list = list.min(list_nanos(rt, alloc, count, work)?);
+        heap = heap.min(heap_nanos(rt, alloc, count, work)?);
     }
+    let ticks = u64::from(TICKS);
     println!(rt;
-        "{count} timers, {name}: wheel {wheel} ns a tick, list {list}, heap {heap}: {} of the list, {} of the heap",
+        "{count} timers, {name}: wheel {} ns a tick, list {}, heap {}: {} of the list, {} of the heap",
+        wheel / ticks,
+        list / ticks,
+        heap / ticks,
         Quotient(wheel, list),
         Quotient(wheel, heap)
     )?;

@@ -35,9 +35,16 @@ pub fn period(count: u64, token: Token) -> u64
     ensures { result < 2 ^ 24 }
 {
     if token.0 < count / 2 {
-        160
-    } else {
-        10 + token.0 % 7 * 5
+        return 160;
+    }
+    match token.0 % 7 {
+        0 => 10,
+        1 => 15,
+        2 => 20,
+        3 => 25,
+        4 => 30,
+        5 => 35,
+        _ => 40,
     }
 }
 

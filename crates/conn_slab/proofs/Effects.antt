@@ -81,6 +81,17 @@ module _ (slab : Slab Record) (triads : List (TriadKey × ℕ)) (places : List (
       untouched (holds_triad triad) (λ x. is_of name x && runs x) timed_out (held_is pool triad)
       (nobody slab triads places tied.filed (is_of name) (lookup (same_key name) triads) (by_name slab triads places tied.filed name) none)
 
+  -- the triad is that of an established connection where its key runs
+  pub held_by : (triad : Triad) → list_any (holds_triad triad) (map (row_of pool) (items_of slab triads)) ≡ is_some (running_key slab (lookup (same_key (key_for triad)) triads))
+  held_by triad = by_key (running_key slab (lookup (same_key (key_for triad)) triads)) refl
+    where
+      by_key : (o : Option (ℕ × ℕ)) → running_key slab (lookup (same_key (key_for triad)) triads) ≡ o → list_any (holds_triad triad) (map (row_of pool) (items_of slab triads)) ≡ is_some o
+      by_key None none = (unexpired triad none).0
+      by_key (Some x) some =
+          let name = key_for triad in
+          let way = somebody slab triads places tied.filed (is_of name) (lookup (same_key name) triads) (by_name slab triads places tied.filed name) x.0 x.1 some in
+          any_rows (row_of pool) (holds_triad triad) (λ r. is_of name r && runs r) (held_is pool triad) (items_of slab triads) ∙ any_found (λ r. is_of name r && runs r) (items_of slab triads) ∙ ap (λ (o : Option Record). is_some o) way.found_is
+
   -- ---- a connection that accepts a datagram
 
   pub record Accepts (peer : Node) (id : ℕ) (key : ℕ) (r : Record) (accepted : Accepted) (deadline : Ms) : Type 0 where

@@ -7,3 +7,6 @@ mod Walk
 mod Running
 mod Effects
 mod Changes
+mod Hears
+mod Resting
+mod Ends

@@ -321,7 +321,7 @@ stopped pool rs test r number each balanced lone found has =
     })
     (served_stopped pool test rs balanced.served)
 
-shares_accepted : (pool : List Group) (r : Record) (last : Option Accepted) (deadline : Ms) (n : Option ℕ) → SharesBy pool r n → SharesBy pool (record r { last = last; deadline = deadline }) n
+pub shares_accepted : (pool : List Group) (r : Record) (last : Option Accepted) (deadline : Ms) (n : Option ℕ) → SharesBy pool r n → SharesBy pool (record r { last = last; deadline = deadline }) n
 shares_accepted pool r last deadline None shares = tt
 shares_accepted pool r last deadline (Some n) shares = found (numbered n pool) shares
   where

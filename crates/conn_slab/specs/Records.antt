@@ -1,5 +1,5 @@
 -- Records of connections, whose productions stand in a pool, and the connections that they are.
-use Rattle.std.specs.Prelude.{ℕ, ◌==◌, ◌&&◌, Bool, false, List, Option, Some, None}
+use Rattle.std.specs.Prelude.{ℕ, ◌==◌, ◌&&◌, Bool, false, List, [], Option, Some, None}
 use Rattle.cip_types.specs.declared.names.Triad.{Triad}
 use Rattle.cip_netparams.specs.declared.Trigger.TheVariants.{Cyclic}
 use Rattle.cip_productions.specs.declared.production.Production.{Production}
@@ -47,6 +47,10 @@ row_of pool r = record {
   deadline = r.deadline;
   state = state_of pool r.producer;
 }
+
+-- the same, as if it had timed out
+abbrev pub bare_row : Record → Row
+bare_row r = row_of [] (record r { producer = None })
 
 -- THE RECORD OF A CONNECTION
 

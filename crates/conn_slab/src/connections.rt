@@ -8,16 +8,24 @@ ghost use Rattle.adapter_table.specs.Rows.{has_triad, holds_triad, written_row};
 ghost use Rattle.adapter_table.specs.Productions.{produced_row, changed_row};
 ghost use Rattle.adapter_table.specs.Closing.{without_triad};
 ghost use Rattle.adapter_table.specs.Datagrams.{is_for};
+ghost use Rattle.adapter_table.specs.Whole.{RowsFit};
+ghost use Rattle.cip_datagram.specs.Datagram.{view_datagram};
+ghost use Rattle.std.specs.Option.{option_map};
 ghost use Rattle.conn_slab.specs.Index.{items_of};
 ghost use Rattle.conn_slab.specs.Records.{row_of};
 ghost use Rattle.conn_slab.specs.Layout.{IsTied};
+ghost use Rattle.conn_slab.specs.Hearing.{heard_by, hearing};
+ghost use Rattle.conn_slab.specs.Bounds.{first_end, AllRest};
 ghost use Rattle.conn_slab.specs.Connections.{without, AreConnections, timed_out_if, accepting_if, is_opened_at};
 
+use crate::bounds::first_end;
+use crate::hearing::{Heard, hear};
 use crate::index::{Places, Triads, make_room, put_last, running, take_record};
 use crate::producers::{enter, leave, row_of};
 use crate::record::{Place, Record, key_for, record_of};
 use crate::rows::Rows;
-use adapter_table::{MOST_ROWS, Row};
+use adapter_table::{MOST_ROWS, Profile, Row};
+use cip_datagram::Datagram;
 use cip_productions::Accepted;
 use cip_types::{ConnId, Ms, Node, OutOfMemory, Triad};
 use mcast_pool::Pool;
@@ -66,7 +74,7 @@ fn take_out(
 {
     let _groups = pool.len();
     let record = take_record(records, by_triad, by_place, key_for(triad))?;
-    let row = row_of(pool, &record);
+    let row = row_of(pool, &record, 0);
     leave(pool, record.producer);
     Some(row)
 }
@@ -122,6 +130,7 @@ impl Connections {
             records: &self.records,
             keys: self.by_triad.values(),
             pool: &self.pool,
+            place: 0,
         }
     }
 
@@ -144,7 +153,16 @@ impl Connections {
     {
         let key = self.by_triad.get(&key_for(triad))?;
         let record = self.records.get(*key)?;
-        Some(row_of(&self.pool, record))
+        Some(row_of(&self.pool, record, 0))
+    }
+
+    /// Whether the triad is that of an established connection. Takes no memory.
+    ///
+    /// Volume 1, chapter 3, connection triad.
+    pub fn is_held(&self, triad: Triad) -> bool
+        ensures { result ≡ list_any (holds_triad triad) self.now }
+    {
+        running(&self.records, self.by_triad.get(&key_for(triad))).is_some()
     }
 
     /// The established connection of a peer that has this O->T id. Takes no memory.
@@ -159,7 +177,7 @@ impl Connections {
         };
         let (key, _) = running(&self.records, self.by_place.get(&place))?;
         let record = self.records.get(key)?;
-        Some(row_of(&self.pool, record))
+        Some(row_of(&self.pool, record, 0))
     }
 
     /// The connection of an opening number. Takes no memory.
@@ -256,6 +274,50 @@ impl Connections {
         record.last = Some(accepted);
         record.deadline = deadline;
         true
+    }
+
+    /// The established connection that a datagram of a peer is for accepts it, where its delivery says so. None
+    /// where there is no such connection. Takes no memory.
+    ///
+    /// Volume 1, chapter 3, class 1 transport and inactivity watchdog; Volume 2, chapter 2, sequenced address item.
+    pub fn receive(
+        &mut self,
+        profile: &Profile,
+        clock: Ms,
+        peer: Node,
+        datagram: &Datagram<'_>,
+    ) -> Option<Heard>
+        requires fit { RowsFit self.old }
+        requires time { clock.0 ≤ 2 ^ 48 }
+        ensures heard { result ≡ option_map (heard_by profile.now clock (view_datagram datagram.now)) (find (is_for peer datagram.now.connection.0) self.old) }
+        ensures rows { self.new ≡ hearing profile.now clock peer (view_datagram datagram.now) (find (is_for peer datagram.now.connection.0) self.old) self.old }
+    {
+        let place = Place {
+            peer: peer.0,
+            id: datagram.connection.0,
+        };
+        let (key, _) = running(&self.records, self.by_place.get(&place))?;
+        let record = &mut self.records[key];
+        Some(hear(record, profile, clock, datagram))
+    }
+
+    /// When the first watchdog of an established connection runs out, and where there is none, the time that never
+    /// comes. Takes no memory.
+    ///
+    /// Volume 1, chapter 3, inactivity watchdog.
+    pub fn first_end(&self) -> u64
+        ensures { result ≡ first_end self.now }
+    {
+        first_end(self.rows())
+    }
+
+    /// A time before which no producer is due. Takes no memory.
+    ///
+    /// Volume 1, chapter 3, production triggers.
+    pub fn first_due(&self) -> u64
+        ensures { AllRest result self.now }
+    {
+        self.pool.first_due()
     }
 
     /// The producers that are due have produced. Takes no memory.

@@ -5,11 +5,14 @@
 //! connections.
 #![tactic(auto)]
 
+mod bounds;
 mod connections;
+mod hearing;
 mod index;
 mod producers;
 mod record;
 mod rows;
 
 pub use connections::Connections;
+pub use hearing::Heard;
 pub use rows::Rows;

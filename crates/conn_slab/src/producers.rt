@@ -1,6 +1,6 @@
 //! What connections have of their producers.
 
-ghost use Rattle.std.specs.Prelude.{◌≡◌, ◌<◌};
+ghost use Rattle.std.specs.Prelude.{◌≡◌, ◌<◌, ◌≤◌, ◌+◌};
 ghost use Rattle.mcast_pool.specs.Groups.{subscribers};
 ghost use Rattle.conn_slab.specs.Records.{state_of, row_of, entered, left_by};
 ghost use Rattle.conn_slab.specs.Layout.{IsLive, MayEnter};
@@ -9,19 +9,19 @@ use crate::record::Record;
 use adapter_table::{Row, State, producer_in};
 use mcast_pool::Pool;
 
-/// The state of a connection whose producer has this number.
-fn state_of(pool: &Pool, producer: Option<u32>) -> State
+/// The state of a connection whose producer has this number, and is first looked for at a place.
+fn state_of(pool: &Pool, producer: Option<u32>, place: usize) -> State
     requires { IsLive pool.now producer }
     ensures { result ≡ state_of pool.now producer }
 {
     match producer {
-        Some(number) => State::Established(pool.production(number)),
+        Some(number) => State::Established(pool.production_near(number, place)),
         None => State::TimedOut,
     }
 }
 
-/// The connection of a record.
-pub(crate) fn row_of(pool: &Pool, record: &Record) -> Row
+/// The connection of a record, whose producer is first looked for at a place.
+pub(crate) fn row_of(pool: &Pool, record: &Record, place: usize) -> Row
     requires { IsLive pool.now record.now.producer }
     ensures { result ≡ row_of pool.now record.now }
 {
@@ -40,7 +40,17 @@ pub(crate) fn row_of(pool: &Pool, record: &Record) -> Row
         opening: record.opening,
         last: record.last,
         deadline: record.deadline,
-        state: state_of(pool, record.producer),
+        state: state_of(pool, record.producer, place),
+    }
+}
+
+/// Where to look first for the producer of the connection after this one.
+pub(crate) fn place_after(pool: &Pool, record: &Record, place: usize) -> usize
+    ensures { result ≤ place + 1 }
+{
+    match record.producer {
+        Some(number) => pool.place_after(number, place),
+        None => place,
     }
 }
 

@@ -2,7 +2,7 @@
 
 ghost use Rattle.std.specs.Iterator.{YieldsFirst, item_count};
 
-use crate::producers::row_of;
+use crate::producers::{place_after, row_of};
 use crate::record::{Record, TriadKey};
 use adapter_table::Row;
 use indexmap::map::Values;
@@ -16,6 +16,8 @@ pub struct Rows<'a> {
     pub(crate) records: &'a Slab<Record>,
     pub(crate) keys: Values<'a, TriadKey, usize>,
     pub(crate) pool: &'a Pool,
+    /// Where to look first for the next producer.
+    pub(crate) place: usize,
 }
 
 impl<'a> Model for Rows<'a> {
@@ -44,6 +46,8 @@ impl<'a> Iterator for Rows<'a> {
     fn next(&mut self) -> Option<Row> {
         let key = self.keys.next()?;
         let record = self.records.get(*key)?;
-        Some(row_of(self.pool, record))
+        let row = row_of(self.pool, record, self.place);
+        self.place = place_after(self.pool, record, self.place);
+        Some(row)
     }
 }

@@ -1,2 +1,4 @@
 pub mod Places
 pub mod Orders
+pub mod Support
+pub mod Without

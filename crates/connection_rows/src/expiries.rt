@@ -34,7 +34,10 @@ fn expiring(alloc: Global, rows: &[Row], clock: Ms) -> Result<Vec<Row>, OutOfMem
     Ok(gone)
 }
 
-fn expire_rows(rows: &mut [Row], clock: Ms)
+/// The connections whose deadline has come have timed out. Takes no memory.
+///
+/// Volume 1, chapter 3, inactivity watchdog.
+pub fn expire_rows(rows: &mut [Row], clock: Ms)
     ensures { rows.new ≡ expired_rows clock rows.old }
 {
     for row in rows.iter_mut() {

@@ -8,6 +8,7 @@
 
 mod changes;
 mod deliveries;
+mod dropping;
 mod expiries;
 mod order;
 mod producers;
@@ -18,8 +19,10 @@ pub use changes::{
     changed_rows, produces_at_once, sent_on_change, write_and_change_rows, written_rows,
 };
 pub use deliveries::{accept_rows, find_target};
-pub use expiries::{expired, expired_rows, expiry_notices};
-pub use productions::{produced_rows, sent_when_due};
+pub use dropping::drop_unsupported;
+pub use expiries::{expire_rows, expired, expired_rows, expiry_notices};
+pub use productions::{produce_rows, produced_rows, sent_when_due};
 pub use rows::{
-    append_row, closed_notices, copied, find_row, make_room, others, replaced, staying,
+    append_row, closed_notices, copied, find_row, make_room, others, remove_triad, replaced,
+    staying, told_of_close,
 };

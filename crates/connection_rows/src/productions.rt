@@ -90,7 +90,10 @@ pub fn sent_when_due(
     sendings(alloc, rows, assemblies, &due)
 }
 
-fn produce_rows(rows: &mut [Row], clock: Ms)
+/// The producers that are due have produced. Takes no memory.
+///
+/// Volume 1, chapter 3, production triggers.
+pub fn produce_rows(rows: &mut [Row], clock: Ms)
     requires fit { RowsFit rows.old }
     requires time { clock.0 ≤ 2 ^ 48 }
     ensures { rows.new ≡ map (produced_row clock) rows.old }

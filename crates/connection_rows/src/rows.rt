@@ -1,13 +1,14 @@
 //! Lists of connections.
 
-ghost use Rattle.std.specs.Prelude.{◌≡◌, ◌≤◌, vec_len, vec_capacity, ◌<◌, ◌∷◌, ◌++◌, [], find, OnOk, IfOk, map, length, nat_le};
+ghost use Rattle.std.specs.Prelude.{◌≡◌, ◌≤◌, vec_len, vec_capacity, ◌<◌, ◌∷◌, ◌++◌, [], find, OnOk, IfOk, map, filter, length, nat_le};
 ghost use Rattle.std.specs.List.{list_any};
 ghost use Rattle.adapter_table.specs.Rows.{most_rows, has_triad, is_timed_out, is_unsupported, written_row, others};
 ghost use Rattle.adapter_table.specs.Closing.{without_triad, staying, unsupported, dropped_notice};
+ghost use Rattle.connection_rows.specs.Without.{supports_without, is_left_alone};
 ghost use Rattle.adapter_table.specs.Opening.{is_opened_as, makes_room_by, makes_room, replaced_triad};
 
 use adapter_table::{
-    MOST_ROWS, Row, has_triad, is_established, is_supported, is_timed_out, written_row,
+    MOST_ROWS, Row, has_triad, is_established, is_supported, is_timed_out, supports, written_row,
 };
 use cip_events::Notice;
 use cip_productions::Kind;
@@ -104,7 +105,7 @@ pub fn find_row(rows: &[Row], triad: Triad) -> Option<Row>
 }
 
 /// Takes out the connection of a triad, if there is one. Takes no memory.
-fn remove_triad(rows: &mut Vec<Row>, triad: Triad)
+pub fn remove_triad(rows: &mut Vec<Row>, triad: Triad)
     ensures { rows.new.items ≡ without_triad triad rows.old.items }
 {
     rows.retain(|row| !has_triad(row, triad));
@@ -135,6 +136,31 @@ pub fn is_unsupported(rows: &[Row], row: &Row) -> bool
         && !is_supported(rows, row.kind, row.produced)
 }
 
+/// Whether a connection other than that of a triad supports one of the kind on the input.
+fn supports_without(row: &Row, triad: Triad, kind: Kind, point: u32) -> bool
+    ensures { result ≡ supports_without triad kind point row.now }
+{
+    !has_triad(row, triad) && supports(row, kind, point)
+}
+
+fn is_supported_without(rows: &[Row], triad: Triad, kind: Kind, point: u32) -> bool
+    ensures { result ≡ list_any (supports_without triad kind point) rows.now }
+{
+    rows.iter()
+        .any(|row| supports_without(row, triad, kind, point))
+}
+
+/// Whether a connection is an established listen-only one that loses its support with the connection of a triad.
+#[tactic(auto, using(crate::proofs::Without::supported_without))]
+fn is_left_alone(rows: &[Row], triad: Triad, row: &Row) -> bool
+    ensures { result ≡ is_left_alone triad rows.now row.now }
+{
+    !has_triad(row, triad)
+        && is_established(row)
+        && row.kind == Kind::ListenOnly
+        && !is_supported_without(rows, triad, row.kind, row.produced)
+}
+
 /// The connections that stay where the listeners without support go.
 pub fn staying(alloc: Global, rows: &[Row]) -> Result<Vec<Row>, OutOfMemory>
     ensures { IfOk result (λ left. left.items ≡ staying rows.now) }
@@ -160,6 +186,28 @@ pub fn closed_notices(alloc: Global, left: &[Row], triad: Triad) -> Result<Vec<N
         }
     }
     Ok(notices)
+}
+
+/// That the connection of a triad is closed, and which ones are left alone.
+fn notices_of_close(alloc: Global, rows: &[Row], triad: Triad) -> Result<Vec<Notice>, OutOfMemory>
+    ensures { IfOk result (λ notices. notices.items ≡ Notice.Closed triad ∷ map dropped_notice (filter (is_left_alone triad rows.now) rows.now)) }
+{
+    let mut notices = Vec::new(alloc);
+    notices.push(Notice::Closed(triad))?;
+    for row in rows {
+        if is_left_alone(rows, triad, row) {
+            notices.push(Notice::Dropped(row.triad))?;
+        }
+    }
+    Ok(notices)
+}
+
+/// What is told where the connection of a triad is closed: that it is, and the listen-only ones that this leaves
+/// without support. Want of memory is the only fault.
+pub fn told_of_close(alloc: Global, rows: &[Row], triad: Triad) -> Result<Vec<Notice>, OutOfMemory>
+    ensures { IfOk result (λ notices. notices.items ≡ Notice.Closed triad ∷ map dropped_notice (unsupported (without_triad triad rows.now))) }
+{
+    notices_of_close(alloc, rows, triad)
 }
 
 /// The producers of an input have new data. Takes no memory.

@@ -2,6 +2,8 @@ use crate::program;
 use std::alloc::{AllocError, Global};
 use std::cmp::min;
 use std::io::{self, ErrorKind, Read, Write};
+use std::net::{IpAddr, Ipv4Addr, Net, SocketAddr, TcpListener, TcpStream};
+use std::rt::Clock;
 use std::test::Fail;
 
 /// The profile of all tests but those on profiles: five lines.
@@ -98,7 +100,10 @@ impl Write for Unwritable {
 }
 
 /// What `eip_line step` tells of this reader on standard error, if its status is 1 and it prints nothing.
-fn complaint<R: AllocGlobal, I: Read>(rt: &R, reader: &mut I) -> Result<Vec<u8>, Fail> {
+fn complaint<R: AllocGlobal + Clock + Net<Listener = TcpListener, Stream = TcpStream>, I: Read>(
+    rt: &R,
+    reader: &mut I,
+) -> Result<Vec<u8>, Fail> {
     let mut out = Vec::new(rt.alloc());
     let mut err = Vec::new(rt.alloc());
     let words = ["eip_line", "step"];
@@ -110,7 +115,10 @@ fn complaint<R: AllocGlobal, I: Read>(rt: &R, reader: &mut I) -> Result<Vec<u8>,
 }
 
 /// What it tells on standard error of this writer, after the common profile and an open.
-fn complaint_of_output<R: AllocGlobal, O: Write>(rt: &R, out: &mut O) -> Result<Vec<u8>, Fail> {
+fn complaint_of_output<
+    R: AllocGlobal + Clock + Net<Listener = TcpListener, Stream = TcpStream>,
+    O: Write,
+>(rt: &R, out: &mut O) -> Result<Vec<u8>, Fail> {
     let mut err = Vec::new(rt.alloc());
     let words = ["eip_line", "step"];
     let input = after_profile(rt.alloc(), OPEN)?;
@@ -129,7 +137,11 @@ fn after_profile(alloc: Global, lines: &str) -> Result<String, AllocError> {
 
 /// Shows that `eip_line step` on the common profile and these lines ends with status 0, prints this, and
 /// tells nothing on standard error.
-fn shows<R: AllocGlobal>(rt: &R, lines: &str, told: &str) -> Result<(), Fail> {
+fn shows<R: AllocGlobal + Clock + Net<Listener = TcpListener, Stream = TcpStream>>(
+    rt: &R,
+    lines: &str,
+    told: &str,
+) -> Result<(), Fail> {
     let input = after_profile(rt.alloc(), lines)?;
     let mut out = Vec::new(rt.alloc());
     let mut err = Vec::new(rt.alloc());
@@ -146,7 +158,11 @@ fn shows<R: AllocGlobal>(rt: &R, lines: &str, told: &str) -> Result<(), Fail> {
 }
 
 /// Shows the same of an owner's open and these lines after it.
-fn shows_after_open<R: AllocGlobal>(rt: &R, lines: &str, told: &str) -> Result<(), Fail> {
+fn shows_after_open<R: AllocGlobal + Clock + Net<Listener = TcpListener, Stream = TcpStream>>(
+    rt: &R,
+    lines: &str,
+    told: &str,
+) -> Result<(), Fail> {
     let lines = format!(in rt.alloc(); "{OPEN}{lines}")?;
     let told = format!(in rt.alloc(); "{OPENED}{told}")?;
     shows(rt, lines.as_str(), told.as_str())
@@ -243,7 +259,15 @@ fn other_words_print_nothing(rt: HostRuntime) -> Result<(), Fail> {
         "eip_line step more",
         "eip_line stepp",
         "eip_line line",
-        "eip_line loop",
+        "eip_line loop more",
+        "eip_line loop --help",
+        "eip_line loop --turns",
+        "eip_line loop --turns 0",
+        "eip_line loop --turns 1000001",
+        "eip_line loop --tcp 0",
+        "eip_line loop --tcp 65535",
+        "eip_line loop --udp 65535",
+        "eip_line loop --udp -1",
     ];
     for line in lines {
         let words: Vec<&str> = line.split_whitespace().collect(rt.alloc())?;
@@ -254,6 +278,32 @@ fn other_words_print_nothing(rt: HostRuntime) -> Result<(), Fail> {
         assert_eq!(rt; status, 2, "at {line}");
         assert_eq!(rt; out.len() + err.len(), 0, "at {line}");
     }
+    Ok(())
+}
+
+/// What `eip_line loop` tells of this port of TCP on standard error, if its status is 1 and it prints nothing.
+fn complaint_of_port<R: AllocGlobal + Clock + Net<Listener = TcpListener, Stream = TcpStream>>(
+    rt: &R,
+    tcp: u16,
+) -> Result<Vec<u8>, Fail> {
+    let mut out = Vec::new(rt.alloc());
+    let mut err = Vec::new(rt.alloc());
+    let mut input: &[u8] = &[];
+    let tcp = format!(in rt.alloc(); "{tcp}")?;
+    let words = ["eip_line", "loop", "--turns", "1", "--tcp", tcp.as_str()];
+    let status = program(rt, words.as_slice(), &mut input, &mut out, &mut err);
+    if status != 1 || !out.is_empty() {
+        Err("another status, or an output")?;
+    }
+    Ok(err)
+}
+
+#[test]
+fn a_port_in_use_is_told(rt: HostRuntime) -> Result<(), Fail> {
+    let local = SocketAddr::new(IpAddr::V4(Ipv4Addr::new(127, 0, 0, 1)), 0);
+    let user = TcpListener::bind(&rt, local)?;
+    let err = complaint_of_port(&rt, user.local_addr()?.port())?;
+    assert!(rt; err.as_slice() == b"fault Port\n".as_slice());
     Ok(())
 }
 

@@ -21,7 +21,7 @@ chained (Some xs) None new a b one two = absurd one
 chained (Some xs) (Some ys) None a b one two = absurd two
 chained (Some xs) (Some ys) (Some zs) a b one two = two ∙ ap (λ f. f ++ b) one ∙ append_assoc xs a b
 
-kept : (old mid new : Option (List ℕ)) (a : List ℕ) → Appends old mid a → Appends mid new [] → Appends old new a
+pub kept : (old mid new : Option (List ℕ)) (a : List ℕ) → Appends old mid a → Appends mid new [] → Appends old new a
 kept old mid new a one two = subst (Appends old new) (append-nil a) (chained old mid new a [] one two)
 
 -- known bytes that stay have grown by nothing

@@ -1,2 +1,4 @@
 pub mod Faults
 pub mod Printed
+pub mod Looped
+pub mod Tasks

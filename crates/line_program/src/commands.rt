@@ -1,7 +1,10 @@
 //! The command line.
 
-use clap::Command;
+ghost use Rattle.std.specs.Prelude.{◌≡◌, map, true, IfOk};
+ghost use Rattle.line_program.specs.Tasks.{Asks};
+
 use clap::error::ErrorKind;
+use clap::{Arg, ArgAction, ArgMatches, Command, value_parser};
 use std::alloc::{AllocError, Global};
 use std::convert::AsStr;
 
@@ -10,7 +13,29 @@ use std::convert::AsStr;
 pub enum Task {
     /// Steps an adapter by the lines of the input.
     Step,
+    /// Runs an adapter and a scanner over sockets of this host.
+    Loop(LoopTask),
 }
+
+/// Where an adapter and a scanner talk, and for how many turns of each.
+#[derive(Clone, Copy, Debug, PartialEq, Eq)]
+pub struct LoopTask {
+    /// The adapter's port of TCP.
+    pub tcp: u16,
+    /// The adapter's port of UDP. The scanner's is the next one.
+    pub udp: u16,
+    /// How often each of them takes a turn.
+    pub turns: u32,
+}
+
+/// The port of EtherNet/IP's messages.
+const TCP: u16 = 44_818;
+
+/// The port of EtherNet/IP's class 1 datagrams.
+const UDP: u16 = 2_222;
+
+/// The usual number of turns.
+const TURNS: u32 = 1_000;
 
 /// Why a command line asks for nothing.
 #[derive(Clone, Copy, Debug, PartialEq, Eq)]
@@ -36,12 +61,37 @@ impl From<clap::Error> for Misuse {
     }
 }
 
-/// What the words ask for. The first of them is the program's own name.
-pub fn read_task<S: AsStr>(alloc: Global, words: &[S]) -> Result<Task, Misuse> {
+/// What the words ask for. The first of them is the program's own name, and the next one the command's.
+pub fn read_task<S: AsStr>(alloc: Global, words: &[S]) -> Result<Task, Misuse>
+    ensures { IfOk result (Asks (map S.text words.now)) }
+{
+    match parse(alloc, words) {
+        Ok(task) if is_named(words, task) => Ok(task),
+        Ok(_) => Err(Misuse::Usage),
+        Err(misuse) => Err(misuse),
+    }
+}
+
+/// Whether the command's word is that of the task.
+fn is_named<S: AsStr>(words: &[S], task: Task) -> bool
+    ensures { result ≡ true → Asks (map S.text words.now) task }
+{
+    let Some(name) = words.get(1) else {
+        return false;
+    };
+    match task {
+        Task::Step => name.as_str() == "step",
+        Task::Loop(_) => name.as_str() == "loop",
+    }
+}
+
+/// The task of a command line, as its commands and their options are declared.
+fn parse<S: AsStr>(alloc: Global, words: &[S]) -> Result<Task, Misuse> {
     let command = eip_line(alloc)?;
     let matches = command.try_get_matches_from(words)?;
     match matches.subcommand() {
         Some(("step", _)) => Ok(Task::Step),
+        Some(("loop", given)) => Ok(Task::Loop(loop_task(given))),
         _ => Err(Misuse::Usage),
     }
 }
@@ -49,5 +99,34 @@ pub fn read_task<S: AsStr>(alloc: Global, words: &[S]) -> Result<Task, Misuse> {
 fn eip_line<'a>(alloc: Global) -> Result<Command<'a>, AllocError> {
     Command::new(alloc, "eip_line")
         .subcommand_required(true)
-        .subcommand(Command::new(alloc, "step"))
+        .subcommand(Command::new(alloc, "step"))?
+        .subcommand(loop_command(alloc)?)
+}
+
+fn loop_command<'a>(alloc: Global) -> Result<Command<'a>, AllocError> {
+    let turns = Arg::new(alloc, "turns")
+        .long("turns")
+        .action(ArgAction::Set)
+        .value_parser(value_parser!(u32).range(1..=1_000_000));
+    Command::new(alloc, "loop")
+        .arg(port(alloc, "tcp"))?
+        .arg(port(alloc, "udp"))?
+        .arg(turns)
+}
+
+/// A port, below the last one, so that there is a next one.
+fn port<'a>(alloc: Global, name: &'a str) -> Arg<'a> {
+    Arg::new(alloc, name)
+        .long(name)
+        .action(ArgAction::Set)
+        .value_parser(value_parser!(u16).range(1..=65_534))
+}
+
+/// What is given, and else what is usual.
+fn loop_task(given: &ArgMatches<'_>) -> LoopTask {
+    LoopTask {
+        tcp: given.get_one("tcp").unwrap_or(TCP),
+        udp: given.get_one("udp").unwrap_or(UDP),
+        turns: given.get_one("turns").unwrap_or(TURNS),
+    }
 }

@@ -1,19 +1,24 @@
 //! The program, over any streams.
 
-ghost use Rattle.std.specs.Prelude.{◌≡◌, ◌<◌, ◌≤◌, ◌⊎◌, ◌≢◌, ◌++◌, [], true, length, codes, decimal, IfOk, IfErr, OnOk, IfSome};
+ghost use Rattle.std.specs.Prelude.{◌≡◌, ◌<◌, ◌≤◌, ◌⊎◌, map, ◌≢◌, ◌++◌, [], true, length, codes, decimal, IfOk, IfErr, OnOk, IfSome};
 ghost use Rattle.std.specs.Io.KnownBytes.{Appends, Keeps};
 ghost use Rattle.trace_stepper.specs.Playing.{IsPlayed};
 ghost use Rattle.trace_stepper.specs.Written.{BeginsToWrite, IsTaken};
 ghost use Rattle.line_program.specs.Faults.{fault_line};
 ghost use Rattle.line_program.specs.Printed.{longest_trace, PrintsRun, Fails, IsStepped, IsFinished, IsTraceRead, IsTextFault, IsStop};
+ghost use Rattle.line_program.specs.Tasks.{FailsTask, HasFailed, IsDone, Prints};
 
 use crate::commands::{Misuse, Task, read_task};
+use crate::loops::loop_status;
+use adapter_engine::FastAdapter;
 use cip_tables::Config;
 use itoa::Buffer;
-use plain_engine::{PlainAdapter, PlainScanner};
+use plain_engine::PlainScanner;
 use std::alloc::Global;
 use std::convert::AsStr;
 use std::io::{ErrorKind, Read, Write};
+use std::net::{Net, TcpListener, TcpStream};
+use std::rt::Clock;
 use trace_stepper::{NotTaken, PlayFault, play, write_text};
 use trace_text::{Trace, TraceFault, read_trace};
 
@@ -68,30 +73,58 @@ impl From<TraceFault> for ProgramFault {
 }
 
 /// Runs the program on the words of a command line, the first of them its own name, and answers its
-/// status: 0, where all outcomes are printed and each is as recorded; 1 where one is not, after a last line that
+/// status: 0, where what they ask for is done (`step`: all outcomes are printed and each is as recorded; `loop`: its
+/// turns are done, and their number is printed); 1 where a recorded outcome was not given, after a last line that
 /// tells the first, or where the run failed, after one line on `err` that tells why, as far as the stream took it;
 /// 2 where the command line is none of the program's, which prints nothing.
 pub fn program<R, S, I, O, E>(rt: &R, words: &[S], reader: &mut I, out: &mut O, err: &mut E) -> u8
 where
-    R: AllocGlobal,
+    R: AllocGlobal + Clock + Net<Listener = TcpListener, Stream = TcpStream>,
     S: AsStr,
     I: Read,
     O: Write,
     E: Write,
     ensures status { result ≤ 2 }
-    ensures done { result ≡ 0 → PrintsRun (I.remaining reader.old) (O.contents out.old) (O.contents out.new) × (err.new ≡ err.old) }
-    ensures failed { result ≡ 1 → Fails (I.remaining reader.old) (O.contents out.old) (O.contents out.new) (E.contents err.old) (E.contents err.new) }
+    ensures done { result ≡ 0 → IsDone (map S.text words.now) (I.remaining reader.old) (O.contents out.old) (O.contents out.new) × (err.new ≡ err.old) }
+    ensures failed { result ≡ 1 → HasFailed (map S.text words.now) (I.remaining reader.old) (O.contents out.old) (O.contents out.new) (E.contents err.old) (E.contents err.new) }
     ensures usage { result ≡ 2 → (out.new ≡ out.old) × (err.new ≡ err.old) }
 {
-    let task = match read_task(rt.alloc(), words) {
-        Ok(task) => task,
-        Err(Misuse::Usage) => return USAGE,
-        Err(Misuse::OutOfMemory) => return failed(err, ProgramFault::OutOfMemory),
-    };
-    let done = match task {
-        Task::Step => step(rt.alloc(), reader, out),
-    };
-    match done {
+    match read_task(rt.alloc(), words) {
+        Ok(task) => perform(rt, task, reader, out, err),
+        Err(Misuse::Usage) => USAGE,
+        Err(Misuse::OutOfMemory) => failed(err, ProgramFault::OutOfMemory),
+    }
+}
+
+/// Does what a command line asked for, and answers the status: 0 where all is done and printed, else 1, after a line
+/// on `err` where the task failed.
+pub fn perform<R, I, O, E>(rt: &R, task: Task, reader: &mut I, out: &mut O, err: &mut E) -> u8
+where
+    R: AllocGlobal + Clock + Net<Listener = TcpListener, Stream = TcpStream>,
+    I: Read,
+    O: Write,
+    E: Write,
+    ensures status { result ≤ 1 }
+    ensures done { result ≡ 0 → Prints task (I.remaining reader.old) (O.contents out.old) (O.contents out.new) × (err.new ≡ err.old) }
+    ensures failed { result ≡ 1 → FailsTask task (I.remaining reader.old) (O.contents out.old) (O.contents out.new) (E.contents err.old) (E.contents err.new) }
+{
+    match task {
+        Task::Step => step_status(rt.alloc(), reader, out, err),
+        Task::Loop(task) => loop_status(rt, task, out, err),
+    }
+}
+
+/// Steps a device by the trace that the reader holds. The status is 0, or 1 after a difference or a fault.
+fn step_status<I, O, E>(alloc: Global, reader: &mut I, out: &mut O, err: &mut E) -> u8
+where
+    I: Read,
+    O: Write,
+    E: Write,
+    ensures status { result ≤ 1 }
+    ensures done { result ≡ 0 → PrintsRun (I.remaining reader.old) (O.contents out.old) (O.contents out.new) × (err.new ≡ err.old) }
+    ensures failed { result ≡ 1 → Fails (I.remaining reader.old) (O.contents out.old) (O.contents out.new) (E.contents err.old) (E.contents err.new) }
+{
+    match step(alloc, reader, out) {
         Ok(true) => 0,
         Ok(false) => FAILED,
         Err(fault) => failed(err, fault),
@@ -124,7 +157,11 @@ fn tell<E: Write>(err: &mut E, fault: ProgramFault) -> Result<(), NotTaken>
 }
 
 /// Writes a line of a word and a number. Takes no memory.
-fn write_numbered<W: Write>(out: &mut W, word: &[u8], number: u64) -> Result<(), NotTaken>
+pub(crate) fn write_numbered<W: Write>(
+    out: &mut W,
+    word: &[u8],
+    number: u64,
+) -> Result<(), NotTaken>
     ensures { IsTaken (W.contents out.old) (word.now ++ (decimal number ++ codes "\n")) result (W.contents out.new) }
 {
     let mut digits = Buffer::new();
@@ -150,7 +187,7 @@ fn played<O: Write>(alloc: Global, trace: &Trace, out: &mut O) -> Result<Option<
     ensures { IsPlayed true trace.now (O.contents out.old) (O.contents out.new) result }
 {
     match &trace.config {
-        Config::Adapter(_) => play::<PlainAdapter, O>(alloc, trace, out),
+        Config::Adapter(_) => play::<FastAdapter, O>(alloc, trace, out),
         Config::Scanner(_) => play::<PlainScanner, O>(alloc, trace, out),
     }
 }

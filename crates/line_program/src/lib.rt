@@ -3,8 +3,10 @@
 
 mod commands;
 mod console;
+mod loops;
 mod running;
 
-pub use commands::{Misuse, Task, read_task};
-pub use console::{ProgramFault, program};
+pub use commands::{LoopTask, Misuse, Task, read_task};
+pub use console::{ProgramFault, perform, program};
+pub use loops::LoopEnd;
 pub use running::run;

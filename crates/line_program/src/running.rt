@@ -3,7 +3,9 @@
 use crate::console::program;
 use std::env::{self, Env};
 use std::io::{BufWriter, ErrorKind, Read, Write};
+use std::net::{Net, TcpListener, TcpStream};
 use std::process::ExitCode;
+use std::rt::Clock;
 
 /// The status for a command line that is none of the program's.
 const USAGE: u8 = 2;
@@ -11,7 +13,7 @@ const USAGE: u8 = 2;
 /// Hands the program its command line and these streams, the output through a buffer, and answers its status.
 pub fn run<R, I, O, E>(rt: &R, reader: &mut I, out: O, err: &mut E) -> ExitCode
 where
-    R: AllocGlobal + Env,
+    R: AllocGlobal + Env + Clock + Net<Listener = TcpListener, Stream = TcpStream>,
     I: Read,
     O: Write + Drop,
     E: Write,

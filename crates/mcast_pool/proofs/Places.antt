@@ -1,13 +1,13 @@
 -- Groups by their places in a list.
-use Rattle.std.proofs.Common.{◌≡◌, ◌<◌, ◌≤◌, ℕ, ◌==◌, Bool, true, false, cond, List, [], ◌∷◌, length, get_or, set, find, Option, Some, None, zero, suc, refl, sym, ap, subst, ◌∙◌, nat_lt, is_some, arith, rules}
-use Rattle.std.specs.List.{position, position_or_len, remove}
+use Rattle.std.proofs.Common.{◌≡◌, ◌<◌, ◌≤◌, ℕ, ◌==◌, ◌&&◌, ◌||◌, Bool, true, false, true≢false, cond, List, [], ◌∷◌, length, get_or, set, find, Option, Some, None, zero, suc, refl, sym, ap, subst, ◌∙◌, nat_lt, is_some, arith, rules}
+use Rattle.std.specs.List.{list_any, position, position_or_len, remove}
 use Rattle.std.specs.Option.{IsSome}
-use Rattle.std.proofs.lemmas.Bool.Decides.{nat_tests}
+use Rattle.std.proofs.lemmas.Bool.Decides.{nat_tests, Decides-eqb}
 use Rattle.std.proofs.lemmas.List.{get_or-set_same}
 use Rattle.std.proofs.lemmas.List.Quantifiers.{position-Some}
 use Rattle.cip_types.specs.Places.{Mapped, mapped_at, find_none}
 use Rattle.mcast_pool.specs.declared.group.Group.{Group}
-use Rattle.mcast_pool.specs.Groups.{has_number, serves, place_for, joined_group, change_first, left, one_less, subscribers, AreGroups, FitsGroup}
+use Rattle.mcast_pool.specs.Groups.{has_number, number_of, numbered, is_like, serves, place_for, joined_group, change_first, left, one_less, subscribers, AreGroups, FitsGroup}
 
 -- the first that passes stands at this place
 pub record IsFirst (test : Group → Bool) (groups : List Group) (at : ℕ) (d : Group) : Type 0 where
@@ -100,3 +100,41 @@ few_index (group ∷ groups) (suc i) d lt = let rest = few_index groups i d (ome
 -- one that a loop over the groups has not changed yet is within the limits
 pub fits_mapped : (change : Group → Group) (xs ys : List Group) (i : ℕ) (d : Group) → AreGroups xs → i < length xs → length ys ≡ length xs → Mapped change xs ys i → FitsGroup (get_or ys i d)
 fits_mapped change xs ys i d each lt same mapped = subst FitsGroup (sym (mapped_at change xs ys i d lt same mapped)) (fits_index xs i d each lt)
+
+-- NUMBERS
+
+same_number : (number : ℕ) (group : Group) → has_number number group ≡ true → number_of group ≡ number
+same_number number group is = (Decides-eqb (number_of group) number).0 is
+
+none_there : (test : Group → Bool) (groups : List Group) (i : ℕ) (d : Group) → list_any test groups ≡ false → i < length groups → test (get_or groups i d) ≡ false
+none_there test [] i d none lt = absurd (omega arith)
+none_there test (group ∷ groups) zero d none lt = split (test group) none
+  where
+    split : (b : Bool) → b || list_any test groups ≡ false → b ≡ false
+    split true h = absurd (true≢false h)
+    split false h = refl
+none_there test (group ∷ groups) (suc i) d none lt = none_there test groups i d (split (test group) none) (omega arith)
+  where
+    split : (b : Bool) → b || list_any test groups ≡ false → list_any test groups ≡ false
+    split true h = absurd (true≢false h)
+    split false h = h
+
+like_number : (a b c : Bool) → a || (b && c) ≡ false → a ≡ false
+like_number true b c is = absurd (true≢false is)
+like_number false b c is = refl
+
+-- the group of a number stands nowhere else
+pub numbered_there : (number : ℕ) (groups : List Group) (i : ℕ) (d : Group) → AreGroups groups → i < length groups → has_number number (get_or groups i d) ≡ true → numbered number groups ≡ Some (get_or groups i d)
+numbered_there number [] i d each lt has = absurd (omega arith)
+numbered_there number (group ∷ groups) zero d each lt has = rw has refl
+numbered_there number (group ∷ groups) (suc i) d each lt has = split (has_number number group) refl (numbered_there number groups i d each.3 (omega arith) has)
+  where
+    split : (b : Bool) → has_number number group ≡ b → numbered number groups ≡ Some (get_or groups i d) → cond (has_number number group) (Some group) (numbered number groups) ≡ Some (get_or groups i d)
+    split true is there =
+        let unlike = none_there (is_like group) groups i d each.2 (omega arith) in
+        let other : has_number (number_of group) (get_or groups i d) ≡ false = like_number (has_number (number_of group) (get_or groups i d)) group.shared (serves group.producer.point (get_or groups i d)) unlike in
+        absurd (true≢false (sym has ∙ ap (λ n. has_number n (get_or groups i d)) (sym (same_number number group is)) ∙ other))
+    split false is there = rw is there
+
+pub near : (number : ℕ) (groups : List Group) (i : ℕ) (d : Group) (result : Bool) → AreGroups groups → i < length groups → result ≡ has_number number (get_or groups i d) → result ≡ true → Some (get_or groups i d) ≡ numbered number groups
+near number groups i d result each lt is has = sym (numbered_there number groups i d each lt (sym is ∙ has))

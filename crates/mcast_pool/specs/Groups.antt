@@ -150,6 +150,11 @@ abbrev pub lowest : (Group → Bool) → List Group → Option ℕ
 lowest test [] = None
 lowest test (group ∷ groups) = if test group then Some (lower (number_of group) (lowest test groups)) else lowest test groups
 
+-- when the first of them is due, and where there is none, the time that never comes
+abbrev pub first_due : List Group → ℕ
+first_due [] = 2 ^ 64 - 1
+first_due (group ∷ groups) = min group.producer.production.due.0 (first_due groups)
+
 -- WHAT HOLDS OF ALL OF THEM
 
 -- the limits of a device: packet intervals in milliseconds, and when a producer is due

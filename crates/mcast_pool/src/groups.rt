@@ -1,9 +1,9 @@
 //! Groups in the order in which they began.
 
-ghost use Rattle.std.specs.Prelude.{◌≡◌, ◌≤◌, ◌<◌, ◌^◌, Some, filter, find, length, map, vec_capacity};
+ghost use Rattle.std.specs.Prelude.{◌≡◌, ◌+◌, ◌≤◌, ◌<◌, ◌^◌, Some, filter, find, length, map, vec_capacity};
 ghost use Rattle.std.specs.List.{position};
 ghost use Rattle.std.specs.Option.{option_map};
-ghost use Rattle.mcast_pool.specs.Groups.{has_number, serves, producer_of, one_more, change_first, left, is_last, is_at_once, is_new_at_once, lower, lowest, touched, produced_group, produced_if_due, written_and_changed, numbered, place_for, subscribers, AreGroups};
+ghost use Rattle.mcast_pool.specs.Groups.{has_number, serves, producer_of, one_more, change_first, left, is_last, is_at_once, is_new_at_once, lower, lowest, first_due, touched, produced_group, produced_if_due, written_and_changed, numbered, place_for, subscribers, AreGroups};
 
 use crate::group::{
     Group, has_number, is_at_once, is_last, is_new_at_once, produced_group, produced_if_due,
@@ -42,6 +42,27 @@ pub(crate) fn find_group(groups: &[Group], number: u32) -> Option<Group>
         .iter()
         .copied()
         .find(|group| has_number(group, number))
+}
+
+/// The group of a producer's number, which is first looked for at a place.
+pub(crate) fn find_near(groups: &[Group], number: u32, place: usize) -> Option<Group>
+    requires { AreGroups groups.now }
+    ensures { result ≡ numbered number groups.now }
+{
+    if place >= groups.len() || !has_number(&groups[place], number) {
+        return find_group(groups, number);
+    }
+    Some(groups[place])
+}
+
+/// Where to look first for the producer after this one: behind it, where it stands at the place.
+pub(crate) fn place_after(groups: &[Group], number: u32, place: usize) -> usize
+    ensures near { result ≤ place + 1 }
+{
+    match groups.get(place) {
+        Some(group) if has_number(group, number) => place.saturating_add(1),
+        _ => place,
+    }
 }
 
 /// One connection more for the group of a point; its producer.
@@ -152,4 +173,14 @@ pub(crate) fn lowest_at_once(groups: &[Group], clock: Ms, point: u32) -> Option<
         }
     }
     lowest
+}
+
+pub(crate) fn first_due(groups: &[Group]) -> u64
+    ensures { result ≡ first_due groups.now }
+{
+    let mut first = u64::MAX;
+    for at in (0..groups.len()).rev() {
+        first = first.min(groups[at].producer.production.due.0);
+    }
+    first
 }

@@ -4,12 +4,12 @@ ghost use Rattle.std.specs.Prelude.{◌≡◌, ◌≤◌, ◌<◌, ◌+◌, ◌^
 ghost use Rattle.std.specs.Option.{option_map};
 ghost use Rattle.cip_datagram.specs.Datagram.{datagram_text};
 ghost use Rattle.cip_productions.specs.Productions.{production_datagram};
-ghost use Rattle.mcast_pool.specs.Groups.{has_number, begun, production_of, touched, produced_group, produced_if_due, written_and_changed, is_at_once, is_new_at_once, numbered, IsInUse, subscribers, joined_group, change_first, joined_by, joined, left, is_last, lowest, FitsGroup, MayProduce, AreGroups};
+ghost use Rattle.mcast_pool.specs.Groups.{has_number, begun, production_of, touched, produced_group, produced_if_due, written_and_changed, is_at_once, is_new_at_once, numbered, IsInUse, subscribers, joined_group, change_first, joined_by, joined, left, is_last, lowest, first_due, FitsGroup, MayProduce, AreGroups};
 
 use crate::group::{Group, begun};
 use crate::groups::{
-    count_at_once, find_group, lowest_at_once, place_for, place_of, produce_all, produce_at,
-    subscribe, touch_all, unsubscribe, write_all,
+    count_at_once, find_group, find_near, first_due, lowest_at_once, place_after, place_for,
+    place_of, produce_all, produce_at, subscribe, touch_all, unsubscribe, write_all,
 };
 use cip_datagram::{Datagram, write_datagram};
 use cip_productions::{Producer, Production, next_count};
@@ -214,6 +214,13 @@ impl Pool {
         write_all(&mut self.groups, clock, point);
     }
 
+    /// When the first producer is due, and where there is none, the time that never comes. Takes no memory.
+    pub fn first_due(&self) -> u64
+        ensures { result ≡ first_due self.now }
+    {
+        first_due(&self.groups)
+    }
+
     /// When a producer is due. Takes no memory.
     pub fn due(&self, number: u32) -> Ms
         requires { IsInUse number self.now }
@@ -224,6 +231,24 @@ impl Pool {
             .producer
             .production
             .due
+    }
+
+    /// The production of a producer, which is first looked for at a place. Takes no memory.
+    pub fn production_near(&self, number: u32, place: usize) -> Production
+        requires { IsInUse number self.now }
+        ensures { Some result ≡ option_map production_of (numbered number self.now) }
+    {
+        find_near(&self.groups, number, place)
+            .unwrap()
+            .producer
+            .production
+    }
+
+    /// Where to look first for the producer after this one. Takes no memory.
+    pub fn place_after(&self, number: u32, place: usize) -> usize
+        ensures { result ≤ place + 1 }
+    {
+        place_after(&self.groups, number, place)
     }
 
     /// The production of a producer. Takes no memory.

@@ -1,7 +1,10 @@
 //! Devices over plain lists, whose every step is the table's.
 #![tactic(auto)]
 
-mod adapter;
+use connection_table::PlainRows;
+use table_engine::Adapter;
 
-pub use adapter::PlainAdapter;
+/// An adapter over a plain list of connections, which contracts see as its table.
+pub type PlainAdapter = Adapter<PlainRows>;
+
 pub use plain_scanner::PlainScanner;

@@ -1,7 +1,8 @@
 //! Plays traces over the devices of the line, each named for the behaviour that it shows, and prints a line
-//! for each: whether all outcomes are as recorded.
+//! for each: whether all outcomes are as recorded. An adapter's traces are played over each of its engines.
 #![tactic(auto)]
 
+use adapter_engine::FastAdapter;
 use cip_tables::Config;
 use plain_engine::{PlainAdapter, PlainScanner};
 use std::alloc::Global;
@@ -21,8 +22,8 @@ enum Failure {
     Trace(TraceFault),
     #[error("{0}")]
     Stepper(StepperFault),
-    #[error("{0}")]
-    Differs(Differs),
+    #[error("{0} {1}")]
+    Differs(&'static str, Differs),
 }
 
 /// Plays the traces whose files the command line names.
@@ -36,7 +37,7 @@ fn main(rt: HostRuntime) -> ExitCode {
     let mut status = 0;
     for name in words.iter().skip(1) {
         let told = match held(&rt, name.as_str()) {
-            Ok(()) => println!(rt; "{name} holds"),
+            Ok(engines) => println!(rt; "{name} holds over {engines}"),
             Err(failure) => {
                 status = 1;
                 println!(rt; "{name}: {failure}")
@@ -49,8 +50,8 @@ fn main(rt: HostRuntime) -> ExitCode {
     ExitCode::from(status)
 }
 
-/// Whether the trace of this file holds over each engine.
-fn held<R: AllocGlobal + Files>(rt: &R, name: &str) -> Result<(), Failure> {
+/// Whether the trace of this file holds over each engine, and which they are.
+fn held<R: AllocGlobal + Files>(rt: &R, name: &str) -> Result<&'static str, Failure> {
     let Ok(text) = fs::read(rt, name) else {
         return Err(Failure::Read);
     };
@@ -58,20 +59,35 @@ fn held<R: AllocGlobal + Files>(rt: &R, name: &str) -> Result<(), Failure> {
         Ok(trace) => trace,
         Err(fault) => return Err(Failure::Trace(fault)),
     };
-    let report = match replayed(rt.alloc(), &trace) {
-        Ok(report) => report,
-        Err(fault) => return Err(Failure::Stepper(fault)),
-    };
-    match compare(&trace, report.outcomes.as_slice()) {
-        Ok(()) => Ok(()),
-        Err(differs) => Err(Failure::Differs(differs)),
+    replayed(rt.alloc(), &trace)
+}
+
+/// Plays a trace over each engine of its kind of device.
+fn replayed(alloc: Global, trace: &Trace) -> Result<&'static str, Failure> {
+    match &trace.config {
+        Config::Adapter(_) => {
+            compared(trace, replay::<PlainAdapter>(alloc, trace), "plain")?;
+            compared(trace, replay::<FastAdapter>(alloc, trace), "fast")?;
+            Ok("plain and fast")
+        }
+        Config::Scanner(_) => {
+            compared(trace, replay::<PlainScanner>(alloc, trace), "plain")?;
+            Ok("plain")
+        }
     }
 }
 
-/// The outcomes of a trace's events at a device of its kind.
-fn replayed(alloc: Global, trace: &Trace) -> Result<Report, StepperFault> {
-    match &trace.config {
-        Config::Adapter(_) => replay::<PlainAdapter>(alloc, trace),
-        Config::Scanner(_) => replay::<PlainScanner>(alloc, trace),
+/// Whether the outcomes of a trace's events at an engine are as recorded.
+fn compared(
+    trace: &Trace,
+    report: Result<Report, StepperFault>,
+    engine: &'static str,
+) -> Result<(), Failure> {
+    match report {
+        Ok(report) => match compare(trace, report.outcomes.as_slice()) {
+            Ok(()) => Ok(()),
+            Err(differs) => Err(Failure::Differs(engine, differs)),
+        },
+        Err(fault) => Err(Failure::Stepper(fault)),
     }
 }

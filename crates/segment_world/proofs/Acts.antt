@@ -1,5 +1,5 @@
 -- Acts, told of what the code did.
-use Rattle.std.proofs.Common.{◌≡◌, ◌<◌, ◌≤◌, ℕ, zero, suc, List, [], ◌∷◌, ◌++◌, map, set, length, slice_get, Option, Some, None, Result, Ok, Err, IsOk, subst, refl, sym, ap, ◌∙◌, arith}
+use Rattle.std.proofs.Common.{◌≡◌, ◌<◌, ◌≤◌, not, Bool, true, false, ℕ, zero, suc, List, [], ◌∷◌, ◌++◌, map, set, length, slice_get, Option, Some, None, Result, Ok, Err, IsOk, subst, refl, sym, ap, ◌∙◌, arith}
 use Rattle.std.proofs.lemmas.List.{append-nil}
 use Rattle.std.proofs.lemmas.Option.{get_or_from_slice_get}
 use Rattle.std.specs.Option.{option_map}
@@ -19,10 +19,10 @@ use Rattle.sent_log.specs.Log.{Sent}
 use Rattle.stream_queues.specs.declared.direction.Direction.{Direction}
 use Rattle.stream_queues.specs.declared.direction.Direction.TheVariants.{Forth, Back}
 use Rattle.stream_queues.specs.declared.links.Ends.{Ends}
-use Rattle.stream_queues.specs.Fronts.{ends_of, front_of}
-use Rattle.stream_queues.specs.Streams.{Item, Stream, side_of, taker, giver, frames_sent, notices_told, answered}
-use Rattle.segment_world.specs.declared.act.ActFault.TheVariants.{NoSuchDevice, NeverSent, Step}
-use Rattle.segment_world.specs.World.{World, Happened, node_at, sent_by, spread, comes, comes_to, comes_so, delivered, event_of_item, without_front, taken, taken_at}
+use Rattle.stream_queues.specs.Fronts.{ends_of, is_open, front_of}
+use Rattle.stream_queues.specs.Streams.{Item, Stream, side_of, taker, giver, with_stream, frames_sent, notices_told, answered, cut_stream}
+use Rattle.segment_world.specs.declared.act.ActFault.TheVariants.{NoSuchDevice, NeverSent, NoSuchStream, Step}
+use Rattle.segment_world.specs.World.{World, Happened, node_at, sent_by, spread, comes, comes_to, comes_so, delivered, event_of_item, without_front, taken, taken_at, cut_if, cut_at}
 use Rattle.segment_world.specs.Comings.{taker_in, giver_in}
 use Rattle.segment_world.specs.Follows.{IsPossible, ActFollows}
 use Rattle.segment_world.specs.Rooms.{CameTo, WasDelivered}
@@ -194,3 +194,34 @@ comes_over_possibly n d v w ends item device seen there first taker_is within =
     let event : Event = event_of_item n (node_at v (giver_in d ends)) item in
     let so = comes_over n d v w ends item device (giver_in d ends) (node_at v (giver_in d ends)) event seen there first taker_is refl refl refl in
     subst (λ (r : Happened). IsPossible r) (sym so) (comes_possibly device event (without_front n d w) within)
+
+-- A STREAM THAT IS CUT
+
+cut_if_open : (n : ℕ) (w : World) (ended : Bool) → true ≡ not ended → cut_if n w ended ≡ Ok (None, record w { streams = with_stream cut_stream n w.streams })
+cut_if_open n w true is = absurd (let e = is in cc)
+cut_if_open n w false is = refl
+
+cut_open : (n : ℕ) (w : World) (o : Option Stream) → true ≡ is_open o → cut_at n w o ≡ Ok (None, record w { streams = with_stream cut_stream n w.streams })
+cut_open n w None is = absurd (let e = is in cc)
+cut_open n w (Some s) is = cut_if_open n w s.ended is
+
+cut_if_ended : (n : ℕ) (w : World) (ended : Bool) → false ≡ not ended → cut_if n w ended ≡ Err NoSuchStream
+cut_if_ended n w true is = refl
+cut_if_ended n w false is = absurd (let e = is in cc)
+
+cut_not_open : (n : ℕ) (w : World) (o : Option Stream) → false ≡ is_open o → cut_at n w o ≡ Err NoSuchStream
+cut_not_open n w None is = refl
+cut_not_open n w (Some s) is = cut_if_ended n w s.ended is
+
+pub cut_so : (n : ℕ) (v w : World) (streams : List Stream) → v ≡ w → true ≡ is_open (slice_get v.streams n) → streams ≡ with_stream cut_stream n v.streams → ActFollows (cut_at n w (slice_get w.streams n)) w (Ok None) (record v { streams = streams })
+cut_so n v w streams seen living cut = (
+  None,
+  sym (ap (λ (u : World). cut_at n u (slice_get u.streams n)) seen) ∙ cut_open n v (slice_get v.streams n) living ∙ ap (λ (l : List Stream). Ok (None, record v { streams = l })) (sym cut),
+  refl,
+)
+
+pub uncut_so : (n : ℕ) (v w : World) (streams : List Stream) → v ≡ w → false ≡ is_open (slice_get v.streams n) → streams ≡ v.streams → ActFollows (cut_at n w (slice_get w.streams n)) w (Err NoSuchStream) (record v { streams = streams })
+uncut_so n v w streams seen living kept = (
+  sym (ap (λ (u : World). cut_at n u (slice_get u.streams n)) seen) ∙ cut_not_open n v (slice_get v.streams n) living,
+  ap (λ (l : List Stream). record v { streams = l }) kept ∙ seen,
+)

@@ -206,14 +206,10 @@ impl<A: Device, S: Device> World<A, S> {
         ensures follows { ActFollows (cut_at stream self.old (slice_get self.old.streams stream)) self.old result self.new }
         ensures no_memory { WantsNone result }
     {
-        let Some(ends) = self.streams.ends(stream) else {
-            return Err(ActFault::NoSuchStream);
-        };
-        if ends.ended {
-            return Err(ActFault::NoSuchStream);
+        if self.streams.cut(stream) {
+            return Ok(None);
         }
-        self.streams.cut(stream);
-        Ok(None)
+        Err(ActFault::NoSuchStream)
     }
 }
 

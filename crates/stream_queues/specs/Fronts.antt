@@ -1,5 +1,5 @@
--- What is read of a stream: its ends, and what waits first.
-use Rattle.std.specs.Prelude.{slice_get, Option, Some, None}
+-- What is read of a stream: its ends, whether it has not ended, and what waits first.
+use Rattle.std.specs.Prelude.{not, Bool, false, slice_get, Option, Some, None}
 use Rattle.stream_queues.specs.declared.direction.Direction.{Direction}
 use Rattle.stream_queues.specs.declared.front.Front.{Front}
 use Rattle.stream_queues.specs.declared.front.Front.TheVariants as front
@@ -9,6 +9,11 @@ use Rattle.stream_queues.specs.Streams.{Item, Opening, Queued, Ending, Stream, s
 -- the ends of a stream
 abbrev pub ends_of : Stream → Ends
 ends_of s = record { from = s.from; to = s.to; ended = s.ended }
+
+-- there is such a stream, and it has not ended
+abbrev pub is_open : Option Stream → Bool
+is_open None = false
+is_open (Some s) = not s.ended
 
 abbrev pub view_front : Front → Item
 view_front front.Opening = Opening

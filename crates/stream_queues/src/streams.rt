@@ -1,10 +1,10 @@
 //! Streams, and what waits on them.
 
-ghost use Rattle.std.specs.Prelude.{◌≡◌, ◌≤◌, ◌<◌, ◌+◌, ◌∷◌, [], ◌++◌, length, slice_get, OnOk, OnErr};
+ghost use Rattle.std.specs.Prelude.{◌≡◌, ◌≤◌, ◌<◌, ◌+◌, ◌∷◌, [], ◌++◌, true, false, length, slice_get, OnOk, OnErr};
 ghost use Rattle.std.specs.Option.{option_map};
 ghost use Rattle.stream_queues.specs.Streams.{fresh_stream, with_stream, sent_over, frame_sent, frames_sent, closed_by, notice_told, notices_told, cut_stream, taken_from};
 ghost use Rattle.stream_queues.specs.Queues.{AreShort};
-ghost use Rattle.stream_queues.specs.Fronts.{ends_of, view_front, front_of};
+ghost use Rattle.stream_queues.specs.Fronts.{ends_of, is_open, view_front, front_of};
 
 use crate::buffers::{Buffers, MOST_FRAMES};
 use crate::direction::Direction;
@@ -166,15 +166,22 @@ impl Streams {
         }
     }
 
-    /// Cuts the stream of this number, if there is one, so that both ends are to learn it. Takes no memory.
-    pub fn cut(&mut self, number: u16)
-        ensures { self.new.streams ≡ with_stream cut_stream number self.old.streams }
+    /// Cuts the stream of this number, so that both ends are to learn it, and tells whether there is one that had not
+    /// ended: else nothing changes. Takes no memory.
+    pub fn cut(&mut self, number: u16) -> bool
+        ensures open { result ≡ is_open (slice_get self.old.streams number) }
+        ensures cut { result ≡ true → self.new.streams ≡ with_stream cut_stream number self.old.streams }
+        ensures kept { result ≡ false → self.new.streams ≡ self.old.streams }
     {
-        let Some(link) = link_at(&self.links, number) else {
-            return;
+        let Some(stream) = link_at(&self.links, number) else {
+            return false;
         };
-        put_link(&mut self.links, number, link.cut());
+        if stream.ended {
+            return false;
+        }
+        put_link(&mut self.links, number, stream.cut());
         drop_frames(&mut self.waiting, number);
+        true
     }
 
     /// What waits first in a direction of the stream of this number.

@@ -16,12 +16,12 @@ pub fn read_part(alloc: Global, words: &mut Words<'_>) -> Result<Part, LineFault
 {
     let word = words.word()?;
     match word {
-        "value" => Ok(Part::Verdict(read_value(alloc, words)?)),
-        "fault" => Ok(Part::Fault(last_fault(words)?)),
-        "reply" => Ok(Part::Frame(read_reply(alloc, words)?)),
-        "frame" => Ok(Part::Frame(read_frame_out(alloc, words)?)),
-        "send" => Ok(Part::Datagram(read_sending(alloc, words)?)),
-        "note" => Ok(Part::Notice(read_notice(alloc, words)?)),
+        "value" => read_value(alloc, words).map(Part::Verdict),
+        "fault" => last_fault(words).map(Part::Fault),
+        "reply" => read_reply(alloc, words).map(Part::Frame),
+        "frame" => read_frame_out(alloc, words).map(Part::Frame),
+        "send" => read_sending(alloc, words).map(Part::Datagram),
+        "note" => read_notice(alloc, words).map(Part::Notice),
         _ => {
             let told = read_verdict(word).ok_or(LineFault::Bad)?;
             words.end()?;

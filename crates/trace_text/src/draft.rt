@@ -1,6 +1,6 @@
 //! What was read of a trace so far.
 
-ghost use Rattle.std.specs.Prelude.{◌≡◌, ◌++◌, [], Some, None, IfOk, option_to_list};
+ghost use Rattle.std.specs.Prelude.{◌≡◌, ◌==◌, ◌+◌, length, ◌++◌, [], Some, None, IfOk, option_to_list};
 ghost use Rattle.trace_words.specs.Reader.{Finds};
 ghost use Rattle.trace_outcomes.specs.Recorded.{recorded_with};
 ghost use Rattle.trace_profiles.specs.Profiles.{profile_with};
@@ -193,17 +193,30 @@ fn after_events(
     ensures { Finds (draft_with (Draft.Events config entries last) told) result }
 {
     match told {
-        Line::Event(event) => Ok(Draft::Events {
-            config,
-            entries: with_last(alloc, entries, last)?,
-            last: Some((event, None)),
-        }),
+        Line::Event(event) => after_next(alloc, config, entries, last, event),
         Line::Recorded(number, part) => match last {
             Some(last) => after_event(alloc, config, entries, last, number, part),
             None => Err(LineFault::Bad),
         },
         _ => Err(LineFault::Bad),
     }
+}
+
+fn after_next(
+    alloc: Global,
+    config: Config,
+    entries: Items<(Event, Recorded)>,
+    last: Option<(Event, Option<Outcome>)>,
+    event: Event,
+) -> Result<Draft, LineFault>
+    ensures { Finds (draft_with (Draft.Events config entries last) (Line.Event event)) result }
+{
+    let entries = with_last(alloc, entries, last)?;
+    Ok(Draft::Events {
+        config,
+        entries,
+        last: Some((event, None)),
+    })
 }
 
 fn after_event(
@@ -216,7 +229,7 @@ fn after_event(
 ) -> Result<Draft, LineFault>
     ensures { Finds (with_part config entries last number part) result }
 {
-    if number != entries.as_slice().len() as u64 + 1 {
+    if !is_next_number(entries.as_slice(), number) {
         return Err(LineFault::Bad);
     }
     let (event, recorded) = last;
@@ -226,6 +239,13 @@ fn after_event(
         entries,
         last: Some((event, Some(outcome))),
     })
+}
+
+/// Whether the event behind these has the number, from 1.
+fn is_next_number(entries: &[(Event, Recorded)], number: u64) -> bool
+    ensures { result ≡ (number == length entries.now + 1) }
+{
+    number == entries.len() as u64 + 1
 }
 
 /// Events with what is recorded of their outcomes, and the one that came last.

@@ -1,9 +1,9 @@
 //! The lines of a trace, one by one.
 
-ghost use Rattle.std.specs.Prelude.{◌≡◌};
-ghost use Rattle.trace_words.specs.Reader.{unread_words, Takes, Finds};
+ghost use Rattle.std.specs.Prelude.{◌≡◌, drop};
+ghost use Rattle.trace_words.specs.Reader.{unread_words, Takes, Finds, meaning};
 ghost use Rattle.trace_words.specs.Words.{number_of};
-ghost use Rattle.trace_text.specs.Forms.{is_ascii, line_of, line_reader, numbered};
+ghost use Rattle.trace_text.specs.Forms.{is_ascii, line_of, line_meanings, line_reader, numbered};
 
 use crate::event_lines::{
     read_cut, read_datagram, read_frame, read_mode, read_read, read_request, read_start, read_stop,
@@ -45,24 +45,33 @@ fn read_words(alloc: Global, words: &mut Words<'_>) -> Result<Line, LineFault>
 {
     let word = words.word()?;
     match word {
-        "adapter" => Ok(Line::Adapter(read_adapter(words)?)),
-        "output" => Ok(Line::Output(read_output(words)?)),
-        "input" => Ok(Line::Input(read_point(words)?)),
-        "config" => Ok(Line::Config(read_point(words)?)),
-        "heartbeat" => Ok(Line::Heartbeat(read_heartbeat(words)?)),
-        "scanner" => Ok(Line::Scanner(read_scanner(words)?)),
-        "slot" => Ok(Line::Slot(read_slot(alloc, words)?)),
-        "request" => Ok(Line::Event(read_request(alloc, words)?)),
-        "stream" => Ok(Line::Event(read_stream(words)?)),
-        "frame" => Ok(Line::Event(read_frame(alloc, words)?)),
-        "cut" => Ok(Line::Event(read_cut(words)?)),
-        "datagram" => Ok(Line::Event(read_datagram(alloc, words)?)),
-        "write" => Ok(Line::Event(read_write(alloc, words)?)),
-        "read" => Ok(Line::Event(read_read(words)?)),
-        "tick" => Ok(Line::Event(read_tick(words)?)),
-        "mode" => Ok(Line::Event(read_mode(words)?)),
-        "start" => Ok(Line::Event(read_start(words)?)),
-        "stop" => Ok(Line::Event(read_stop(words)?)),
+        "adapter" => read_adapter(words).map(Line::Adapter),
+        "output" => read_output(words).map(Line::Output),
+        "input" => read_point(words).map(Line::Input),
+        "config" => read_point(words).map(Line::Config),
+        "heartbeat" => read_heartbeat(words).map(Line::Heartbeat),
+        "scanner" => read_scanner(words).map(Line::Scanner),
+        "slot" => read_slot(alloc, words).map(Line::Slot),
+        _ => read_event(alloc, words, word),
+    }
+}
+
+/// What follows a word that begins no line of a profile.
+fn read_event(alloc: Global, words: &mut Words<'_>, word: &str) -> Result<Line, LineFault>
+    ensures { Takes (meaning (drop 7 line_meanings) (numbered (number_of 64 word.now)) word.now (unread_words words.old)) result (unread_words words.new) }
+{
+    match word {
+        "request" => read_request(alloc, words).map(Line::Event),
+        "stream" => read_stream(words).map(Line::Event),
+        "frame" => read_frame(alloc, words).map(Line::Event),
+        "cut" => read_cut(words).map(Line::Event),
+        "datagram" => read_datagram(alloc, words).map(Line::Event),
+        "write" => read_write(alloc, words).map(Line::Event),
+        "read" => read_read(words).map(Line::Event),
+        "tick" => read_tick(words).map(Line::Event),
+        "mode" => read_mode(words).map(Line::Event),
+        "start" => read_start(words).map(Line::Event),
+        "stop" => read_stop(words).map(Line::Event),
         _ => read_recorded(alloc, words, word),
     }
 }

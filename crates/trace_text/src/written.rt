@@ -71,19 +71,26 @@ fn push_event(alloc: Global, out: &mut String, event: &Event) -> Result<(), OutO
         Event::Frame { stream, bytes } => {
             push_of_number(alloc, out, "frame", u32::from(*stream), bytes.as_slice())
         }
-        Event::StreamCut { stream } => Ok(write!(out, "cut {stream}\n")?),
+        Event::StreamCut { stream } => push_number(out, "cut", u32::from(*stream)),
         Event::Datagram { peer, bytes } => {
             push_of_node(alloc, out, "datagram", *peer, bytes.as_slice())
         }
         Event::Write { point, bytes } => {
             push_of_number(alloc, out, "write", *point, bytes.as_slice())
         }
-        Event::Read { point } => Ok(write!(out, "read {point}\n")?),
-        Event::Tick { ms } => Ok(write!(out, "tick {ms}\n")?),
+        Event::Read { point } => push_number(out, "read", *point),
+        Event::Tick { ms } => push_number(out, "tick", *ms),
         Event::Mode { run } => push_mode(out, *run),
-        Event::Start { slot } => Ok(write!(out, "start {slot}\n")?),
-        Event::Stop { slot } => Ok(write!(out, "stop {slot}\n")?),
+        Event::Start { slot } => push_number(out, "start", *slot),
+        Event::Stop { slot } => push_number(out, "stop", *slot),
     }
+}
+
+fn push_number(out: &mut String, keyword: &str, number: u32) -> Result<(), OutOfMemory>
+    ensures { OnOk result (string_bytes out.new ≡ string_bytes out.old ++ line_text (keyword.now ∷ decimal number ∷ [])) }
+{
+    write!(out, "{keyword} {number}\n")?;
+    Ok(())
 }
 
 fn push_mode(out: &mut String, run: bool) -> Result<(), OutOfMemory>

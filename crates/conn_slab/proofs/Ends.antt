@@ -1,0 +1,14 @@
+-- No watchdog runs out after the time that never comes.
+use Rattle.std.proofs.Common.{◌≡◌, ◌≤◌, ℕ, min, List, [], ◌∷◌, arith}
+use Rattle.adapter_table.specs.declared.row.Row.{Row}
+use Rattle.conn_slab.specs.Bounds.{never, first_end}
+
+within : (rows : List Row) → first_end rows ≤ never
+within [] = omega arith
+within (row ∷ rows) = let rest = within rows in omega arith
+
+pub min_never : (rows : List Row) → min never (first_end rows) ≡ first_end rows
+min_never rows = let all = within rows in omega arith
+
+pub min_end : (n : ℕ) → n ≤ never → min n never ≡ n
+min_end n le = omega arith

@@ -1,0 +1,70 @@
+use Rattle.std.proofs.Common.{◌≡◌, ◌∙◌, ℕ, Some, None, List, find, sym, ap}
+use Rattle.std.specs.Option.{option_map}
+use Rattle.std.specs.Map.{lookup}
+use Rattle.cip_datagram.specs.Datagram.{view_datagram}
+use Rattle.adapter_table.specs.declared.row.Row.{Row}
+use Rattle.adapter_table.specs.Datagrams.{is_for}
+use Rattle.adapter_table.specs.Whole.{FitsRow, RowsFit}
+use Rattle.conn_slab.specs.declared.hearing.Heard.{Heard}
+use Rattle.conn_slab.specs.Index.{items_of}
+use Rattle.conn_slab.specs.Records.{row_of, same_place}
+use Rattle.conn_slab.specs.Layout.{IsTied, running_key}
+use Rattle.conn_slab.specs.Hearing.{heard_by, hearing, heard_record}
+use Rattle.conn_slab.proofs.Hears.{found_fits, told_is, unheard, heard_found, heard_kept, heard_rows}
+use Rattle.conn_slab.proofs.connections.Connections.receive.Goals as goal
+
+pub returns-in_err-key : goal.returns-in_err-key
+returns-in_err-key c =
+    let own = c.self.inside in
+    let d = view_datagram c.args.datagram.now in
+    let none : running_key own.records (lookup (same_place (record { peer = c.args.peer.0; id = d.connection })) own.by_place.entries) ≡ None = ap (running_key own.records) (sym c.get.ensures.value) ∙ sym c.running.ensures ∙ c.in_err-key.was in
+    let nobody : find (is_for c.args.peer d.connection) c.args.self.now ≡ None =
+    ap (find (is_for c.args.peer d.connection)) (sym c.self.view_is) ∙ unheard own.records own.by_triad.entries own.by_place.entries own.pool c.self.invariant c.args.peer d.connection none in
+    record {
+      heard = c.from_residual.ensures ∙ ap (option_map (heard_by c.args.profile.now c.args.clock d)) (sym nobody);
+      rows = ap (λ o. hearing c.args.profile.now c.args.clock c.args.peer d o c.args.self.now) (sym nobody);
+    }
+
+some : (c : goal.After-index_mut-record) → running_key c.self.inside.records (lookup (same_place (record { peer = c.args.peer.0; id = (view_datagram c.args.datagram.now).connection })) c.self.inside.by_place.entries) ≡ Some (c.in_ok-key.key, c.in_ok-key.field-0-1)
+some c = ap (running_key c.self.inside.records) (sym c.get.ensures.value) ∙ sym c.running.ensures ∙ c.in_ok-key.was
+
+fits : (c : goal.After-index_mut-record) → FitsRow (row_of c.self.inside.pool c.index_mut-record.result.now)
+fits c =
+    let own = c.self.inside in
+    let d = view_datagram c.args.datagram.now in
+    found_fits (is_for c.args.peer d.connection) c.args.self.now (row_of own.pool c.index_mut-record.result.now)
+    (ap (find (is_for c.args.peer d.connection)) (sym c.self.view_is)
+    ∙ heard_found own.records own.by_triad.entries own.by_place.entries own.pool c.self.invariant c.args.profile.now c.args.clock c.args.peer d c.in_ok-key.key c.in_ok-key.field-0-1 c.index_mut-record.result.now (some c) c.index_mut-record.ensures.value)
+    c.requires.fit
+
+pub hear-requires-clause-waits : goal.hear-requires-clause-waits
+hear-requires-clause-waits c = (fits c).multiplier
+
+pub hear-requires-clause-interval : goal.hear-requires-clause-interval
+hear-requires-clause-interval c = (fits c).o_t_api
+
+done : (c : goal.After-self-1) → running_key c.self.inside.records (lookup (same_place (record { peer = c.args.peer.0; id = (view_datagram c.args.datagram.now).connection })) c.self.inside.by_place.entries) ≡ Some (c.in_ok-key.key, c.in_ok-key.field-0-1)
+done c = ap (running_key c.self.inside.records) (sym c.get.ensures.value) ∙ sym c.running.ensures ∙ c.in_ok-key.was
+
+pub invariant_of-self : goal.invariant_of-self
+invariant_of-self c =
+    let own = c.self.inside in
+    let d = view_datagram c.args.datagram.now in
+    rw c.hear.ensures.after
+    (heard_kept own.records own.by_triad.entries own.by_place.entries own.pool c.self.invariant c.args.profile.now c.args.clock c.args.peer d c.in_ok-key.key c.in_ok-key.field-0-1 c.index_mut-record.result.now (done c) c.index_mut-record.ensures.value)
+
+pub returns-clause-heard : goal.returns-clause-heard
+returns-clause-heard c =
+    let own = c.self.inside in
+    let d = view_datagram c.args.datagram.now in
+    ap (λ (h : Heard). Some h) (c.hear.ensures.heard ∙ told_is c.args.profile.now c.args.clock d own.pool c.index_mut-record.result.now)
+    ∙ ap (option_map (heard_by c.args.profile.now c.args.clock d))
+    (sym (heard_found own.records own.by_triad.entries own.by_place.entries own.pool c.self.invariant c.args.profile.now c.args.clock c.args.peer d c.in_ok-key.key c.in_ok-key.field-0-1 c.index_mut-record.result.now (done c) c.index_mut-record.ensures.value)
+    ∙ ap (find (is_for c.args.peer d.connection)) c.self.view_is)
+
+pub returns-clause-rows : goal.returns-clause-rows
+returns-clause-rows c =
+    let own = c.self.inside in
+    let d = view_datagram c.args.datagram.now in
+    rw (← c.self.view_is, c.hear.ensures.after)
+    (heard_rows own.records own.by_triad.entries own.by_place.entries own.pool c.self.invariant c.args.profile.now c.args.clock c.args.peer d c.in_ok-key.key c.in_ok-key.field-0-1 c.index_mut-record.result.now (done c) c.index_mut-record.ensures.value)

@@ -1,0 +1,32 @@
+-- Times before which nothing happens to any connection by the clock alone.
+use Rattle.std.specs.Prelude.{ℕ, ◌≤◌, ◌-◌, ◌^◌, min, List, [], ◌∷◌}
+use Rattle.adapter_table.specs.declared.row.Row.{Row}
+use Rattle.adapter_table.specs.declared.row.State.{State}
+use Rattle.adapter_table.specs.declared.row.State.TheVariants.{Established, TimedOut}
+use Rattle.adapter_table.specs.Rows.{Each}
+
+-- the time that never comes
+abbrev pub never : ℕ
+never = 2 ^ 64 - 1
+
+-- when the watchdog of a connection runs out
+abbrev pub end_of : ℕ → State → ℕ
+end_of deadline (Established production) = deadline
+end_of deadline TimedOut = never
+
+-- when the first of the watchdogs runs out
+abbrev pub first_end : List Row → ℕ
+first_end [] = never
+first_end (row ∷ rows) = min (end_of row.deadline.0 row.state) (first_end rows)
+
+abbrev pub StateRests : ℕ → State → Type 0
+StateRests bound (Established production) = bound ≤ production.due.0
+StateRests bound TimedOut = Unit {0}
+
+-- the producer of a connection is not due before this
+abbrev pub Rests : ℕ → Row → Type 0
+Rests bound row = StateRests bound row.state
+
+-- no producer is
+abbrev pub AllRest : ℕ → List Row → Type 0
+AllRest bound rows = Each (Rests bound) rows

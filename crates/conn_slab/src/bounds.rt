@@ -1,0 +1,29 @@
+//! When something happens to connections by the clock alone.
+
+ghost use Rattle.std.specs.Prelude.{◌≡◌};
+ghost use Rattle.conn_slab.specs.Bounds.{end_of, first_end};
+
+use crate::rows::Rows;
+use adapter_table::{Row, State};
+
+/// When the watchdog of a connection runs out; that of one that has timed out never does.
+fn end_of(row: &Row) -> u64
+    ensures { result ≡ end_of row.now.deadline.0 row.now.state }
+{
+    match row.state {
+        State::Established(_) => row.deadline.0,
+        State::TimedOut => u64::MAX,
+    }
+}
+
+/// When the first of the watchdogs runs out.
+#[tactic(auto, using(crate::proofs::Ends::min_never, crate::proofs::Ends::min_end))]
+pub(crate) fn first_end(rows: Rows<'_>) -> u64
+    ensures { result ≡ first_end rows.entry }
+{
+    let mut first = u64::MAX;
+    for row in rows {
+        first = first.min(end_of(&row));
+    }
+    first
+}

@@ -1,0 +1,20 @@
+-- Connections that an adapter can have, and what becomes of them as time passes.
+use Rattle.std.specs.Prelude.{◌≡◌, List, map}
+use Rattle.cip_types.specs.declared.names.Ms.{Ms}
+use Rattle.adapter_table.specs.declared.row.Row.{Row}
+use Rattle.adapter_table.specs.declared.table.AdapterTable.{AdapterTable}
+use Rattle.adapter_table.specs.Closing.{staying}
+use Rattle.adapter_table.specs.Productions.{produced_row}
+use Rattle.adapter_table.specs.Ticks.{expired_rows}
+use Rattle.adapter_table.specs.Whole.{IsWhole}
+
+-- the connections of some whole table of an adapter
+pub record AreWhole (rows : List Row) : Type 0 where
+  pub table : AdapterTable
+  pub whole : IsWhole table
+  pub same : table.rows ≡ rows
+
+-- those whose deadline has come have timed out, the listeners that this leaves without support are gone, and
+-- the producers that are due have produced
+abbrev pub elapsed_rows : Ms → List Row → List Row
+elapsed_rows clock rows = map (produced_row clock) (staying (expired_rows clock rows))

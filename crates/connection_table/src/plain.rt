@@ -1,0 +1,163 @@
+//! A table that is a plain list of connections.
+
+ghost use Rattle.std.specs.Prelude.{◌≡◌};
+ghost use Rattle.cip_events.specs.Answers.{is_accepted};
+
+use crate::table::{ConnectionTable, Received};
+use adapter_table::{Profile, Row, has_expired, is_due, row_delivery};
+use app_rules::{Connections, Listed};
+use assembly_set::AssemblySet;
+use cip_datagram::Datagram;
+use cip_events::{Delivery, Notice, Sending};
+use cip_types::{Ms, Node, OutOfMemory, Triad};
+use connection_rows::{
+    accept_rows, append_row, copied, drop_unsupported, expire_rows, find_row, find_target,
+    make_room, produce_rows, produces_at_once, remove_triad, replaced, sent_on_change,
+    sent_when_due, told_of_close, write_and_change_rows, written_rows,
+};
+use std::alloc::Global;
+
+/// Connections in a list, in opening order, which is gone through at each question.
+#[derive(Drop)]
+pub struct PlainRows(Vec<Row>);
+
+impl Connections for PlainRows {
+    ghost rows = { λ t. t.0.items };
+
+    fn is_held(&self, triad: Triad) -> bool {
+        Listed(&self.0).is_held(triad)
+    }
+
+    fn has_established(&self) -> bool {
+        Listed(&self.0).has_established()
+    }
+
+    fn is_driven(&self, point: u32) -> bool {
+        Listed(&self.0).is_driven(point)
+    }
+
+    fn group_of(&self, point: u32) -> Option<Row> {
+        Listed(&self.0).group_of(point)
+    }
+
+    fn is_supported(&self, point: u32) -> bool {
+        Listed(&self.0).is_supported(point)
+    }
+
+    fn is_full(&self) -> bool {
+        Listed(&self.0).is_full()
+    }
+
+    fn has_timed_out(&self) -> bool {
+        Listed(&self.0).has_timed_out()
+    }
+}
+
+/// Whether a datagram with this delivery is accepted.
+fn is_accepted(delivery: Delivery) -> bool
+    ensures { result ≡ is_accepted delivery }
+{
+    match delivery {
+        Delivery::Applied | Delivery::Idle | Delivery::Heartbeat | Delivery::Duplicate => true,
+        Delivery::Old | Delivery::UnknownId | Delivery::WrongSize | Delivery::Malformed => false,
+    }
+}
+
+impl ConnectionTable for PlainRows {
+    fn new(alloc: Global) -> Result<Self, OutOfMemory> {
+        Ok(PlainRows(Vec::new(alloc)))
+    }
+
+    fn holding(alloc: Global, rows: &[Row]) -> Result<Self, OutOfMemory> {
+        Ok(PlainRows(copied(alloc, rows)?))
+    }
+
+    fn to_vec(&self, alloc: Global) -> Result<Vec<Row>, OutOfMemory> {
+        copied(alloc, &self.0)
+    }
+
+    fn find(&self, triad: Triad) -> Option<Row> {
+        find_row(&self.0, triad)
+    }
+
+    fn replaced(&self, triad: Triad) -> Option<Triad> {
+        replaced(&self.0, triad)
+    }
+
+    fn open(&mut self, row: Row) -> Result<(), OutOfMemory> {
+        make_room(&mut self.0)?;
+        append_row(&mut self.0, row);
+        Ok(())
+    }
+
+    fn closed_notices(&self, alloc: Global, triad: Triad) -> Result<Vec<Notice>, OutOfMemory> {
+        told_of_close(alloc, &self.0, triad)
+    }
+
+    fn close(&mut self, triad: Triad) {
+        remove_triad(&mut self.0, triad);
+        drop_unsupported(&mut self.0);
+    }
+
+    fn receive(
+        &mut self,
+        profile: &Profile,
+        clock: Ms,
+        peer: Node,
+        datagram: &Datagram<'_>,
+    ) -> Option<Received> {
+        let row = find_target(&self.0, peer, datagram.connection)?;
+        let delivery = row_delivery(profile, &row, datagram);
+        if is_accepted(delivery) {
+            accept_rows(&mut self.0, clock, peer, datagram);
+        }
+        let consumed = row.consumed;
+        Some(Received { delivery, consumed })
+    }
+
+    fn has_expired(&mut self, clock: Ms) -> bool {
+        self.0.iter().any(|row| has_expired(row, clock))
+    }
+
+    fn is_due(&self, clock: Ms) -> bool {
+        self.0.iter().any(|row| is_due(row, clock))
+    }
+
+    fn sent_when_due(
+        &self,
+        alloc: Global,
+        assemblies: &AssemblySet,
+        clock: Ms,
+    ) -> Result<Vec<Sending>, OutOfMemory> {
+        sent_when_due(alloc, &self.0, assemblies, clock)
+    }
+
+    fn produce(&mut self, clock: Ms) {
+        produce_rows(&mut self.0, clock);
+    }
+
+    fn elapse(&mut self, clock: Ms) {
+        expire_rows(&mut self.0, clock);
+        drop_unsupported(&mut self.0);
+        produce_rows(&mut self.0, clock);
+    }
+
+    fn produces_at_once(&self, clock: Ms, point: u32) -> bool {
+        produces_at_once(&self.0, clock, point)
+    }
+
+    fn sent_on_change(
+        &self,
+        alloc: Global,
+        clock: Ms,
+        point: u32,
+        input: &[u8],
+    ) -> Result<Vec<Sending>, OutOfMemory> {
+        let written = written_rows(alloc, &self.0, point)?;
+        sent_on_change(alloc, &written, clock, point, input)
+    }
+
+    fn write(&mut self, clock: Ms, point: u32) {
+        write_and_change_rows(&mut self.0, clock, point);
+    }
+}

@@ -1,0 +1,167 @@
+//! Tables of connections.
+
+ghost use Rattle.std.specs.Prelude.{◌≡◌, ◌≤◌, ◌^◌, ◌∷◌, ◌++◌, [], find, map, length, IfOk, OnOk, OnErr};
+ghost use Rattle.std.specs.List.{list_any};
+ghost use Rattle.std.specs.Option.{option_map};
+ghost use Rattle.cip_datagram.specs.Datagram.{view_datagram};
+ghost use Rattle.cip_productions.specs.Productions.{sent};
+ghost use Rattle.cip_events.specs.declared.event.Notice.{Notice};
+ghost use Rattle.adapter_table.specs.Rows.{has_triad, written_row, others};
+ghost use Rattle.adapter_table.specs.Opening.{makes_room, replaced_triad};
+ghost use Rattle.adapter_table.specs.Closing.{without_triad, staying, unsupported, dropped_notice};
+ghost use Rattle.adapter_table.specs.Datagrams.{is_for};
+ghost use Rattle.adapter_table.specs.Productions.{is_due, due_productions, produced_row, produces_on_change, productions_on_change, changed_row};
+ghost use Rattle.adapter_table.specs.Ticks.{has_expired};
+ghost use Rattle.connection_table.specs.Tables.{AreWhole, elapsed_rows};
+ghost use Rattle.connection_table.specs.Receiving.{received_by, receiving};
+
+use adapter_table::{Profile, Row};
+use app_rules::Connections;
+use assembly_set::AssemblySet;
+use cip_datagram::Datagram;
+use cip_events::{Delivery, Notice, Sending};
+use cip_types::{Ms, Node, OutOfMemory, Triad};
+use std::alloc::Global;
+
+/// What became of a datagram that was for a connection, and the point that the connection consumes.
+#[derive(Clone, Copy, PartialEq, Eq)]
+pub struct Received {
+    pub delivery: Delivery,
+    pub consumed: u32,
+}
+
+/// The connections of an adapter, which contracts see as their list in opening order.
+///
+/// What is asked at each datagram and at each tick may be answered by indexes and bounds; each answer is that of
+/// the list. A call that is refused leaves the connections as they were. Calls that change connections expect
+/// those of a whole table of an adapter, and opening, closing and the passing of time lead to such connections.
+pub trait ConnectionTable: Connections + Drop {
+    /// No connections. Want of memory is the only fault.
+    fn new(alloc: Global) -> Result<Self, OutOfMemory>
+        ensures { IfOk result (λ table. Self.rows table ≡ []) };
+
+    /// These connections. Want of memory is the only fault.
+    fn holding(alloc: Global, rows: &[Row]) -> Result<Self, OutOfMemory>
+        requires { AreWhole rows.now }
+        ensures { IfOk result (λ table. Self.rows table ≡ rows.now) };
+
+    /// A copy of the connections. Want of memory is the only fault.
+    fn to_vec(&self, alloc: Global) -> Result<Vec<Row>, OutOfMemory>
+        ensures { IfOk result (λ copy. copy.items ≡ Self.rows self.now) };
+
+    // OPENING AND CLOSING
+
+    /// The connection of a triad, in any state. Takes no memory.
+    fn find(&self, triad: Triad) -> Option<Row>
+        ensures { result ≡ find (has_triad triad) (Self.rows self.now) };
+
+    /// The triad of the connection that makes room for a new one. Takes no memory.
+    fn replaced(&self, triad: Triad) -> Option<Triad>
+        ensures { result ≡ replaced_triad (Self.rows self.now) triad };
+
+    /// Puts a connection last, and takes out the one that makes room for it. Want of memory is the only fault.
+    fn open(&mut self, row: Row) -> Result<(), OutOfMemory>
+        requires whole { AreWhole (Self.rows self.old) }
+        requires next { AreWhole (others (makes_room (Self.rows self.old) row.triad) (Self.rows self.old) ++ row ∷ []) }
+        ensures ok { OnOk result (Self.rows self.new ≡ others (makes_room (Self.rows self.old) row.triad) (Self.rows self.old) ++ row ∷ []) }
+        ensures err { OnErr result (Self.rows self.new ≡ Self.rows self.old) };
+
+    /// What is told where the connection of a triad is closed: that it is, and the listen-only ones that are
+    /// dropped with it. Want of memory is the only fault.
+    fn closed_notices(&self, alloc: Global, triad: Triad) -> Result<Vec<Notice>, OutOfMemory>
+        ensures { IfOk result (λ notices. notices.items ≡ Notice.Closed triad ∷ map dropped_notice (unsupported (without_triad triad (Self.rows self.now)))) };
+
+    /// Takes out the connection of a triad, and then the listen-only ones without support. Takes no memory.
+    fn close(&mut self, triad: Triad)
+        requires whole { AreWhole (Self.rows self.old) }
+        requires next { AreWhole (staying (without_triad triad (Self.rows self.old))) }
+        ensures { Self.rows self.new ≡ staying (without_triad triad (Self.rows self.old)) };
+
+    // DATAGRAMS
+
+    /// The connection that a datagram is for accepts it, where its delivery says so. Takes no memory.
+    ///
+    /// Volume 1, chapter 3, class 1 transport and inactivity watchdog.
+    fn receive(
+        &mut self,
+        profile: &Profile,
+        clock: Ms,
+        peer: Node,
+        datagram: &Datagram<'_>,
+    ) -> Option<Received>
+        requires whole { AreWhole (Self.rows self.old) }
+        requires time { clock.0 ≤ 2 ^ 48 }
+        ensures received { result ≡ option_map (received_by profile.now (view_datagram datagram.now)) (find (is_for peer datagram.now.connection.0) (Self.rows self.old)) }
+        ensures rows { Self.rows self.new ≡ receiving profile.now clock peer (view_datagram datagram.now) (find (is_for peer datagram.now.connection.0) (Self.rows self.old)) (Self.rows self.old) };
+
+    // TIME
+
+    /// Whether the deadline of a connection has come. Takes no memory.
+    ///
+    /// Volume 1, chapter 3, inactivity watchdog.
+    fn has_expired(&mut self, clock: Ms) -> bool
+        ensures expired { result ≡ list_any (has_expired clock) (Self.rows self.old) }
+        ensures same { Self.rows self.new ≡ Self.rows self.old };
+
+    /// Whether a producer is due. Takes no memory.
+    fn is_due(&self, clock: Ms) -> bool
+        ensures { result ≡ list_any (is_due clock) (Self.rows self.now) };
+
+    /// What the producers that are due send: one datagram each. Want of memory is the only fault.
+    ///
+    /// Volume 1, chapter 3, class 1 transport; Volume 2, chapter 3, multicast connections.
+    fn sent_when_due(
+        &self,
+        alloc: Global,
+        assemblies: &AssemblySet,
+        clock: Ms,
+    ) -> Result<Vec<Sending>, OutOfMemory>
+        requires { AreWhole (Self.rows self.now) }
+        ensures { IfOk result (λ sendings. sendings.items ≡ map sent (due_productions clock (Self.rows self.now) assemblies.now.values)) };
+
+    /// The producers that are due have produced. Takes no memory.
+    ///
+    /// Volume 1, chapter 3, production triggers.
+    fn produce(&mut self, clock: Ms)
+        requires whole { AreWhole (Self.rows self.old) }
+        requires time { clock.0 ≤ 2 ^ 48 }
+        ensures { Self.rows self.new ≡ map (produced_row clock) (Self.rows self.old) };
+
+    /// The connections whose deadline has come have timed out, the listen-only ones that this leaves without
+    /// support are gone, and the producers that are due have produced. Takes no memory.
+    fn elapse(&mut self, clock: Ms)
+        requires whole { AreWhole (Self.rows self.old) }
+        requires next { AreWhole (elapsed_rows clock (Self.rows self.old)) }
+        requires time { clock.0 ≤ 2 ^ 48 }
+        ensures { Self.rows self.new ≡ elapsed_rows clock (Self.rows self.old) };
+
+    // WRITES
+
+    /// Whether a write of an input makes a producer produce at once. Takes no memory.
+    ///
+    /// Volume 1, chapter 3, production triggers and production inhibit time.
+    fn produces_at_once(&self, clock: Ms, point: u32) -> bool
+        requires { clock.0 ≤ 2 ^ 48 }
+        ensures { result ≡ list_any (produces_on_change clock point) (Self.rows self.now) };
+
+    /// What the producers of an input send at once when these bytes are written there. Want of memory is the
+    /// only fault.
+    fn sent_on_change(
+        &self,
+        alloc: Global,
+        clock: Ms,
+        point: u32,
+        input: &[u8],
+    ) -> Result<Vec<Sending>, OutOfMemory>
+        requires whole { AreWhole (Self.rows self.now) }
+        requires time { clock.0 ≤ 2 ^ 48 }
+        requires short { length input.now ≤ 65533 }
+        ensures { IfOk result (λ sendings. sendings.items ≡ map sent (productions_on_change clock point input.now (map (written_row point) (Self.rows self.now)))) };
+
+    /// The producers of an input have new data, and its change-of-state producers have done what a write asks
+    /// of them. Takes no memory.
+    fn write(&mut self, clock: Ms, point: u32)
+        requires whole { AreWhole (Self.rows self.old) }
+        requires time { clock.0 ≤ 2 ^ 48 }
+        ensures { Self.rows self.new ≡ map (changed_row clock point) (map (written_row point) (Self.rows self.old)) };
+}

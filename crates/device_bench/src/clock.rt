@@ -1,0 +1,14 @@
+//! Processor time.
+
+use std::io;
+use std::rt::CpuClock;
+
+/// How often each time is taken; the best counts.
+pub const ROUNDS: u32 = 7;
+
+/// The processor time of this thread so far, in nanoseconds.
+pub fn cpu_nanos(rt: &impl CpuClock) -> io::Result<u64> {
+    let time = rt.thread_cpu_time()?;
+    let seconds = time.as_secs().wrapping_mul(1_000_000_000);
+    Ok(seconds.wrapping_add(u64::from(time.subsec_nanos())))
+}

@@ -1,0 +1,58 @@
+//! Why a run ends early.
+
+use cip_tables::{NewFault, StepFault};
+use cip_types::OutOfMemory;
+use std::alloc::AllocError;
+use std::io;
+use thiserror::Error;
+
+/// Why the work is not done.
+#[derive(Clone, Copy)]
+pub enum WorkFault {
+    OutOfMemory,
+    Differs,
+}
+
+impl From<OutOfMemory> for WorkFault {
+    fn from(_error: OutOfMemory) -> WorkFault {
+        WorkFault::OutOfMemory
+    }
+}
+
+/// Why a run ends early.
+#[derive(Debug, Drop, Error)]
+pub enum BenchFault {
+    #[error("the one word that may follow is check, engine, scanner, world or books")]
+    Usage,
+    #[error("no memory")]
+    OutOfMemory,
+    #[error("what came out is not what was wanted")]
+    Differs,
+    #[error(transparent)]
+    New(#[from] NewFault),
+    #[error(transparent)]
+    Step(#[from] StepFault),
+    #[error(transparent)]
+    Io(#[from] io::Error),
+}
+
+impl From<WorkFault> for BenchFault {
+    fn from(fault: WorkFault) -> BenchFault {
+        match fault {
+            WorkFault::OutOfMemory => BenchFault::OutOfMemory,
+            WorkFault::Differs => BenchFault::Differs,
+        }
+    }
+}
+
+impl From<OutOfMemory> for BenchFault {
+    fn from(_error: OutOfMemory) -> BenchFault {
+        BenchFault::OutOfMemory
+    }
+}
+
+impl From<AllocError> for BenchFault {
+    fn from(_error: AllocError) -> BenchFault {
+        BenchFault::OutOfMemory
+    }
+}

@@ -1,0 +1,55 @@
+//! How long devices take over plain lists, on one thread, with no network.
+//!
+//! With no word, or the word `check`: short runs, and what they came to. With the word `engine`: datagrams and ticks at
+//! an adapter, `scanner`: at a scanner. `world`: 100,000 acts on a simulated segment of nine devices, and by how much it
+//! grows. `books`: what a book adds to a step, beside a copy of the event.
+#![tactic(auto)]
+
+mod books;
+mod clock;
+mod engine;
+mod fault;
+mod line;
+mod profiles;
+mod scanner;
+mod works;
+mod world;
+
+use fault::BenchFault;
+use std::alloc::Global;
+use std::env;
+use std::fs::Files;
+use std::rt::CpuClock;
+
+/// Short runs of all.
+fn check(rt: &impl Print, alloc: Global) -> Result<(), BenchFault> {
+    engine::check(rt, alloc)?;
+    scanner::check(rt, alloc)?;
+    world::check(rt, alloc)?;
+    books::check(rt, alloc)
+}
+
+/// Does what the word asks for.
+fn bench<R: Print + CpuClock + Files + AllocGlobal>(
+    rt: &R,
+    alloc: Global,
+    word: Option<String>,
+) -> Result<(), BenchFault> {
+    let Some(word) = word else {
+        return check(rt, alloc);
+    };
+    match word.as_str() {
+        "check" => check(rt, alloc),
+        "engine" => engine::print_times(rt, alloc),
+        "scanner" => scanner::print_times(rt, alloc),
+        "world" => world::print_times(rt, alloc),
+        "books" => books::print_times(rt, alloc),
+        _ => Err(BenchFault::Usage),
+    }
+}
+
+fn main(rt: HostRuntime) -> Result<(), BenchFault> {
+    let mut args = env::args(&rt)?;
+    let _program = args.next();
+    bench(&rt, rt.alloc(), args.next())
+}

@@ -1,0 +1,203 @@
+//! An adapter with one output and eight inputs, and what is asked of it.
+
+use crate::fault::TimesFault;
+use cip_tables::{
+    Action, Config, Delivery, Device, Event, InputPoint, Notice, OutputPoint, Profile,
+};
+use cip_types::{ConnId, Identity, Items, Node, OutOfMemory};
+use std::alloc::Global;
+
+/// The most connections of an adapter.
+pub const MOST: u8 = 64;
+
+/// The lowest of the peers.
+const PEERS: u32 = 0xC0A8_0114;
+
+/// The lowest input, and how many there are.
+const INPUT: u8 = 100;
+
+const INPUTS: u8 = 8;
+
+/// The size word of a connection that is point to point, and of one that is multicast.
+const SINGLE: u8 = 0x48;
+
+const GROUP: u8 = 0x28;
+
+/// A Forward_Open of an exclusive owner of output 150 for input 100, both point to point, O->T at 10 s with the
+/// longest time-out, T->O at 10 ms.
+const OWN: [u8; 50] = [
+    0x54, 2, 0x20, 6, 0x24, 1, 0x0A, 0x0E, 0, 0, 0, 0, 1, 0, 0, 0x20, 1, 0, 0x34, 0x12, 0x78, 0x56,
+    0x34, 0x12, 7, 0, 0, 0, 0x80, 0x96, 0x98, 0, 0x0A, 0x48, 0x10, 0x27, 0, 0, 6, 0x48, 1, 4, 0x20,
+    4, 0x24, 0x97, 0x2C, 0x96, 0x2C, 0x64,
+];
+
+/// A Forward_Close of the connection of serial number 0.
+const CLOSE: [u8; 24] = [
+    0x4E, 2, 0x20, 6, 0x24, 1, 0x0A, 0x0E, 0, 0, 0x34, 0x12, 0x78, 0x56, 0x34, 0x12, 3, 0, 0x20, 4,
+    0x24, 0x97, 0x2C, 0x98,
+];
+
+/// A datagram of the owner in run mode, with four bytes of data, before it is numbered.
+const DATAGRAM: [u8; 28] = [
+    2, 0, 2, 0x80, 8, 0, 0, 0, 0, 0, 0, 0, 0, 0, 0xB1, 0, 10, 0, 0, 0, 1, 0, 0, 0, 9, 8, 7, 6,
+];
+
+/// Which connections an adapter has.
+#[derive(Clone, Copy, PartialEq, Eq)]
+pub enum Load {
+    /// Point to point ones, due in the order of their openings.
+    Singles,
+    /// Point to point ones, due in another order than that of their openings.
+    Scattered,
+    /// Multicast ones in eight groups that share their producers, each from a peer of its own.
+    Groups,
+    /// Half of them point to point, half of them multicast in eight groups.
+    Halves,
+}
+
+fn inputs(alloc: Global) -> Result<Items<InputPoint>, OutOfMemory> {
+    let mut inputs = Vec::new(alloc);
+    for place in 0..INPUTS {
+        let instance = u32::from(INPUT.wrapping_add(place));
+        inputs.push(InputPoint { instance, len: 4 })?;
+    }
+    Ok(Items::from_vec(inputs))
+}
+
+fn profile(alloc: Global) -> Result<Profile, OutOfMemory> {
+    let output = OutputPoint {
+        instance: 150,
+        len: 4,
+        idle: Action::Zero,
+        fault: Action::Zero,
+    };
+    Ok(Profile {
+        incarnation: 0x10,
+        node: Node(0xC0A8_010A),
+        mask: 0xFFFF_FF00,
+        identity: Identity {
+            vendor: 1,
+            device_type: 12,
+            product: 7,
+            major: 2,
+            minor: 3,
+        },
+        outputs: Items::one(alloc, output)?,
+        inputs: inputs(alloc)?,
+        config: Some(InputPoint {
+            instance: 151,
+            len: 0,
+        }),
+        input_only: 152,
+        listen_only: 153,
+    })
+}
+
+/// An adapter without connections.
+pub fn adapter<D: Device>(alloc: Global) -> Result<D, TimesFault> {
+    Ok(D::new(alloc, Config::Adapter(profile(alloc)?))?)
+}
+
+fn peer(place: u8) -> Node {
+    Node(PEERS.wrapping_add(u32::from(place)))
+}
+
+/// A request of the peer at this place.
+fn request<D: Device>(
+    alloc: Global,
+    device: &mut D,
+    place: u8,
+    bytes: &[u8],
+) -> Result<Option<Notice>, TimesFault> {
+    let answer = device.step(&Event::Request {
+        peer: peer(place),
+        bytes: Items::copy_of(alloc, bytes)?,
+    })?;
+    Ok(answer.notices.as_slice().first().copied())
+}
+
+fn opened(notice: Option<Notice>) -> Result<ConnId, TimesFault> {
+    match notice {
+        Some(Notice::Opened(_, id)) => Ok(id),
+        _ => Err(TimesFault::Differs),
+    }
+}
+
+/// Opens the owner's connection, and gives its O->T id.
+pub fn own<D: Device>(alloc: Global, device: &mut D) -> Result<ConnId, TimesFault> {
+    opened(request(alloc, device, 0, &OWN)?)
+}
+
+/// Opens an input-only connection of the peer at this place.
+pub fn gather<D: Device>(
+    alloc: Global,
+    device: &mut D,
+    place: u8,
+    size: u8,
+    input: u8,
+) -> Result<ConnId, TimesFault> {
+    let mut bytes = OWN;
+    let serial = place.wrapping_add(2);
+    (bytes[12], bytes[16], bytes[49]) = (serial, serial, input);
+    (bytes[32], bytes[47], bytes[39]) = (2, 0x98, size);
+    opened(request(alloc, device, place, &bytes)?)
+}
+
+/// Opens so many input-only connections.
+pub fn fill<D: Device>(
+    alloc: Global,
+    device: &mut D,
+    load: Load,
+    count: u8,
+) -> Result<(), TimesFault> {
+    for place in 0..count {
+        let grouped = load == Load::Groups || (load == Load::Halves && place % 2 == 1);
+        let (size, input) = if grouped {
+            (GROUP, INPUT.wrapping_add(place / 2 % INPUTS))
+        } else {
+            (SINGLE, INPUT)
+        };
+        let _id = gather(alloc, device, place, size, input)?;
+        if load == Load::Scattered {
+            let _sent = tick(device, 9)?;
+        }
+    }
+    Ok(())
+}
+
+/// Opens the last input-only connection, and closes it.
+pub fn open_and_close<D: Device>(alloc: Global, device: &mut D) -> Result<(), TimesFault> {
+    let place = MOST.wrapping_sub(1);
+    let _id = gather(alloc, device, place, SINGLE, INPUT)?;
+    let mut bytes = CLOSE;
+    bytes[8] = place.wrapping_add(2);
+    match request(alloc, device, place, &bytes)? {
+        Some(Notice::Closed(_)) => Ok(()),
+        _ => Err(TimesFault::Differs),
+    }
+}
+
+/// Sends the owner's datagram with this number, and data of its own.
+fn send<D: Device>(device: &mut D, owner: ConnId, number: u32) -> Delivery {
+    let mut bytes = DATAGRAM;
+    [bytes[6], bytes[7], bytes[8], bytes[9]] = owner.0.to_le_bytes();
+    [bytes[10], bytes[11], bytes[12], bytes[13]] = number.to_le_bytes();
+    [bytes[18], bytes[19]] = [bytes[10], bytes[11]];
+    device.deliver(peer(0), &bytes)
+}
+
+/// Sends so many datagrams, each of which has to be applied.
+pub fn send_all<D: Device>(device: &mut D, owner: ConnId, count: u32) -> Result<(), TimesFault> {
+    for number in 0..count {
+        if send(device, owner, number) != Delivery::Applied {
+            return Err(TimesFault::Differs);
+        }
+    }
+    Ok(())
+}
+
+/// How many datagrams an adapter sends when milliseconds have passed.
+pub fn tick<D: Device>(device: &mut D, ms: u32) -> Result<u64, TimesFault> {
+    let answer = device.step(&Event::Tick { ms })?;
+    Ok(answer.datagrams.as_slice().len() as u64)
+}

@@ -1,0 +1,79 @@
+//! How long an adapter takes for a datagram, for a tick and for a connection that is opened and closed, with one
+//! connection and with as many as there can be: the adapter over a plain list and the fast one, in one run.
+//!
+//! With no word: short runs, and how many datagrams they came to. With the word `times`:
+//! nanoseconds of processor time. With the word `hold`: a fast adapter with all its connections, and nothing else.
+#![tactic(auto)]
+
+mod clock;
+mod fault;
+mod loads;
+mod times;
+
+use adapter_engine::FastAdapter;
+use cip_tables::Device;
+use fault::TimesFault;
+use loads::{Load, MOST, adapter, fill};
+use plain_engine::PlainAdapter;
+use std::alloc::Global;
+use std::env;
+use std::rt::CpuClock;
+use times::{Work, print_count, print_time};
+
+/// What is timed, how it is named, and how often it is done.
+const WORKS: [(&str, Work, u32); 8] = [
+    ("a datagram at 1 connection", Work::Deliveries(0), 200_000),
+    ("a datagram at 64", Work::Deliveries(63), 200_000),
+    ("an idle tick", Work::Waits, 200_000),
+    ("a sending of 64", Work::Ticks(Load::Singles), 2_000),
+    (
+        "a sending out of order",
+        Work::Ticks(Load::Scattered),
+        2_000,
+    ),
+    ("a sending to a group", Work::Ticks(Load::Groups), 2_000),
+    ("a sending of halves", Work::Ticks(Load::Halves), 2_000),
+    ("open and close", Work::Openings, 20_000),
+];
+
+fn check<D: Device + Drop>(rt: &(impl Print + CpuClock), alloc: Global) -> Result<(), TimesFault> {
+    for (name, work, _) in WORKS {
+        print_count::<D>(rt, alloc, name, work)?;
+    }
+    Ok(())
+}
+
+fn print_times<D: Device + Drop>(
+    rt: &(impl Print + CpuClock),
+    alloc: Global,
+    engine: &str,
+) -> Result<(), TimesFault> {
+    println!(rt; "{engine}")?;
+    for (name, work, count) in WORKS {
+        print_time::<D>(rt, alloc, name, work, count)?;
+    }
+    Ok(())
+}
+
+/// A fast adapter with all its connections.
+fn hold(alloc: Global) -> Result<(), TimesFault> {
+    let mut device = adapter::<FastAdapter>(alloc)?;
+    fill(alloc, &mut device, Load::Singles, MOST)
+}
+
+fn main(rt: HostRuntime) -> Result<(), TimesFault> {
+    let mut args = env::args(&rt)?;
+    let _program = args.next();
+    let Some(word) = args.next() else {
+        check::<PlainAdapter>(&rt, rt.alloc())?;
+        return check::<FastAdapter>(&rt, rt.alloc());
+    };
+    match word.as_str() {
+        "times" => {
+            print_times::<PlainAdapter>(&rt, rt.alloc(), "plain")?;
+            print_times::<FastAdapter>(&rt, rt.alloc(), "fast")
+        }
+        "hold" => hold(rt.alloc()),
+        _ => Err(TimesFault::Usage),
+    }
+}

@@ -1,0 +1,125 @@
+//! What is timed, each the best of some rounds.
+
+use crate::clock::cpu_nanos;
+use crate::fault::TimesFault;
+use crate::loads::{Load, MOST, adapter, fill, open_and_close, own, send_all, tick};
+use cip_tables::Device;
+use std::alloc::Global;
+use std::rt::CpuClock;
+
+/// How often each time is taken; the best counts.
+const ROUNDS: u32 = 7;
+
+/// What is timed.
+#[derive(Clone, Copy)]
+pub enum Work {
+    /// Datagrams of an owner that was opened after so many other connections.
+    Deliveries(u8),
+    /// Ticks of 10 ms with as many connections as there can be.
+    Ticks(Load),
+    /// Ticks of no time, in which nothing is due.
+    Waits,
+    /// The last connection is opened and closed.
+    Openings,
+}
+
+/// Does this so often, and gives its time in nanoseconds and how many datagrams were sent or delivered, or how often
+/// it was done.
+fn done<D: Device + Drop>(
+    rt: &impl CpuClock,
+    alloc: Global,
+    work: Work,
+    count: u32,
+) -> Result<(u64, u64), TimesFault> {
+    match work {
+        Work::Deliveries(others) => deliveries::<D>(rt, alloc, others, count),
+        Work::Ticks(load) => ticks::<D>(rt, alloc, load, 10, count),
+        Work::Waits => waits::<D>(rt, alloc, count),
+        Work::Openings => openings::<D>(rt, alloc, count),
+    }
+}
+
+fn deliveries<D: Device + Drop>(
+    rt: &impl CpuClock,
+    alloc: Global,
+    others: u8,
+    count: u32,
+) -> Result<(u64, u64), TimesFault> {
+    let mut device = adapter::<D>(alloc)?;
+    fill(alloc, &mut device, Load::Singles, others)?;
+    let owner = own(alloc, &mut device)?;
+    let start = cpu_nanos(rt)?;
+    send_all(&mut device, owner, count)?;
+    Ok((cpu_nanos(rt)?.wrapping_sub(start), u64::from(count)))
+}
+
+fn ticks<D: Device + Drop>(
+    rt: &impl CpuClock,
+    alloc: Global,
+    load: Load,
+    ms: u32,
+    count: u32,
+) -> Result<(u64, u64), TimesFault> {
+    let mut device = adapter::<D>(alloc)?;
+    fill(alloc, &mut device, load, MOST)?;
+    let _first = tick(&mut device, 10)?;
+    let start = cpu_nanos(rt)?;
+    let mut sent: u64 = 0;
+    for _ in 0..count {
+        sent = sent.wrapping_add(tick(&mut device, ms)?);
+    }
+    Ok((cpu_nanos(rt)?.wrapping_sub(start), sent))
+}
+
+fn waits<D: Device + Drop>(
+    rt: &impl CpuClock,
+    alloc: Global,
+    count: u32,
+) -> Result<(u64, u64), TimesFault> {
+    let (nanos, _sent) = ticks::<D>(rt, alloc, Load::Singles, 0, count)?;
+    Ok((nanos, u64::from(count)))
+}
+
+fn openings<D: Device + Drop>(
+    rt: &impl CpuClock,
+    alloc: Global,
+    count: u32,
+) -> Result<(u64, u64), TimesFault> {
+    let mut device = adapter::<D>(alloc)?;
+    fill(alloc, &mut device, Load::Singles, MOST.wrapping_sub(1))?;
+    let start = cpu_nanos(rt)?;
+    for _ in 0..count {
+        open_and_close(alloc, &mut device)?;
+    }
+    Ok((cpu_nanos(rt)?.wrapping_sub(start), u64::from(count)))
+}
+
+/// Prints how many datagrams were sent or delivered in a short run.
+pub fn print_count<D: Device + Drop>(
+    rt: &(impl Print + CpuClock),
+    alloc: Global,
+    name: &str,
+    work: Work,
+) -> Result<(), TimesFault> {
+    let (_nanos, made) = done::<D>(rt, alloc, work, 10)?;
+    println!(rt; "{name}: {made}")?;
+    Ok(())
+}
+
+/// Prints the nanoseconds of each, the best of some rounds.
+pub fn print_time<D: Device + Drop>(
+    rt: &(impl Print + CpuClock),
+    alloc: Global,
+    name: &str,
+    work: Work,
+    count: u32,
+) -> Result<(), TimesFault> {
+    let (mut best, mut each) = (u64::MAX, 0);
+    for _ in 0..ROUNDS {
+        let (nanos, made) = done::<D>(rt, alloc, work, count)?;
+        best = best.min(nanos);
+        each = made;
+    }
+    println!(rt; "{name}: {} ns", best.checked_div(each).unwrap_or(0))?;
+    Ok(())
+}

@@ -1,0 +1,100 @@
+//! The command that runs an adapter and a scanner over sockets.
+
+ghost use Rattle.std.specs.Prelude.{◌≡◌, ◌≤◌, IfErr};
+ghost use Rattle.std.specs.Io.KnownBytes.{Appends, Keeps};
+ghost use Rattle.trace_stepper.specs.Written.{IsTaken};
+ghost use Rattle.line_program.specs.Looped.{FailsLoop, IsLooped, end_line, turns_line};
+
+use crate::commands::LoopTask;
+use crate::console::write_numbered;
+use adapter_engine::FastAdapter;
+use plain_engine::PlainScanner;
+use socket_loop::{LoopFault, run_loop};
+use std::io::Write;
+use std::net::{Net, TcpListener, TcpStream};
+use std::rt::Clock;
+use trace_stepper::{NotTaken, write_text};
+
+/// Why a loop ended with status 1, as standard error tells it.
+#[derive(Clone, Copy, Debug, PartialEq, Eq)]
+pub enum LoopEnd {
+    /// The line failed: `fault Port`, `fault New`, `fault Step` or `no memory`.
+    Line(LoopFault),
+    /// The output could not be written: `fault Write`.
+    Write,
+}
+
+impl From<NotTaken> for LoopEnd {
+    ghost use Rattle.line_program.specs.declared.loops.LoopEnd.TheVariants as ending;
+
+    ghost from_gives = { λ _ end. end ≡ ending.Write };
+
+    fn from(_error: NotTaken) -> LoopEnd {
+        LoopEnd::Write
+    }
+}
+
+impl From<LoopFault> for LoopEnd {
+    ghost use Rattle.line_program.specs.declared.loops.LoopEnd.TheVariants as ending;
+
+    ghost from_gives = { λ fault end. end ≡ ending.Line fault };
+
+    fn from(fault: LoopFault) -> LoopEnd {
+        LoopEnd::Line(fault)
+    }
+}
+
+/// Runs a loop, and prints its turns. The status is 0, or 1 after a fault, which is told on `err`.
+pub(crate) fn loop_status<R, O, E>(rt: &R, task: LoopTask, out: &mut O, err: &mut E) -> u8
+where
+    R: AllocGlobal + Clock + Net<Listener = TcpListener, Stream = TcpStream>,
+    O: Write,
+    E: Write,
+    ensures status { result ≤ 1 }
+    ensures done { result ≡ 0 → Appends (O.contents out.old) (O.contents out.new) (turns_line task.turns) × (err.new ≡ err.old) }
+    ensures failed { result ≡ 1 → FailsLoop task.turns (O.contents out.old) (O.contents out.new) (E.contents err.old) (E.contents err.new) }
+{
+    match print_turns(rt, task, out) {
+        Ok(()) => 0,
+        Err(end) => {
+            let _ = tell(err, end);
+            1
+        }
+    }
+}
+
+/// Runs a loop, and prints its turns.
+fn print_turns<R, O>(rt: &R, task: LoopTask, out: &mut O) -> Result<(), LoopEnd>
+where
+    R: AllocGlobal + Clock + Net<Listener = TcpListener, Stream = TcpStream>,
+    O: Write,
+    ensures { IsLooped task.turns (O.contents out.old) result (O.contents out.new) }
+{
+    run_loop::<&R, FastAdapter, PlainScanner>(rt.alloc(), rt, task.tcp, task.udp, task.turns)?;
+    write_numbered(out, b"turns ", u64::from(task.turns))?;
+    flush(out)
+}
+
+/// Hands on what was written.
+fn flush<O: Write>(out: &mut O) -> Result<(), LoopEnd>
+    ensures kept { Keeps (O.contents out.old) (O.contents out.new) }
+    ensures fault { IfErr result (λ end. end ≡ LoopEnd.Write) }
+{
+    match out.flush() {
+        Ok(()) => Ok(()),
+        Err(_) => Err(LoopEnd::Write),
+    }
+}
+
+/// Writes the line of a fault.
+fn tell<E: Write>(err: &mut E, end: LoopEnd) -> Result<(), NotTaken>
+    ensures { IsTaken (E.contents err.old) (end_line end) result (E.contents err.new) }
+{
+    match end {
+        LoopEnd::Line(LoopFault::Port) => write_text(err, b"fault Port\n"),
+        LoopEnd::Line(LoopFault::New) => write_text(err, b"fault New\n"),
+        LoopEnd::Line(LoopFault::Step) => write_text(err, b"fault Step\n"),
+        LoopEnd::Line(LoopFault::OutOfMemory) => write_text(err, b"no memory\n"),
+        LoopEnd::Write => write_text(err, b"fault Write\n"),
+    }
+}

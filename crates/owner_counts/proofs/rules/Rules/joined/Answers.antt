@@ -1,0 +1,57 @@
+use Rattle.std.proofs.Common.{◌≡◌, ◌≤◌, ◌<◌, ◌∙◌, ℕ, Bool, true, if◌then◌else◌, ◌++◌, ◌∷◌, [], List, length, sym, ap, subst, arith}
+use Rattle.cip_productions.specs.declared.kind.Kind.TheVariants.{ListenOnly}
+use Rattle.adapter_table.specs.declared.row.Row.{Row}
+use Rattle.adapter_table.specs.Rows.{drives, supports}
+use Rattle.owner_counts.specs.declared.counts.Count.{Count}
+use Rattle.owner_counts.specs.Counts.{Counts, number_at, total, AreCounted}
+use Rattle.owner_counts.proofs.Counting.{one_at, length_few}
+use Rattle.owner_counts.proofs.Counted.{drives_at, supports_at, counts_in_more, total_in_more, filter_more}
+use Rattle.owner_counts.proofs.rules.Rules.joined.Goals as goal
+
+pub count_in_if-requires-clause-room : goal.count_in_if-requires-clause-room
+count_in_if-requires-clause-room c =
+    let few : total c.self.inside.owners.items < 64 = rw (← c.self.view_is) at c.requires.owners in
+    let long = length_few c.self.inside.owners.items c.self.invariant.owners in
+    let room = c.self.invariant.owner_room in
+    let len = c.self.inside.owners.ok.0 in
+    omega arith
+
+pub count_in_if-requires-2-clause-room : goal.count_in_if-requires-2-clause-room
+count_in_if-requires-2-clause-room c =
+    let few : total c.self.inside.supporters.items < 64 = rw (← c.self.view_is) at c.requires.supporters in
+    let long = length_few c.self.inside.supporters.items c.self.invariant.supporters in
+    let room = c.self.invariant.supporter_room in
+    let len = c.self.inside.supporters.ok.0 in
+    omega arith
+
+pub invariant_of-self : goal.invariant_of-self
+invariant_of-self c =
+    let own = c.self.inside in
+    let row = c.args.row.now in
+    let few : total own.owners.items < 64 = rw (← c.self.view_is) at c.requires.owners in
+    let others : total own.supporters.items < 64 = rw (← c.self.view_is) at c.requires.supporters in
+    rw (c.count_in_if.ensures.counts, c.count_in_if.ensures.capacity, c.count_in_if-2.ensures.counts, c.count_in_if-2.ensures.capacity)
+    (record {
+      owners = counts_in_more c.is_driver.result row.consumed own.owners.items c.self.invariant.owners;
+      supporters = counts_in_more c.is_supporter.result row.produced own.supporters.items c.self.invariant.supporters;
+      few_owners = total_in_more c.is_driver.result row.consumed own.owners.items few;
+      few_supporters = total_in_more c.is_supporter.result row.produced own.supporters.items others;
+      owner_room = c.self.invariant.owner_room;
+      supporter_room = c.self.invariant.supporter_room;
+    })
+
+pub returns : goal.returns
+returns c = λ rows counted.
+    let own = c.self.inside in
+    let row = c.args.row.now in
+    let was = subst (λ (v : Counts). AreCounted v rows) (sym c.self.view_is) counted in
+    record {
+      owners = λ point.
+          ap (λ (l : List Count). number_at point l) c.count_in_if.ensures.counts
+          ∙ filter_more c.is_driver.result drives row.consumed row own.owners.items
+          (λ p. drives_at row p ∙ ap (λ (b : Bool). if b then one_at row.consumed p else 0) (sym c.is_driver.ensures)) rows was.owners point;
+      supporters = λ point.
+          ap (λ (l : List Count). number_at point l) c.count_in_if-2.ensures.counts
+          ∙ filter_more c.is_supporter.result (supports ListenOnly) row.produced row own.supporters.items
+          (λ p. supports_at row p ∙ ap (λ (b : Bool). if b then one_at row.produced p else 0) (sym c.is_supporter.ensures)) rows was.supporters point;
+    }

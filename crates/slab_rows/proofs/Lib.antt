@@ -1,0 +1,7 @@
+mod Lone
+mod Expiring
+mod Dropping
+mod Whole
+mod Prefixes
+mod Room
+mod Times

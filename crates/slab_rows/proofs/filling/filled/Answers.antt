@@ -1,0 +1,9 @@
+use Rattle.std.proofs.Common.{◌++◌, ◌∷◌, [], List, sym, subst, arith}
+use Rattle.adapter_table.specs.declared.row.Row.{Row}
+use Rattle.conn_slab.specs.Connections.{AreConnections}
+use Rattle.slab_rows.proofs.Prefixes.{first_ones}
+use Rattle.slab_rows.proofs.filling.filled.Goals as goal
+
+pub open-requires : goal.open-requires
+open-requires c =
+    rw c.loop-row.invariant (first_ones c.args.rows.now c.loop-row.row-index _ (omega arith) c.requires)

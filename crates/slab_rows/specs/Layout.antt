@@ -1,0 +1,9 @@
+-- What belongs together in `SlabRows`. No public clause cites this module.
+use Rattle.std.specs.Prelude.{ℕ, ◌≤◌, List}
+use Rattle.adapter_table.specs.declared.row.Row.{Row}
+use Rattle.conn_slab.specs.Bounds.{first_end, AllRest}
+
+-- bounds on the times of connections: no watchdog runs out before the one, and no producer is due before the other
+pub record IsBounded (rows : List Row) (lasting resting : ℕ) : Type 0 where
+  pub last : lasting ≤ first_end rows
+  pub rest : AllRest resting rows

@@ -1,0 +1,133 @@
+//! What is asked of connections one after another. No question takes memory.
+
+ghost use Rattle.std.specs.Prelude.{◌≡◌, ◌≤◌, ◌^◌, find};
+ghost use Rattle.std.specs.List.{list_any};
+ghost use Rattle.adapter_table.specs.Rows.{is_established, is_timed_out, drives, is_member, is_supported, is_unsupported};
+ghost use Rattle.adapter_table.specs.Productions.{is_due, produces_on_change};
+ghost use Rattle.adapter_table.specs.Ticks.{has_expired};
+
+use adapter_table::{
+    Row, drives, has_expired, is_due, is_established, is_member, is_timed_out, produces_on_change,
+    supports,
+};
+use cip_productions::Kind;
+use cip_types::Ms;
+use conn_slab::{Connections, Rows};
+
+/// Whether some connection is established.
+pub fn is_any_established(rows: Rows<'_>) -> bool
+    ensures { result ≡ list_any is_established rows.entry }
+{
+    for row in rows {
+        if is_established(&row) {
+            return true;
+        }
+    }
+    false
+}
+
+/// Whether an established connection owns the output.
+pub fn is_any_driving(rows: Rows<'_>, point: u32) -> bool
+    ensures { result ≡ list_any (drives point) rows.entry }
+{
+    for row in rows {
+        if drives(&row, point) {
+            return true;
+        }
+    }
+    false
+}
+
+/// Whether one supports a connection of the kind on the input.
+pub fn is_any_supporting(rows: Rows<'_>, kind: Kind, point: u32) -> bool
+    ensures { result ≡ is_supported rows.entry kind point }
+{
+    for row in rows {
+        if supports(&row, kind, point) {
+            return true;
+        }
+    }
+    false
+}
+
+/// Whether the producer of one is due.
+pub fn is_any_due(rows: Rows<'_>, clock: Ms) -> bool
+    ensures { result ≡ list_any (is_due clock) rows.entry }
+{
+    for row in rows {
+        if is_due(&row, clock) {
+            return true;
+        }
+    }
+    false
+}
+
+/// Whether a write of the input makes the producer of one produce at once.
+pub fn is_any_on_change(rows: Rows<'_>, clock: Ms, point: u32) -> bool
+    requires { clock.0 ≤ 2 ^ 48 }
+    ensures { result ≡ list_any (produces_on_change clock point) rows.entry }
+{
+    for row in rows {
+        if produces_on_change(&row, clock, point) {
+            return true;
+        }
+    }
+    false
+}
+
+/// The first connection of the input's group.
+pub fn first_member(rows: Rows<'_>, point: u32) -> Option<Row>
+    ensures { result ≡ find (is_member point) rows.entry }
+{
+    for row in rows {
+        if is_member(&row, point) {
+            return Some(row);
+        }
+    }
+    None
+}
+
+/// The first connection that has timed out.
+pub fn first_timed_out(rows: Rows<'_>) -> Option<Row>
+    ensures { result ≡ find is_timed_out rows.entry }
+{
+    for row in rows {
+        if is_timed_out(&row) {
+            return Some(row);
+        }
+    }
+    None
+}
+
+/// The first connection whose deadline has come.
+pub fn first_expired(rows: Rows<'_>, clock: Ms) -> Option<Row>
+    ensures { result ≡ find (has_expired clock) rows.entry }
+{
+    for row in rows {
+        if has_expired(&row, clock) {
+            return Some(row);
+        }
+    }
+    None
+}
+
+/// Whether a connection is an established listen-only one without support.
+fn is_unsupported(connections: &Connections, row: &Row) -> bool
+    ensures { result ≡ is_unsupported connections.now row.now }
+{
+    is_established(row)
+        && row.kind == Kind::ListenOnly
+        && !is_any_supporting(connections.rows(), row.kind, row.produced)
+}
+
+/// The first listen-only connection without support.
+pub fn first_unsupported(connections: &Connections) -> Option<Row>
+    ensures { result ≡ find (is_unsupported connections.now) connections.now }
+{
+    for row in connections.rows() {
+        if is_unsupported(connections, &row) {
+            return Some(row);
+        }
+    }
+    None
+}

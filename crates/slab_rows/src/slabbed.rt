@@ -1,0 +1,203 @@
+//! The table.
+
+use crate::fading::{drop_unsupported, expire};
+use crate::filling::{filled, replaced};
+use crate::questions::{
+    first_expired, first_member, first_timed_out, is_any_driving, is_any_due, is_any_established,
+    is_any_on_change, is_any_supporting,
+};
+use adapter_table::{MOST_ROWS, Profile, Row};
+use app_rules::Connections;
+use assembly_set::AssemblySet;
+use cip_datagram::Datagram;
+use cip_events::{Notice, Sending};
+use cip_productions::Kind;
+use cip_types::{Ms, Node, OutOfMemory, Triad};
+use connection_rows::{closed_notices, others, sent_on_change, written_rows};
+use connection_table::{ConnectionTable, Received};
+use std::alloc::Global;
+use std::marker::Model;
+use swift_sendings::swift_sendings;
+
+/// Connections in a slab, and bounds on their times.
+///
+/// A datagram finds its connection by peer and O->T id, and a tick at which nothing happens compares two times.
+#[derive(Drop)]
+pub struct SlabRows {
+    connections: conn_slab::Connections,
+    /// No watchdog runs out before this.
+    lasting: u64,
+    /// No producer is due before this.
+    resting: u64,
+}
+
+impl Model for SlabRows {
+    ghost use Rattle.std.specs.Prelude.{List};
+    ghost use Rattle.adapter_table.specs.declared.row.Row.{Row};
+    ghost use Rattle.slab_rows.specs.Layout.{IsBounded};
+
+    ghost Value = { List Row };
+
+    ghost view = { λ t. t.connections };
+
+    ghost invariant = { λ t. IsBounded t.connections t.lasting t.resting };
+}
+
+impl Connections for SlabRows {
+    ghost rows = { λ t. t };
+
+    fn is_held(&self, triad: Triad) -> bool {
+        self.connections.is_held(triad)
+    }
+
+    fn has_established(&self) -> bool {
+        is_any_established(self.connections.rows())
+    }
+
+    fn is_driven(&self, point: u32) -> bool {
+        is_any_driving(self.connections.rows(), point)
+    }
+
+    fn group_of(&self, point: u32) -> Option<Row> {
+        first_member(self.connections.rows(), point)
+    }
+
+    fn is_supported(&self, point: u32) -> bool {
+        is_any_supporting(self.connections.rows(), Kind::ListenOnly, point)
+    }
+
+    fn is_full(&self) -> bool {
+        self.connections.len() >= MOST_ROWS
+    }
+
+    fn has_timed_out(&self) -> bool {
+        first_timed_out(self.connections.rows()).is_some()
+    }
+}
+
+impl ConnectionTable for SlabRows {
+    fn new(alloc: Global) -> Result<Self, OutOfMemory> {
+        Ok(SlabRows {
+            connections: conn_slab::Connections::new(alloc)?,
+            lasting: u64::MAX,
+            resting: u64::MAX,
+        })
+    }
+
+    fn holding(alloc: Global, rows: &[Row]) -> Result<Self, OutOfMemory> {
+        let connections = filled(alloc, rows)?;
+        let lasting = connections.first_end();
+        let resting = connections.first_due();
+        Ok(SlabRows {
+            connections,
+            lasting,
+            resting,
+        })
+    }
+
+    fn to_vec(&self, alloc: Global) -> Result<Vec<Row>, OutOfMemory> {
+        self.connections.to_vec(alloc)
+    }
+
+    fn find(&self, triad: Triad) -> Option<Row> {
+        self.connections.of(triad)
+    }
+
+    fn replaced(&self, triad: Triad) -> Option<Triad> {
+        replaced(&self.connections, triad)
+    }
+
+    fn open(&mut self, row: Row) -> Result<(), OutOfMemory> {
+        let gone = replaced(&self.connections, row.triad);
+        self.connections.open(gone, row)?;
+        self.lasting = self.lasting.min(row.deadline.0);
+        self.resting = self.connections.first_due();
+        Ok(())
+    }
+
+    fn closed_notices(&self, alloc: Global, triad: Triad) -> Result<Vec<Notice>, OutOfMemory> {
+        let rows = self.connections.to_vec(alloc)?;
+        let left = others(alloc, &rows, triad)?;
+        closed_notices(alloc, &left, triad)
+    }
+
+    fn close(&mut self, triad: Triad) {
+        self.connections.close(triad);
+        drop_unsupported(&mut self.connections);
+        self.resting = self.connections.first_due();
+    }
+
+    fn receive(
+        &mut self,
+        profile: &Profile,
+        clock: Ms,
+        peer: Node,
+        datagram: &Datagram<'_>,
+    ) -> Option<Received> {
+        let heard = self.connections.receive(profile, clock, peer, datagram)?;
+        self.lasting = self.lasting.min(heard.deadline.0);
+        Some(Received {
+            delivery: heard.delivery,
+            consumed: heard.consumed,
+        })
+    }
+
+    fn has_expired(&mut self, clock: Ms) -> bool {
+        if clock.0 < self.lasting {
+            return false;
+        }
+        self.lasting = self.connections.first_end();
+        first_expired(self.connections.rows(), clock).is_some()
+    }
+
+    fn is_due(&self, clock: Ms) -> bool {
+        if clock.0 < self.resting {
+            return false;
+        }
+        is_any_due(self.connections.rows(), clock)
+    }
+
+    fn sent_when_due(
+        &self,
+        alloc: Global,
+        assemblies: &AssemblySet,
+        clock: Ms,
+    ) -> Result<Vec<Sending>, OutOfMemory> {
+        let rows = self.connections.to_vec(alloc)?;
+        swift_sendings(alloc, &rows, assemblies, clock)
+    }
+
+    fn produce(&mut self, clock: Ms) {
+        self.connections.produce(clock);
+        self.resting = self.connections.first_due();
+    }
+
+    fn elapse(&mut self, clock: Ms) {
+        expire(&mut self.connections, clock);
+        drop_unsupported(&mut self.connections);
+        self.connections.produce(clock);
+        self.lasting = self.connections.first_end();
+        self.resting = self.connections.first_due();
+    }
+
+    fn produces_at_once(&self, clock: Ms, point: u32) -> bool {
+        is_any_on_change(self.connections.rows(), clock, point)
+    }
+
+    fn sent_on_change(
+        &self,
+        alloc: Global,
+        clock: Ms,
+        point: u32,
+        input: &[u8],
+    ) -> Result<Vec<Sending>, OutOfMemory> {
+        let rows = self.connections.to_vec(alloc)?;
+        let written = written_rows(alloc, &rows, point)?;
+        sent_on_change(alloc, &written, clock, point, input)
+    }
+
+    fn write(&mut self, clock: Ms, point: u32) {
+        self.connections.write(point, clock);
+        self.resting = self.connections.first_due();
+    }
+}

@@ -1,0 +1,4 @@
+pub mod Index
+pub mod Bounds
+pub mod Layout
+pub mod Receiving
