@@ -1,5 +1,6 @@
 //! Plays traces over the devices of the line, each named for the behaviour that it shows, and prints a line
-//! for each: whether all outcomes are as recorded. An adapter's traces are played over each of its engines.
+//! for each: whether all outcomes are as recorded. An adapter's traces are played over each of its engines, which have
+//! to tell the same of every event, recorded or not.
 #![tactic(auto)]
 
 use adapter_engine::FastAdapter;
@@ -24,6 +25,8 @@ enum Failure {
     Stepper(StepperFault),
     #[error("{0} {1}")]
     Differs(&'static str, Differs),
+    #[error("the engines differ")]
+    Engines,
 }
 
 /// Plays the traces whose files the command line names.
@@ -62,12 +65,31 @@ fn held<R: AllocGlobal + Files>(rt: &R, name: &str) -> Result<&'static str, Fail
     replayed(rt.alloc(), &trace)
 }
 
+/// Plays an adapter's trace over both of its engines, which have to tell the same.
+fn replayed_by_both(alloc: Global, trace: &Trace) -> Result<(), Failure> {
+    let plain = replay::<PlainAdapter>(alloc, trace);
+    let fast = replay::<FastAdapter>(alloc, trace);
+    if !are_alike(&plain, &fast) {
+        return Err(Failure::Engines);
+    }
+    compared(trace, plain, "plain")?;
+    compared(trace, fast, "fast")
+}
+
+/// Whether two engines have come to the same outcomes.
+fn are_alike(plain: &Result<Report, StepperFault>, fast: &Result<Report, StepperFault>) -> bool {
+    match (plain, fast) {
+        (Ok(plain), Ok(fast)) => plain.outcomes == fast.outcomes,
+        (Err(plain), Err(fast)) => plain == fast,
+        _ => false,
+    }
+}
+
 /// Plays a trace over each engine of its kind of device.
 fn replayed(alloc: Global, trace: &Trace) -> Result<&'static str, Failure> {
     match &trace.config {
         Config::Adapter(_) => {
-            compared(trace, replay::<PlainAdapter>(alloc, trace), "plain")?;
-            compared(trace, replay::<FastAdapter>(alloc, trace), "fast")?;
+            replayed_by_both(alloc, trace)?;
             Ok("plain and fast")
         }
         Config::Scanner(_) => {
