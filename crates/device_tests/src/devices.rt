@@ -1,6 +1,7 @@
-//! A plain adapter's calls beside `step`, and copies of it. What its steps answer is shown by the traces of the
-//! scenarios.
+//! A plain adapter's calls beside `step`, and copies of adapters. What their steps answer is shown by the traces of
+//! the scenarios.
 
+use adapter_engine::FastAdapter;
 use cip_tables::{
     Action, Config, Delivery, Device, DeviceTable, Event, InputPoint, Outcome, OutputPoint,
     Profile, StepFault, TableCopy, run,
@@ -108,7 +109,7 @@ fn is_reply(outcome: &Outcome, bytes: &[u8]) -> bool {
 }
 
 /// Whether a request is answered by these bytes.
-fn replies(alloc: Global, device: &mut PlainAdapter, asked: &[u8], bytes: &[u8]) -> bool {
+fn replies(alloc: Global, device: &mut impl Device, asked: &[u8], bytes: &[u8]) -> bool {
     match request(alloc, asked) {
         Ok(event) => is_reply(&device.step(&event), bytes),
         Err(_) => false,
@@ -232,8 +233,8 @@ fn a_copy_is_a_device_of_its_own_that_goes_on_alike(rt: HostRuntime) -> Result<(
     Ok(())
 }
 
-/// A fresh adapter that has drawn all ids but the last.
-fn nearly_used(alloc: Global) -> Result<PlainAdapter, Fail> {
+/// The table of a fresh adapter that has drawn all ids but the last.
+fn nearly_used(alloc: Global) -> Result<TableCopy, Fail> {
     let copy = adapter(alloc)?.copy()?;
     let DeviceTable::Adapter(table) = copy.table() else {
         return Err("no adapter".into());
@@ -241,11 +242,11 @@ fn nearly_used(alloc: Global) -> Result<PlainAdapter, Fail> {
     if table.next_id > 16_777_215 {
         return Err("used up".into());
     }
-    Ok(PlainAdapter::from_copy(alloc, &copy.with_next_id(16_777_215))?)
+    Ok(copy.with_next_id(16_777_215))
 }
 
 /// Whether a new group, which needs two ids, is refused before an owner takes the last one and after it.
-fn uses_the_last(alloc: Global, device: &mut PlainAdapter) -> bool {
+fn uses_the_last(alloc: Global, device: &mut impl Device) -> bool {
     replies(alloc, device, &GATHER, &USED_UP)
         && replies(alloc, device, &OPEN, &LAST_OPENED)
         && replies(alloc, device, &GATHER, &USED_UP)
@@ -253,6 +254,8 @@ fn uses_the_last(alloc: Global, device: &mut PlainAdapter) -> bool {
 
 #[test]
 fn the_last_id_is_not_enough_for_a_new_group(rt: HostRuntime) -> Result<(), Fail> {
-    assert!(rt; uses_the_last(rt.alloc(), &mut nearly_used(rt.alloc())?));
+    let table = nearly_used(rt.alloc())?;
+    assert!(rt; uses_the_last(rt.alloc(), &mut PlainAdapter::from_copy(rt.alloc(), &table)?));
+    assert!(rt; uses_the_last(rt.alloc(), &mut FastAdapter::from_copy(rt.alloc(), &table)?));
     Ok(())
 }
