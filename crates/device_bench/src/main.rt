@@ -1,13 +1,13 @@
 //! How long devices take over plain lists, on one thread, with no network.
 //!
-//! With no word, or the word `check`: short runs, and what they came to. With the word `engine`: datagrams and ticks at
-//! an adapter, `scanner`: at a scanner. `world`: 100,000 acts on a simulated segment of nine devices, and by how much it
-//! grows. `books`: what a book adds to a step, beside a copy of the event.
+//! With no word, or the word `check`: short runs, and what they came to. With the word `scanner`: datagrams and ticks at a
+//! scanner. `world`: 100,000 acts on a simulated segment of nine devices, and by how much it grows. `books`: what a book
+//! adds to a step of an adapter, beside a copy of the event.
 #![tactic(auto)]
 
+mod adapter;
 mod books;
 mod clock;
-mod engine;
 mod fault;
 mod line;
 mod profiles;
@@ -23,7 +23,6 @@ use std::rt::CpuClock;
 
 /// Short runs of all.
 fn check(rt: &impl Print, alloc: Global) -> Result<(), BenchFault> {
-    engine::check(rt, alloc)?;
     scanner::check(rt, alloc)?;
     world::check(rt, alloc)?;
     books::check(rt, alloc)
@@ -40,7 +39,6 @@ fn bench<R: Print + CpuClock + Files + AllocGlobal>(
     };
     match word.as_str() {
         "check" => check(rt, alloc),
-        "engine" => engine::print_times(rt, alloc),
         "scanner" => scanner::print_times(rt, alloc),
         "world" => world::print_times(rt, alloc),
         "books" => books::print_times(rt, alloc),

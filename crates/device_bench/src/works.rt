@@ -1,6 +1,6 @@
 //! What is done with events.
 
-use crate::engine::{OWN, PEER, adapter, numbered, open};
+use crate::adapter::{OWN, PEER, adapter, numbered, open};
 use crate::fault::BenchFault;
 use cip_tables::{Answer, Delivery, Device, Event, Verdict};
 use cip_types::{ConnId, Items, OutOfMemory};

@@ -1,12 +1,13 @@
 //! A device with its stored events.
 
 ghost use Rattle.std.specs.Prelude.{◌≡◌, ◌<◌, ◌≤◌, [], length, IfOk, IfErr, OnOk, OnErr};
-ghost use Rattle.cip_tables.specs.Step.{incarnation_of};
+ghost use Rattle.cip_events.specs.Outcomes.{Follows};
+ghost use Rattle.cip_tables.specs.Step.{incarnation_of, step};
 ghost use Rattle.device_lock.specs.Books.{present, with_event, rotated, IsReceipt, IsRefused};
 
 use crate::receipt::{BookFault, Receipt};
 use crate::segment::Segment;
-use cip_tables::{Device, DeviceTable, Event, TableCopy};
+use cip_tables::{Answer, Device, DeviceTable, Event, Outcome, TableCopy, Verdict};
 use cip_types::{Items, OutOfMemory};
 use std::alloc::Global;
 use std::marker::Model;
@@ -90,7 +91,7 @@ impl<D: Device + Drop> Book<D> {
         }
         let stored = event.copy(self.alloc)?;
         self.events.reserve(1)?;
-        let answer = self.device.step(&event)?;
+        let answer = answered(self.alloc, &mut self.device, &event)?;
         let index = self.events.len() as u32;
         self.events.push_reserved(stored);
         Ok(Receipt {
@@ -117,6 +118,25 @@ impl<D: Device + Drop> Book<D> {
             opening,
             events: Items::from_vec(events),
         })
+    }
+}
+
+// What a device answers to an event. A datagram goes straight to `deliver`, whose answer takes no memory and is made in
+// its place.
+fn answered<D: Device>(alloc: Global, device: &mut D, event: &Event) -> Outcome
+    ensures { Follows (step (D.table device.old) event.now) (D.table device.old) result (D.table device.new) }
+{
+    match event {
+        Event::Datagram { peer, bytes } => {
+            let delivery = device.deliver(*peer, bytes.as_slice());
+            Ok(Answer {
+                frames: Items::new(alloc),
+                datagrams: Items::new(alloc),
+                verdict: Verdict::Delivered(delivery),
+                notices: Items::new(alloc),
+            })
+        }
+        _ => device.step(event),
     }
 }
 
