@@ -16,11 +16,11 @@ ghost use Rattle.conn_slab.specs.Records.{row_of};
 ghost use Rattle.conn_slab.specs.Layout.{IsTied};
 ghost use Rattle.conn_slab.specs.Hearing.{heard_by, hearing};
 ghost use Rattle.conn_slab.specs.Bounds.{first_end, AllRest};
-ghost use Rattle.conn_slab.specs.Connections.{without, AreConnections, timed_out_if, accepting_if, is_opened_at};
+ghost use Rattle.conn_slab.specs.Connections.{without, AreConnections, timed_out_if, accepting_if, is_opened_at, is_listening};
 
 use crate::bounds::first_end;
 use crate::hearing::{Heard, hear};
-use crate::index::{Places, Triads, make_room, put_last, running, take_record};
+use crate::index::{Places, Triads, has_listeners, make_room, put_last, running, take_record};
 use crate::producers::{enter, leave, row_of};
 use crate::record::{Place, Record, key_for, record_of};
 use crate::rows::Rows;
@@ -163,6 +163,15 @@ impl Connections {
         ensures { result ≡ list_any (holds_triad triad) self.now }
     {
         running(&self.records, self.by_triad.get(&key_for(triad))).is_some()
+    }
+
+    /// Whether some connection is an established listen-only one. Takes no memory.
+    ///
+    /// Volume 1, chapter 3, listen-only application connections.
+    pub fn has_listeners(&self) -> bool
+        ensures { result ≡ list_any is_listening self.now }
+    {
+        has_listeners(&self.records, &self.by_triad)
     }
 
     /// The established connection of a peer that has this O->T id. Takes no memory.

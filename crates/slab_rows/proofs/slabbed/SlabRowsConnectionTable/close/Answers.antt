@@ -9,17 +9,29 @@ use Rattle.slab_rows.proofs.Times.{ends_left}
 use Rattle.slab_rows.proofs.Whole.{whole_triads}
 use Rattle.slab_rows.proofs.slabbed.SlabRowsConnectionTable.close.Goals as goal
 
+pub close-requires : goal.close-requires
+close-requires c = record {
+  counted = c.self.invariant.counted;
+  differ = rw c.self.view_is (whole_triads c.args.self.now c.requires.whole);
+}
+
 pub drop_unsupported-requires : goal.drop_unsupported-requires
 drop_unsupported-requires c =
     let differ : TriadsDiffer c.self.inside.connections = rw c.self.view_is (whole_triads c.args.self.now c.requires.whole) in
-    subst TriadsDiffer (sym c.close.ensures.rest) (differ_filtered (λ row. not (has_triad c.args.triad row)) c.self.inside.connections differ)
+    record {
+      counted = c.close.ensures.counted;
+      differ = subst TriadsDiffer (sym c.close.ensures.rows) (differ_filtered (λ row. not (has_triad c.args.triad row)) c.self.inside.connections differ);
+    }
 
 pub invariant_of-self : goal.invariant_of-self
 invariant_of-self c =
     let own = c.self.inside in
     let left = without_triad c.args.triad own.connections in
     record {
-      last = subst (λ (rows : List Row). own.lasting ≤ first_end rows) (sym (c.drop_unsupported.ensures ∙ ap staying c.close.ensures.rest))
-          (ends_left own.lasting (stays left) left (ends_left own.lasting (λ row. not (has_triad c.args.triad row)) own.connections c.self.invariant.last));
-      rest = c.first_due-self-inside.ensures;
+      bounded = record {
+        last = subst (λ (rows : List Row). own.lasting ≤ first_end rows) (sym (c.drop_unsupported.ensures.rows ∙ ap staying c.close.ensures.rows))
+            (ends_left own.lasting (stays left) left (ends_left own.lasting (λ row. not (has_triad c.args.triad row)) own.connections c.self.invariant.bounded.last));
+        rest = c.first_due-self-inside.ensures;
+      };
+      counted = c.drop_unsupported.ensures.counted;
     }
