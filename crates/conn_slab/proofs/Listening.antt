@@ -1,9 +1,8 @@
 -- Listen-only connections are those of listen-only records.
-use Rattle.std.proofs.Common.{◌≡◌, ℕ, Bool, true, false, ◌&&◌, ◌||◌, List, [], ◌∷◌, map, Option, Some, None, is_some, refl, ap, ◌∙◌}
-use Rattle.std.specs.List.{list_any, filter_map, cons_option}
+use Rattle.std.proofs.Common.{◌≡◌, ℕ, ◌||◌, List, [], ◌∷◌, map, Option, Some, None, is_some, refl, ap, ◌∙◌}
+use Rattle.std.specs.List.{list_any, cons_option}
 use Rattle.std.specs.Map.{values_of}
 use Rattle.slab.specs.Slab.{Slab, get}
-use Rattle.cip_productions.specs.Kinds.{is_listener}
 use Rattle.adapter_table.specs.Rows.{lives}
 use Rattle.mcast_pool.specs.declared.group.Group.{Group}
 use Rattle.conn_slab.specs.declared.record.Record.{Record}

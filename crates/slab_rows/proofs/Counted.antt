@@ -1,10 +1,9 @@
 -- Changes that leave each connection counted as it was.
-use Rattle.std.proofs.Common.{◌≡◌, ℕ, Bool, true, false, cond, ◌==◌, ◌&&◌, not, List, [], ◌∷◌, map, filter, find, length, Option, Some, None, refl, sym, ap, ◌∙◌, arith}
+use Rattle.std.proofs.Common.{◌≡◌, ℕ, Bool, true, false, cond, ◌==◌, List, [], ◌∷◌, map, filter, find, length, Option, Some, None, refl, sym, ap, ◌∙◌, arith}
 use Rattle.cip_types.specs.declared.names.Ms.{Ms}
 use Rattle.cip_types.specs.declared.names.Node.{Node}
 use Rattle.cip_datagram.specs.Datagram.{DatagramFields}
 use Rattle.cip_events.specs.Answers.{is_accepted}
-use Rattle.cip_productions.specs.declared.production.Production.{Production}
 use Rattle.cip_productions.specs.declared.kind.Kind.TheVariants.{ListenOnly}
 use Rattle.cip_productions.specs.Productions.{produced, is_production_due}
 use Rattle.adapter_table.specs.declared.profile.Profile.{Profile}

@@ -1,5 +1,5 @@
 -- Listeners without support that go one after another: the support of the others stays.
-use Rattle.std.proofs.Common.{◌≡◌, ◌≤◌, ◌<◌, ℕ, ◌+◌, Bool, true, false, cond, not, ◌&&◌, ◌||◌, List, [], ◌∷◌, map, filter, find, length, Option, Some, None, refl, sym, ap, subst, ◌∙◌, true≢false, arith}
+use Rattle.std.proofs.Common.{◌≡◌, ◌≤◌, ℕ, ◌+◌, Bool, true, false, cond, not, ◌&&◌, ◌||◌, List, [], ◌∷◌, filter, find, length, Some, None, refl, sym, ap, ◌∙◌, true≢false, arith}
 use Rattle.std.specs.List.{list_any}
 use Rattle.cip_types.specs.declared.names.Triad.{Triad}
 use Rattle.cip_productions.specs.declared.kind.Kind.{Kind}

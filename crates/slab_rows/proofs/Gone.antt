@@ -7,13 +7,13 @@ use Rattle.cip_productions.specs.declared.kind.Kind.{Kind}
 use Rattle.cip_productions.specs.declared.kind.Kind.TheVariants.{ExclusiveOwner, InputOnly, ListenOnly}
 use Rattle.cip_productions.specs.Kinds.{is_owner, is_listener, same_kind}
 use Rattle.adapter_table.specs.declared.row.Row.{Row}
-use Rattle.adapter_table.specs.Rows.{is_established, has_triad, holds_triad, drives, supports, is_supported, is_unsupported}
+use Rattle.adapter_table.specs.Rows.{is_established, has_triad, drives, supports, is_supported, is_unsupported}
 use Rattle.adapter_table.specs.Closing.{without_triad}
 use Rattle.adapter_table.specs.Sound.{TriadsDiffer}
 use Rattle.conn_slab.specs.Connections.{without, timed_out, timed_out_if, is_listening}
 use Rattle.owner_counts.specs.Counts.{Counts, number_at, total, is_driver, is_supporter, AreCounted, HasJoined}
 use Rattle.slab_rows.specs.Going.{named, HaveJoined, AreLess}
-use Rattle.slab_rows.proofs.Lone.{some_is, both_hold, neither, triad_itself, triad_only}
+use Rattle.slab_rows.proofs.Lone.{some_is, neither, triad_only}
 
 -- ---- a connection that is found stands among others
 

@@ -1,5 +1,5 @@
 -- Bounds on the times of connections, as these change.
-use Rattle.std.proofs.Common.{◌≡◌, ◌≤◌, ◌<◌, ℕ, ◌+◌, ◌==◌, ◌&&◌, ◌||◌, Bool, true, false, cond, min, List, [], ◌∷◌, ◌++◌, map, filter, not, find, Option, Some, None, refl, sym, ap, subst, ◌∙◌, true≢false, arith}
+use Rattle.std.proofs.Common.{◌≡◌, ◌≤◌, ◌<◌, ℕ, ◌==◌, ◌&&◌, Bool, true, false, cond, List, [], ◌∷◌, ◌++◌, map, filter, not, find, Option, Some, None, refl, sym, ap, subst, ◌∙◌, true≢false, arith}
 use Rattle.std.specs.Prelude.{nat_le}
 use Rattle.std.specs.Option.{option_map}
 use Rattle.std.specs.List.{list_any}
@@ -18,12 +18,12 @@ use Rattle.conn_slab.specs.Connections.{without}
 use Rattle.adapter_table.specs.Rows.{lives, has_triad, is_established, written_state, written_row}
 use Rattle.adapter_table.specs.Datagrams.{is_for, row_delivery, accepted_row, accepted_if_for}
 use Rattle.adapter_table.specs.Productions.{is_due, state_is_due, produced_row, produced_state, changed_state, changed_row}
-use Rattle.adapter_table.specs.Sound.{IdsDiffer, has_o_t_id}
+use Rattle.adapter_table.specs.Sound.{IdsDiffer}
 use Rattle.adapter_table.specs.Ticks.{has_expired}
 use Rattle.conn_slab.specs.declared.hearing.Heard.{Heard}
 use Rattle.conn_slab.specs.Bounds.{never, end_of, first_end, StateRests, Rests, AllRest}
-use Rattle.conn_slab.specs.Hearing.{heard_row, heard_by, hearing}
-use Rattle.slab_rows.proofs.Lone.{some_is, both_hold, neither}
+use Rattle.conn_slab.specs.Hearing.{heard_by, hearing}
+use Rattle.slab_rows.proofs.Lone.{some_is, neither}
 
 -- ---- before a bound nothing happens
 

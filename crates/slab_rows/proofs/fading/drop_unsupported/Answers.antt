@@ -1,4 +1,4 @@
-use Rattle.std.proofs.Common.{◌≡◌, ◌≤◌, ◌+◌, Some, None, List, find, length, not, refl, sym, ap, subst, ◌∙◌, false, arith, rules}
+use Rattle.std.proofs.Common.{◌≡◌, Some, List, find, length, not, refl, sym, ap, subst, ◌∙◌, false, arith, rules}
 use Rattle.std.specs.List.{list_any}
 use Rattle.adapter_table.specs.declared.row.Row.{Row}
 use Rattle.conn_slab.specs.Connections.{is_listening}

@@ -1,4 +1,4 @@
-use Rattle.std.proofs.Common.{◌≡◌, ◌≤◌, ◌+◌, Some, None, find, map, refl, sym, ap, subst, ◌∙◌, arith}
+use Rattle.std.proofs.Common.{◌≡◌, Some, None, find, refl, sym, ap, subst, ◌∙◌, arith}
 use Rattle.adapter_table.specs.Sound.{TriadsDiffer}
 use Rattle.adapter_table.specs.Ticks.{has_expired, expired_rows}
 use Rattle.conn_slab.specs.Connections.{timed_out_if}

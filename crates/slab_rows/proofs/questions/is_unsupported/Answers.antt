@@ -1,4 +1,4 @@
-use Rattle.std.proofs.Common.{◌≡◌, true, false, sym, ◌∙◌, rules}
+use Rattle.std.proofs.Common.{◌≡◌, true, sym, ◌∙◌}
 use Rattle.adapter_table.specs.Rows.{is_established}
 use Rattle.cip_productions.specs.Kinds.{is_listener}
 use Rattle.conn_slab.specs.Connections.{is_listening}

@@ -1,7 +1,6 @@
 use Rattle.std.proofs.Common.{sym, subst}
 use Rattle.adapter_table.specs.Sound.{TriadsDiffer}
 use Rattle.adapter_table.specs.Ticks.{expired_row}
-use Rattle.conn_slab.specs.Bounds.{first_end}
 use Rattle.owner_counts.specs.Counts.{AreCounted}
 use Rattle.slab_rows.proofs.Counted.{produced_counted}
 use Rattle.slab_rows.proofs.Lone.{differ_mapped}
