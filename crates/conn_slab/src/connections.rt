@@ -20,7 +20,9 @@ ghost use Rattle.conn_slab.specs.Connections.{without, AreConnections, timed_out
 
 use crate::bounds::first_end;
 use crate::hearing::{Heard, hear};
-use crate::index::{Places, Triads, has_listeners, make_room, put_last, running, take_record};
+use crate::index::{
+    Places, Triads, has_listeners, make_room, place_among, put_last, running, take_record,
+};
 use crate::producers::{enter, leave, row_of};
 use crate::record::{Place, Record, key_for, record_of};
 use crate::rows::Rows;
@@ -73,9 +75,10 @@ fn take_out(
     ensures place_room { spare by_place.old ≤ spare by_place.new }
 {
     let _groups = pool.len();
+    let place = place_among(by_triad, triad);
     let record = take_record(records, by_triad, by_place, key_for(triad))?;
-    let row = row_of(pool, &record, 0);
-    leave(pool, record.producer);
+    let row = row_of(pool, &record, place);
+    leave(pool, record.producer, place);
     Some(row)
 }
 
@@ -153,7 +156,8 @@ impl Connections {
     {
         let key = self.by_triad.get(&key_for(triad))?;
         let record = self.records.get(*key)?;
-        Some(row_of(&self.pool, record, 0))
+        // Where no connection has left before another, its producer stands at the place that its key is.
+        Some(row_of(&self.pool, record, *key))
     }
 
     /// Whether the triad is that of an established connection. Takes no memory.

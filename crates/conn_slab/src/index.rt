@@ -12,7 +12,7 @@ ghost use Rattle.conn_slab.specs.Layout.{AreFiled, running_key};
 
 use crate::record::{Place, Record, TriadKey, key_for, place_of};
 use cip_productions::Kind;
-use cip_types::OutOfMemory;
+use cip_types::{OutOfMemory, Triad};
 use indexmap::IndexMap;
 use slab::Slab;
 
@@ -37,6 +37,11 @@ pub(crate) fn make_room(
     by_triad.reserve(1)?;
     by_place.reserve(1)?;
     Ok(())
+}
+
+/// Where to look first for the producer of a triad's connection: its own place among the connections.
+pub(crate) fn place_among(by_triad: &Triads, triad: Triad) -> usize {
+    by_triad.get_index_of(&key_for(triad)).unwrap_or(0)
 }
 
 /// Takes the record of a triad out, and out of both indexes. Takes no memory.
