@@ -206,6 +206,9 @@ rests_without low high p (row ∷ rows) le all = split (p row) (rests_without lo
     split true rest = (rests_lower low high row.state le all.0, rest)
     split false rest = rest
 
+pub rests_left : (bound : ℕ) (p : Row → Bool) (rows : List Row) → AllRest bound rows → AllRest bound (filter p rows)
+rests_left bound p rows all = rests_without bound bound p rows (omega arith) all
+
 rests_all : (low high : ℕ) (rows : List Row) → low ≤ high → AllRest high rows → AllRest low rows
 rests_all low high [] le all = tt
 rests_all low high (row ∷ rows) le all = (rests_lower low high row.state le all.0, rests_all low high rows le all.1)

@@ -2,7 +2,7 @@
 
 ghost use Rattle.std.specs.Prelude.{◌≡◌, ◌∷◌, [], IfOk};
 ghost use Rattle.cip_events.specs.declared.event.Notice.{Notice};
-ghost use Rattle.conn_slab.specs.Bounds.{Rests};
+ghost use Rattle.conn_slab.specs.Bounds.{Rests, AllRest};
 
 use crate::counting::{close, counted, open};
 use crate::fading::{drop_unsupported, expire};
@@ -56,6 +56,17 @@ fn due_of(row: &Row) -> u64
         State::Established(production) => production.due.0,
         State::TimedOut => u64::MAX,
     }
+}
+
+/// A time before which no producer is due: the known one, until it has come.
+fn rest_until(connections: &conn_slab::Connections, clock: Ms, resting: u64) -> u64
+    requires { AllRest resting connections.now }
+    ensures { AllRest result connections.now }
+{
+    if clock.0 < resting {
+        return resting;
+    }
+    connections.first_due()
 }
 
 /// That the connection of a triad is closed, and no other one is lost.
@@ -153,7 +164,6 @@ impl ConnectionTable for SlabRows {
     fn close(&mut self, triad: Triad) {
         close(&mut self.connections, &mut self.rules, triad);
         drop_unsupported(&mut self.connections, &mut self.rules);
-        self.resting = self.connections.first_due();
     }
 
     fn receive(
@@ -172,6 +182,7 @@ impl ConnectionTable for SlabRows {
     }
 
     fn has_expired(&mut self, clock: Ms) -> bool {
+        self.resting = rest_until(&self.connections, clock, self.resting);
         if clock.0 < self.lasting {
             return false;
         }

@@ -3,9 +3,9 @@ use Rattle.adapter_table.specs.Rows.{has_triad}
 use Rattle.adapter_table.specs.Sound.{TriadsDiffer}
 use Rattle.adapter_table.specs.declared.row.Row.{Row}
 use Rattle.adapter_table.specs.Closing.{stays, staying, without_triad}
-use Rattle.conn_slab.specs.Bounds.{first_end}
+use Rattle.conn_slab.specs.Bounds.{first_end, AllRest}
 use Rattle.slab_rows.proofs.Lone.{differ_filtered}
-use Rattle.slab_rows.proofs.Times.{ends_left}
+use Rattle.slab_rows.proofs.Times.{ends_left, rests_left}
 use Rattle.slab_rows.proofs.Whole.{whole_triads}
 use Rattle.slab_rows.proofs.slabbed.SlabRowsConnectionTable.close.Goals as goal
 
@@ -31,7 +31,8 @@ invariant_of-self c =
       bounded = record {
         last = subst (λ (rows : List Row). own.lasting ≤ first_end rows) (sym (c.drop_unsupported.ensures.rows ∙ ap staying c.close.ensures.rows))
             (ends_left own.lasting (stays left) left (ends_left own.lasting (λ row. not (has_triad c.args.triad row)) own.connections c.self.invariant.bounded.last));
-        rest = c.first_due-self-inside.ensures;
+        rest = subst (AllRest own.resting) (sym (c.drop_unsupported.ensures.rows ∙ ap staying c.close.ensures.rows))
+            (rests_left own.resting (stays left) left (rests_left own.resting (λ row. not (has_triad c.args.triad row)) own.connections c.self.invariant.bounded.rest));
       };
       counted = c.drop_unsupported.ensures.counted;
     }
