@@ -1,8 +1,8 @@
-//! An adapter whose datagrams and idle ticks are fast, whose every step is the table's.
+//! An adapter whose datagrams, idle ticks, openings and closes are fast, whose every step is the table's.
 #![tactic(auto)]
 
-use swift_rows::SwiftRows;
+use slab_rows::SlabRows;
 use table_engine::Adapter;
 
-/// An adapter over connections with an index and bounds, which contracts see as its table.
-pub type FastAdapter = Adapter<SwiftRows>;
+/// An adapter over connections in a slab, with indexes, running counts and bounds, which contracts see as its table.
+pub type FastAdapter = Adapter<SlabRows>;

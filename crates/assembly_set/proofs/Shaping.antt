@@ -1,5 +1,5 @@
 -- Slices of what the points hold fit them, and stay so.
-use Rattle.std.proofs.Common.{◌≡◌, ◌<◌, ◌≤◌, ℕ, zero, suc, List, [], ◌∷◌, ◌++◌, length, map, find, take, drop, get_or, Option, Some, None, Bor, refl, sym, ◌∙◌, ap, arith}
+use Rattle.std.proofs.Common.{◌≡◌, ◌<◌, ◌≤◌, ℕ, zero, suc, true, List, [], ◌∷◌, ◌++◌, length, map, find, take, drop, get_or, Option, Some, None, Bor, refl, sym, ◌∙◌, ap, arith}
 use Rattle.std.specs.Prelude.{Result, IfOk, IfSome}
 use Rattle.std.specs.Option.{option_map, ok_or}
 use Rattle.cip_types.specs.Places.{written_back}
@@ -9,9 +9,10 @@ use Rattle.adapter_table.specs.declared.profile.Profile.{Profile}
 use Rattle.adapter_table.specs.declared.profile.InputPoint.{InputPoint}
 use Rattle.adapter_table.specs.declared.profile.OutputPoint.{OutputPoint}
 use Rattle.adapter_table.specs.declared.table.PointValue.{PointValue}
-use Rattle.adapter_table.specs.Profiles.{is_at, is_output_at}
+use Rattle.adapter_table.specs.Profiles.{is_at, is_output_at, are_distinct}
 use Rattle.adapter_table.specs.Points.{bytes_at}
 use Rattle.adapter_table.specs.Shapes.{shape_of, IsShaped, FitPoint, len_in, len_of}
+use Rattle.adapter_table.specs.Shaping.{points_differ}
 use Rattle.adapter_table.specs.Fitting.{input_fits, configuration_fits, fit_of}
 use Rattle.adapter_table.specs.Limits.{output_len_short, input_len_short, held_short}
 use Rattle.assembly_set.specs.Assemblies.{Assemblies, config_len}
@@ -43,6 +44,10 @@ fit_at point len (value ∷ values) (suc i) d fit lt is = fit_at point len value
 pub sound_written : (profile : Profile) (n : ℕ) (values lent new : List PointValue) → IsShaped profile values → lent ≡ values → length lent ≡ n → length new ≡ length lent → map shape_of new ≡ map shape_of lent → IsShaped profile (take n (new ++ drop (length new) values))
 sound_written profile n values lent new sound is len same shapes =
     rw (written_back n values new (same ∙ len)) (record { faultless = sound.faultless; shapes = shapes ∙ ap (map shape_of) is ∙ sound.shapes })
+
+-- no two points of a slice of the values are one
+pub differ_lent : (profile : Profile) (values lent : List PointValue) → IsShaped profile values → lent ≡ values → are_distinct (map shape_of lent) ≡ true
+differ_lent profile values lent sound is = ap (λ (l : List PointValue). are_distinct (map shape_of l)) is ∙ ap are_distinct sound.shapes ∙ points_differ profile sound.faultless
 
 -- ---- limits
 

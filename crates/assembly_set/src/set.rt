@@ -127,7 +127,7 @@ impl AssemblySet {
     }
 
     /// Puts an owner's run-mode data, as many bytes as the output has, at that output alone.
-    #[tactic(auto, using(crate::proofs::Shaping::sound_written, crate::proofs::Shaping::fits_lent))]
+    #[tactic(auto, using(crate::proofs::Shaping::sound_written, crate::proofs::Shaping::fits_lent, crate::proofs::Shaping::differ_lent))]
     pub fn apply(&mut self, point: u32, run_data: &[u8])
         requires output { IsTrue (is_output self.old.profile point) }
         requires right_length { len_of self.old.profile point ≡ Some (length run_data.now) }
@@ -162,7 +162,7 @@ impl AssemblySet {
     ///
     /// Refuses a point that is no input (`NoSuchPoint`), then bytes that are more or fewer than the
     /// input's (`WrongLength`); the set stays.
-    #[tactic(auto, using(crate::proofs::Shaping::sound_written, crate::proofs::Shaping::input_fits_lent))]
+    #[tactic(auto, using(crate::proofs::Shaping::sound_written, crate::proofs::Shaping::input_fits_lent, crate::proofs::Shaping::differ_lent))]
     pub fn write(&mut self, point: u32, bytes: &[u8]) -> Result<(), PointFault>
         ensures fault { result_err result ≡ write_fault self.old.profile point (length bytes.now) }
         ensures ok { OnOk result (self.new ≡ record self.old { values = put_value point bytes.now self.old.values }) }
@@ -179,7 +179,7 @@ impl AssemblySet {
     }
 
     /// Stores a data segment, as many bytes as the configuration has, at the configuration.
-    #[tactic(auto, using(crate::proofs::Shaping::sound_written, crate::proofs::Shaping::config_fits_lent))]
+    #[tactic(auto, using(crate::proofs::Shaping::sound_written, crate::proofs::Shaping::config_fits_lent, crate::proofs::Shaping::differ_lent))]
     pub fn configure(&mut self, segment: &[u8])
         requires { config_len self.old.profile ≡ Some (length segment.now) }
         ensures { self.new ≡ record self.old { values = configured self.old.profile.config (Some segment.now) self.old.values } }

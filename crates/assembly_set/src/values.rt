@@ -1,9 +1,10 @@
 //! Lists of what points hold.
 
-ghost use Rattle.std.specs.Prelude.{◌≡◌, ◌++◌, map, length, OnOk, IfOk, option_to_list};
+ghost use Rattle.std.specs.Prelude.{◌≡◌, ◌++◌, true, map, length, OnOk, IfOk, option_to_list};
+ghost use Rattle.std.specs.List.{position};
 ghost use Rattle.std.specs.Option.{option_map};
-ghost use Rattle.adapter_table.specs.Profiles.{as_point};
-ghost use Rattle.adapter_table.specs.Points.{changed_value, put_value, bytes_at, zeros, opening_values, zeroed_value, acted_values};
+ghost use Rattle.adapter_table.specs.Profiles.{as_point, are_distinct};
+ghost use Rattle.adapter_table.specs.Points.{is_value_of, put_value, bytes_at, zeros, opening_values, zeroed_value, acted_values};
 ghost use Rattle.adapter_table.specs.Shapes.{FitPoint, shape_of};
 
 use adapter_table::{Action, InputPoint, OutputPoint, PointValue, Profile};
@@ -22,24 +23,23 @@ pub fn find_value(values: &[PointValue], point: u32) -> Option<&[u8]>
     None
 }
 
-fn change_value(value: &mut PointValue, point: u32, bytes: &[u8])
-    requires { value.old.point ≡ point → length value.old.bytes ≡ length bytes.now }
-    ensures { value.new ≡ changed_value point bytes.now value.old }
+fn place_of(values: &[PointValue], point: u32) -> Option<usize>
+    ensures { result ≡ position (is_value_of point) values.now }
 {
-    if value.point == point {
-        value.bytes.overwrite(bytes);
-    }
+    values.iter().position(|value| value.point == point)
 }
 
-/// Puts other bytes, as many, at a point. Takes no memory.
+/// Puts other bytes, as many, at a point, which no two values have. Takes no memory.
 pub fn put_value(values: &mut [PointValue], point: u32, bytes: &[u8])
-    requires { FitPoint point (length bytes.now) values.old }
+    requires fit { FitPoint point (length bytes.now) values.old }
+    requires distinct { are_distinct (map shape_of values.old) ≡ true }
     ensures values { values.new ≡ put_value point bytes.now values.old }
     ensures shapes { map shape_of values.new ≡ map shape_of values.old }
 {
-    for value in values.iter_mut() {
-        change_value(value, point, bytes);
-    }
+    let Some(at) = place_of(values, point) else {
+        return;
+    };
+    values[at].bytes.overwrite(bytes);
 }
 
 fn zero_value(value: &mut PointValue, point: u32)

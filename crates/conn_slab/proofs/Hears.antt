@@ -1,5 +1,5 @@
 -- What connections make of a datagram.
-use Rattle.std.proofs.Common.{◌≡◌, ◌≤◌, ◌∙◌, ◌&&◌, ℕ, Bool, true, false, cond, Option, Some, None, List, [], ◌∷◌, find, map, length, is_some, if◌then◌else◌, sym, ap, subst, refl}
+use Rattle.std.proofs.Common.{◌≡◌, ◌≤◌, ◌∙◌, ◌&&◌, ℕ, Bool, true, false, cond, Option, Some, None, List, [], ◌∷◌, find, map, length, is_some, sym, ap, subst, refl}
 use Rattle.std.specs.List.{AllByRecursion}
 use Rattle.std.specs.Option.{option_map}
 use Rattle.std.specs.Map.{lookup}
@@ -22,8 +22,8 @@ use Rattle.conn_slab.specs.declared.record.TriadKey.{TriadKey}
 use Rattle.conn_slab.specs.declared.record.Place.{Place}
 use Rattle.conn_slab.specs.Index.{items_of}
 use Rattle.conn_slab.specs.Records.{row_of, bare_row, key_of, place_of, same_place}
-use Rattle.conn_slab.specs.Layout.{IsTied, IsServed, IsBalanced, is_number, members, established, running_key}
-use Rattle.conn_slab.specs.Hearing.{heard_row, heard_by, hearing, accepted_record, heard_record}
+use Rattle.conn_slab.specs.Layout.{IsTied, IsServed, IsBalanced, members, established, running_key}
+use Rattle.conn_slab.specs.Hearing.{heard_by, hearing, accepted_record, heard_record}
 use Rattle.conn_slab.proofs.Running.{runs, by_place, nobody, somebody, target_is, rows_changed, filed_changed, items_changed}
 use Rattle.conn_slab.proofs.Listed.{find_rows, shares_accepted}
 

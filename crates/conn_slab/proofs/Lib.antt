@@ -10,3 +10,4 @@ mod Changes
 mod Hears
 mod Resting
 mod Ends
+mod Listening

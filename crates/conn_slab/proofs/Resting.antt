@@ -1,7 +1,7 @@
 -- No connection's producer is due before the first producer is.
-use Rattle.std.proofs.Common.{◌≡◌, ◌≤◌, ℕ, Bool, true, false, cond, min, List, [], ◌∷◌, map, Option, Some, None, refl, sym, ap, subst, ◌∙◌, arith}
+use Rattle.std.proofs.Common.{◌≤◌, ℕ, Bool, true, false, cond, List, [], ◌∷◌, map, Option, Some, None, arith}
 use Rattle.std.specs.List.{AllByRecursion}
-use Rattle.adapter_table.specs.declared.row.State.TheVariants.{Established, TimedOut}
+use Rattle.adapter_table.specs.declared.row.State.TheVariants.{Established}
 use Rattle.mcast_pool.specs.declared.group.Group.{Group}
 use Rattle.mcast_pool.specs.Groups.{has_number, numbered, first_due}
 use Rattle.conn_slab.specs.declared.record.Record.{Record}

@@ -1,11 +1,12 @@
 -- What happens to the connections of an adapter, as a list in opening order.
-use Rattle.std.specs.Prelude.{ℕ, ◌≤◌, ◌==◌, if◌then◌else◌, Bool, List, length, Option, Some, None}
+use Rattle.std.specs.Prelude.{ℕ, ◌≤◌, ◌==◌, ◌&&◌, if◌then◌else◌, Bool, List, length, Option, Some, None}
 use Rattle.cip_types.specs.declared.names.Triad.{Triad}
 use Rattle.cip_types.specs.declared.names.Ms.{Ms}
 use Rattle.cip_types.specs.declared.names.Node.{Node}
+use Rattle.cip_productions.specs.Kinds.{is_listener}
 use Rattle.adapter_table.specs.declared.row.Row.{Row}
 use Rattle.adapter_table.specs.declared.row.State.TheVariants.{TimedOut}
-use Rattle.adapter_table.specs.Rows.{most_rows, holds_triad}
+use Rattle.adapter_table.specs.Rows.{most_rows, is_established, holds_triad}
 use Rattle.adapter_table.specs.Closing.{without_triad}
 use Rattle.adapter_table.specs.Datagrams.{is_for}
 use Rattle.adapter_table.specs.Sound.{TriadsDiffer, IdsDiffer, GroupsAgree, GroupsAloneShare}
@@ -44,3 +45,7 @@ accepting_if peer id number count deadline row = if is_for peer id row then acce
 
 abbrev pub is_opened_at : ℕ → Row → Bool
 is_opened_at opening row = row.opening == opening
+
+-- an established listen-only connection
+abbrev pub is_listening : Row → Bool
+is_listening row = is_established row && is_listener row.kind

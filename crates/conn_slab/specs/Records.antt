@@ -1,9 +1,10 @@
 -- Records of connections, whose productions stand in a pool, and the connections that they are.
-use Rattle.std.specs.Prelude.{ℕ, ◌==◌, ◌&&◌, Bool, false, List, [], Option, Some, None}
+use Rattle.std.specs.Prelude.{ℕ, ◌==◌, ◌&&◌, Bool, false, List, [], Option, Some, None, is_some}
 use Rattle.cip_types.specs.declared.names.Triad.{Triad}
 use Rattle.cip_netparams.specs.declared.Trigger.TheVariants.{Cyclic}
 use Rattle.cip_productions.specs.declared.production.Production.{Production}
 use Rattle.cip_productions.specs.declared.production.Producer.{Producer}
+use Rattle.cip_productions.specs.Kinds.{is_listener}
 use Rattle.adapter_table.specs.declared.row.Row.{Row}
 use Rattle.adapter_table.specs.declared.row.State.{State}
 use Rattle.adapter_table.specs.declared.row.State.TheVariants.{Established, TimedOut}
@@ -98,6 +99,16 @@ place_of r = record { peer = r.peer.0; id = r.o_t_id.0 }
 
 abbrev pub same_place : Place → Place → Bool
 same_place a b = a.peer == b.peer && a.id == b.id
+
+-- LISTENERS
+
+-- the record is that of an established listen-only connection
+abbrev pub listens : Record → Bool
+listens r = is_some r.producer && is_listener r.kind
+
+abbrev pub listens_in : Option Record → Bool
+listens_in None = false
+listens_in (Some r) = listens r
 
 -- PRODUCERS
 

@@ -16,11 +16,13 @@ ghost use Rattle.conn_slab.specs.Records.{row_of};
 ghost use Rattle.conn_slab.specs.Layout.{IsTied};
 ghost use Rattle.conn_slab.specs.Hearing.{heard_by, hearing};
 ghost use Rattle.conn_slab.specs.Bounds.{first_end, AllRest};
-ghost use Rattle.conn_slab.specs.Connections.{without, AreConnections, timed_out_if, accepting_if, is_opened_at};
+ghost use Rattle.conn_slab.specs.Connections.{without, AreConnections, timed_out_if, accepting_if, is_opened_at, is_listening};
 
 use crate::bounds::first_end;
 use crate::hearing::{Heard, hear};
-use crate::index::{Places, Triads, make_room, put_last, running, take_record};
+use crate::index::{
+    Places, Triads, has_listeners, make_room, place_among, put_last, running, take_record,
+};
 use crate::producers::{enter, leave, row_of};
 use crate::record::{Place, Record, key_for, record_of};
 use crate::rows::Rows;
@@ -73,9 +75,10 @@ fn take_out(
     ensures place_room { spare by_place.old ≤ spare by_place.new }
 {
     let _groups = pool.len();
+    let place = place_among(by_triad, triad);
     let record = take_record(records, by_triad, by_place, key_for(triad))?;
-    let row = row_of(pool, &record, 0);
-    leave(pool, record.producer);
+    let row = row_of(pool, &record, place);
+    leave(pool, record.producer, place);
     Some(row)
 }
 
@@ -153,7 +156,8 @@ impl Connections {
     {
         let key = self.by_triad.get(&key_for(triad))?;
         let record = self.records.get(*key)?;
-        Some(row_of(&self.pool, record, 0))
+        // Where no connection has left before another, its producer stands at the place that its key is.
+        Some(row_of(&self.pool, record, *key))
     }
 
     /// Whether the triad is that of an established connection. Takes no memory.
@@ -163,6 +167,15 @@ impl Connections {
         ensures { result ≡ list_any (holds_triad triad) self.now }
     {
         running(&self.records, self.by_triad.get(&key_for(triad))).is_some()
+    }
+
+    /// Whether some connection is an established listen-only one. Takes no memory.
+    ///
+    /// Volume 1, chapter 3, listen-only application connections.
+    pub fn has_listeners(&self) -> bool
+        ensures { result ≡ list_any is_listening self.now }
+    {
+        has_listeners(&self.records, &self.by_triad)
     }
 
     /// The established connection of a peer that has this O->T id. Takes no memory.

@@ -1,16 +1,18 @@
 //! Records under keys, and the two indexes that lead to them.
 
 ghost use Rattle.std.specs.Prelude.{◌≡◌, ◌≤◌, ◌<◌, ◌++◌, ◌∷◌, [], None, Some, OnOk, find, filter, not, nat_eq};
-ghost use Rattle.std.specs.Map.{lookup};
+ghost use Rattle.std.specs.List.{list_any};
+ghost use Rattle.std.specs.Map.{lookup, values_of};
 ghost use Rattle.std.specs.Option.{option_copied};
-ghost use Rattle.slab.specs.Slab.{HasRoomFor};
+ghost use Rattle.slab.specs.Slab.{HasRoomFor, get};
 ghost use Rattle.indexmap.specs.IndexMap.{spare};
 ghost use Rattle.conn_slab.specs.Index.{items_of};
-ghost use Rattle.conn_slab.specs.Records.{key_of, same_key, place_of, same_place, is_of};
+ghost use Rattle.conn_slab.specs.Records.{key_of, same_key, place_of, same_place, is_of, listens, listens_in};
 ghost use Rattle.conn_slab.specs.Layout.{AreFiled, running_key};
 
 use crate::record::{Place, Record, TriadKey, key_for, place_of};
-use cip_types::OutOfMemory;
+use cip_productions::Kind;
+use cip_types::{OutOfMemory, Triad};
 use indexmap::IndexMap;
 use slab::Slab;
 
@@ -35,6 +37,11 @@ pub(crate) fn make_room(
     by_triad.reserve(1)?;
     by_place.reserve(1)?;
     Ok(())
+}
+
+/// Where to look first for the producer of a triad's connection: its own place among the connections.
+pub(crate) fn place_among(by_triad: &Triads, triad: Triad) -> usize {
+    by_triad.get_index_of(&key_for(triad)).unwrap_or(0)
 }
 
 /// Takes the record of a triad out, and out of both indexes. Takes no memory.
@@ -89,4 +96,33 @@ pub(crate) fn running(records: &Slab<Record>, key: Option<&usize>) -> Option<(us
     let record = records.get(key)?;
     let number = record.producer?;
     Some((key, number))
+}
+
+/// Whether a record is that of an established listen-only connection.
+fn listens(record: &Record) -> bool
+    ensures { result ≡ listens record.now }
+{
+    record.producer.is_some() && record.kind == Kind::ListenOnly
+}
+
+/// Whether such a record stands under a key.
+fn listens_at(records: &Slab<Record>, key: usize) -> bool
+    ensures { result ≡ listens_in (get records.now key) }
+{
+    match records.get(key) {
+        Some(record) => listens(record),
+        None => false,
+    }
+}
+
+/// Whether such a record stands under one of the keys.
+pub(crate) fn has_listeners(records: &Slab<Record>, by_triad: &Triads) -> bool
+    ensures { result ≡ list_any (λ key. listens_in (get records.now key)) (values_of by_triad.now.entries) }
+{
+    for key in by_triad.values() {
+        if listens_at(records, *key) {
+            return true;
+        }
+    }
+    false
 }

@@ -65,12 +65,12 @@ pub(crate) fn enter(pool: &mut Pool, row: &Row)
     }
 }
 
-/// A connection leaves its producer. Takes no memory.
-pub(crate) fn leave(pool: &mut Pool, producer: Option<u32>)
+/// A connection leaves its producer, which is first looked for at a place. Takes no memory.
+pub(crate) fn leave(pool: &mut Pool, producer: Option<u32>, place: usize)
     requires { IsLive pool.old producer }
     ensures { pool.new ≡ left_by producer pool.old }
 {
     if let Some(number) = producer {
-        pool.leave(number);
+        pool.leave_near(number, place);
     }
 }

@@ -138,3 +138,23 @@ numbered_there number (group ∷ groups) (suc i) d each lt has = split (has_numb
 
 pub near : (number : ℕ) (groups : List Group) (i : ℕ) (d : Group) (result : Bool) → AreGroups groups → i < length groups → result ≡ has_number number (get_or groups i d) → result ≡ true → Some (get_or groups i d) ≡ numbered number groups
 near number groups i d result each lt is has = sym (numbered_there number groups i d each lt (sym is ∙ has))
+
+placed_there : (number : ℕ) (groups : List Group) (i : ℕ) (d : Group) → AreGroups groups → i < length groups → has_number number (get_or groups i d) ≡ true → position_or_len (has_number number) groups ≡ i
+placed_there number [] i d each lt has = absurd (omega arith)
+placed_there number (group ∷ groups) zero d each lt has = rw has refl
+placed_there number (group ∷ groups) (suc i) d each lt has = split (has_number number group) refl (placed_there number groups i d each.3 (omega arith) has)
+  where
+    split : (b : Bool) → has_number number group ≡ b → position_or_len (has_number number) groups ≡ i → position_or_len (has_number number) (group ∷ groups) ≡ suc i
+    split true is there =
+        let unlike = none_there (is_like group) groups i d each.2 (omega arith) in
+        let other : has_number (number_of group) (get_or groups i d) ≡ false = like_number (has_number (number_of group) (get_or groups i d)) group.shared (serves group.producer.point (get_or groups i d)) unlike in
+        absurd (true≢false (sym has ∙ ap (λ n. has_number n (get_or groups i d)) (sym (same_number number group is)) ∙ other))
+    split false is there = rw (is, there) (omega arith)
+
+position_is : (test : Group → Bool) (groups : List Group) (i : ℕ) → position_or_len test groups ≡ i → i < length groups → position test groups ≡ Some i
+position_is test groups i is lt =
+    let within : nat_lt (position_or_len test groups) (length groups) ≡ true = grind (arith, nat_tests) in
+    rw within (ap (λ (n : ℕ). Some n) is)
+
+pub near_place : (number : ℕ) (groups : List Group) (i : ℕ) (d : Group) (result : Bool) → AreGroups groups → i < length groups → result ≡ has_number number (get_or groups i d) → result ≡ true → Some i ≡ position (has_number number) groups
+near_place number groups i d result each lt is has = sym (position_is (has_number number) groups i (placed_there number groups i d each lt (sym is ∙ has)) lt)

@@ -55,6 +55,17 @@ pub(crate) fn find_near(groups: &[Group], number: u32, place: usize) -> Option<G
     Some(groups[place])
 }
 
+/// Where the group of a producer's number stands, which is first looked for at a place.
+pub(crate) fn place_near(groups: &[Group], number: u32, place: usize) -> Option<usize>
+    requires { AreGroups groups.now }
+    ensures { result ≡ position (has_number number) groups.now }
+{
+    if place >= groups.len() || !has_number(&groups[place], number) {
+        return place_of(groups, number);
+    }
+    Some(place)
+}
+
 /// Where to look first for the producer after this one: behind it, where it stands at the place.
 pub(crate) fn place_after(groups: &[Group], number: u32, place: usize) -> usize
     ensures near { result ≤ place + 1 }

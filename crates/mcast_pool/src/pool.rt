@@ -9,7 +9,7 @@ ghost use Rattle.mcast_pool.specs.Groups.{has_number, begun, production_of, touc
 use crate::group::{Group, begun};
 use crate::groups::{
     count_at_once, find_group, find_near, first_due, lowest_at_once, place_after, place_for,
-    place_of, produce_all, produce_at, subscribe, touch_all, unsubscribe, write_all,
+    place_near, place_of, produce_all, produce_at, subscribe, touch_all, unsubscribe, write_all,
 };
 use cip_datagram::{Datagram, write_datagram};
 use cip_productions::{Producer, Production, next_count};
@@ -143,7 +143,16 @@ impl Pool {
         ensures last { Some result ≡ option_map is_last (numbered number self.old) }
         ensures groups { self.new ≡ left number self.old }
     {
-        let at = place_of(&self.groups, number).unwrap();
+        self.leave_near(number, 0)
+    }
+
+    /// The same for a producer that is first looked for at a place. Takes no memory.
+    pub fn leave_near(&mut self, number: u32, place: usize) -> bool
+        requires { IsInUse number self.old }
+        ensures last { Some result ≡ option_map is_last (numbered number self.old) }
+        ensures groups { self.new ≡ left number self.old }
+    {
+        let at = place_near(&self.groups, number, place).unwrap();
         unsubscribe(&mut self.groups, number, at)
     }
 

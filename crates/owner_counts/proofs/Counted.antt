@@ -8,7 +8,7 @@ use Rattle.adapter_table.specs.Rows.{is_established, drives, supports}
 use Rattle.std.proofs.lemmas.Bool.Decides.{Decides-eqb}
 use Rattle.owner_counts.specs.declared.counts.Count.{Count}
 use Rattle.owner_counts.specs.Counts.{number_at, total, more_if, less_if, one_more, one_less, AreCounts, AreRules}
-use Rattle.owner_counts.proofs.Counting.{one_at, number_more, number_less, total_more, total_less, counts_more, counts_less}
+use Rattle.owner_counts.proofs.Counting.{one_at, number_more, number_less, total_more, total_less, total_one_less, counts_more, counts_less}
 
 pub filter_last : (test : Row → Bool) (rows : List Row) (row : Row) → length (filter test (rows ++ row ∷ [])) ≡ length (filter test rows) + (if test row then 1 else 0)
 filter_last test [] row = split (test row)
@@ -102,6 +102,30 @@ filter_less b test at row counts here each some front back are point =
     let among = filter_among (test point) front row back in
     let same = are point in
     cancel (number_at point (less_if b at counts)) (length (filter (test point) (front ++ back))) (if b then one_at at point else 0) (less ∙ same ∙ among ∙ ap (λ n. length (filter (test point) (front ++ back)) + n) (here point))
+  where
+    cancel : (m n k : ℕ) → m + k ≡ n + k → m ≡ n
+    cancel m n k is = omega arith
+
+-- ---- and those that are counted
+
+abbrev one_if : Bool → ℕ
+one_if b = if b then 1 else 0
+
+pub all_more : (b : Bool) (point : ℕ) (counts : List Count) → total (more_if b point counts) ≡ total counts + one_if b
+all_more true point counts = total_more point counts
+all_more false point counts = omega arith
+
+pub all_less : (b : Bool) (point : ℕ) (counts : List Count) → AreCounts counts → (b ≡ true → 1 ≤ number_at point counts) → total (less_if b point counts) + one_if b ≡ total counts
+all_less true point counts each some = total_one_less point counts each (some refl)
+all_less false point counts each some = omega arith
+
+pub all_filtered_more : (b : Bool) (test : Row → Bool) (at : ℕ) (row : Row) (counts : List Count) → b ≡ test row → (rows : List Row) → total counts ≡ length (filter test rows) → total (more_if b at counts) ≡ length (filter test (rows ++ row ∷ []))
+all_filtered_more b test at row counts is rows are =
+    all_more b at counts ∙ ap (λ n. n + one_if b) are ∙ ap (λ (c : Bool). length (filter test rows) + one_if c) is ∙ sym (filter_last test rows row)
+
+pub all_filtered_less : (b : Bool) (test : Row → Bool) (at : ℕ) (row : Row) (counts : List Count) → b ≡ test row → AreCounts counts → (b ≡ true → 1 ≤ number_at at counts) → (front back : List Row) → total counts ≡ length (filter test (front ++ row ∷ back)) → total (less_if b at counts) ≡ length (filter test (front ++ back))
+all_filtered_less b test at row counts is each some front back are =
+    cancel (total (less_if b at counts)) (length (filter test (front ++ back))) (one_if b) (all_less b at counts each some ∙ are ∙ filter_among test front row back ∙ ap (λ (c : Bool). length (filter test (front ++ back)) + one_if c) (sym is))
   where
     cancel : (m n k : ℕ) → m + k ≡ n + k → m ≡ n
     cancel m n k is = omega arith

@@ -171,6 +171,21 @@ total_less point (count ∷ counts) = split (is_at point count) (count.number ==
     split true false rest = omega arith
     split false c rest = omega arith
 
+cut : (n : ℕ) → 1 ≤ n → n == 1 ≡ true → n ≡ 1
+cut n le one = same_of n 1 one
+
+pub total_one_less : (point : ℕ) (counts : List Count) → AreCounts counts → 1 ≤ number_at point counts → total (one_less point counts) + 1 ≡ total counts
+total_one_less point [] each some = absurd (omega arith)
+total_one_less point (count ∷ counts) each some = split (is_at point count) refl (λ also. total_one_less point counts each.2 also)
+  where
+    last : (c : Bool) → count.number == 1 ≡ c → total (cond c counts (fewer count ∷ counts)) + 1 ≡ count.number + total counts
+    last true one = let is = cut count.number each.0 one in omega arith
+    last false more_than = let positive = each.0 in omega arith
+
+    split : (b : Bool) → is_at point count ≡ b → (1 ≤ number_at point counts → total (one_less point counts) + 1 ≡ total counts) → total (cond b (less count counts) (count ∷ one_less point counts)) + 1 ≡ count.number + total counts
+    split true here rest = last (count.number == 1) refl
+    split false here rest = let more = rest (rw here at some) in omega arith
+
 pub counts_more : (point : ℕ) (counts : List Count) → AreCounts counts → AreCounts (one_more point counts)
 counts_more point [] each = (omega arith, refl, tt)
 counts_more point (count ∷ counts) each = split (is_at point count) refl (counts_more point counts each.2)

@@ -56,16 +56,26 @@ pub record Counts : Type 0 where
   pub owners : List Count
   pub supporters : List Count
 
+-- the connection is the established owner of its output
+abbrev pub is_driver : Row → Bool
+is_driver row = drives row.consumed row
+
+-- the connection supports the listen-only ones of its input
+abbrev pub is_supporter : Row → Bool
+is_supporter row = supports ListenOnly row.produced row
+
 -- each count is that of the established owners of the output, or of those that support the input's listen-only
--- connections, among these connections
+-- connections, among these connections, and no others are counted
 pub record AreCounted (counts : Counts) (rows : List Row) : Type 0 where
   pub owners : (point : ℕ) → number_at point counts.owners ≡ length (filter (drives point) rows)
   pub supporters : (point : ℕ) → number_at point counts.supporters ≡ length (filter (supports ListenOnly point) rows)
+  pub all_owners : total counts.owners ≡ length (filter is_driver rows)
+  pub all_supporters : total counts.supporters ≡ length (filter is_supporter rows)
 
 -- a connection is among those that are counted
 pub record HasJoined (row : Row) (counts : Counts) : Type 0 where
-  pub owner : drives row.consumed row ≡ true → 1 ≤ number_at row.consumed counts.owners
-  pub supporter : supports ListenOnly row.produced row ≡ true → 1 ≤ number_at row.produced counts.supporters
+  pub owner : is_driver row ≡ true → 1 ≤ number_at row.consumed counts.owners
+  pub supporter : is_supporter row ≡ true → 1 ≤ number_at row.produced counts.supporters
 
 -- what belongs together in `Rules`
 pub record AreRules (owned : List Count) (owned_room : ℕ) (supported : List Count) (supported_room : ℕ) : Type 0 where

@@ -1,5 +1,5 @@
 -- Listeners without support that go one after another: the support of the others stays.
-use Rattle.std.proofs.Common.{◌≡◌, ◌≤◌, ◌<◌, ℕ, ◌+◌, Bool, true, false, cond, not, ◌&&◌, ◌||◌, List, [], ◌∷◌, map, filter, find, length, Option, Some, None, refl, sym, ap, subst, ◌∙◌, true≢false, arith}
+use Rattle.std.proofs.Common.{◌≡◌, ◌≤◌, ℕ, ◌+◌, Bool, true, false, cond, not, ◌&&◌, ◌||◌, List, [], ◌∷◌, filter, find, length, Some, None, refl, sym, ap, ◌∙◌, true≢false, arith}
 use Rattle.std.specs.List.{list_any}
 use Rattle.cip_types.specs.declared.names.Triad.{Triad}
 use Rattle.cip_productions.specs.declared.kind.Kind.{Kind}
@@ -7,10 +7,11 @@ use Rattle.cip_productions.specs.declared.kind.Kind.TheVariants.{ExclusiveOwner,
 use Rattle.cip_productions.specs.Kinds.{is_listener, same_kind}
 use Rattle.adapter_table.specs.declared.row.Row.{Row}
 use Rattle.adapter_table.specs.Rows.{Each, has_triad, is_established, is_member, supports, is_supported, is_unsupported}
-use Rattle.adapter_table.specs.Closing.{without_triad, stays, staying}
+use Rattle.adapter_table.specs.Closing.{without_triad, unsupported, stays, staying}
 use Rattle.adapter_table.specs.Sound.{TriadsDiffer}
 use Rattle.adapter_table.specs.EachLemmas.{each_weak}
-use Rattle.slab_rows.proofs.Lone.{some_is, both_hold, lone, triad_itself}
+use Rattle.conn_slab.specs.Connections.{is_listening}
+use Rattle.slab_rows.proofs.Lone.{some_is, both_hold, neither, lone, triad_itself}
 
 listeners_same : (a b : Kind) → is_listener a ≡ true → is_listener b ≡ true → same_kind a b ≡ true
 listeners_same ExclusiveOwner b first second = absurd cc
@@ -119,3 +120,37 @@ none_goes rows none = all_stay rows rows none
 pub none_stand : (rows : List Row) → length rows ≤ 0 → staying rows ≡ rows
 none_stand [] none = refl
 none_stand (row ∷ rows) none = absurd (omega arith)
+
+-- ---- none listens
+
+pub no_listener : (e k s : Bool) → (e && k) ≡ false → (e && (k && s)) ≡ false
+no_listener true true s none = absurd (true≢false none)
+no_listener true false s none = refl
+no_listener false k s none = refl
+
+pub none_listen : (all rows : List Row) → list_any is_listening rows ≡ false → filter (stays all) rows ≡ rows
+none_listen all [] none = refl
+none_listen all (row ∷ rows) none =
+    let parts = neither (is_listening row) (list_any is_listening rows) none in
+    let stays_here : is_unsupported all row ≡ false = no_listener (is_established row) (is_listener row.kind) _ parts.0 in
+    rw stays_here (ap (λ (l : List Row). row ∷ l) (none_listen all rows parts.1))
+
+none_dropped : (all rows : List Row) → list_any is_listening rows ≡ false → filter (is_unsupported all) rows ≡ []
+none_dropped all [] none = refl
+none_dropped all (row ∷ rows) none =
+    let parts = neither (is_listening row) (list_any is_listening rows) none in
+    let stays_here : is_unsupported all row ≡ false = no_listener (is_established row) (is_listener row.kind) _ parts.0 in
+    rw stays_here (none_dropped all rows parts.1)
+
+any_left : (test p : Row → Bool) (rows : List Row) → list_any test rows ≡ false → list_any test (filter p rows) ≡ false
+any_left test p [] none = refl
+any_left test p (row ∷ rows) none =
+    let parts = neither (test row) (list_any test rows) none in
+    split (p row) parts.0 (any_left test p rows parts.1)
+  where
+    split : (b : Bool) → test row ≡ false → list_any test (filter p rows) ≡ false → list_any test (cond b (row ∷ filter p rows) (filter p rows)) ≡ false
+    split true fails rest = rw (fails, rest) refl
+    split false fails rest = rest
+
+pub none_lost : (triad : Triad) (rows : List Row) → list_any is_listening rows ≡ false → unsupported (without_triad triad rows) ≡ []
+none_lost triad rows none = none_dropped (without_triad triad rows) (without_triad triad rows) (any_left is_listening (λ row. not (has_triad triad row)) rows none)

@@ -5,3 +5,5 @@ mod Whole
 mod Prefixes
 mod Room
 mod Times
+mod Gone
+mod Counted

@@ -1,12 +1,11 @@
 -- Connections of different triads: what holds of the first that passes a test holds of all of its triad.
-use Rattle.std.proofs.Common.{◌≡◌, ℕ, Bool, true, false, cond, ◌==◌, ◌&&◌, ◌||◌, List, [], ◌∷◌, map, filter, find, not, Option, Some, None, refl, sym, ap, subst, ◌∙◌, true≢false, arith}
+use Rattle.std.proofs.Common.{◌≡◌, ℕ, Bool, true, false, cond, ◌==◌, ◌&&◌, ◌||◌, List, [], ◌∷◌, map, filter, find, Some, refl, sym, ap, subst, ◌∙◌, true≢false, arith}
 use Rattle.std.specs.List.{list_any}
 use Rattle.std.proofs.lemmas.Bool.Decides.{Decides-eqb}
 use Rattle.cip_types.specs.declared.names.Triad.{Triad}
 use Rattle.adapter_table.specs.declared.row.Row.{Row}
 use Rattle.adapter_table.specs.Rows.{Each, same_triad, has_triad}
 use Rattle.adapter_table.specs.Sound.{TriadsDiffer}
-use Rattle.adapter_table.specs.EachLemmas.{each_weak}
 
 pub some_is : {X : Type 0} {a b : X} → Some a ≡ Some b → a ≡ b
 some_is e = cc

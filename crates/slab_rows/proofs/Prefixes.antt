@@ -1,11 +1,11 @@
 -- The first connections of some that an adapter can have are such.
-use Rattle.std.proofs.Common.{◌≡◌, ◌≤◌, ◌<◌, ℕ, ◌+◌, Bool, true, false, ◌||◌, List, [], ◌∷◌, ◌++◌, take, drop, length, get_or, refl, sym, ap, subst, ◌∙◌, arith}
+use Rattle.std.proofs.Common.{◌≡◌, ◌≤◌, ◌<◌, ℕ, ◌+◌, Bool, false, List, [], ◌∷◌, ◌++◌, take, drop, length, get_or, refl, sym, subst, arith}
 use Rattle.std.specs.List.{list_any}
 use Rattle.std.proofs.lemmas.Grind.{common_steps}
 use Rattle.adapter_table.specs.declared.row.Row.{Row}
 use Rattle.adapter_table.specs.Rows.{Each, EachTwo, has_triad}
-use Rattle.adapter_table.specs.Sound.{TriadsDiffer, IdsDiffer, GroupsAgree, AllAgree, GroupsAloneShare, has_o_t_id}
-use Rattle.adapter_table.specs.Whole.{FitsRow, RowsFit}
+use Rattle.adapter_table.specs.Sound.{TriadsDiffer, IdsDiffer, GroupsAgree, AllAgree, has_o_t_id}
+use Rattle.adapter_table.specs.Whole.{FitsRow}
 use Rattle.conn_slab.specs.Connections.{AreConnections}
 use Rattle.slab_rows.proofs.Lone.{neither}
 

@@ -1,15 +1,15 @@
 -- The connection that makes room goes by its triad.
-use Rattle.std.proofs.Common.{◌≡◌, ◌≤◌, ◌<◌, ℕ, ◌==◌, ◌||◌, Bool, true, false, cond, not, nat_le, List, [], ◌∷◌, filter, find, length, Option, Some, None, is_some, refl, sym, ap, subst, ◌∙◌, true≢false, arith}
+use Rattle.std.proofs.Common.{◌≡◌, ◌≤◌, ◌<◌, ℕ, ◌==◌, ◌||◌, Bool, true, false, cond, nat_le, List, [], ◌∷◌, find, length, Option, Some, None, is_some, refl, sym, ap, subst, ◌∙◌, true≢false, arith}
 use Rattle.std.specs.Option.{option_map}
 use Rattle.std.specs.List.{list_any}
 use Rattle.std.proofs.lemmas.Bool.Decides.{nat_tests, Decides-eqb}
 use Rattle.cip_types.specs.declared.names.Triad.{Triad}
 use Rattle.adapter_table.specs.declared.row.Row.{Row}
-use Rattle.adapter_table.specs.Rows.{most_rows, Each, EachTwo, has_triad, same_triad, is_timed_out, others}
+use Rattle.adapter_table.specs.Rows.{most_rows, Each, has_triad, same_triad, is_timed_out, others}
 use Rattle.adapter_table.specs.Opening.{is_opened_as, makes_room_by, makes_room, replaced_triad, triad_of}
-use Rattle.adapter_table.specs.Sound.{TriadsDiffer, OpensBefore, OpeningsRise}
+use Rattle.adapter_table.specs.Sound.{TriadsDiffer, OpeningsRise}
 use Rattle.conn_slab.specs.Connections.{without, is_opened_at}
-use Rattle.slab_rows.proofs.Lone.{some_is, neither, triad_itself, triad_only, none_like}
+use Rattle.slab_rows.proofs.Lone.{some_is, neither, triad_itself, triad_only}
 
 itself : (a : ℕ) → a == a ≡ true
 itself a = grind arith

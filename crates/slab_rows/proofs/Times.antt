@@ -1,5 +1,5 @@
 -- Bounds on the times of connections, as these change.
-use Rattle.std.proofs.Common.{◌≡◌, ◌≤◌, ◌<◌, ℕ, ◌+◌, ◌==◌, ◌&&◌, ◌||◌, Bool, true, false, cond, min, List, [], ◌∷◌, ◌++◌, map, filter, not, find, Option, Some, None, refl, sym, ap, subst, ◌∙◌, true≢false, arith}
+use Rattle.std.proofs.Common.{◌≡◌, ◌≤◌, ◌<◌, ℕ, ◌==◌, ◌&&◌, Bool, true, false, cond, List, [], ◌∷◌, ◌++◌, map, filter, not, find, Option, Some, None, refl, sym, ap, subst, ◌∙◌, true≢false, arith}
 use Rattle.std.specs.Prelude.{nat_le}
 use Rattle.std.specs.Option.{option_map}
 use Rattle.std.specs.List.{list_any}
@@ -18,12 +18,12 @@ use Rattle.conn_slab.specs.Connections.{without}
 use Rattle.adapter_table.specs.Rows.{lives, has_triad, is_established, written_state, written_row}
 use Rattle.adapter_table.specs.Datagrams.{is_for, row_delivery, accepted_row, accepted_if_for}
 use Rattle.adapter_table.specs.Productions.{is_due, state_is_due, produced_row, produced_state, changed_state, changed_row}
-use Rattle.adapter_table.specs.Sound.{IdsDiffer, has_o_t_id}
+use Rattle.adapter_table.specs.Sound.{IdsDiffer}
 use Rattle.adapter_table.specs.Ticks.{has_expired}
 use Rattle.conn_slab.specs.declared.hearing.Heard.{Heard}
 use Rattle.conn_slab.specs.Bounds.{never, end_of, first_end, StateRests, Rests, AllRest}
-use Rattle.conn_slab.specs.Hearing.{heard_row, heard_by, hearing}
-use Rattle.slab_rows.proofs.Lone.{some_is, both_hold, neither}
+use Rattle.conn_slab.specs.Hearing.{heard_by, hearing}
+use Rattle.slab_rows.proofs.Lone.{some_is, neither}
 
 -- ---- before a bound nothing happens
 
@@ -191,3 +191,38 @@ pub ends_opened : (low : ℕ) (gone : Option Triad) (rows : List Row) (row : Row
 ends_opened low gone rows row after before =
     let within = ends_within rows in
     ends_last low (without gone rows) row (end_later low row.deadline.0 row.state (omega arith) after) (ends_without low gone rows before)
+
+-- a bound on productions, of which one more begins
+
+rests_lower : (low high : ℕ) (state : State) → low ≤ high → StateRests high state → StateRests low state
+rests_lower low high (Established production) le rests = omega arith
+rests_lower low high TimedOut le rests = tt
+
+rests_without : (low high : ℕ) (p : Row → Bool) (rows : List Row) → low ≤ high → AllRest high rows → AllRest low (filter p rows)
+rests_without low high p [] le all = tt
+rests_without low high p (row ∷ rows) le all = split (p row) (rests_without low high p rows le all.1)
+  where
+    split : (b : Bool) → AllRest low (filter p rows) → AllRest low (cond b (row ∷ filter p rows) (filter p rows))
+    split true rest = (rests_lower low high row.state le all.0, rest)
+    split false rest = rest
+
+pub rests_left : (bound : ℕ) (p : Row → Bool) (rows : List Row) → AllRest bound rows → AllRest bound (filter p rows)
+rests_left bound p rows all = rests_without bound bound p rows (omega arith) all
+
+rests_all : (low high : ℕ) (rows : List Row) → low ≤ high → AllRest high rows → AllRest low rows
+rests_all low high [] le all = tt
+rests_all low high (row ∷ rows) le all = (rests_lower low high row.state le all.0, rests_all low high rows le all.1)
+
+rests_gone : (low high : ℕ) (gone : Option Triad) (rows : List Row) → low ≤ high → AllRest high rows → AllRest low (without gone rows)
+rests_gone low high None rows le all = rests_all low high rows le all
+rests_gone low high (Some triad) rows le all = rests_without low high (λ row. not (has_triad triad row)) rows le all
+
+rests_last : (low : ℕ) (rows : List Row) (row : Row) → AllRest low rows → Rests low row → AllRest low (rows ++ row ∷ [])
+rests_last low [] row all here = (here, tt)
+rests_last low (x ∷ rows) row all here = (all.0, rests_last low rows row all.1 here)
+
+pub rests_opened : (low high due : ℕ) (gone : Option Triad) (rows : List Row) (row : Row) → low ≤ high → low ≤ due → Rests due row → AllRest high rows → AllRest low (without gone rows ++ row ∷ [])
+rests_opened low high due gone rows row le also here all = rests_last low (without gone rows) row (rests_gone low high gone rows le all) (rests_lower low due row.state also here)
+
+pub same_end : {low high : ℕ} → low ≡ high → low ≤ high
+same_end is = omega arith

@@ -1,6 +1,5 @@
 -- What is drawn on of the connections of a whole table.
-use Rattle.std.proofs.Common.{◌≡◌, List, subst}
-use Rattle.cip_types.specs.declared.names.Ms.{Ms}
+use Rattle.std.proofs.Common.{List, subst}
 use Rattle.adapter_table.specs.declared.row.Row.{Row}
 use Rattle.adapter_table.specs.Sound.{TriadsDiffer, IdsDiffer, GroupsAloneShare, OpeningsRise}
 use Rattle.adapter_table.specs.Whole.{RowsFit}

@@ -2,8 +2,14 @@
 use Rattle.std.specs.Prelude.{ℕ, ◌≤◌, List}
 use Rattle.adapter_table.specs.declared.row.Row.{Row}
 use Rattle.conn_slab.specs.Bounds.{first_end, AllRest}
+use Rattle.owner_counts.specs.Counts.{Counts, AreCounted}
 
 -- bounds on the times of connections: no watchdog runs out before the one, and no producer is due before the other
 pub record IsBounded (rows : List Row) (lasting resting : ℕ) : Type 0 where
   pub last : lasting ≤ first_end rows
   pub rest : AllRest resting rows
+
+-- connections with their counts and bounds
+pub record AreKept (rows : List Row) (counts : Counts) (lasting resting : ℕ) : Type 0 where
+  pub bounded : IsBounded rows lasting resting
+  pub counted : AreCounted counts rows

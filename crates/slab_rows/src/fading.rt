@@ -4,37 +4,47 @@ ghost use Rattle.std.specs.Prelude.{◌≡◌};
 ghost use Rattle.adapter_table.specs.Closing.{staying};
 ghost use Rattle.adapter_table.specs.Sound.{TriadsDiffer};
 ghost use Rattle.adapter_table.specs.Ticks.{expired_rows};
+ghost use Rattle.owner_counts.specs.Counts.{AreCounted};
 
+use crate::counting::{close, time_out};
 use crate::questions::{first_expired, first_unsupported};
 use cip_types::Ms;
 use conn_slab::Connections;
+use owner_counts::Rules;
 
 /// The connections whose deadline has come have timed out. Takes no memory.
 ///
 /// Volume 1, chapter 3, inactivity watchdog.
-pub fn expire(connections: &mut Connections, clock: Ms)
-    requires { TriadsDiffer connections.old }
-    ensures { connections.new ≡ expired_rows clock connections.old }
+pub fn expire(connections: &mut Connections, rules: &mut Rules, clock: Ms)
+    requires counted { AreCounted rules.old connections.old }
+    requires differ { TriadsDiffer connections.old }
+    ensures rows { connections.new ≡ expired_rows clock connections.old }
+    ensures counted { AreCounted rules.new connections.new }
 {
     for _ in 0..connections.len() {
         let Some(row) = first_expired(connections.rows(), clock) else {
             return;
         };
-        connections.expire(row.triad);
+        time_out(connections, rules, row.triad);
     }
 }
 
 /// Takes out the listen-only connections without support. Takes no memory.
 ///
 /// Volume 1, chapter 3, listen-only application connections.
-pub fn drop_unsupported(connections: &mut Connections)
-    requires { TriadsDiffer connections.old }
-    ensures { connections.new ≡ staying connections.old }
+pub fn drop_unsupported(connections: &mut Connections, rules: &mut Rules)
+    requires counted { AreCounted rules.old connections.old }
+    requires differ { TriadsDiffer connections.old }
+    ensures rows { connections.new ≡ staying connections.old }
+    ensures counted { AreCounted rules.new connections.new }
 {
+    if !connections.has_listeners() {
+        return;
+    }
     for _ in 0..connections.len() {
-        let Some(row) = first_unsupported(connections) else {
+        let Some(row) = first_unsupported(connections, rules) else {
             return;
         };
-        connections.close(row.triad);
+        close(connections, rules, row.triad);
     }
 }

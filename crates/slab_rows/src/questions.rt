@@ -1,18 +1,21 @@
 //! What is asked of connections one after another. No question takes memory.
 
-ghost use Rattle.std.specs.Prelude.{◌≡◌, ◌≤◌, ◌^◌, find};
+ghost use Rattle.std.specs.Prelude.{◌≡◌, ◌≤◌, ◌^◌, List, find};
 ghost use Rattle.std.specs.List.{list_any};
-ghost use Rattle.adapter_table.specs.Rows.{is_established, is_timed_out, drives, is_member, is_supported, is_unsupported};
+ghost use Rattle.adapter_table.specs.Rows.{is_established, is_timed_out, is_member, is_unsupported};
+ghost use Rattle.adapter_table.specs.declared.row.Row.{Row};
 ghost use Rattle.adapter_table.specs.Productions.{is_due, produces_on_change};
 ghost use Rattle.adapter_table.specs.Ticks.{has_expired};
+ghost use Rattle.conn_slab.specs.Connections.{is_listening};
+ghost use Rattle.owner_counts.specs.Counts.{AreCounted};
 
 use adapter_table::{
-    Row, drives, has_expired, is_due, is_established, is_member, is_timed_out, produces_on_change,
-    supports,
+    Row, has_expired, is_due, is_established, is_member, is_timed_out, produces_on_change,
 };
 use cip_productions::Kind;
 use cip_types::Ms;
 use conn_slab::{Connections, Rows};
+use owner_counts::Rules;
 
 /// Whether some connection is established.
 pub fn is_any_established(rows: Rows<'_>) -> bool
@@ -20,30 +23,6 @@ pub fn is_any_established(rows: Rows<'_>) -> bool
 {
     for row in rows {
         if is_established(&row) {
-            return true;
-        }
-    }
-    false
-}
-
-/// Whether an established connection owns the output.
-pub fn is_any_driving(rows: Rows<'_>, point: u32) -> bool
-    ensures { result ≡ list_any (drives point) rows.entry }
-{
-    for row in rows {
-        if drives(&row, point) {
-            return true;
-        }
-    }
-    false
-}
-
-/// Whether one supports a connection of the kind on the input.
-pub fn is_any_supporting(rows: Rows<'_>, kind: Kind, point: u32) -> bool
-    ensures { result ≡ is_supported rows.entry kind point }
-{
-    for row in rows {
-        if supports(&row, kind, point) {
             return true;
         }
     }
@@ -111,21 +90,27 @@ pub fn first_expired(rows: Rows<'_>, clock: Ms) -> Option<Row>
     None
 }
 
-/// Whether a connection is an established listen-only one without support.
-fn is_unsupported(connections: &Connections, row: &Row) -> bool
-    ensures { result ≡ is_unsupported connections.now row.now }
+/// Whether a connection is an established listen-only one.
+fn is_listening(row: &Row) -> bool
+    ensures { result ≡ is_listening row.now }
 {
-    is_established(row)
-        && row.kind == Kind::ListenOnly
-        && !is_any_supporting(connections.rows(), row.kind, row.produced)
+    is_established(row) && row.kind == Kind::ListenOnly
+}
+
+/// Whether a connection is an established listen-only one without support, among those that are counted.
+fn is_unsupported(rules: &Rules, row: &Row) -> bool
+    ensures { (rows : List Row) → AreCounted rules.now rows → result ≡ is_unsupported rows row.now }
+{
+    is_listening(row) && rules.supporters(row.produced) == 0
 }
 
 /// The first listen-only connection without support.
-pub fn first_unsupported(connections: &Connections) -> Option<Row>
+pub fn first_unsupported(connections: &Connections, rules: &Rules) -> Option<Row>
+    requires { AreCounted rules.now connections.now }
     ensures { result ≡ find (is_unsupported connections.now) connections.now }
 {
     for row in connections.rows() {
-        if is_unsupported(connections, &row) {
+        if is_unsupported(rules, &row) {
             return Some(row);
         }
     }

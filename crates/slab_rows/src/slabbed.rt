@@ -1,30 +1,35 @@
 //! The table.
 
+ghost use Rattle.std.specs.Prelude.{◌≡◌, ◌∷◌, [], IfOk};
+ghost use Rattle.cip_events.specs.declared.event.Notice.{Notice};
+ghost use Rattle.conn_slab.specs.Bounds.{Rests, AllRest};
+
+use crate::counting::{close, counted, open};
 use crate::fading::{drop_unsupported, expire};
 use crate::filling::{filled, replaced};
 use crate::questions::{
-    first_expired, first_member, first_timed_out, is_any_driving, is_any_due, is_any_established,
-    is_any_on_change, is_any_supporting,
+    first_expired, first_member, first_timed_out, is_any_due, is_any_established, is_any_on_change,
 };
-use adapter_table::{MOST_ROWS, Profile, Row};
+use adapter_table::{MOST_ROWS, Profile, Row, State};
 use app_rules::Connections;
 use assembly_set::AssemblySet;
 use cip_datagram::Datagram;
 use cip_events::{Notice, Sending};
-use cip_productions::Kind;
 use cip_types::{Ms, Node, OutOfMemory, Triad};
-use connection_rows::{closed_notices, others, sent_on_change, written_rows};
+use connection_rows::{sent_on_change, told_of_close, written_rows};
 use connection_table::{ConnectionTable, Received};
+use owner_counts::Rules;
 use std::alloc::Global;
 use std::marker::Model;
 use swift_sendings::swift_sendings;
 
-/// Connections in a slab, and bounds on their times.
+/// Connections in a slab, running counts of their owners and supporters, and bounds on their times.
 ///
 /// A datagram finds its connection by peer and O->T id, and a tick at which nothing happens compares two times.
 #[derive(Drop)]
 pub struct SlabRows {
     connections: conn_slab::Connections,
+    rules: Rules,
     /// No watchdog runs out before this.
     lasting: u64,
     /// No producer is due before this.
@@ -34,13 +39,43 @@ pub struct SlabRows {
 impl Model for SlabRows {
     ghost use Rattle.std.specs.Prelude.{List};
     ghost use Rattle.adapter_table.specs.declared.row.Row.{Row};
-    ghost use Rattle.slab_rows.specs.Layout.{IsBounded};
+    ghost use Rattle.slab_rows.specs.Layout.{AreKept};
 
     ghost Value = { List Row };
 
     ghost view = { λ t. t.connections };
 
-    ghost invariant = { λ t. IsBounded t.connections t.lasting t.resting };
+    ghost invariant = { λ t. AreKept t.connections t.rules t.lasting t.resting };
+}
+
+/// When the producer of a connection is due; that of one that has timed out never is.
+fn due_of(row: &Row) -> u64
+    ensures { Rests result row.now }
+{
+    match row.state {
+        State::Established(production) => production.due.0,
+        State::TimedOut => u64::MAX,
+    }
+}
+
+/// A time before which no producer is due: the known one, until it has come.
+fn rest_until(connections: &conn_slab::Connections, clock: Ms, resting: u64) -> u64
+    requires { AllRest resting connections.now }
+    ensures { AllRest result connections.now }
+{
+    if clock.0 < resting {
+        return resting;
+    }
+    connections.first_due()
+}
+
+/// That the connection of a triad is closed, and no other one is lost.
+fn told_alone(alloc: Global, triad: Triad) -> Result<Vec<Notice>, OutOfMemory>
+    ensures { IfOk result (λ notices. notices.items ≡ Notice.Closed triad ∷ []) }
+{
+    let mut notices = Vec::new(alloc);
+    notices.push(Notice::Closed(triad))?;
+    Ok(notices)
 }
 
 impl Connections for SlabRows {
@@ -55,7 +90,7 @@ impl Connections for SlabRows {
     }
 
     fn is_driven(&self, point: u32) -> bool {
-        is_any_driving(self.connections.rows(), point)
+        self.rules.owners(point) != 0
     }
 
     fn group_of(&self, point: u32) -> Option<Row> {
@@ -63,7 +98,7 @@ impl Connections for SlabRows {
     }
 
     fn is_supported(&self, point: u32) -> bool {
-        is_any_supporting(self.connections.rows(), Kind::ListenOnly, point)
+        self.rules.supporters(point) != 0
     }
 
     fn is_full(&self) -> bool {
@@ -79,6 +114,7 @@ impl ConnectionTable for SlabRows {
     fn new(alloc: Global) -> Result<Self, OutOfMemory> {
         Ok(SlabRows {
             connections: conn_slab::Connections::new(alloc)?,
+            rules: Rules::new(alloc)?,
             lasting: u64::MAX,
             resting: u64::MAX,
         })
@@ -86,10 +122,12 @@ impl ConnectionTable for SlabRows {
 
     fn holding(alloc: Global, rows: &[Row]) -> Result<Self, OutOfMemory> {
         let connections = filled(alloc, rows)?;
+        let rules = counted(alloc, rows)?;
         let lasting = connections.first_end();
         let resting = connections.first_due();
         Ok(SlabRows {
             connections,
+            rules,
             lasting,
             resting,
         })
@@ -109,22 +147,23 @@ impl ConnectionTable for SlabRows {
 
     fn open(&mut self, row: Row) -> Result<(), OutOfMemory> {
         let gone = replaced(&self.connections, row.triad);
-        self.connections.open(gone, row)?;
+        open(&mut self.connections, &mut self.rules, gone, row)?;
         self.lasting = self.lasting.min(row.deadline.0);
-        self.resting = self.connections.first_due();
+        self.resting = self.resting.min(due_of(&row));
         Ok(())
     }
 
     fn closed_notices(&self, alloc: Global, triad: Triad) -> Result<Vec<Notice>, OutOfMemory> {
+        if !self.connections.has_listeners() {
+            return told_alone(alloc, triad);
+        }
         let rows = self.connections.to_vec(alloc)?;
-        let left = others(alloc, &rows, triad)?;
-        closed_notices(alloc, &left, triad)
+        told_of_close(alloc, &rows, triad)
     }
 
     fn close(&mut self, triad: Triad) {
-        self.connections.close(triad);
-        drop_unsupported(&mut self.connections);
-        self.resting = self.connections.first_due();
+        close(&mut self.connections, &mut self.rules, triad);
+        drop_unsupported(&mut self.connections, &mut self.rules);
     }
 
     fn receive(
@@ -143,6 +182,7 @@ impl ConnectionTable for SlabRows {
     }
 
     fn has_expired(&mut self, clock: Ms) -> bool {
+        self.resting = rest_until(&self.connections, clock, self.resting);
         if clock.0 < self.lasting {
             return false;
         }
@@ -173,8 +213,8 @@ impl ConnectionTable for SlabRows {
     }
 
     fn elapse(&mut self, clock: Ms) {
-        expire(&mut self.connections, clock);
-        drop_unsupported(&mut self.connections);
+        expire(&mut self.connections, &mut self.rules, clock);
+        drop_unsupported(&mut self.connections, &mut self.rules);
         self.connections.produce(clock);
         self.lasting = self.connections.first_end();
         self.resting = self.connections.first_due();

@@ -1,6 +1,4 @@
-use Rattle.std.proofs.Common.{◌++◌, ◌∷◌, [], List, sym, subst, arith}
-use Rattle.adapter_table.specs.declared.row.Row.{Row}
-use Rattle.conn_slab.specs.Connections.{AreConnections}
+use Rattle.std.proofs.Common.{arith}
 use Rattle.slab_rows.proofs.Prefixes.{first_ones}
 use Rattle.slab_rows.proofs.filling.filled.Goals as goal
 

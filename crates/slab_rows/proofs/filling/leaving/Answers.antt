@@ -1,4 +1,4 @@
-use Rattle.std.proofs.Common.{◌≡◌, ◌≤◌, ◌<◌, None, find, length, sym, ap, ◌∙◌, arith, rules}
+use Rattle.std.proofs.Common.{◌≡◌, ◌≤◌, ◌<◌, None, find, sym, ap, ◌∙◌, arith, rules}
 use Rattle.adapter_table.specs.Rows.{is_timed_out}
 use Rattle.slab_rows.proofs.Room.{leaves_known, leaves_room, leaves_none, leaves_first}
 use Rattle.slab_rows.proofs.filling.leaving.Goals as goal

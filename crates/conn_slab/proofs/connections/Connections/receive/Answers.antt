@@ -1,15 +1,13 @@
-use Rattle.std.proofs.Common.{◌≡◌, ◌∙◌, ℕ, Some, None, List, find, sym, ap}
+use Rattle.std.proofs.Common.{◌≡◌, ◌∙◌, Some, None, find, sym, ap}
 use Rattle.std.specs.Option.{option_map}
 use Rattle.std.specs.Map.{lookup}
 use Rattle.cip_datagram.specs.Datagram.{view_datagram}
-use Rattle.adapter_table.specs.declared.row.Row.{Row}
 use Rattle.adapter_table.specs.Datagrams.{is_for}
-use Rattle.adapter_table.specs.Whole.{FitsRow, RowsFit}
+use Rattle.adapter_table.specs.Whole.{FitsRow}
 use Rattle.conn_slab.specs.declared.hearing.Heard.{Heard}
-use Rattle.conn_slab.specs.Index.{items_of}
 use Rattle.conn_slab.specs.Records.{row_of, same_place}
-use Rattle.conn_slab.specs.Layout.{IsTied, running_key}
-use Rattle.conn_slab.specs.Hearing.{heard_by, hearing, heard_record}
+use Rattle.conn_slab.specs.Layout.{running_key}
+use Rattle.conn_slab.specs.Hearing.{heard_by, hearing}
 use Rattle.conn_slab.proofs.Hears.{found_fits, told_is, unheard, heard_found, heard_kept, heard_rows}
 use Rattle.conn_slab.proofs.connections.Connections.receive.Goals as goal
 

@@ -3,9 +3,9 @@ use Rattle.cip_productions.specs.declared.kind.Kind.TheVariants.{ListenOnly}
 use Rattle.adapter_table.specs.declared.row.Row.{Row}
 use Rattle.adapter_table.specs.Rows.{drives, supports}
 use Rattle.owner_counts.specs.declared.counts.Count.{Count}
-use Rattle.owner_counts.specs.Counts.{Counts, number_at, total, AreCounted}
+use Rattle.owner_counts.specs.Counts.{Counts, number_at, total, is_driver, is_supporter, AreCounted}
 use Rattle.owner_counts.proofs.Counting.{one_at, length_few}
-use Rattle.owner_counts.proofs.Counted.{drives_at, supports_at, counts_in_more, total_in_more, filter_more}
+use Rattle.owner_counts.proofs.Counted.{drives_at, supports_at, counts_in_more, total_in_more, filter_more, all_filtered_more}
 use Rattle.owner_counts.proofs.rules.Rules.joined.Goals as goal
 
 pub count_in_if-requires-clause-room : goal.count_in_if-requires-clause-room
@@ -54,4 +54,6 @@ returns c = λ rows counted.
           ap (λ (l : List Count). number_at point l) c.count_in_if-2.ensures.counts
           ∙ filter_more c.is_supporter.result (supports ListenOnly) row.produced row own.supporters.items
           (λ p. supports_at row p ∙ ap (λ (b : Bool). if b then one_at row.produced p else 0) (sym c.is_supporter.ensures)) rows was.supporters point;
+      all_owners = ap total c.count_in_if.ensures.counts ∙ all_filtered_more c.is_driver.result is_driver row.consumed row own.owners.items c.is_driver.ensures rows was.all_owners;
+      all_supporters = ap total c.count_in_if-2.ensures.counts ∙ all_filtered_more c.is_supporter.result is_supporter row.produced row own.supporters.items c.is_supporter.ensures rows was.all_supporters;
     }

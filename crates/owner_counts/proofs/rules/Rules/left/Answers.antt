@@ -3,9 +3,9 @@ use Rattle.cip_productions.specs.declared.kind.Kind.TheVariants.{ListenOnly}
 use Rattle.adapter_table.specs.declared.row.Row.{Row}
 use Rattle.adapter_table.specs.Rows.{drives, supports}
 use Rattle.owner_counts.specs.declared.counts.Count.{Count}
-use Rattle.owner_counts.specs.Counts.{Counts, number_at, total, AreCounted}
+use Rattle.owner_counts.specs.Counts.{Counts, number_at, total, is_driver, is_supporter, AreCounted}
 use Rattle.owner_counts.proofs.Counting.{one_at}
-use Rattle.owner_counts.proofs.Counted.{drives_at, supports_at, counts_in_less, total_in_less, filter_less}
+use Rattle.owner_counts.proofs.Counted.{drives_at, supports_at, counts_in_less, total_in_less, filter_less, all_filtered_less}
 use Rattle.owner_counts.proofs.rules.Rules.left.Goals as goal
 
 pub invariant_of-self : goal.invariant_of-self
@@ -44,4 +44,6 @@ returns c = λ front back counted.
           ap (λ (l : List Count). number_at point l) c.count_out_if-2.ensures.counts
           ∙ filter_less c.is_supporter.result (supports ListenOnly) row.produced row own.supporters.items
           (λ p. supports_at row p ∙ ap (λ (b : Bool). if b then one_at row.produced p else 0) (sym c.is_supporter.ensures)) c.self.invariant.supporters supporter front back was.supporters point;
+      all_owners = ap total c.count_out_if.ensures.counts ∙ all_filtered_less c.is_driver.result is_driver row.consumed row own.owners.items c.is_driver.ensures c.self.invariant.owners owner front back was.all_owners;
+      all_supporters = ap total c.count_out_if-2.ensures.counts ∙ all_filtered_less c.is_supporter.result is_supporter row.produced row own.supporters.items c.is_supporter.ensures c.self.invariant.supporters supporter front back was.all_supporters;
     }

@@ -3,23 +3,36 @@ use Rattle.adapter_table.specs.Rows.{has_triad}
 use Rattle.adapter_table.specs.Sound.{TriadsDiffer}
 use Rattle.adapter_table.specs.declared.row.Row.{Row}
 use Rattle.adapter_table.specs.Closing.{stays, staying, without_triad}
-use Rattle.conn_slab.specs.Bounds.{first_end}
+use Rattle.conn_slab.specs.Bounds.{first_end, AllRest}
 use Rattle.slab_rows.proofs.Lone.{differ_filtered}
-use Rattle.slab_rows.proofs.Times.{ends_left}
+use Rattle.slab_rows.proofs.Times.{ends_left, rests_left}
 use Rattle.slab_rows.proofs.Whole.{whole_triads}
 use Rattle.slab_rows.proofs.slabbed.SlabRowsConnectionTable.close.Goals as goal
+
+pub close-requires : goal.close-requires
+close-requires c = record {
+  counted = c.self.invariant.counted;
+  differ = rw c.self.view_is (whole_triads c.args.self.now c.requires.whole);
+}
 
 pub drop_unsupported-requires : goal.drop_unsupported-requires
 drop_unsupported-requires c =
     let differ : TriadsDiffer c.self.inside.connections = rw c.self.view_is (whole_triads c.args.self.now c.requires.whole) in
-    subst TriadsDiffer (sym c.close.ensures.rest) (differ_filtered (λ row. not (has_triad c.args.triad row)) c.self.inside.connections differ)
+    record {
+      counted = c.close.ensures.counted;
+      differ = subst TriadsDiffer (sym c.close.ensures.rows) (differ_filtered (λ row. not (has_triad c.args.triad row)) c.self.inside.connections differ);
+    }
 
 pub invariant_of-self : goal.invariant_of-self
 invariant_of-self c =
     let own = c.self.inside in
     let left = without_triad c.args.triad own.connections in
     record {
-      last = subst (λ (rows : List Row). own.lasting ≤ first_end rows) (sym (c.drop_unsupported.ensures ∙ ap staying c.close.ensures.rest))
-          (ends_left own.lasting (stays left) left (ends_left own.lasting (λ row. not (has_triad c.args.triad row)) own.connections c.self.invariant.last));
-      rest = c.first_due-self-inside.ensures;
+      bounded = record {
+        last = subst (λ (rows : List Row). own.lasting ≤ first_end rows) (sym (c.drop_unsupported.ensures.rows ∙ ap staying c.close.ensures.rows))
+            (ends_left own.lasting (stays left) left (ends_left own.lasting (λ row. not (has_triad c.args.triad row)) own.connections c.self.invariant.bounded.last));
+        rest = subst (AllRest own.resting) (sym (c.drop_unsupported.ensures.rows ∙ ap staying c.close.ensures.rows))
+            (rests_left own.resting (stays left) left (rests_left own.resting (λ row. not (has_triad c.args.triad row)) own.connections c.self.invariant.bounded.rest));
+      };
+      counted = c.drop_unsupported.ensures.counted;
     }

@@ -1,12 +1,30 @@
 use Rattle.std.proofs.Common.{sym, subst}
 use Rattle.adapter_table.specs.Sound.{TriadsDiffer}
 use Rattle.adapter_table.specs.Ticks.{expired_row}
+use Rattle.owner_counts.specs.Counts.{AreCounted}
+use Rattle.slab_rows.proofs.Counted.{produced_counted}
 use Rattle.slab_rows.proofs.Lone.{differ_mapped}
 use Rattle.slab_rows.proofs.Expiring.{keeps_expired}
+use Rattle.slab_rows.proofs.Times.{same_end}
 use Rattle.slab_rows.proofs.Whole.{whole_triads}
 use Rattle.slab_rows.proofs.slabbed.SlabRowsConnectionTable.elapse.Goals as goal
+
+pub expire-requires : goal.expire-requires
+expire-requires c = record {
+  counted = c.self.invariant.counted;
+  differ = rw c.self.view_is (whole_triads c.args.self.now c.requires.whole);
+}
 
 pub drop_unsupported-requires : goal.drop_unsupported-requires
 drop_unsupported-requires c =
     let differ : TriadsDiffer c.self.inside.connections = rw c.self.view_is (whole_triads c.args.self.now c.requires.whole) in
-    subst TriadsDiffer (sym c.expire.ensures) (differ_mapped (expired_row c.args.clock) (keeps_expired c.args.clock) c.self.inside.connections differ)
+    record {
+      counted = c.expire.ensures.counted;
+      differ = subst TriadsDiffer (sym c.expire.ensures.rows) (differ_mapped (expired_row c.args.clock) (keeps_expired c.args.clock) c.self.inside.connections differ);
+    }
+
+pub invariant_of-self : goal.invariant_of-self
+invariant_of-self c = record {
+  bounded = record { last = same_end c.first_end-self-inside.ensures; rest = c.first_due-self-inside.ensures };
+  counted = subst (AreCounted c.drop_unsupported.new.rules) (sym c.produce.ensures) (produced_counted c.args.clock c.drop_unsupported.new.rules c.drop_unsupported.new.connections c.drop_unsupported.ensures.counted);
+}

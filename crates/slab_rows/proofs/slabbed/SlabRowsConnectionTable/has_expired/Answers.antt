@@ -9,7 +9,7 @@ use Rattle.slab_rows.proofs.slabbed.SlabRowsConnectionTable.has_expired.Goals as
 pub returns-then-clock-self-clause-expired : goal.returns-then-clock-self-clause-expired
 returns-then-clock-self-clause-expired c =
     let early : c.args.clock.0 < c.self.inside.lasting = search rules in
-    rw (← c.self.view_is) (sym (none_ends c.self.inside.lasting c.args.clock c.self.inside.connections early c.self.invariant.last))
+    rw (← c.self.view_is) (sym (none_ends c.self.inside.lasting c.args.clock c.self.inside.connections early c.self.invariant.bounded.last))
 
 pub returns-clause-expired : goal.returns-clause-expired
 returns-clause-expired c =

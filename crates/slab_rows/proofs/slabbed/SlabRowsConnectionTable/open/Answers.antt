@@ -3,14 +3,20 @@ use Rattle.adapter_table.specs.declared.row.Row.{Row}
 use Rattle.adapter_table.specs.Rows.{others}
 use Rattle.adapter_table.specs.Opening.{makes_room}
 use Rattle.conn_slab.specs.Connections.{AreConnections, without}
-use Rattle.conn_slab.specs.Bounds.{first_end}
+use Rattle.conn_slab.specs.Bounds.{first_end, AllRest}
 use Rattle.slab_rows.proofs.Room.{goes_by_triad}
-use Rattle.slab_rows.proofs.Times.{ends_opened}
+use Rattle.slab_rows.proofs.Times.{ends_opened, rests_opened}
 use Rattle.slab_rows.proofs.Whole.{whole_connections, whole_triads, whole_rise}
 use Rattle.slab_rows.proofs.slabbed.SlabRowsConnectionTable.open.Goals as goal
 
-pub open-requires : goal.open-requires
-open-requires c =
+pub open-requires-clause-counted : goal.open-requires-clause-counted
+open-requires-clause-counted c = c.self.invariant.counted
+
+pub open-requires-clause-differ : goal.open-requires-clause-differ
+open-requires-clause-differ c = rw c.self.view_is (whole_triads c.args.self.now c.requires.whole)
+
+pub open-requires-clause-next : goal.open-requires-clause-next
+open-requires-clause-next c =
     let rows = c.args.self.now in
     let goes = goes_by_triad c.args.row.triad rows (whole_rise rows c.requires.whole) (whole_triads rows c.requires.whole) in
     rw (c.replaced-gone.ensures, c.self.view_is)
@@ -27,8 +33,12 @@ pub invariant_of-self-2 : goal.invariant_of-self-2
 invariant_of-self-2 c =
     let own = c.self.inside in
     let low = c.min-self-inside.result in
-    let was = c.self.invariant.last in
+    let was = c.self.invariant.bounded.last in
+    let rest = c.min-self-inside-2.result in
     record {
-      last = subst (λ (rows : List Row). low ≤ first_end rows) (sym c.in_ok-open.ensures.rows) (ends_opened low c.replaced-gone.result own.connections c.args.row (omega arith) (omega arith));
-      rest = c.first_due-self-inside.ensures;
+      bounded = record {
+        last = subst (λ (rows : List Row). low ≤ first_end rows) (sym c.in_ok-open.ensures.rows) (ends_opened low c.replaced-gone.result own.connections c.args.row (omega arith) (omega arith));
+        rest = subst (AllRest rest) (sym c.in_ok-open.ensures.rows) (rests_opened rest own.resting c.due_of.result c.replaced-gone.result own.connections c.args.row (omega arith) (omega arith) c.due_of.ensures c.self.invariant.bounded.rest);
+      };
+      counted = c.open.ensures.counted;
     }

@@ -1,6 +1,8 @@
 use Rattle.std.proofs.Common.{◌≤◌, ℕ, List, sym, subst}
 use Rattle.adapter_table.specs.declared.row.Row.{Row}
 use Rattle.conn_slab.specs.Bounds.{first_end}
+use Rattle.owner_counts.specs.Counts.{AreCounted}
+use Rattle.slab_rows.proofs.Counted.{produced_counted}
 use Rattle.slab_rows.proofs.Times.{produced_ends}
 use Rattle.slab_rows.proofs.slabbed.SlabRowsConnectionTable.produce.Goals as goal
 
@@ -8,6 +10,9 @@ pub invariant_of-self : goal.invariant_of-self
 invariant_of-self c =
     let own = c.self.inside in
     record {
-      last = subst (λ (rows : List Row). own.lasting ≤ first_end rows) (sym c.produce.ensures) (subst (λ (n : ℕ). own.lasting ≤ n) (sym (produced_ends c.args.clock own.connections)) c.self.invariant.last);
-      rest = c.first_due-self-inside.ensures;
+      bounded = record {
+        last = subst (λ (rows : List Row). own.lasting ≤ first_end rows) (sym c.produce.ensures) (subst (λ (n : ℕ). own.lasting ≤ n) (sym (produced_ends c.args.clock own.connections)) c.self.invariant.bounded.last);
+        rest = c.first_due-self-inside.ensures;
+      };
+      counted = subst (AreCounted own.rules) (sym c.produce.ensures) (produced_counted c.args.clock own.rules own.connections c.self.invariant.counted);
     }

@@ -3,6 +3,8 @@ use Rattle.cip_datagram.specs.Datagram.{view_datagram}
 use Rattle.adapter_table.specs.declared.row.Row.{Row}
 use Rattle.adapter_table.specs.Sound.{IdsDiffer}
 use Rattle.conn_slab.specs.Bounds.{first_end, AllRest}
+use Rattle.owner_counts.specs.Counts.{AreCounted}
+use Rattle.slab_rows.proofs.Counted.{heard_counted}
 use Rattle.slab_rows.proofs.Times.{ends_heard, rests_heard}
 use Rattle.slab_rows.proofs.Whole.{whole_ids}
 use Rattle.slab_rows.proofs.slabbed.SlabRowsConnectionTable.receive.Goals as goal
@@ -14,7 +16,10 @@ invariant_of-self-2 c =
     let low = c.min-self-inside.result in
     let differ : IdsDiffer own.connections = rw c.self.view_is (whole_ids c.args.self.now c.requires.whole) in
     record {
-      last = subst (λ (rows : List Row). low ≤ first_end rows) (sym c.receive.ensures.rows)
-          (ends_heard c.args.profile.now c.args.clock c.args.peer d low own.lasting own.connections c.in_ok-heard.heard differ (sym c.in_ok-heard.was ∙ c.receive.ensures.heard) (omega arith) (omega arith) c.self.invariant.last);
-      rest = subst (AllRest own.resting) (sym c.receive.ensures.rows) (rests_heard c.args.profile.now c.args.clock c.args.peer d own.resting own.connections c.self.invariant.rest);
+      bounded = record {
+        last = subst (λ (rows : List Row). low ≤ first_end rows) (sym c.receive.ensures.rows)
+            (ends_heard c.args.profile.now c.args.clock c.args.peer d low own.lasting own.connections c.in_ok-heard.heard differ (sym c.in_ok-heard.was ∙ c.receive.ensures.heard) (omega arith) (omega arith) c.self.invariant.bounded.last);
+        rest = subst (AllRest own.resting) (sym c.receive.ensures.rows) (rests_heard c.args.profile.now c.args.clock c.args.peer d own.resting own.connections c.self.invariant.bounded.rest);
+      };
+      counted = subst (AreCounted own.rules) (sym c.receive.ensures.rows) (heard_counted c.args.profile.now c.args.clock c.args.peer d own.rules own.connections c.self.invariant.counted);
     }

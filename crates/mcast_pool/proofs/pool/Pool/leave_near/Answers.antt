@@ -3,11 +3,11 @@ use Rattle.std.specs.List.{position}
 use Rattle.mcast_pool.specs.Groups.{has_number}
 use Rattle.mcast_pool.proofs.Places.{is_placed}
 use Rattle.mcast_pool.proofs.Keeping.{pool_left}
-use Rattle.mcast_pool.proofs.pool.Pool.leave.Goals as goal
+use Rattle.mcast_pool.proofs.pool.Pool.leave_near.Goals as goal
 
 pub unwrap-at-requires : goal.unwrap-at-requires
 unwrap-at-requires c =
-    is_placed (has_number c.args.number) c.self.inside.groups.items c.place_of.result (c.place_of.ensures ∙ ap (position (has_number c.args.number)) c.deref.ensures.value) (rw (← c.self.view_is) at c.requires)
+    is_placed (has_number c.args.number) c.self.inside.groups.items c.place_near.result (c.place_near.ensures ∙ ap (position (has_number c.args.number)) c.deref.ensures.value) (rw (← c.self.view_is) at c.requires)
 
 pub invariant_of-self : goal.invariant_of-self
 invariant_of-self c =

@@ -1,0 +1,15 @@
+use Rattle.std.proofs.Common.{◌≡◌, ◌∷◌, map, false, List, sym, ap, subst, ◌∙◌, rules}
+use Rattle.std.specs.Prelude.{IfOk}
+use Rattle.std.specs.List.{list_any}
+use Rattle.cip_events.specs.declared.event.Notice.TheVariants.{Closed}
+use Rattle.adapter_table.specs.declared.row.Row.{Row}
+use Rattle.adapter_table.specs.Closing.{without_triad, unsupported, dropped_notice}
+use Rattle.conn_slab.specs.Connections.{is_listening}
+use Rattle.slab_rows.proofs.Dropping.{none_lost}
+use Rattle.slab_rows.proofs.slabbed.SlabRowsConnectionTable.closed_notices.Goals as goal
+
+pub returns-then-not-has_listeners : goal.returns-then-not-has_listeners
+returns-then-not-has_listeners c =
+    let none : list_any is_listening c.self.inside.connections ≡ false = search rules in
+    let lost = ap (λ (rows : List Row). unsupported (without_triad c.args.triad rows)) (sym c.self.view_is) ∙ none_lost c.args.triad c.self.inside.connections none in
+    subst (λ (l : List Row). IfOk c.told_alone.result (λ notices. notices.items ≡ Closed c.args.triad ∷ map dropped_notice l)) (sym lost) c.told_alone.ensures
