@@ -6,6 +6,7 @@ use Rattle.cip_types.specs.declared.names.Node.{Node}
 use Rattle.cip_types.specs.Order.{unless}
 use Rattle.cip_events.specs.declared.event.Sending.{Sending}
 use Rattle.cip_productions.specs.declared.production.Producer.{Producer}
+use Rattle.cip_productions.specs.declared.production.Production.{Production}
 use Rattle.cip_productions.specs.Productions.{by_due, sent, produced_by}
 use Rattle.adapter_table.specs.declared.row.Row.{Row}
 use Rattle.adapter_table.specs.declared.table.PointValue.{PointValue}
@@ -36,6 +37,10 @@ sent_turn values turn = sent (produced_by turn.nodes (input_of values turn.produ
 -- the producer of a connection, if it is due
 abbrev pub due_producer : Ms → Row → Option Producer
 due_producer clock row = if is_due clock row then producer_in row else None
+
+-- the producer of a connection with this production
+abbrev pub producer_by : Row → Production → Producer
+producer_by row production = record { point = row.produced; id = row.t_o_id; production = production }
 
 abbrev pub is_turn_of : ℕ → Turn → Bool
 is_turn_of number turn = turn.producer.production.producer == number
