@@ -1,2 +1,4 @@
 pub mod Groups
+pub mod Joining
 pub mod Rounds
+pub mod Keyed

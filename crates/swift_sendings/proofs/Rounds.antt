@@ -1,297 +1,198 @@
--- A round over the connections that gives each producer that is due its turn.
-use Rattle.std.proofs.Common.{◌≡◌, ◌<◌, ℕ, zero, suc, ◌+◌, Bool, true, false, cond, ◌&&◌, ◌||◌, ◌==◌, List, [], ◌∷◌, ◌++◌, length, map, filter, take, drop, get_or, unwrap_or, Option, Some, None, refl, sym, ◌∙◌, ap, subst, arith}
+-- A round over the connections that gives each producer that is due its turn, and what the turns send.
+use Rattle.std.proofs.Common.{◌≡◌, ◌≤◌, ◌<◌, ℕ, ◌+◌, Bool, true, false, cond, ◌||◌, ◌==◌, List, [], ◌∷◌, ◌++◌, length, map, filter, take, get_or, Option, Some, None, refl, sym, ◌∙◌, ap, arith}
 use Rattle.std.specs.List.{list_any, filter_map}
 use Rattle.std.proofs.lemmas.Bool.Decides.{nat_tests}
-use Rattle.std.proofs.lemmas.Grind.{common_steps}
-use Rattle.std.specs.Option.{option_map, is_some}
-use Rattle.std.specs.Prelude.{nat_lt}
-use Rattle.std.proofs.lemmas.List.{drop_more, length-drop}
+use Rattle.std.proofs.lemmas.List.{append-nil, take_more, take_all}
 use Rattle.std.proofs.lemmas.List.Elements.{filter-append, filter_map-append}
 use Rattle.cip_types.specs.declared.names.Ms.{Ms}
 use Rattle.cip_types.specs.declared.names.Node.{Node}
-use Rattle.cip_types.specs.Firsts.{first_more}
-use Rattle.cip_types.specs.Order.{in_order, inserted, differs, first_of_each, unless}
+use Rattle.cip_types.specs.Firsts.{IsTransitive, first_more}
+use Rattle.cip_types.specs.Order.{first_of_each, in_order, inserted, unless}
+use Rattle.cip_events.specs.declared.event.Sending.{Sending}
 use Rattle.cip_productions.specs.declared.production.Producer.{Producer}
-use Rattle.cip_productions.specs.Productions.{same_producer, by_due, sent}
+use Rattle.cip_productions.specs.Productions.{same_producer, sent, by_due, is_production_due}
 use Rattle.adapter_table.specs.declared.row.Row.{Row}
 use Rattle.adapter_table.specs.declared.row.State.{State}
 use Rattle.adapter_table.specs.declared.row.State.TheVariants.{Established, TimedOut}
-use Rattle.cip_events.specs.declared.event.Sending.{Sending}
 use Rattle.adapter_table.specs.declared.table.PointValue.{PointValue}
-use Rattle.adapter_table.specs.Productions.{due_production, state_producer, producer_in, producers, is_produced_by, has_number, is_due, consumers}
+use Rattle.adapter_table.specs.Productions.{due_production, state_producer, state_is_due, producer_in, producers, is_produced_by, is_due}
 use Rattle.adapter_table.specs.Sound.{GroupsAloneShare}
 use Rattle.swift_sendings.specs.declared.turns.Turn.{Turn}
-use Rattle.swift_sendings.specs.Turns.{due_producer, lone_peer, turn_producer, has_turn, turn_by, next_turn, comes_before, turn_before, ConsumedBy, AllConsumed}
-use Rattle.swift_sendings.proofs.Groups.{producers_transitive, one_more, other_before, consumer_alone, Produces, produced_at}
+use Rattle.swift_sendings.specs.Turns.{Seen, seen, turn_of, turn_producer, sent_turn, has_number, due_producer, NumbersDiffer, one_turn, joined_by, with_peer, turns_by, next_turns, turn_before}
+use Rattle.swift_sendings.proofs.Groups.{numbered, swapped, or_right, is_number, any_producers, firsts_differ, consumers_due, alone_before}
+use Rattle.swift_sendings.proofs.Joining.{IsMadeBy, all_joined, first_turn, none_joined, any_turn, numbers_differ}
 
--- ---- the producer of one connection
+-- ---- one connection
 
-numbered : (a : ℕ) → (a == a) ≡ true
-numbered a = grind (arith, nat_tests)
+-- a connection whose producer is due: it is one of those that are, and all of its producer's
+pub record IsDueWith (clock : Ms) (row : Row) (producer : Producer) : Type 0 where
+  pub due : is_due clock row ≡ true
+  pub made : producer_in row ≡ Some producer
+  pub by : IsMadeBy producer.production.producer row
 
-state_made : (row : Row) (state : State) (producer : Producer) → state_producer row state ≡ Some producer → has_number producer.production.producer state ≡ true
-state_made row (Established production) producer is =
-    let same : production ≡ producer.production = ap (λ (o : Option Producer). production_in o) is in
-    ap (λ p. p.producer == producer.production.producer) same ∙ numbered producer.production.producer where
+state_by : (row : Row) (state : State) (producer : Producer) → row.state ≡ state → state_producer row state ≡ Some producer → IsMadeBy producer.production.producer row
+state_by row (Established production) producer is made =
+    let same : production ≡ producer.production = ap (λ (o : Option Producer). production_in o) made in
+    λ n. ap (λ (s : State). made_by n s) is ∙ ap (λ p. p.producer == n) same ∙ swapped producer.production.producer n where
       production_in : Option Producer → Rattle.cip_productions.specs.declared.production.Production.Production
       production_in None = production
       production_in (Some p) = p.production
-state_made row TimedOut producer is = absurd cc
 
-due_step : (b : Bool) (row : Row) (producer : Producer) → cond b (producer_in row) None ≡ Some producer → is_produced_by producer.production.producer row ≡ true
-due_step true row producer is = state_made row row.state producer is
-due_step false row producer is = absurd cc
+      made_by : ℕ → State → Bool
+      made_by n s = Rattle.adapter_table.specs.Productions.has_number n s
+state_by row TimedOut producer is made = absurd cc
 
-pub due_is_produced : (clock : Ms) (row : Row) (producer : Producer) → due_producer clock row ≡ Some producer → is_produced_by producer.production.producer row ≡ true
-due_is_produced clock row producer is = due_step (is_due clock row) row producer is
+due_step : (b : Bool) (clock : Ms) (row : Row) (producer : Producer) → is_due clock row ≡ b → cond b (producer_in row) None ≡ Some producer → IsDueWith clock row producer
+due_step true clock row producer due made = record { due = due; made = made; by = state_by row row.state producer refl made }
+due_step false clock row producer due made = absurd cc
 
--- ---- lists of producers
+due_with : (clock : Ms) (row : Row) (producer : Producer) → due_producer clock row ≡ Some producer → IsDueWith clock row producer
+due_with clock row producer is = due_step (is_due clock row) clock row producer refl is
 
-abbrev pub option_list : Option Producer → List Producer
-option_list None = []
-option_list (Some producer) = producer ∷ []
+not_due : (clock : Ms) (row : Row) → due_producer clock row ≡ None → is_due clock row ≡ false
+not_due clock row none = by_state row.state refl none where
+  by_state : (state : State) → row.state ≡ state → cond (state_is_due clock state) (state_producer row state) None ≡ None → state_is_due clock state ≡ false
+  by_state TimedOut is none = refl
+  by_state (Established production) is none = by_test (is_production_due clock production) none where
+    by_test : (b : Bool) → cond {A = Option Producer} b (Some (record { point = row.produced; id = row.t_o_id; production = production })) None ≡ None → b ≡ false
+    by_test true none = absurd cc
+    by_test false none = refl
 
--- the producers that are due, some of them more than once
-abbrev pub due_list : Ms → List Row → List Producer
-due_list clock rows = filter_map producer_in (filter (is_due clock) rows)
+-- ---- one more connection
 
-one_listed : (row : Row) (state : State) → row.state ≡ state → filter_map producer_in (row ∷ []) ≡ option_list (state_producer row state)
-one_listed row (Established production) is = rw is refl
-one_listed row TimedOut is = rw is refl
+-- the connections that are due among the first ones
+abbrev pub due_rows : Ms → List Row → ℕ → List Row
+due_rows clock rows i = filter (is_due clock) (take i rows)
 
-one_step : (b : Bool) (row : Row) → filter_map producer_in (cond b (row ∷ []) []) ≡ option_list (cond b (producer_in row) None)
-one_step true row = one_listed row row.state refl
-one_step false row = refl
+-- the turns of producers of these connections, with their consumers among them
+abbrev pub turns_of : List Row → List Seen
+turns_of rows = map (turn_of rows) (producers rows)
 
-due_after : (clock : Ms) (front : List Row) (row : Row) → due_list clock (front ++ row ∷ []) ≡ due_list clock front ++ option_list (due_producer clock row)
-due_after clock front row =
-    ap (filter_map producer_in) (filter-append (is_due clock) front (row ∷ []))
-    ∙ filter_map-append producer_in (filter (is_due clock) front) (cond (is_due clock row) (row ∷ []) [])
-    ∙ ap (λ (l : List Producer). due_list clock front ++ l) (one_step (is_due clock row) row)
+pub turns_differ : (rows : List Row) → NumbersDiffer (turns_of rows)
+turns_differ rows = numbers_differ rows (producers rows) (firsts_differ (filter_map producer_in rows))
 
-append_none : {X : Type 0} (xs : List X) → xs ++ [] ≡ xs
-append_none [] = refl
-append_none (x ∷ xs) = ap (λ l. x ∷ l) (append_none xs)
+due_more : (clock : Ms) (rows : List Row) (i : ℕ) (d : Row) (b : Bool) → i < length rows → is_due clock (get_or rows i d) ≡ b → due_rows clock rows (i + 1) ≡ due_rows clock rows i ++ cond b (get_or rows i d ∷ []) []
+due_more clock rows i d b lt is =
+    ap (filter (is_due clock)) (take_more rows i d lt)
+    ∙ filter-append (is_due clock) (take i rows) (get_or rows i d ∷ [])
+    ∙ ap (λ (c : Bool). due_rows clock rows i ++ cond c (get_or rows i d ∷ []) []) is
 
-abbrev same_as : Producer → Producer → Bool
-same_as producer first = same_producer first producer
+same_by : (a b c : ℕ) → (a == b) ≡ true → (b == c) ≡ true → (a == c) ≡ true
+same_by a b c ab bc = grind (arith, nat_tests)
 
--- ---- a point to point connection's producer had no turn before
+producers_transitive : IsTransitive same_producer
+producers_transitive = λ x y z xy yz. same_by x.production.producer y.production.producer z.production.producer xy yz
 
-or_false : (a b : Bool) → (a || b) ≡ false → (a ≡ false) × (b ≡ false)
-or_false true b h = absurd cc
-or_false false b h = (refl, h)
+listed : (row : Row) (producer : Producer) → producer_in row ≡ Some producer → filter_map producer_in (row ∷ []) ≡ producer ∷ []
+listed row producer made = rw made refl
 
-any_filter : (p q : Producer → Bool) (xs : List Producer) → list_any q xs ≡ false → list_any q (filter p xs) ≡ false
-any_filter p q [] none = refl
-any_filter p q (x ∷ xs) none =
-    let parts = or_false (q x) (list_any q xs) none in
-    filter_step (p x) (any_filter p q xs parts.1) where
-      filter_step : (b : Bool) → list_any q (filter p xs) ≡ false → list_any q (cond b (x ∷ filter p xs) (filter p xs)) ≡ false
-      filter_step true rest = rw (or_false (q x) (list_any q xs) none).0 rest
-      filter_step false rest = rest
+producers_after : (front : List Row) (row : Row) (producer : Producer) → producer_in row ≡ Some producer → producers (front ++ row ∷ []) ≡ producers front ++ unless (list_any (is_number producer.production.producer) (producers front)) producer
+producers_after front row producer made =
+    ap (first_of_each same_producer) (filter_map-append producer_in front (row ∷ []) ∙ ap (λ (l : List Producer). filter_map producer_in front ++ l) (listed row producer made))
+    ∙ first_more same_producer producers_transitive (filter_map producer_in front) producer
 
-any_first : (q : Producer → Bool) (xs : List Producer) → list_any q xs ≡ false → list_any q (first_of_each same_producer xs) ≡ false
-any_first q [] none = refl
-any_first q (x ∷ xs) none =
-    let parts = or_false (q x) (list_any q xs) none in
-    rw parts.0 (any_filter (differs same_producer x) q (first_of_each same_producer xs) (any_first q xs parts.1))
+map_turns : (f : Producer → Seen) (xs ys : List Producer) → map f (xs ++ ys) ≡ map f xs ++ map f ys
+map_turns f [] ys = refl
+map_turns f (x ∷ xs) ys = ap (λ (l : List Seen). f x ∷ l) (map_turns f xs ys)
 
-other_state : (row : Row) (state : State) (producer : Producer) (rest : List Producer) → has_number producer.production.producer state ≡ false → list_any (same_as producer) rest ≡ false → list_any (same_as producer) (option_list (state_producer row state) ++ rest) ≡ false
-other_state row (Established production) producer rest other none = rw other none
-other_state row TimedOut producer rest other none = none
+-- the producer had a turn: the connection joins it; or it had none
+turns_step : (b : Bool) (front : List Row) (row : Row) (producer : Producer) → IsMadeBy producer.production.producer row → list_any (is_number producer.production.producer) (producers front) ≡ b → map (turn_of (front ++ row ∷ [])) (producers front ++ unless b producer) ≡ cond b (map (joined_by producer.production.producer row.peer) (turns_of front)) (turns_of front ++ one_turn producer row.peer ∷ [])
+turns_step true front row producer by any =
+    ap (map (turn_of (front ++ row ∷ []))) (append-nil (producers front)) ∙ all_joined producer.production.producer front row by (producers front)
+turns_step false front row producer by any =
+    map_turns (turn_of (front ++ row ∷ [])) (producers front) (producer ∷ [])
+    ∙ ap (λ (l : List Seen). l ++ turn_of (front ++ row ∷ []) producer ∷ []) (all_joined producer.production.producer front row by (producers front) ∙ none_joined producer.production.producer row.peer (turns_of front) (any_turn producer.production.producer front (producers front) ∙ any))
+    ∙ ap (λ (t : Seen). turns_of front ++ t ∷ []) (first_turn producer front row by (sym (any_producers producer.production.producer front) ∙ any))
 
-due_first : (b : Bool) (clock : Ms) (row : Row) (state : State) (rows : List Row) → row.state ≡ state → filter_map producer_in (cond b (row ∷ filter (is_due clock) rows) (filter (is_due clock) rows)) ≡ cond b (option_list (state_producer row state) ++ due_list clock rows) (due_list clock rows)
-due_first true clock row (Established production) rows is = rw is refl
-due_first true clock row TimedOut rows is = rw is refl
-due_first false clock row state rows is = refl
+turns_after : (front : List Row) (row : Row) (producer : Producer) → producer_in row ≡ Some producer → IsMadeBy producer.production.producer row → turns_of (front ++ row ∷ []) ≡ with_peer producer row.peer (turns_of front)
+turns_after front row producer made by =
+    let m = producer.production.producer in
+    ap (map (turn_of (front ++ row ∷ []))) (producers_after front row producer made)
+    ∙ turns_step (list_any (is_number producer.production.producer) (producers front)) front row producer by refl
+    ∙ ap (λ (b : Bool). cond b (map (joined_by producer.production.producer row.peer) (turns_of front)) (turns_of front ++ one_turn producer row.peer ∷ [])) (sym (any_turn producer.production.producer front (producers front)))
 
-other_step : (b : Bool) (row : Row) (producer : Producer) (rest : List Producer) → is_produced_by producer.production.producer row ≡ false → list_any (same_as producer) rest ≡ false → list_any (same_as producer) (cond b (option_list (producer_in row) ++ rest) rest) ≡ false
-other_step true row producer rest other none = other_state row row.state producer rest other none
-other_step false row producer rest other none = none
+-- a point to point connection's producer had none
+lone_step : (multicast : Bool) (producer : Producer) (peer : Node) (turns : List Seen) → (multicast ≡ false → list_any (has_number producer.production.producer) turns ≡ false) → with_peer producer peer turns ≡ cond multicast (with_peer producer peer turns) (turns ++ one_turn producer peer ∷ [])
+lone_step true producer peer turns none = refl
+lone_step false producer peer turns none = rw (none refl) refl
 
-none_before : (clock : Ms) (producer : Producer) (rows : List Row) (i : ℕ) (d : Row) → i < length rows → GroupsAloneShare rows → Produces producer.production.producer (get_or rows i d).state → (get_or rows i d).multicast ≡ false → list_any (same_as producer) (due_list clock (take i rows)) ≡ false
-none_before clock producer [] i d lt share made single = absurd (omega arith)
-none_before clock producer (row ∷ rows) zero d lt share made single = refl
-none_before clock producer (row ∷ rows) (suc i) d lt share made single =
-    let other = other_before producer.production.producer row rows i d (omega arith) share.0 made single in
-    let none = none_before clock producer rows i d (omega arith) share.1 made single in
-    ap (list_any (same_as producer)) (due_first (is_due clock row) clock row row.state (take i rows) refl) ∙ other_step (is_due clock row) row producer (due_list clock (take i rows)) other none
-
--- ---- one more turn
-
-any_turn : (producer : Producer) (turns : List Turn) → list_any (has_turn producer) turns ≡ list_any (same_as producer) (map turn_producer turns)
-any_turn producer [] = refl
-any_turn producer (turn ∷ turns) = ap (λ b. same_producer turn.producer producer || b) (any_turn producer turns)
-
-turns_append : (xs ys : List Turn) → map turn_producer (xs ++ ys) ≡ map turn_producer xs ++ map turn_producer ys
-turns_append [] ys = refl
-turns_append (x ∷ xs) ys = ap (λ (l : List Producer). x.producer ∷ l) (turns_append xs ys)
-
-unless_turn : (b : Bool) (turn : Turn) → map turn_producer (unless b turn) ≡ unless b turn.producer
-unless_turn true turn = refl
-unless_turn false turn = refl
-
--- a test that is left out where it would fail
-left_out : (multicast any : Bool) → (multicast ≡ false → any ≡ false) → (multicast && any) ≡ any
-left_out true any none = refl
-left_out false any none = sym (none refl)
-
--- what a round over the first connections has made
-pub record Turned (clock : Ms) (rows : List Row) (i : ℕ) (turns : List Turn) : Type 0 where
-  pub made : map turn_producer turns ≡ producers (filter (is_due clock) (take i rows))
-  pub consumed : AllConsumed rows turns
-
-consumed_after : (rows : List Row) (turns : List Turn) (b : Bool) (turn : Turn) → AllConsumed rows turns → ConsumedBy rows turn → AllConsumed rows (turns ++ unless b turn)
-consumed_after rows [] true turn all is = tt
-consumed_after rows [] false turn all is = (is, tt)
-consumed_after rows (first ∷ turns) b turn all is = (all.0, consumed_after rows turns b turn all.1 is)
-
-some_node : (a b : Node) → Some a ≡ Some b → a ≡ b
-some_node a b is = cc
-
-lone_step : (b : Bool) (number : ℕ) (rows : List Row) (row : Row) (peer : Node) → row.multicast ≡ b → cond b None (Some row.peer) ≡ Some peer → (row.multicast ≡ false → consumers number rows ≡ row.peer ∷ []) → consumers number rows ≡ peer ∷ []
-lone_step true number rows row peer multicast is alone = absurd cc
-lone_step false number rows row peer multicast is alone = alone multicast ∙ ap (λ (n : Node). n ∷ []) (some_node row.peer peer is)
-
-turned_some : (clock : Ms) (rows : List Row) (i : ℕ) (d : Row) (turns new : List Turn) (producer : Producer) → i < length rows → GroupsAloneShare rows → Turned clock rows i turns → due_producer clock (get_or rows i d) ≡ Some producer → new ≡ turns ++ turn_by turns (get_or rows i d) (Some producer) → Turned clock rows (i + 1) new
-turned_some clock rows i d turns new producer lt share turned due is =
+some_more : (clock : Ms) (rows : List Row) (i : ℕ) (d : Row) (producer : Producer) → i < length rows → GroupsAloneShare rows → IsDueWith clock (get_or rows i d) producer → turns_of (due_rows clock rows (i + 1)) ≡ turns_by (get_or rows i d) (turns_of (due_rows clock rows i)) (Some producer)
+some_more clock rows i d producer lt share is =
     let row = get_or rows i d in
-    let front = take i rows in
-    let produced : is_produced_by producer.production.producer row ≡ true = due_is_produced clock row producer due in
-    let any = list_any (same_as producer) (first_of_each same_producer (due_list clock front)) in
-    let had : list_any (has_turn producer) turns ≡ list_any (same_as producer) (first_of_each same_producer (due_list clock front)) = any_turn producer turns ∙ ap (list_any (same_as producer)) turned.made in
-    let tested : (row.multicast && list_any (has_turn producer) turns) ≡ any =
-    ap (λ (b : Bool). row.multicast && b) had
-    ∙ left_out row.multicast any (λ single. any_first (same_as producer) (due_list clock front) (none_before clock producer rows i d lt share (produced_at producer.production.producer row produced) single)) in
-    let turn : Turn = record { producer = producer; alone = lone_peer row } in
-    record {
-      made =
-          ap (map turn_producer) is
-          ∙ turns_append turns (unless (row.multicast && list_any (has_turn producer) turns) turn)
-          ∙ ap (λ (l : List Producer). map turn_producer turns ++ l) (unless_turn (row.multicast && list_any (has_turn producer) turns) turn)
-          ∙ ap (λ (b : Bool). map turn_producer turns ++ unless b producer) tested
-          ∙ ap (λ (l : List Producer). l ++ unless any producer) turned.made
-          ∙ sym (first_more same_producer producers_transitive (due_list clock front) producer)
-          ∙ ap (λ (o : Option Producer). first_of_each same_producer (due_list clock front ++ option_list o)) (sym due)
-          ∙ ap (first_of_each same_producer) (sym (due_after clock front row))
-          ∙ ap (λ (l : List Row). producers (filter (is_due clock) l)) (sym (one_more rows i d lt));
-      consumed = subst (AllConsumed rows) (sym is)
-          (consumed_after rows turns (row.multicast && list_any (has_turn producer) turns) turn turned.consumed
-          (λ peer alone. lone_step row.multicast producer.production.producer rows row peer refl alone (λ single. consumer_alone producer.production.producer rows i d lt share produced single)));
-    }
+    let m = producer.production.producer in
+    let front = due_rows clock rows i in
+    let produced : is_produced_by producer.production.producer row ≡ true = is.by producer.production.producer ∙ numbered producer.production.producer in
+    ap turns_of (due_more clock rows i d true lt is.due)
+    ∙ turns_after front row producer is.made is.by
+    ∙ lone_step row.multicast producer row.peer (turns_of front) (λ single.
+    any_turn producer.production.producer front (producers front) ∙ any_producers producer.production.producer front ∙ alone_before clock producer.production.producer rows i d lt share produced single)
 
-turned_none : (clock : Ms) (rows : List Row) (i : ℕ) (d : Row) (turns new : List Turn) → i < length rows → Turned clock rows i turns → due_producer clock (get_or rows i d) ≡ None → new ≡ turns ++ [] → Turned clock rows (i + 1) new
-turned_none clock rows i d turns new lt turned due is =
-    let row = get_or rows i d in
-    let front = take i rows in
-    let same : new ≡ turns = is ∙ append_none turns in
-    record {
-      made =
-          ap (map turn_producer) same
-          ∙ turned.made
-          ∙ ap (first_of_each same_producer) (sym (append_none (due_list clock front)))
-          ∙ ap (λ (o : Option Producer). first_of_each same_producer (due_list clock front ++ option_list o)) (sym due)
-          ∙ ap (first_of_each same_producer) (sym (due_after clock front row))
-          ∙ ap (λ (l : List Row). producers (filter (is_due clock) l)) (sym (one_more rows i d lt));
-      consumed = subst (AllConsumed rows) (sym same) turned.consumed;
-    }
+turned_by : (clock : Ms) (rows : List Row) (i : ℕ) (d : Row) (due : Option Producer) → i < length rows → GroupsAloneShare rows → due_producer clock (get_or rows i d) ≡ due → turns_of (due_rows clock rows (i + 1)) ≡ turns_by (get_or rows i d) (turns_of (due_rows clock rows i)) due
+turned_by clock rows i d None lt share due =
+    ap turns_of (due_more clock rows i d false lt (not_due clock (get_or rows i d) due) ∙ append-nil (due_rows clock rows i))
+turned_by clock rows i d (Some producer) lt share due = some_more clock rows i d producer lt share (due_with clock (get_or rows i d) producer due)
 
-turned_by : (clock : Ms) (rows : List Row) (i : ℕ) (d : Row) (turns new : List Turn) (due : Option Producer) → i < length rows → GroupsAloneShare rows → Turned clock rows i turns → due_producer clock (get_or rows i d) ≡ due → new ≡ turns ++ turn_by turns (get_or rows i d) due → Turned clock rows (i + 1) new
-turned_by clock rows i d turns new None lt share turned due is = turned_none clock rows i d turns new lt turned due is
-turned_by clock rows i d turns new (Some producer) lt share turned due is = turned_some clock rows i d turns new producer lt share turned due is
+-- one more connection is taken up
+pub turned_more : (clock : Ms) (rows : List Row) (i : ℕ) (d : Row) (turns new : List Seen) → i < length rows → GroupsAloneShare rows → turns ≡ turns_of (due_rows clock rows i) → new ≡ next_turns clock (get_or rows i d) turns → new ≡ turns_of (due_rows clock rows (i + 1))
+turned_more clock rows i d turns new lt share turned is =
+    is ∙ ap (next_turns clock (get_or rows i d)) turned ∙ sym (turned_by clock rows i d (due_producer clock (get_or rows i d)) lt share refl)
 
-pub turned_more : (clock : Ms) (rows : List Row) (i : ℕ) (d : Row) (turns new : List Turn) → i < length rows → GroupsAloneShare rows → Turned clock rows i turns → new ≡ turns ++ next_turn clock turns (get_or rows i d) → Turned clock rows (i + 1) new
-turned_more clock rows i d turns new lt share turned is = turned_by clock rows i d turns new (due_producer clock (get_or rows i d)) lt share turned refl is
+-- ---- after the last connection
 
--- ---- turns in order
+map_same : (f g : Producer → Seen) (ps : List Producer) → ((p : Producer) → list_any (is_number p.production.producer) ps ≡ true → f p ≡ g p) → map f ps ≡ map g ps
+map_same f g [] same = refl
+map_same f g (p ∷ ps) same =
+    let here : f p ≡ g p = same p (ap (λ b. b || list_any (is_number p.production.producer) ps) (numbered p.production.producer)) in
+    ap (λ (t : Seen). t ∷ map f ps) here
+    ∙ ap (λ (l : List Seen). g p ∷ l) (map_same f g ps (λ q any. same q (or_right (is_number q.production.producer p) (list_any (is_number q.production.producer) ps) any)))
 
--- the turns from a place on are in order
-abbrev pub Ordered : List Turn → ℕ → Type 0
-Ordered turns at = in_order by_due (map turn_producer (drop at turns)) ≡ map turn_producer (drop at turns)
-
-before_next : (x : Turn) (rest : List Turn) (d : Turn) → (0 < length rest → by_due x.producer (get_or rest 0 d).producer ≡ true) → inserted by_due x.producer (map turn_producer rest) ≡ map turn_producer (x ∷ rest)
-before_next x [] d before = refl
-before_next x (y ∷ ys) d before =
-    let here : by_due x.producer y.producer ≡ true = before (omega arith) in
-    rw here refl
-
-pub ordered_more : (turns : List Turn) (i at : ℕ) (d : Turn) → i + 1 ≡ at → i < length turns → (0 < length (drop (i + 1) turns) → by_due (get_or turns i d).producer (get_or (drop (i + 1) turns) 0 d).producer ≡ true) → Ordered turns at → Ordered turns i
-ordered_more turns i at d next lt before ordered =
-    let rest : Ordered turns (i + 1) = subst (Ordered turns) (sym next) ordered in
-    rw (drop_more turns i d lt)
-    (ap (inserted by_due (get_or turns i d).producer) rest ∙ before_next (get_or turns i d) (drop (i + 1) turns) d before)
-
-got_behind : (turns : List Turn) (at : ℕ) (d : Turn) → at < length turns → get_or turns at d ≡ get_or (drop at turns) 0 d
-got_behind [] at d lt = absurd (omega arith)
-got_behind (turn ∷ turns) zero d lt = refl
-got_behind (turn ∷ turns) (suc at) d lt = got_behind turns at d (omega arith)
-
-none_there : (at len : ℕ) → false ≡ nat_lt at len → at < len → false ≡ true
-none_there at len none lt = none ∙ is_less at len lt where
-  is_less : (at len : ℕ) → at < len → nat_lt at len ≡ true
-  is_less at len lt = grind (arith, nat_tests)
-
--- the next turn as a look-up gives it
-pub ordered_by : {T : Type 0} (f : T → Turn) (found : Option T) (turns : List Turn) (i at : ℕ) (d : Turn) → i + 1 ≡ at → i < length turns → is_some found ≡ nat_lt (i + 1) (length turns) → ((d : Turn) → unwrap_or (option_map f found) d ≡ get_or turns (i + 1) d) → comes_before (get_or turns i d) (option_map f found) ≡ true → Ordered turns at → Ordered turns i
-ordered_by f None turns i at d next lt there got before ordered =
-    ordered_more turns i at d next lt (λ some. absurd (let e = none_there (i + 1) (length turns) there (omega (arith, length-drop (i + 1) turns)) in cc)) ordered
-ordered_by f (Some y) turns i at d next lt there got before ordered =
-    ordered_more turns i at d next lt
-    (λ some.
-    let lt' : i + 1 < length turns = omega (arith, length-drop (i + 1) turns) in
-    let is : f y ≡ get_or (drop (i + 1) turns) 0 d = got d ∙ got_behind turns (i + 1) d lt' in
-    ap (λ (t : Turn). by_due (get_or turns i d).producer t.producer) (sym is) ∙ before) ordered
-
--- ---- turns that are put in order
-
-put_step : (b : Bool) (x y : Turn) (ys : List Turn) → map turn_producer (inserted turn_before x ys) ≡ inserted by_due x.producer (map turn_producer ys) → map turn_producer (cond b (x ∷ y ∷ ys) (y ∷ inserted turn_before x ys)) ≡ cond b (x.producer ∷ y.producer ∷ map turn_producer ys) (y.producer ∷ inserted by_due x.producer (map turn_producer ys))
-put_step true x y ys rest = refl
-put_step false x y ys rest = ap (λ (l : List Producer). y.producer ∷ l) rest
-
-put_in : (x : Turn) (ys : List Turn) → map turn_producer (inserted turn_before x ys) ≡ inserted by_due x.producer (map turn_producer ys)
-put_in x [] = refl
-put_in x (y ∷ ys) = put_step (turn_before x y) x y ys (put_in x ys)
-
--- their producers are in order
-pub put_in_order : (turns : List Turn) → map turn_producer (in_order turn_before turns) ≡ in_order by_due (map turn_producer turns)
-put_in_order [] = refl
-put_in_order (turn ∷ turns) = put_in turn (in_order turn_before turns) ∙ ap (inserted by_due turn.producer) (put_in_order turns)
-
-consumed_put : (rows : List Row) (x : Turn) (ys : List Turn) → ConsumedBy rows x → AllConsumed rows ys → AllConsumed rows (inserted turn_before x ys)
-consumed_put rows x [] is all = (is, tt)
-consumed_put rows x (y ∷ ys) is all =
-    elim (turn_before x y) as (λ b. AllConsumed rows (cond b (x ∷ y ∷ ys) (y ∷ inserted turn_before x ys))) [
-      | true ↦ (is, all)
-      | false ↦ (all.0, consumed_put rows x ys is all.1)
-    ]
-
--- and are consumed as before
-pub consumed_in_order : (rows : List Row) (turns : List Turn) → AllConsumed rows turns → AllConsumed rows (in_order turn_before turns)
-consumed_in_order rows [] all = tt
-consumed_in_order rows (turn ∷ turns) all = consumed_put rows turn (in_order turn_before turns) all.0 (consumed_in_order rows turns all.1)
+pub turned_all : (clock : Ms) (rows : List Row) (i : ℕ) (turns : List Seen) → length rows ≤ i → GroupsAloneShare rows → turns ≡ turns_of (due_rows clock rows i) → turns ≡ map (turn_of rows) (producers (filter (is_due clock) rows))
+turned_all clock rows i turns end share turned =
+    let due = filter (is_due clock) rows in
+    turned
+    ∙ ap (λ (l : List Row). turns_of (filter (is_due clock) l)) (take_all i rows end)
+    ∙ map_same (turn_of due) (turn_of rows) (producers due) (λ p any.
+    ap (λ (l : List Node). record { producer = p; nodes = l }) (consumers_due clock p.production.producer rows share (sym (any_producers p.production.producer due) ∙ any)))
 
 -- ---- what the turns send
 
-pub consumed_at : (rows : List Row) (turns : List Turn) (i : ℕ) (d : Turn) → i < length turns → AllConsumed rows turns → ConsumedBy rows (get_or turns i d)
-consumed_at rows [] i d lt all = absurd (omega arith)
-consumed_at rows (turn ∷ turns) zero d lt all = all.0
-consumed_at rows (turn ∷ turns) (suc i) d lt all = consumed_at rows turns i d (omega arith) all.1
+sent_all : (rows : List Row) (values : List PointValue) (ps : List Producer) → map (sent_turn values) (map (turn_of rows) ps) ≡ map sent (map (due_production rows values) ps)
+sent_all rows values [] = refl
+sent_all rows values (p ∷ ps) = ap (λ (l : List Sending). sent (due_production rows values p) ∷ l) (sent_all rows values ps)
 
-abbrev pub sent_in : List Row → List PointValue → List Turn → List Sending
-sent_in rows values turns = map sent (map (due_production rows values) (map turn_producer turns))
+producers_seen : (turns : List Turn) (rows : List Row) (ps : List Producer) → map seen turns ≡ map (turn_of rows) ps → map turn_producer turns ≡ ps
+producers_seen turns rows ps are = sym (of_seen turns) ∙ ap (map seen_producer) are ∙ of_turns ps where
+  seen_producer : Seen → Producer
+  seen_producer t = t.producer
 
-sent_after : (rows : List Row) (values : List PointValue) (front : List Turn) (turn : Turn) → sent_in rows values (front ++ turn ∷ []) ≡ sent_in rows values front ++ sent (due_production rows values turn.producer) ∷ []
-sent_after rows values [] turn = refl
-sent_after rows values (first ∷ front) turn = ap (λ (l : List Sending). sent (due_production rows values first.producer) ∷ l) (sent_after rows values front turn)
+  of_seen : (turns : List Turn) → map seen_producer (map seen turns) ≡ map turn_producer turns
+  of_seen [] = refl
+  of_seen (turn ∷ turns) = ap (λ (l : List Producer). turn.producer ∷ l) (of_seen turns)
 
-one_turn : (turns : List Turn) (i : ℕ) (d : Turn) → i < length turns → take (i + 1) turns ≡ take i turns ++ get_or turns i d ∷ []
-one_turn turns i d lt = grind (arith, common_steps)
+  of_turns : (ps : List Producer) → map seen_producer (map (turn_of rows) ps) ≡ ps
+  of_turns [] = refl
+  of_turns (p ∷ ps) = ap (λ (l : List Producer). p ∷ l) (of_turns ps)
 
-pub sent_more : (rows : List Row) (values : List PointValue) (turns : List Turn) (i : ℕ) (d : Turn) (made new : List Sending) (sending : Sending) → i < length turns → made ≡ sent_in rows values (take i turns) → sending ≡ sent (due_production rows values (get_or turns i d).producer) → new ≡ made ++ sending ∷ [] → new ≡ sent_in rows values (take (i + 1) turns)
-sent_more rows values turns i d made new sending lt are is grown =
-    grown
-    ∙ ap (λ (l : List Sending). l ++ sending ∷ []) are
-    ∙ ap (λ (s : Sending). sent_in rows values (take i turns) ++ s ∷ []) is
-    ∙ sym (sent_after rows values (take i turns) (get_or turns i d))
-    ∙ ap (sent_in rows values) (sym (one_turn turns i d lt))
+-- in the order in which they are
+pub sent_in_order : (rows : List Row) (values : List PointValue) (turns : List Turn) (ps : List Producer) (sendings : List Sending) → map seen turns ≡ map (turn_of rows) ps → in_order by_due (map turn_producer turns) ≡ map turn_producer turns → sendings ≡ map (sent_turn values) (map seen turns) → sendings ≡ map sent (map (due_production rows values) (in_order by_due ps))
+sent_in_order rows values turns ps sendings are order is =
+    let same = producers_seen turns rows ps are in
+    is ∙ ap (map (sent_turn values)) are ∙ sent_all rows values ps
+    ∙ ap (λ (l : List Producer). map sent (map (due_production rows values) l)) (sym same ∙ sym order ∙ ap (in_order by_due) same)
+
+put_step : (b : Bool) (rows : List Row) (x y : Producer) (ys rest : List Producer) (put : List Seen) → put ≡ map (turn_of rows) rest → cond b (turn_of rows x ∷ turn_of rows y ∷ map (turn_of rows) ys) (turn_of rows y ∷ put) ≡ map (turn_of rows) (cond b (x ∷ y ∷ ys) (y ∷ rest))
+put_step true rows x y ys rest put is = refl
+put_step false rows x y ys rest put is = ap (λ (l : List Seen). turn_of rows y ∷ l) is
+
+put_in : (rows : List Row) (x : Producer) (ys : List Producer) → inserted turn_before (turn_of rows x) (map (turn_of rows) ys) ≡ map (turn_of rows) (inserted by_due x ys)
+put_in rows x [] = refl
+put_in rows x (y ∷ ys) = put_step (by_due x y) rows x y ys (inserted by_due x ys) (inserted turn_before (turn_of rows x) (map (turn_of rows) ys)) (put_in rows x ys)
+
+turns_in_order : (rows : List Row) (ps : List Producer) → in_order turn_before (map (turn_of rows) ps) ≡ map (turn_of rows) (in_order by_due ps)
+turns_in_order rows [] = refl
+turns_in_order rows (p ∷ ps) = ap (inserted turn_before (turn_of rows p)) (turns_in_order rows ps) ∙ put_in rows p (in_order by_due ps)
+
+-- or in that of their keys
+pub sent_by_keys : (rows : List Row) (values : List PointValue) (turns : List Seen) (ps : List Producer) (sendings : List Sending) → turns ≡ map (turn_of rows) ps → sendings ≡ map (sent_turn values) (in_order turn_before turns) → sendings ≡ map sent (map (due_production rows values) (in_order by_due ps))
+sent_by_keys rows values turns ps sendings are is =
+    is ∙ ap (λ (l : List Seen). map (sent_turn values) (in_order turn_before l)) are ∙ ap (map (sent_turn values)) (turns_in_order rows ps) ∙ sent_all rows values (in_order by_due ps)
