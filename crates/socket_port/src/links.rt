@@ -20,6 +20,14 @@ const ROOM: usize = 65_536;
 /// Streams come before datagrams once in so many polls.
 const POLLS: u8 = 16;
 
+/// The listener is asked once what the polls since then count for is so much: a call of it that finds nobody costs as
+/// much as four reads.
+const UNASKED: u8 = 240;
+
+/// A poll that finds something counts for one, and takes microseconds. One that finds nothing follows a wait of a
+/// millisecond, and counts for so much.
+const IDLE_POLL: u8 = 30;
+
 /// The sockets of a port.
 #[derive(Drop)]
 pub struct Links {
@@ -31,6 +39,8 @@ pub struct Links {
     buffer: Vec<u8>,
     first: u16,
     polls: u8,
+    unasked: u8,
+    idle: bool,
 }
 
 impl Links {
@@ -50,6 +60,8 @@ impl Links {
             buffer: vec![in alloc; 0; ROOM]?,
             first: 0,
             polls: 0,
+            unasked: UNASKED,
+            idle: false,
         })
     }
 
@@ -61,9 +73,28 @@ impl Links {
         let _ = self.streams.accept(peer, socket);
     }
 
-    /// What is there now. Datagrams come first, and once in a while the streams, so that neither holds up the
-    /// other.
+    /// What is there before the port waits: where the last poll found nothing, that was a moment ago, and nothing is
+    /// asked again. So a port with nothing to do polls once a millisecond, and one with much to do does not wait.
+    pub fn poll_again(&mut self) -> Result<Option<Input>, PortFault> {
+        if self.idle {
+            return Ok(None);
+        }
+        self.poll()
+    }
+
+    /// What is there now.
     pub fn poll(&mut self) -> Result<Option<Input>, PortFault> {
+        self.accept_in_turn()?;
+        let input = self.poll_all()?;
+        self.idle = input.is_none();
+        let counts = if self.idle { IDLE_POLL } else { 1 };
+        self.unasked = self.unasked.saturating_add(counts);
+        Ok(input)
+    }
+
+    /// What is there of datagrams and streams now. Datagrams come first, and once in a while the streams, so that
+    /// neither holds up the other.
+    fn poll_all(&mut self) -> Result<Option<Input>, PortFault> {
         let turn = self.polls % POLLS;
         self.polls = turn + 1;
         if turn == 0 {
@@ -94,7 +125,6 @@ impl Links {
 
     /// What is there of the streams now. They take turns.
     fn poll_streams(&mut self) -> Result<Option<Input>, PortFault> {
-        self.accept()?;
         let first = self.first % MOST_STREAMS;
         for offset in 0..MOST_STREAMS {
             let number = (first + offset) % MOST_STREAMS;
@@ -104,6 +134,15 @@ impl Links {
             }
         }
         Ok(None)
+    }
+
+    /// Takes the connection that waits, if it is the listener's turn.
+    fn accept_in_turn(&mut self) -> Result<(), PortFault> {
+        if self.unasked < UNASKED {
+            return Ok(());
+        }
+        self.unasked = 0;
+        self.accept()
     }
 
     /// Takes the connection that waits.

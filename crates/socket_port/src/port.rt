@@ -94,7 +94,7 @@ impl<R: System + Drop> SocketPort<R> {
     fn next_input(&mut self) -> Result<Option<Input>, PortFault>
         ensures { self.new.failures ≡ self.old.failures }
     {
-        if let Some(input) = self.links.poll()? {
+        if let Some(input) = self.links.poll_again()? {
             return Ok(Some(input));
         }
         thread::sleep(&self.rt, Duration::from_millis(1));
