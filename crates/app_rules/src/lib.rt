@@ -13,6 +13,7 @@ mod view;
 
 pub use adapter_table::Admission;
 pub use connections::{Connections, Listed};
+pub use owner_counts::Rules;
 pub use stages::drawn_ids;
 pub use verdict::admit;
 pub use view::View;

@@ -1,6 +1,0 @@
-pub mod Splits
-pub mod Times
-pub mod Receive
-pub mod Reindex
-pub mod Whole
-pub mod Ends

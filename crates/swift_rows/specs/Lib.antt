@@ -1,4 +1,0 @@
-pub mod Index
-pub mod Bounds
-pub mod Layout
-pub mod Receiving
