@@ -13,6 +13,8 @@ use Rattle.adapter_table.specs.declared.row.State.TheVariants.{Established, Time
 use Rattle.adapter_table.specs.Rows.{lives, is_established, drives, supports, written_state, written_row}
 use Rattle.adapter_table.specs.Datagrams.{is_for, row_delivery, accepted_row, accepted_if_for}
 use Rattle.adapter_table.specs.Productions.{produced_state, produced_row, changed_state, changed_row}
+use Rattle.std.specs.List.{list_any}
+use Rattle.conn_slab.specs.Connections.{is_listening}
 use Rattle.conn_slab.specs.Hearing.{hearing}
 use Rattle.owner_counts.specs.Counts.{Counts, is_driver, is_supporter, AreCounted}
 
@@ -101,3 +103,32 @@ heard_found profile clock peer d counts rows (Some row) counted = heard_if (is_a
 
 pub heard_counted : (profile : Profile) (clock : Ms) (peer : Node) (d : DatagramFields) (counts : Counts) (rows : List Row) → AreCounted counts rows → AreCounted counts (hearing profile clock peer d (find (is_for peer d.connection) rows) rows)
 heard_counted profile clock peer d counts rows counted = heard_found profile clock peer d counts rows (find (is_for peer d.connection) rows) counted
+
+-- ---- who listens stays
+
+listens_kept : (row changed : Row) → KeepsCounted row changed → is_listening changed ≡ is_listening row
+listens_kept row changed keeps = rw (keeps.established, keeps.kind) refl
+
+any_mapped : (test : Row → Bool) (f : Row → Row) → ((row : Row) → test (f row) ≡ test row) → (rows : List Row) → list_any test (map f rows) ≡ list_any test rows
+any_mapped test f same [] = refl
+any_mapped test f same (row ∷ rows) = rw (same row, any_mapped test f same rows) refl
+
+pub produced_listen : (clock : Ms) (rows : List Row) → list_any is_listening (map (produced_row clock) rows) ≡ list_any is_listening rows
+produced_listen clock rows =
+    any_mapped is_listening (produced_row clock) (λ row. listens_kept row (produced_row clock row) (record { established = produced_lives clock row.t_o_api row.state; kind = refl; consumed = refl; produced = refl; multicast = refl })) rows
+
+pub changed_listen : (clock : Ms) (point : ℕ) (rows : List Row) → list_any is_listening (map (changed_row clock point) (map (written_row point) rows)) ≡ list_any is_listening rows
+changed_listen clock point rows =
+    any_mapped is_listening (changed_row clock point) (λ row. listens_kept row (changed_row clock point row) (changed_keeps (row.produced == point) clock row)) (map (written_row point) rows)
+    ∙ any_mapped is_listening (written_row point) (λ row. listens_kept row (written_row point row) (written_keeps (row.produced == point) row)) rows
+
+listen_if : (b : Bool) (clock : Ms) (peer : Node) (d : DatagramFields) (rows : List Row) → list_any is_listening (cond b (map (accepted_if_for clock peer d) rows) rows) ≡ list_any is_listening rows
+listen_if true clock peer d rows = any_mapped is_listening (accepted_if_for clock peer d) (λ row. listens_kept row (accepted_if_for clock peer d row) (accepted_keeps (is_for peer d.connection row) clock d row)) rows
+listen_if false clock peer d rows = refl
+
+listen_found : (profile : Profile) (clock : Ms) (peer : Node) (d : DatagramFields) (rows : List Row) (o : Option Row) → list_any is_listening (hearing profile clock peer d o rows) ≡ list_any is_listening rows
+listen_found profile clock peer d rows None = refl
+listen_found profile clock peer d rows (Some row) = listen_if (is_accepted (row_delivery profile row d)) clock peer d rows
+
+pub heard_listen : (profile : Profile) (clock : Ms) (peer : Node) (d : DatagramFields) (rows : List Row) → list_any is_listening (hearing profile clock peer d (find (is_for peer d.connection) rows) rows) ≡ list_any is_listening rows
+heard_listen profile clock peer d rows = listen_found profile clock peer d rows (find (is_for peer d.connection) rows)

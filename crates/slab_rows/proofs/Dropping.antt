@@ -1,5 +1,5 @@
 -- Listeners without support that go one after another: the support of the others stays.
-use Rattle.std.proofs.Common.{◌≡◌, ◌≤◌, ℕ, ◌+◌, Bool, true, false, cond, not, ◌&&◌, ◌||◌, List, [], ◌∷◌, filter, find, length, Some, None, refl, sym, ap, ◌∙◌, true≢false, arith}
+use Rattle.std.proofs.Common.{◌≡◌, ◌≤◌, ℕ, ◌+◌, Bool, true, false, cond, not, ◌&&◌, ◌||◌, List, [], ◌∷◌, filter, find, length, Some, None, refl, sym, ap, ◌∙◌, true≢false, arith, Option, ◌++◌}
 use Rattle.std.specs.List.{list_any}
 use Rattle.cip_types.specs.declared.names.Triad.{Triad}
 use Rattle.cip_productions.specs.declared.kind.Kind.{Kind}
@@ -10,7 +10,9 @@ use Rattle.adapter_table.specs.Rows.{Each, has_triad, is_established, is_member,
 use Rattle.adapter_table.specs.Closing.{without_triad, unsupported, stays, staying}
 use Rattle.adapter_table.specs.Sound.{TriadsDiffer}
 use Rattle.adapter_table.specs.EachLemmas.{each_weak}
-use Rattle.conn_slab.specs.Connections.{is_listening}
+use Rattle.cip_types.specs.declared.names.Ms.{Ms}
+use Rattle.adapter_table.specs.Ticks.{has_expired, expired_rows}
+use Rattle.conn_slab.specs.Connections.{is_listening, timed_out, without}
 use Rattle.slab_rows.proofs.Lone.{some_is, both_hold, neither, lone, triad_itself}
 
 listeners_same : (a b : Kind) → is_listener a ≡ true → is_listener b ≡ true → same_kind a b ≡ true
@@ -142,7 +144,7 @@ none_dropped all (row ∷ rows) none =
     let stays_here : is_unsupported all row ≡ false = no_listener (is_established row) (is_listener row.kind) _ parts.0 in
     rw stays_here (none_dropped all rows parts.1)
 
-any_left : (test p : Row → Bool) (rows : List Row) → list_any test rows ≡ false → list_any test (filter p rows) ≡ false
+pub any_left : (test p : Row → Bool) (rows : List Row) → list_any test rows ≡ false → list_any test (filter p rows) ≡ false
 any_left test p [] none = refl
 any_left test p (row ∷ rows) none =
     let parts = neither (test row) (list_any test rows) none in
@@ -154,3 +156,35 @@ any_left test p (row ∷ rows) none =
 
 pub none_lost : (triad : Triad) (rows : List Row) → list_any is_listening rows ≡ false → unsupported (without_triad triad rows) ≡ []
 none_lost triad rows none = none_dropped (without_triad triad rows) (without_triad triad rows) (any_left is_listening (λ row. not (has_triad triad row)) rows none)
+
+any_without : (test : Row → Bool) (gone : Option Triad) (rows : List Row) → list_any test rows ≡ false → list_any test (without gone rows) ≡ false
+any_without test None rows none = none
+any_without test (Some triad) rows none = any_left test (λ row. not (has_triad triad row)) rows none
+
+any_last : (test : Row → Bool) (rows : List Row) (row : Row) → list_any test rows ≡ false → test row ≡ false → list_any test (rows ++ row ∷ []) ≡ false
+any_last test [] row none fails = rw fails refl
+any_last test (x ∷ rows) row none fails =
+    let parts = neither (test x) (list_any test rows) none in
+    rw (parts.0, any_last test rows row parts.1 fails) refl
+
+-- none listens where none may, and one more does not
+pub quiet_opened : (listening more : Bool) (gone : Option Triad) (rows : List Row) (row : Row) → more ≡ (listening || is_listening row) → (listening ≡ false → list_any is_listening rows ≡ false) → more ≡ false → list_any is_listening (without gone rows ++ row ∷ []) ≡ false
+quiet_opened listening more gone rows row is quiet none =
+    let parts = neither listening (is_listening row) (sym is ∙ none) in
+    any_last is_listening (without gone rows) row (any_without is_listening gone rows (quiet parts.0)) parts.1
+
+out_quiet : (b : Bool) (row : Row) → is_listening row ≡ false → is_listening (cond b (timed_out row) row) ≡ false
+out_quiet true row none = refl
+out_quiet false row none = none
+
+pub quiet_expired : (clock : Ms) (rows : List Row) → list_any is_listening rows ≡ false → list_any is_listening (expired_rows clock rows) ≡ false
+quiet_expired clock [] none = refl
+quiet_expired clock (row ∷ rows) none =
+    let parts = neither (is_listening row) (list_any is_listening rows) none in
+    rw (out_quiet (has_expired clock row) row parts.0, quiet_expired clock rows parts.1) refl
+
+pub quiet_left : (triad : Triad) (rows : List Row) → list_any is_listening rows ≡ false → list_any is_listening (without_triad triad rows) ≡ false
+quiet_left triad rows none = any_left is_listening (λ row. not (has_triad triad row)) rows none
+
+pub quiet_staying : (triad : Triad) (rows : List Row) → list_any is_listening rows ≡ false → list_any is_listening (staying (without_triad triad rows)) ≡ false
+quiet_staying triad rows none = any_left is_listening (stays (without_triad triad rows)) (without_triad triad rows) (quiet_left triad rows none)

@@ -1,9 +1,11 @@
 //! Connections that time out, and those that lose their support.
 
-ghost use Rattle.std.specs.Prelude.{◌≡◌};
+ghost use Rattle.std.specs.Prelude.{◌≡◌, false};
+ghost use Rattle.std.specs.List.{list_any};
 ghost use Rattle.adapter_table.specs.Closing.{staying};
 ghost use Rattle.adapter_table.specs.Sound.{TriadsDiffer};
 ghost use Rattle.adapter_table.specs.Ticks.{expired_rows};
+ghost use Rattle.conn_slab.specs.Connections.{is_listening};
 ghost use Rattle.owner_counts.specs.Counts.{AreCounted};
 
 use crate::counting::{close, time_out};
@@ -29,16 +31,17 @@ pub fn expire(connections: &mut Connections, rules: &mut Rules, clock: Ms)
     }
 }
 
-/// Takes out the listen-only connections without support. Takes no memory.
+/// Takes out the listen-only connections without support, where there may be listen-only ones. Takes no memory.
 ///
 /// Volume 1, chapter 3, listen-only application connections.
-pub fn drop_unsupported(connections: &mut Connections, rules: &mut Rules)
+pub fn drop_unsupported(connections: &mut Connections, rules: &mut Rules, listening: bool)
+    requires quiet { listening ≡ false → list_any is_listening connections.old ≡ false }
     requires counted { AreCounted rules.old connections.old }
     requires differ { TriadsDiffer connections.old }
     ensures rows { connections.new ≡ staying connections.old }
     ensures counted { AreCounted rules.new connections.new }
 {
-    if !connections.has_listeners() {
+    if !listening {
         return;
     }
     for _ in 0..connections.len() {

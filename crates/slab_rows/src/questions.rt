@@ -91,7 +91,7 @@ pub fn first_expired(rows: Rows<'_>, clock: Ms) -> Option<Row>
 }
 
 /// Whether a connection is an established listen-only one.
-fn is_listening(row: &Row) -> bool
+pub fn is_listening(row: &Row) -> bool
     ensures { result ≡ is_listening row.now }
 {
     is_established(row) && row.kind == Kind::ListenOnly

@@ -1,14 +1,16 @@
 //! The table.
 
-ghost use Rattle.std.specs.Prelude.{◌≡◌, ◌∷◌, [], IfOk};
+ghost use Rattle.std.specs.Prelude.{◌≡◌, ◌||◌, ◌∷◌, [], IfOk};
 ghost use Rattle.cip_events.specs.declared.event.Notice.{Notice};
 ghost use Rattle.conn_slab.specs.Bounds.{Rests, AllRest};
+ghost use Rattle.conn_slab.specs.Connections.{is_listening};
 
 use crate::counting::{close, counted, open};
 use crate::fading::{drop_unsupported, expire};
 use crate::filling::{filled, replaced};
 use crate::questions::{
     first_expired, first_member, first_timed_out, is_any_due, is_any_established, is_any_on_change,
+    is_listening,
 };
 use adapter_table::{MOST_ROWS, Profile, Row, State};
 use app_rules::Connections;
@@ -30,6 +32,8 @@ use swift_sendings::swift_sendings;
 pub struct SlabRows {
     connections: conn_slab::Connections,
     rules: Rules,
+    /// Where this is false, none is an established listen-only one.
+    listening: bool,
     /// No watchdog runs out before this.
     lasting: u64,
     /// No producer is due before this.
@@ -45,7 +49,7 @@ impl Model for SlabRows {
 
     ghost view = { λ t. t.connections };
 
-    ghost invariant = { λ t. AreKept t.connections t.rules t.lasting t.resting };
+    ghost invariant = { λ t. AreKept t.connections t.rules t.listening t.lasting t.resting };
 }
 
 /// When the producer of a connection is due; that of one that has timed out never is.
@@ -56,6 +60,13 @@ fn due_of(row: &Row) -> u64
         State::Established(production) => production.due.0,
         State::TimedOut => u64::MAX,
     }
+}
+
+/// Whether there may be listen-only connections with one more.
+fn listens_with(listening: bool, row: &Row) -> bool
+    ensures { result ≡ (listening || is_listening row.now) }
+{
+    listening || is_listening(row)
 }
 
 /// A time before which no producer is due: the known one, until it has come.
@@ -115,6 +126,7 @@ impl ConnectionTable for SlabRows {
         Ok(SlabRows {
             connections: conn_slab::Connections::new(alloc)?,
             rules: Rules::new(alloc)?,
+            listening: false,
             lasting: u64::MAX,
             resting: u64::MAX,
         })
@@ -123,11 +135,13 @@ impl ConnectionTable for SlabRows {
     fn holding(alloc: Global, rows: &[Row]) -> Result<Self, OutOfMemory> {
         let connections = filled(alloc, rows)?;
         let rules = counted(alloc, rows)?;
+        let listening = connections.has_listeners();
         let lasting = connections.first_end();
         let resting = connections.first_due();
         Ok(SlabRows {
             connections,
             rules,
+            listening,
             lasting,
             resting,
         })
@@ -150,11 +164,12 @@ impl ConnectionTable for SlabRows {
         open(&mut self.connections, &mut self.rules, gone, row)?;
         self.lasting = self.lasting.min(row.deadline.0);
         self.resting = self.resting.min(due_of(&row));
+        self.listening = listens_with(self.listening, &row);
         Ok(())
     }
 
     fn closed_notices(&self, alloc: Global, triad: Triad) -> Result<Vec<Notice>, OutOfMemory> {
-        if !self.connections.has_listeners() {
+        if !self.listening {
             return told_alone(alloc, triad);
         }
         let rows = self.connections.to_vec(alloc)?;
@@ -163,7 +178,7 @@ impl ConnectionTable for SlabRows {
 
     fn close(&mut self, triad: Triad) {
         close(&mut self.connections, &mut self.rules, triad);
-        drop_unsupported(&mut self.connections, &mut self.rules);
+        drop_unsupported(&mut self.connections, &mut self.rules, self.listening);
     }
 
     fn receive(
@@ -214,7 +229,8 @@ impl ConnectionTable for SlabRows {
 
     fn elapse(&mut self, clock: Ms) {
         expire(&mut self.connections, &mut self.rules, clock);
-        drop_unsupported(&mut self.connections, &mut self.rules);
+        drop_unsupported(&mut self.connections, &mut self.rules, self.listening);
+        self.listening = self.connections.has_listeners();
         self.connections.produce(clock);
         self.lasting = self.connections.first_end();
         self.resting = self.connections.first_due();

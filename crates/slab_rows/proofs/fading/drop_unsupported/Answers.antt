@@ -42,7 +42,8 @@ returns-clause-rows c =
     let left = c.loop.invariant.left in
     sym (none_stand c.loop.connections (omega arith)) ∙ c.loop.invariant.same
 
-pub returns-then-not-has_listeners-clause-rows : goal.returns-then-not-has_listeners-clause-rows
-returns-then-not-has_listeners-clause-rows c =
-    let none : list_any is_listening c.args.connections.now ≡ false = search rules in
+pub returns-then-not-listening-clause-rows : goal.returns-then-not-listening-clause-rows
+returns-then-not-listening-clause-rows c =
+    let off : c.args.listening ≡ false = search rules in
+    let none : list_any is_listening c.args.connections.now ≡ false = c.requires.quiet off in
     sym (none_listen c.args.connections.now c.args.connections.now none)

@@ -3,6 +3,9 @@ use Rattle.adapter_table.specs.Rows.{has_triad}
 use Rattle.adapter_table.specs.Sound.{TriadsDiffer}
 use Rattle.adapter_table.specs.declared.row.Row.{Row}
 use Rattle.adapter_table.specs.Closing.{stays, staying, without_triad}
+use Rattle.std.specs.List.{list_any}
+use Rattle.conn_slab.specs.Connections.{is_listening}
+use Rattle.slab_rows.proofs.Dropping.{quiet_left, quiet_staying}
 use Rattle.conn_slab.specs.Bounds.{first_end, AllRest}
 use Rattle.slab_rows.proofs.Lone.{differ_filtered}
 use Rattle.slab_rows.proofs.Times.{ends_left, rests_left}
@@ -19,6 +22,7 @@ pub drop_unsupported-requires : goal.drop_unsupported-requires
 drop_unsupported-requires c =
     let differ : TriadsDiffer c.self.inside.connections = rw c.self.view_is (whole_triads c.args.self.now c.requires.whole) in
     record {
+      quiet = λ off. ap (list_any is_listening) c.close.ensures.rows ∙ quiet_left c.args.triad c.self.inside.connections (c.self.invariant.quiet off);
       counted = c.close.ensures.counted;
       differ = subst TriadsDiffer (sym c.close.ensures.rows) (differ_filtered (λ row. not (has_triad c.args.triad row)) c.self.inside.connections differ);
     }
@@ -35,4 +39,5 @@ invariant_of-self c =
             (rests_left own.resting (stays left) left (rests_left own.resting (λ row. not (has_triad c.args.triad row)) own.connections c.self.invariant.bounded.rest));
       };
       counted = c.drop_unsupported.ensures.counted;
+      quiet = λ off. ap (list_any is_listening) (c.drop_unsupported.ensures.rows ∙ ap staying c.close.ensures.rows) ∙ quiet_staying c.args.triad own.connections (c.self.invariant.quiet off);
     }

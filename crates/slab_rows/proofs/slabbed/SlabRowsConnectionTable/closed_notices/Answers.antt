@@ -8,8 +8,9 @@ use Rattle.conn_slab.specs.Connections.{is_listening}
 use Rattle.slab_rows.proofs.Dropping.{none_lost}
 use Rattle.slab_rows.proofs.slabbed.SlabRowsConnectionTable.closed_notices.Goals as goal
 
-pub returns-then-not-has_listeners : goal.returns-then-not-has_listeners
-returns-then-not-has_listeners c =
-    let none : list_any is_listening c.self.inside.connections ≡ false = search rules in
+pub returns-then-not-self : goal.returns-then-not-self
+returns-then-not-self c =
+    let off : c.self.inside.listening ≡ false = search rules in
+    let none : list_any is_listening c.self.inside.connections ≡ false = c.self.invariant.quiet off in
     let lost = ap (λ (rows : List Row). unsupported (without_triad c.args.triad rows)) (sym c.self.view_is) ∙ none_lost c.args.triad c.self.inside.connections none in
     subst (λ (l : List Row). IfOk c.told_alone.result (λ notices. notices.items ≡ Closed c.args.triad ∷ map dropped_notice l)) (sym lost) c.told_alone.ensures

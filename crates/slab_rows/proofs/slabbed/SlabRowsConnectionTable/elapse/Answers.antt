@@ -1,8 +1,11 @@
-use Rattle.std.proofs.Common.{sym, subst}
+use Rattle.std.proofs.Common.{sym, subst, ap, ◌∙◌}
+use Rattle.std.specs.List.{list_any}
+use Rattle.conn_slab.specs.Connections.{is_listening}
+use Rattle.slab_rows.proofs.Dropping.{quiet_expired}
 use Rattle.adapter_table.specs.Sound.{TriadsDiffer}
 use Rattle.adapter_table.specs.Ticks.{expired_row}
 use Rattle.owner_counts.specs.Counts.{AreCounted}
-use Rattle.slab_rows.proofs.Counted.{produced_counted}
+use Rattle.slab_rows.proofs.Counted.{produced_counted, produced_listen}
 use Rattle.slab_rows.proofs.Lone.{differ_mapped}
 use Rattle.slab_rows.proofs.Expiring.{keeps_expired}
 use Rattle.slab_rows.proofs.Times.{same_end}
@@ -19,6 +22,7 @@ pub drop_unsupported-requires : goal.drop_unsupported-requires
 drop_unsupported-requires c =
     let differ : TriadsDiffer c.self.inside.connections = rw c.self.view_is (whole_triads c.args.self.now c.requires.whole) in
     record {
+      quiet = λ off. ap (list_any is_listening) c.expire.ensures.rows ∙ quiet_expired c.args.clock c.self.inside.connections (c.self.invariant.quiet off);
       counted = c.expire.ensures.counted;
       differ = subst TriadsDiffer (sym c.expire.ensures.rows) (differ_mapped (expired_row c.args.clock) (keeps_expired c.args.clock) c.self.inside.connections differ);
     }
@@ -27,4 +31,5 @@ pub invariant_of-self : goal.invariant_of-self
 invariant_of-self c = record {
   bounded = record { last = same_end c.first_end-self-inside.ensures; rest = c.first_due-self-inside.ensures };
   counted = subst (AreCounted c.drop_unsupported.new.rules) (sym c.produce.ensures) (produced_counted c.args.clock c.drop_unsupported.new.rules c.drop_unsupported.new.connections c.drop_unsupported.ensures.counted);
+  quiet = λ off. ap (list_any is_listening) c.produce.ensures ∙ produced_listen c.args.clock c.drop_unsupported.new.connections ∙ sym c.has_listeners-self-inside.ensures ∙ off;
 }

@@ -2,7 +2,9 @@ use Rattle.std.proofs.Common.{◌≡◌, ◌≤◌, ◌++◌, ◌∷◌, [], Lis
 use Rattle.adapter_table.specs.declared.row.Row.{Row}
 use Rattle.adapter_table.specs.Rows.{others}
 use Rattle.adapter_table.specs.Opening.{makes_room}
-use Rattle.conn_slab.specs.Connections.{AreConnections, without}
+use Rattle.std.specs.List.{list_any}
+use Rattle.conn_slab.specs.Connections.{AreConnections, without, is_listening}
+use Rattle.slab_rows.proofs.Dropping.{quiet_opened}
 use Rattle.conn_slab.specs.Bounds.{first_end, AllRest}
 use Rattle.slab_rows.proofs.Room.{goes_by_triad}
 use Rattle.slab_rows.proofs.Times.{ends_opened, rests_opened}
@@ -41,4 +43,5 @@ invariant_of-self-2 c =
         rest = subst (AllRest rest) (sym c.in_ok-open.ensures.rows) (rests_opened rest own.resting c.due_of.result c.replaced-gone.result own.connections c.args.row (omega arith) (omega arith) c.due_of.ensures c.self.invariant.bounded.rest);
       };
       counted = c.open.ensures.counted;
+      quiet = λ off. ap (list_any is_listening) c.in_ok-open.ensures.rows ∙ quiet_opened own.listening c.listens_with-self-inside.result c.replaced-gone.result own.connections c.args.row c.listens_with-self-inside.ensures c.self.invariant.quiet off;
     }

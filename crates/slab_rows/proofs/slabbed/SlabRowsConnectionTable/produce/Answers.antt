@@ -1,8 +1,10 @@
-use Rattle.std.proofs.Common.{◌≤◌, ℕ, List, sym, subst}
+use Rattle.std.proofs.Common.{◌≤◌, ℕ, List, sym, subst, ap, ◌∙◌}
+use Rattle.std.specs.List.{list_any}
+use Rattle.conn_slab.specs.Connections.{is_listening}
 use Rattle.adapter_table.specs.declared.row.Row.{Row}
 use Rattle.conn_slab.specs.Bounds.{first_end}
 use Rattle.owner_counts.specs.Counts.{AreCounted}
-use Rattle.slab_rows.proofs.Counted.{produced_counted}
+use Rattle.slab_rows.proofs.Counted.{produced_counted, produced_listen}
 use Rattle.slab_rows.proofs.Times.{produced_ends}
 use Rattle.slab_rows.proofs.slabbed.SlabRowsConnectionTable.produce.Goals as goal
 
@@ -15,4 +17,5 @@ invariant_of-self c =
         rest = c.first_due-self-inside.ensures;
       };
       counted = subst (AreCounted own.rules) (sym c.produce.ensures) (produced_counted c.args.clock own.rules own.connections c.self.invariant.counted);
+      quiet = λ off. ap (list_any is_listening) c.produce.ensures ∙ produced_listen c.args.clock own.connections ∙ c.self.invariant.quiet off;
     }

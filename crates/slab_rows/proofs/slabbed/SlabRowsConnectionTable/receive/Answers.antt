@@ -1,10 +1,12 @@
-use Rattle.std.proofs.Common.{◌≤◌, List, sym, subst, ◌∙◌, arith}
+use Rattle.std.specs.List.{list_any}
+use Rattle.conn_slab.specs.Connections.{is_listening}
+use Rattle.std.proofs.Common.{◌≤◌, List, sym, subst, ◌∙◌, arith, ap}
 use Rattle.cip_datagram.specs.Datagram.{view_datagram}
 use Rattle.adapter_table.specs.declared.row.Row.{Row}
 use Rattle.adapter_table.specs.Sound.{IdsDiffer}
 use Rattle.conn_slab.specs.Bounds.{first_end, AllRest}
 use Rattle.owner_counts.specs.Counts.{AreCounted}
-use Rattle.slab_rows.proofs.Counted.{heard_counted}
+use Rattle.slab_rows.proofs.Counted.{heard_counted, heard_listen}
 use Rattle.slab_rows.proofs.Times.{ends_heard, rests_heard}
 use Rattle.slab_rows.proofs.Whole.{whole_ids}
 use Rattle.slab_rows.proofs.slabbed.SlabRowsConnectionTable.receive.Goals as goal
@@ -22,4 +24,5 @@ invariant_of-self-2 c =
         rest = subst (AllRest own.resting) (sym c.receive.ensures.rows) (rests_heard c.args.profile.now c.args.clock c.args.peer d own.resting own.connections c.self.invariant.bounded.rest);
       };
       counted = subst (AreCounted own.rules) (sym c.receive.ensures.rows) (heard_counted c.args.profile.now c.args.clock c.args.peer d own.rules own.connections c.self.invariant.counted);
+      quiet = λ off. ap (list_any is_listening) c.receive.ensures.rows ∙ heard_listen c.args.profile.now c.args.clock c.args.peer d own.connections ∙ c.self.invariant.quiet off;
     }

@@ -1,8 +1,10 @@
-use Rattle.std.proofs.Common.{◌≤◌, ℕ, List, sym, subst}
+use Rattle.std.proofs.Common.{◌≤◌, ℕ, List, sym, subst, ap, ◌∙◌}
+use Rattle.std.specs.List.{list_any}
+use Rattle.conn_slab.specs.Connections.{is_listening}
 use Rattle.adapter_table.specs.declared.row.Row.{Row}
 use Rattle.conn_slab.specs.Bounds.{first_end}
 use Rattle.owner_counts.specs.Counts.{AreCounted}
-use Rattle.slab_rows.proofs.Counted.{changed_counted}
+use Rattle.slab_rows.proofs.Counted.{changed_counted, changed_listen}
 use Rattle.slab_rows.proofs.Times.{changed_ends}
 use Rattle.slab_rows.proofs.slabbed.SlabRowsConnectionTable.write.Goals as goal
 
@@ -15,4 +17,5 @@ invariant_of-self c =
         rest = c.first_due-self-inside.ensures;
       };
       counted = subst (AreCounted own.rules) (sym c.write.ensures) (changed_counted c.args.clock c.args.point own.rules own.connections c.self.invariant.counted);
+      quiet = λ off. ap (list_any is_listening) c.write.ensures ∙ changed_listen c.args.clock c.args.point own.connections ∙ c.self.invariant.quiet off;
     }
