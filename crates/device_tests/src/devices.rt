@@ -255,7 +255,12 @@ fn uses_the_last(alloc: Global, device: &mut impl Device) -> bool {
 #[test]
 fn the_last_id_is_not_enough_for_a_new_group(rt: HostRuntime) -> Result<(), Fail> {
     let table = nearly_used(rt.alloc())?;
-    assert!(rt; uses_the_last(rt.alloc(), &mut PlainAdapter::from_copy(rt.alloc(), &table)?));
+    assert!(rt;
+        uses_the_last(
+            rt.alloc(),
+            &mut PlainAdapter::from_copy(rt.alloc(), &table)?
+        )
+    );
     assert!(rt; uses_the_last(rt.alloc(), &mut FastAdapter::from_copy(rt.alloc(), &table)?));
     Ok(())
 }

@@ -47,7 +47,7 @@ impl Counts {
 
 /// A segment with adapters of one engine, and the lines that tell what happened in it.
 #[derive(Drop)]
-pub struct Scene<A> {
+pub struct Scene<A: Device> {
     alloc: Global,
     world: World<A, PlainScanner>,
     events: Counts,
