@@ -3,10 +3,7 @@
 use crate::devices::{ADAPTER, FIRST, SECOND};
 use crate::fault::RunFault;
 use crate::scene::{Player, Scene};
-use adapter_engine::FastAdapter;
-use cip_tables::Device;
 use cip_types::OutOfMemory;
-use plain_engine::PlainAdapter;
 use segment_world::{Act, Call};
 use std::alloc::Global;
 
@@ -34,11 +31,7 @@ const TENTH: Player = Player {
 const OUTPUT: u32 = 150;
 
 /// A scanner opens a stream, and registers its session.
-fn register(
-    scene: &mut Scene<impl Device + Drop>,
-    who: Player,
-    stream: u16,
-) -> Result<(), OutOfMemory> {
+fn register(scene: &mut Scene, who: Player, stream: u16) -> Result<(), OutOfMemory> {
     scene.open_stream(who, DEVICE)?;
     scene.back(who, stream)?;
     scene.forth(DEVICE, stream)?;
@@ -47,11 +40,7 @@ fn register(
 }
 
 /// A scanner opens its connection, and runs.
-fn connect(
-    scene: &mut Scene<impl Device + Drop>,
-    who: Player,
-    stream: u16,
-) -> Result<(), OutOfMemory> {
+fn connect(scene: &mut Scene, who: Player, stream: u16) -> Result<(), OutOfMemory> {
     scene.call(who, Call::Start { slot: 0 })?;
     scene.forth(DEVICE, stream)?;
     scene.back(who, stream)?;
@@ -59,7 +48,7 @@ fn connect(
 }
 
 /// The first owner's datagram comes to the output.
-fn first_owner(scene: &mut Scene<impl Device + Drop>) -> Result<(), OutOfMemory> {
+fn first_owner(scene: &mut Scene) -> Result<(), OutOfMemory> {
     scene.note("the first scanner opens a connection, and runs")?;
     register(scene, EARLY, 0)?;
     connect(scene, EARLY, 0)?;
@@ -71,7 +60,7 @@ fn first_owner(scene: &mut Scene<impl Device + Drop>) -> Result<(), OutOfMemory>
 }
 
 /// Its next datagram does not come.
-fn held_back(scene: &mut Scene<impl Device + Drop>) -> Result<(), OutOfMemory> {
+fn held_back(scene: &mut Scene) -> Result<(), OutOfMemory> {
     scene.note("its second one is held back, until the connection has timed out")?;
     scene.write(EARLY, 0, [0xAA; 4])?;
     scene.tick(EARLY, 9)?;
@@ -80,7 +69,7 @@ fn held_back(scene: &mut Scene<impl Device + Drop>) -> Result<(), OutOfMemory> {
 }
 
 /// The next owner's datagram comes to the output.
-fn next_owner(scene: &mut Scene<impl Device + Drop>) -> Result<(), OutOfMemory> {
+fn next_owner(scene: &mut Scene) -> Result<(), OutOfMemory> {
     scene.note("the second scanner opens a connection to the same output, and runs")?;
     register(scene, LATE, 1)?;
     connect(scene, LATE, 1)?;
@@ -91,14 +80,14 @@ fn next_owner(scene: &mut Scene<impl Device + Drop>) -> Result<(), OutOfMemory> 
 }
 
 /// The first owner's datagram that was held back comes after all.
-fn too_late(scene: &mut Scene<impl Device + Drop>) -> Result<(), OutOfMemory> {
+fn too_late(scene: &mut Scene) -> Result<(), OutOfMemory> {
     scene.note("now the first scanner's second datagram comes: it changes nothing")?;
     scene.deliver(DEVICE, 1)?;
     scene.read(DEVICE, OUTPUT)
 }
 
 /// What is not there does not come.
-fn nothing_comes(scene: &mut Scene<impl Device + Drop>) -> Result<(), OutOfMemory> {
+fn nothing_comes(scene: &mut Scene) -> Result<(), OutOfMemory> {
     scene.note("a tenth datagram, of which nobody knows")?;
     scene.deliver(DEVICE, 9)?;
     scene.note("one at a tenth device")?;
@@ -108,7 +97,7 @@ fn nothing_comes(scene: &mut Scene<impl Device + Drop>) -> Result<(), OutOfMemor
 }
 
 /// Nor is it done.
-fn nothing_is_done(scene: &mut Scene<impl Device + Drop>) -> Result<(), OutOfMemory> {
+fn nothing_is_done(scene: &mut Scene) -> Result<(), OutOfMemory> {
     scene.note("the cut of an eighth stream")?;
     scene.act(DEVICE, &Act::CutStream { stream: 7 })?;
     scene.note("a stream from a device to itself")?;
@@ -119,7 +108,7 @@ fn nothing_is_done(scene: &mut Scene<impl Device + Drop>) -> Result<(), OutOfMem
     scene.read(DEVICE, OUTPUT)
 }
 
-fn play(scene: &mut Scene<impl Device + Drop>) -> Result<(), OutOfMemory> {
+fn play(scene: &mut Scene) -> Result<(), OutOfMemory> {
     first_owner(scene)?;
     held_back(scene)?;
     next_owner(scene)?;
@@ -128,18 +117,9 @@ fn play(scene: &mut Scene<impl Device + Drop>) -> Result<(), OutOfMemory> {
     nothing_is_done(scene)
 }
 
-/// The race of the two owners of an adapter's output, with adapters of one engine.
-fn played<A: Device + Drop>(alloc: Global) -> Result<Scene<A>, RunFault> {
+/// The race of the two owners.
+pub fn late_datagram(rt: &impl Print, alloc: Global) -> Result<(), RunFault> {
     let mut scene = Scene::new(alloc, &[ADAPTER, FIRST, SECOND])?;
     play(&mut scene)?;
-    Ok(scene)
-}
-
-/// The race of the two owners, and whether it is the same over the fast adapter.
-pub fn late_datagram(rt: &impl Print, alloc: Global) -> Result<(), RunFault> {
-    let plain = played::<PlainAdapter>(alloc)?;
-    print!(rt; "{}", plain.story())?;
-    let fast = played::<FastAdapter>(alloc)?;
-    let same = plain.story() == fast.story();
-    Ok(println!(rt; "# the same over the fast adapter: {same}")?)
+    Ok(print!(rt; "{}", scene.story())?)
 }

@@ -3,9 +3,9 @@
 use crate::devices::configs;
 use crate::fault::RunFault;
 use crate::story::{push_fault, push_line, push_lines};
-use cip_tables::{Answer, Device, Outcome};
+use cip_tables::{Answer, Outcome};
 use cip_types::{Items, OutOfMemory};
-use plain_engine::PlainScanner;
+use plain_engine::{PlainAdapter, PlainScanner};
 use segment_world::{Act, Call, Direction, World};
 use std::alloc::Global;
 use trace_outcomes::write_outcome;
@@ -45,11 +45,11 @@ impl Counts {
     }
 }
 
-/// A segment with adapters of one engine, and the lines that tell what happened in it.
+/// A segment, and the lines that tell what happened in it.
 #[derive(Drop)]
-pub struct Scene<A: Device> {
+pub struct Scene {
     alloc: Global,
-    world: World<A, PlainScanner>,
+    world: World<PlainAdapter, PlainScanner>,
     events: Counts,
     story: String,
 }
@@ -60,9 +60,9 @@ fn lines_of(alloc: Global, number: u64, answer: Answer) -> Result<String, OutOfM
     write_outcome(alloc, number, &outcome)
 }
 
-impl<A: Device + Drop> Scene<A> {
+impl Scene {
     /// A segment of devices of these profiles, at most three.
-    pub fn new(alloc: Global, texts: &[&[u8]]) -> Result<Scene<A>, RunFault> {
+    pub fn new(alloc: Global, texts: &[&[u8]]) -> Result<Scene, RunFault> {
         let world = World::new(alloc, configs(alloc, texts)?)?;
         Ok(Scene {
             alloc,
