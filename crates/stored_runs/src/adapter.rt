@@ -4,10 +4,10 @@ ghost use Rattle.std.specs.Prelude.{◌≡◌, true, None, IfOk};
 ghost use Rattle.cip_tables.specs.Step.{config_fault, makes_adapter};
 
 use crate::fault::RunFault;
+use adapter_engine::FastAdapter;
 use cip_tables::{Action, Config, Device, Event, InputPoint, Outcome, OutputPoint, Profile};
 use cip_types::{Identity, Items, Node, OutOfMemory};
 use device_lock::{Book, Receipt, Segment};
-use plain_engine::PlainAdapter;
 use std::alloc::Global;
 use trace_outcomes::write_outcome;
 
@@ -68,8 +68,8 @@ pub fn config(alloc: Global) -> Result<Config, RunFault>
 }
 
 /// A book of the fresh adapter.
-pub fn book(alloc: Global) -> Result<Book<PlainAdapter>, RunFault> {
-    let device = PlainAdapter::new(alloc, config(alloc)?)?;
+pub fn book(alloc: Global) -> Result<Book<FastAdapter>, RunFault> {
+    let device = FastAdapter::new(alloc, config(alloc)?)?;
     Ok(Book::new(alloc, device)?)
 }
 

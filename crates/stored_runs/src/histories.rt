@@ -2,10 +2,10 @@
 
 use crate::adapter::{book, config, datagram, opening, rotated, tick};
 use crate::fault::RunFault;
+use adapter_engine::FastAdapter;
 use cip_tables::{Device, Event};
 use cip_types::OutOfMemory;
 use device_lock::{Book, History, Segment};
-use plain_engine::PlainAdapter;
 use std::alloc::Global;
 
 fn keep(segments: &mut Vec<Segment>, segment: Segment) -> Result<(), OutOfMemory> {
@@ -64,8 +64,8 @@ fn judge(
     name: &str,
     segments: Vec<Segment>,
 ) -> Result<(), RunFault> {
-    let follow = History::follow::<PlainAdapter>(alloc, &config(alloc)?, segments.as_slice())?;
-    let history = History::new::<PlainAdapter>(alloc, config(alloc)?, segments);
+    let follow = History::follow::<FastAdapter>(alloc, &config(alloc)?, segments.as_slice())?;
+    let history = History::new::<FastAdapter>(alloc, config(alloc)?, segments);
     print_history(rt, name, follow, history.as_ref())
 }
 
@@ -106,7 +106,7 @@ fn without(alloc: Global, place: usize) -> Result<Vec<Segment>, RunFault> {
 }
 
 fn places(rt: &impl Print, alloc: Global) -> Result<(), RunFault> {
-    match History::new::<PlainAdapter>(alloc, config(alloc)?, two(alloc)?) {
+    match History::new::<FastAdapter>(alloc, config(alloc)?, two(alloc)?) {
         Some(history) => print_places(rt, &history),
         None => Err(RunFault::OutOfMemory),
     }

@@ -1,4 +1,4 @@
-//! Runs of devices over plain lists, each as it is told step by step.
+//! Runs of devices, fast adapters and plain scanners, each as it is told step by step.
 //!
 //! First devices on a simulated segment, act by act. In the race of two owners of one output a datagram that the first
 //! owner sent comes after the next owner has opened its connection, and changes nothing. Then a reply comes too late,

@@ -2,9 +2,10 @@
 
 use crate::devices::{ADAPTER, FIRST, config, configs};
 use crate::fault::RunFault;
+use adapter_engine::FastAdapter;
 use cip_tables::{Config, Profile};
 use cip_types::OutOfMemory;
-use plain_engine::{PlainAdapter, PlainScanner};
+use plain_engine::PlainScanner;
 use segment_world::World;
 use std::alloc::Global;
 
@@ -14,7 +15,7 @@ const NEIGHBOUR: &[u8] =
 
 /// Prints why no segment is made of these devices.
 fn tell(rt: &impl Print, alloc: Global, configs: Vec<Config>) -> Result<(), RunFault> {
-    match World::<PlainAdapter, PlainScanner>::new(alloc, configs) {
+    match World::<FastAdapter, PlainScanner>::new(alloc, configs) {
         Ok(_) => Err(RunFault::Differs),
         Err(fault) => Ok(println!(rt; "{fault}")?),
     }

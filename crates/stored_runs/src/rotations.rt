@@ -2,9 +2,9 @@
 
 use crate::adapter::{book, datagram, opening, rotated, step, tick};
 use crate::fault::RunFault;
+use adapter_engine::FastAdapter;
 use cip_tables::{Device, Event, TableCopy, run};
 use device_lock::{Book, Segment};
-use plain_engine::PlainAdapter;
 use std::alloc::Global;
 
 // The table of a device once it has had some events.
@@ -21,7 +21,7 @@ fn table_after(
 fn replayed(alloc: Global, segment: &Segment) -> Result<TableCopy, RunFault> {
     table_after(
         alloc,
-        &mut PlainAdapter::from_copy(alloc, &segment.opening)?,
+        &mut FastAdapter::from_copy(alloc, &segment.opening)?,
         segment.events.as_slice(),
     )
 }

@@ -3,9 +3,10 @@
 use crate::devices::configs;
 use crate::fault::RunFault;
 use crate::story::{push_fault, push_line, push_lines};
+use adapter_engine::FastAdapter;
 use cip_tables::{Answer, Outcome};
 use cip_types::{Items, OutOfMemory};
-use plain_engine::{PlainAdapter, PlainScanner};
+use plain_engine::PlainScanner;
 use segment_world::{Act, Call, Direction, World};
 use std::alloc::Global;
 use trace_outcomes::write_outcome;
@@ -49,7 +50,7 @@ impl Counts {
 #[derive(Drop)]
 pub struct Scene {
     alloc: Global,
-    world: World<PlainAdapter, PlainScanner>,
+    world: World<FastAdapter, PlainScanner>,
     events: Counts,
     story: String,
 }
