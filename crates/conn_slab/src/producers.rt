@@ -10,6 +10,7 @@ use adapter_table::{Row, State, producer_in};
 use mcast_pool::Pool;
 
 /// The state of a connection whose producer has this number, and is first looked for at a place.
+#[inline(always)]
 fn state_of(pool: &Pool, producer: Option<u32>, place: usize) -> State
     requires { IsLive pool.now producer }
     ensures { result ≡ state_of pool.now producer }
@@ -21,6 +22,7 @@ fn state_of(pool: &Pool, producer: Option<u32>, place: usize) -> State
 }
 
 /// The connection of a record, whose producer is first looked for at a place.
+#[inline(always)]
 pub(crate) fn row_of(pool: &Pool, record: &Record, place: usize) -> Row
     requires { IsLive pool.now record.now.producer }
     ensures { result ≡ row_of pool.now record.now }
@@ -45,6 +47,7 @@ pub(crate) fn row_of(pool: &Pool, record: &Record, place: usize) -> Row
 }
 
 /// Where to look first for the producer of the connection after this one.
+#[inline(always)]
 pub(crate) fn place_after(pool: &Pool, record: &Record, place: usize) -> usize
     ensures { result ≤ place + 1 }
 {

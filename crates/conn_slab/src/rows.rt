@@ -43,6 +43,7 @@ impl<'a> Iterator for Rows<'a> {
 
     ghost remaining = { item_count (λ rest. rest) };
 
+    #[inline(always)]
     fn next(&mut self) -> Option<Row> {
         let key = self.keys.next()?;
         let record = self.records.get(*key)?;

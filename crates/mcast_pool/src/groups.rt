@@ -45,6 +45,7 @@ pub(crate) fn find_group(groups: &[Group], number: u32) -> Option<Group>
 }
 
 /// The group of a producer's number, which is first looked for at a place.
+#[inline(always)]
 pub(crate) fn find_near(groups: &[Group], number: u32, place: usize) -> Option<Group>
     requires { AreGroups groups.now }
     ensures { result ≡ numbered number groups.now }
@@ -67,6 +68,7 @@ pub(crate) fn place_near(groups: &[Group], number: u32, place: usize) -> Option<
 }
 
 /// Where to look first for the producer after this one: behind it, where it stands at the place.
+#[inline(always)]
 pub(crate) fn place_after(groups: &[Group], number: u32, place: usize) -> usize
     ensures near { result ≤ place + 1 }
 {

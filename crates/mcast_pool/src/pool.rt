@@ -243,6 +243,7 @@ impl Pool {
     }
 
     /// The production of a producer, which is first looked for at a place. Takes no memory.
+    #[inline(always)]
     pub fn production_near(&self, number: u32, place: usize) -> Production
         requires { IsInUse number self.now }
         ensures { Some result ≡ option_map production_of (numbered number self.now) }
@@ -254,6 +255,7 @@ impl Pool {
     }
 
     /// Where to look first for the producer after this one. Takes no memory.
+    #[inline(always)]
     pub fn place_after(&self, number: u32, place: usize) -> usize
         ensures { result ≤ place + 1 }
     {

@@ -218,8 +218,7 @@ impl ConnectionTable for SlabRows {
         assemblies: &AssemblySet,
         clock: Ms,
     ) -> Result<Vec<Sending>, OutOfMemory> {
-        let rows = self.connections.to_vec(alloc)?;
-        swift_sendings(alloc, &rows, assemblies, clock)
+        swift_sendings(alloc, &self.connections, assemblies, clock)
     }
 
     fn produce(&mut self, clock: Ms) {

@@ -1,8 +1,8 @@
 -- A round over the connections that gives each producer that is due its turn, and what the turns send.
-use Rattle.std.proofs.Common.{◌≡◌, ◌≤◌, ◌<◌, ℕ, ◌+◌, Bool, true, false, cond, ◌||◌, ◌==◌, List, [], ◌∷◌, ◌++◌, length, map, filter, take, get_or, Option, Some, None, refl, sym, ◌∙◌, ap, arith}
+use Rattle.std.proofs.Common.{◌≡◌, ◌≤◌, ◌<◌, ℕ, suc, ◌+◌, Bool, true, false, cond, ◌||◌, ◌==◌, List, [], ◌∷◌, ◌++◌, length, map, filter, take, get_or, Option, Some, None, refl, sym, ◌∙◌, ap, subst, arith}
 use Rattle.std.specs.List.{list_any, filter_map}
 use Rattle.std.proofs.lemmas.Bool.Decides.{nat_tests}
-use Rattle.std.proofs.lemmas.List.{append-nil, take_more, take_all}
+use Rattle.std.proofs.lemmas.List.{append-nil, append_assoc, take_more, take_all}
 use Rattle.std.proofs.lemmas.List.Elements.{filter-append, filter_map-append}
 use Rattle.cip_types.specs.declared.names.Ms.{Ms}
 use Rattle.cip_types.specs.declared.names.Node.{Node}
@@ -153,6 +153,62 @@ turned_all clock rows i turns end share turned =
     ∙ ap (λ (l : List Row). turns_of (filter (is_due clock) l)) (take_all i rows end)
     ∙ map_same (turn_of due) (turn_of rows) (producers due) (λ p any.
     ap (λ (l : List Node). record { producer = p; nodes = l }) (consumers_due clock p.production.producer rows share (sym (any_producers p.production.producer due) ∙ any)))
+
+-- ---- a walk over the connections
+
+-- those that have been taken up, and those that are left
+pub record Walked (clock : Ms) (rows rest : List Row) (turns : List Seen) : Type 0 where
+  pub front : List Row
+  pub split : front ++ rest ≡ rows
+  pub turned : turns ≡ turns_of (filter (is_due clock) front)
+
+pub walked_none : (clock : Ms) (rows : List Row) → Walked clock rows rows []
+walked_none clock rows = record { front = []; split = refl; turned = refl }
+
+take_front : (front rest : List Row) → take (length front) (front ++ rest) ≡ front
+take_front [] rest = refl
+take_front (row ∷ front) rest = ap (λ (l : List Row). row ∷ l) (take_front front rest)
+
+take_front_next : (front rest : List Row) (row : Row) → take (suc (length front)) (front ++ row ∷ rest) ≡ front ++ row ∷ []
+take_front_next [] rest row = refl
+take_front_next (next ∷ front) rest row = ap (λ (l : List Row). next ∷ l) (take_front_next front rest row)
+
+take_front_more : (front rest : List Row) (row : Row) → take (length front + 1) (front ++ row ∷ rest) ≡ front ++ row ∷ []
+take_front_more front rest row =
+    let next : length front + 1 ≡ suc (length front) = omega arith in
+    ap (λ (n : ℕ). take n (front ++ row ∷ rest)) next ∙ take_front_next front rest row
+
+got_first : (front rest : List Row) (row d : Row) → get_or (front ++ row ∷ rest) (length front) d ≡ row
+got_first [] rest row d = refl
+got_first (next ∷ front) rest row d = got_first front rest row d
+
+is_within : (front rest : List Row) (row : Row) → length front < length (front ++ row ∷ rest)
+is_within [] rest row = omega arith
+is_within (next ∷ front) rest row = omega (arith, is_within front rest row)
+
+walked_step : (clock : Ms) (front rest : List Row) (row : Row) (turns new : List Seen) → GroupsAloneShare (front ++ row ∷ rest) → turns ≡ turns_of (filter (is_due clock) front) → new ≡ next_turns clock row turns → new ≡ turns_of (filter (is_due clock) (front ++ row ∷ []))
+walked_step clock front rest row turns new share turned is =
+    let rows = front ++ row ∷ rest in
+    turned_more clock (front ++ row ∷ rest) (length front) row turns new (is_within front rest row) share
+    (turned ∙ ap (λ (l : List Row). turns_of (filter (is_due clock) l)) (sym (take_front front (row ∷ rest))))
+    (is ∙ ap (λ (r : Row). next_turns clock r turns) (sym (got_first front rest row row)))
+    ∙ ap (λ (l : List Row). turns_of (filter (is_due clock) l)) (take_front_more front rest row)
+
+pub walked_more : (clock : Ms) (rows rest : List Row) (row : Row) (turns new : List Seen) → GroupsAloneShare rows → Walked clock rows (row ∷ rest) turns → new ≡ next_turns clock row turns → Walked clock rows rest new
+walked_more clock rows rest row turns new share walked is = record {
+  front = walked.front ++ row ∷ [];
+  split = append_assoc walked.front (row ∷ []) rest ∙ walked.split;
+  turned = walked_step clock walked.front rest row turns new (subst GroupsAloneShare (sym walked.split) share) walked.turned is;
+}
+
+pub walked_differ : (clock : Ms) (rows rest : List Row) (turns : List Seen) → Walked clock rows rest turns → NumbersDiffer turns
+walked_differ clock rows rest turns walked = subst NumbersDiffer (sym walked.turned) (turns_differ (filter (is_due clock) walked.front))
+
+pub walked_all : (clock : Ms) (rows : List Row) (turns : List Seen) → GroupsAloneShare rows → Walked clock rows [] turns → turns ≡ map (turn_of rows) (producers (filter (is_due clock) rows))
+walked_all clock rows turns share walked =
+    let same : walked.front ≡ rows = sym (append-nil walked.front) ∙ walked.split in
+    turned_all clock rows (length rows) turns (omega arith) share
+    (walked.turned ∙ ap (λ (l : List Row). turns_of (filter (is_due clock) l)) (same ∙ sym (take_all (length rows) rows (omega arith))))
 
 -- ---- what the turns send
 
