@@ -1,4 +1,5 @@
-//! An adapter whose datagrams, idle ticks, openings and closes are fast, whose every step is the table's.
+//! An adapter whose datagrams and idle ticks cost the same at one connection and at all of them, and whose every step is
+//! the table's.
 #![tactic(auto)]
 
 use slab_rows::SlabRows;
