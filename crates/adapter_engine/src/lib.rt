@@ -1,5 +1,5 @@
-//! An adapter whose datagrams and idle ticks cost the same at one connection and at all of them, and whose every step is
-//! the table's.
+//! An adapter that finds the connection of a datagram by one look-up and sees by two times whether a tick is idle, and
+//! whose every step is the table's.
 #![tactic(auto)]
 
 use slab_rows::SlabRows;
