@@ -19,7 +19,7 @@ use Rattle.adapter_table.specs.Productions.{due_production, state_producer, stat
 use Rattle.adapter_table.specs.Sound.{GroupsAloneShare}
 use Rattle.swift_sendings.specs.declared.turns.Turn.{Turn}
 use Rattle.swift_sendings.specs.Turns.{Seen, seen, turn_of, turn_producer, sent_turn, has_number, due_producer, NumbersDiffer, one_turn, joined_by, with_peer, turns_by, next_turns, turn_before}
-use Rattle.swift_sendings.proofs.Groups.{numbered, swapped, or_right, is_number, any_producers, firsts_differ, consumers_due, alone_before}
+use Rattle.swift_sendings.proofs.Groups.{got_first, is_within, numbered, swapped, or_right, is_number, any_producers, firsts_differ, consumers_due, alone_before}
 use Rattle.swift_sendings.proofs.Joining.{IsMadeBy, all_joined, first_turn, none_joined, any_turn, numbers_differ}
 
 -- ---- one connection
@@ -177,14 +177,6 @@ take_front_more : (front rest : List Row) (row : Row) → take (length front + 1
 take_front_more front rest row =
     let next : length front + 1 ≡ suc (length front) = omega arith in
     ap (λ (n : ℕ). take n (front ++ row ∷ rest)) next ∙ take_front_next front rest row
-
-got_first : (front rest : List Row) (row d : Row) → get_or (front ++ row ∷ rest) (length front) d ≡ row
-got_first [] rest row d = refl
-got_first (next ∷ front) rest row d = got_first front rest row d
-
-is_within : (front rest : List Row) (row : Row) → length front < length (front ++ row ∷ rest)
-is_within [] rest row = omega arith
-is_within (next ∷ front) rest row = omega (arith, is_within front rest row)
 
 walked_step : (clock : Ms) (front rest : List Row) (row : Row) (turns new : List Seen) → GroupsAloneShare (front ++ row ∷ rest) → turns ≡ turns_of (filter (is_due clock) front) → new ≡ next_turns clock row turns → new ≡ turns_of (filter (is_due clock) (front ++ row ∷ []))
 walked_step clock front rest row turns new share turned is =
