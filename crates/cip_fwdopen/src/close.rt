@@ -14,6 +14,9 @@ use cip_types::fields::{put_bytes, put_u8};
 use cip_types::{Fault, OutOfMemory, Triad};
 use std::alloc::Global;
 
+/// The bytes of the reply that says that a connection is closed.
+const CLOSED: usize = 14;
+
 /// The data of a Forward_Close.
 ///
 /// Volume 1, chapter 3, Forward_Close service.
@@ -168,7 +171,7 @@ pub fn write_closed(alloc: Global, triad: Triad) -> Result<Vec<u8>, OutOfMemory>
     ensures is_text { IfOk result (λ v. IsCloseReplyText v.items (closed_reply triad)) }
     ensures read_back { IfOk result (λ v. close_reply_reading v.items ≡ Ok (closed_reply triad)) }
 {
-    let mut out = Vec::new(alloc);
+    let mut out = Vec::with_capacity(alloc, CLOSED)?;
     put_bytes(&mut out, &[0xCE, 0, 0, 0])?;
     put_triad(&mut out, triad)?;
     put_bytes(&mut out, &[0, 0])?;

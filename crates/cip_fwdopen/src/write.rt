@@ -13,6 +13,9 @@ use cip_types::fields::{put_bytes, put_u8, put_u16, put_u32};
 use cip_types::{Fault, OutOfMemory, Triad};
 use std::alloc::Global;
 
+/// The bytes of the reply that says that a connection is open.
+const OPENED: usize = 30;
+
 fn put_params(out: &mut Vec<u8>, large: bool, params: &NetParams) -> Result<(), OutOfMemory>
     requires { params.now.size ≤ greatest_size large }
     ensures { OnOk result (out.new.items ≡ out.old.items ++ to_le_bytes (params_width large) (params_word large params.now)) }
@@ -76,7 +79,7 @@ pub fn write_opened(alloc: Global, large: bool, opened: &Opened) -> Result<Vec<u
     ensures is_text { IfOk result (λ v. IsOpenReplyText v.items (opened_reply large opened.now)) }
     ensures read_back { IfOk result (λ v. open_reply_reading v.items ≡ Ok (opened_reply large opened.now)) }
 {
-    let mut out = Vec::new(alloc);
+    let mut out = Vec::with_capacity(alloc, OPENED)?;
     put_u8(&mut out, if large { 0xDB } else { 0xD4 })?;
     put_bytes(&mut out, &[0, 0, 0])?;
     put_u32(&mut out, opened.o_t_id.0)?;
