@@ -37,15 +37,7 @@ pub fn period(count: u64, token: Token) -> u64
     if token.0 < count / 2 {
         return 160;
     }
-    match token.0 % 7 {
-        0 => 10,
-        1 => 15,
-        2 => 20,
-        3 => 25,
-        4 => 30,
-        5 => 35,
-        _ => 40,
-    }
+    10 + 5 * (token.0 % 7)
 }
 
 /// A steady load, or ticks of so many milliseconds in which nothing is due for 16,000 s.

@@ -16,11 +16,6 @@ pub const OWN: [u8; 50] = [
     0x24, 0x97, 0x2C, 0x96, 0x2C, 0x64,
 ];
 
-/// A datagram of the owner in run mode, with four bytes of data, before it is numbered.
-const DATAGRAM: [u8; 28] = [
-    2, 0, 2, 0x80, 8, 0, 0, 0, 0, 0, 0, 0, 0, 0, 0xB1, 0, 10, 0, 0, 0, 1, 0, 0, 0, 9, 8, 7, 6,
-];
-
 const fn point(instance: u32, len: u64) -> InputPoint {
     InputPoint { instance, len }
 }
@@ -68,11 +63,11 @@ pub fn open(alloc: Global, device: &mut PlainAdapter, bytes: &[u8]) -> Result<Co
     }
 }
 
-/// The owner's datagram with this number, as it comes.
+/// The owner's datagram with this number, in run mode, with four bytes of data.
 pub fn numbered(owner: ConnId, number: u32) -> [u8; 28] {
-    let mut bytes = DATAGRAM;
-    [bytes[6], bytes[7], bytes[8], bytes[9]] = owner.0.to_le_bytes();
-    [bytes[10], bytes[11], bytes[12], bytes[13]] = number.to_le_bytes();
-    [bytes[18], bytes[19]] = [bytes[10], bytes[11]];
-    bytes
+    let [a, b, c, d] = owner.0.to_le_bytes();
+    let [n, o, p, q] = number.to_le_bytes();
+    [
+        2, 0, 2, 0x80, 8, 0, a, b, c, d, n, o, p, q, 0xB1, 0, 10, 0, n, o, 1, 0, 0, 0, 9, 8, 7, 6,
+    ]
 }

@@ -32,11 +32,6 @@ const OPENED: [u8; 70] = [
     0x12, 0x78, 0x56, 0x34, 0x12, 0x10, 0x27, 0, 0, 0x10, 0x27, 0, 0, 0, 0,
 ];
 
-/// A datagram for the first slot, before it is numbered.
-const DATAGRAM: [u8; 24] = [
-    2, 0, 2, 0x80, 8, 0, 1, 0, 0, 0x20, 0, 0, 0, 0, 0xB1, 0, 6, 0, 0, 0, 9, 8, 7, 6,
-];
-
 /// An exclusive owner of output 150 for an input of its own, both of four bytes, at 10 ms.
 fn slot(alloc: Global, produced: u32) -> SlotConfig {
     SlotConfig {
@@ -82,36 +77,61 @@ fn frame(alloc: Global, device: &mut PlainScanner, bytes: &[u8]) -> Result<bool,
     Ok(matches!(answer.notices.as_slice(), [Notice::Slot(_, 3)]))
 }
 
-/// A scanner with so many slots, each of which is established.
-fn scanner(alloc: Global, slots: u8) -> Result<PlainScanner, BenchFault> {
-    let mut device = PlainScanner::new(alloc, Config::Scanner(profile(alloc, slots)?))?;
+/// The session with the target is registered.
+fn register(alloc: Global, device: &mut PlainScanner) -> Result<(), BenchFault> {
     let _registration = device.step(&Event::StreamOpened {
         stream: 0,
         peer: TARGET,
     })?;
-    let _registered = frame(alloc, &mut device, &REGISTERED)?;
+    let _registered = frame(alloc, device, &REGISTERED)?;
+    Ok(())
+}
+
+/// The reply to the request of this number, which opens a slot.
+fn opened(number: u8) -> [u8; 70] {
     let mut bytes = OPENED;
-    for index in 0..slots {
-        let _request = device.step(&Event::Start {
-            slot: u32::from(index),
-        })?;
-        let number = index.wrapping_add(1);
-        (bytes[12], bytes[44], bytes[48], bytes[52]) = (number, number, number, number);
-        if !frame(alloc, &mut device, &bytes)? {
-            return Err(BenchFault::Differs);
-        }
+    (bytes[12], bytes[44], bytes[48], bytes[52]) = (number, number, number, number);
+    bytes
+}
+
+/// A slot is started, and established.
+fn establish(alloc: Global, device: &mut PlainScanner, index: u8) -> Result<(), BenchFault> {
+    let slot = u32::from(index);
+    let _request = device.step(&Event::Start { slot })?;
+    if frame(alloc, device, &opened(index.wrapping_add(1)))? {
+        Ok(())
+    } else {
+        Err(BenchFault::Differs)
     }
+}
+
+fn establish_all(alloc: Global, device: &mut PlainScanner, slots: u8) -> Result<(), BenchFault> {
+    register(alloc, device)?;
+    for index in 0..slots {
+        establish(alloc, device, index)?;
+    }
+    Ok(())
+}
+
+/// A scanner with so many slots, each of which is established.
+fn scanner(alloc: Global, slots: u8) -> Result<PlainScanner, BenchFault> {
+    let mut device = PlainScanner::new(alloc, Config::Scanner(profile(alloc, slots)?))?;
+    establish_all(alloc, &mut device, slots)?;
     Ok(device)
+}
+
+/// A datagram of this number for the slot of this connection id, with four bytes of data.
+fn numbered(id: u8, number: u32) -> [u8; 24] {
+    let [n, o, p, q] = number.to_le_bytes();
+    [
+        2, 0, 2, 0x80, 8, 0, id, 0, 0, 0x20, n, o, p, q, 0xB1, 0, 6, 0, n, o, 9, 8, 7, 6,
+    ]
 }
 
 /// Sends so many datagrams for the slot of this connection id, each of which has to be applied.
 fn send_all(device: &mut PlainScanner, id: u8, count: u32) -> Result<(), BenchFault> {
-    let mut bytes = DATAGRAM;
-    bytes[6] = id;
     for number in 0..count {
-        [bytes[10], bytes[11], bytes[12], bytes[13]] = number.to_le_bytes();
-        [bytes[18], bytes[19]] = [bytes[10], bytes[11]];
-        if device.deliver(TARGET, &bytes) != Delivery::Applied {
+        if device.deliver(TARGET, &numbered(id, number)) != Delivery::Applied {
             return Err(BenchFault::Differs);
         }
     }

@@ -245,11 +245,20 @@ fn nearly_used(alloc: Global) -> Result<TableCopy, Fail> {
     Ok(copy.with_next_id(16_777_215))
 }
 
-/// Whether a new group, which needs two ids, is refused before an owner takes the last one and after it.
-fn uses_the_last(alloc: Global, device: &mut impl Device) -> bool {
+/// Whether a new group, which needs two ids, is refused.
+fn refuses_a_group(alloc: Global, device: &mut impl Device) -> bool {
     replies(alloc, device, &GATHER, &USED_UP)
-        && replies(alloc, device, &OPEN, &LAST_OPENED)
-        && replies(alloc, device, &GATHER, &USED_UP)
+}
+
+fn takes_an_owner(alloc: Global, device: &mut impl Device) -> bool {
+    replies(alloc, device, &OPEN, &LAST_OPENED)
+}
+
+/// Whether a new group is refused before an owner takes the last id and after it.
+fn uses_the_last(alloc: Global, device: &mut impl Device) -> bool {
+    refuses_a_group(alloc, device)
+        && takes_an_owner(alloc, device)
+        && refuses_a_group(alloc, device)
 }
 
 #[test]

@@ -37,11 +37,6 @@ const CLOSE: [u8; 24] = [
     0x24, 0x97, 0x2C, 0x98,
 ];
 
-/// A datagram of the owner in run mode, with four bytes of data, before it is numbered.
-const DATAGRAM: [u8; 28] = [
-    2, 0, 2, 0x80, 8, 0, 0, 0, 0, 0, 0, 0, 0, 0, 0xB1, 0, 10, 0, 0, 0, 1, 0, 0, 0, 9, 8, 7, 6,
-];
-
 /// Which connections an adapter has.
 #[derive(Clone, Copy, PartialEq, Eq)]
 pub enum Load {
@@ -103,16 +98,16 @@ fn peer(place: u8) -> Node {
 }
 
 /// A request of the peer at this place.
-fn request<D: Device>(
-    alloc: Global,
-    device: &mut D,
-    place: u8,
-    bytes: &[u8],
-) -> Result<Option<Notice>, TimesFault> {
-    let answer = device.step(&Event::Request {
+fn request(alloc: Global, place: u8, bytes: &[u8]) -> Result<Event, OutOfMemory> {
+    Ok(Event::Request {
         peer: peer(place),
         bytes: Items::copy_of(alloc, bytes)?,
-    })?;
+    })
+}
+
+/// What an adapter tells of a request.
+fn asked<D: Device>(device: &mut D, request: &Event) -> Result<Option<Notice>, TimesFault> {
+    let answer = device.step(request)?;
     Ok(answer.notices.as_slice().first().copied())
 }
 
@@ -125,22 +120,29 @@ fn opened(notice: Option<Notice>) -> Result<ConnId, TimesFault> {
 
 /// Opens the owner's connection, and gives its O->T id.
 pub fn own<D: Device>(alloc: Global, device: &mut D) -> Result<ConnId, TimesFault> {
-    opened(request(alloc, device, 0, &OWN)?)
+    opened(asked(device, &request(alloc, 0, &OWN)?)?)
 }
 
-/// Opens an input-only connection of the peer at this place.
-pub fn gather<D: Device>(
-    alloc: Global,
-    device: &mut D,
-    place: u8,
-    size: u8,
-    input: u8,
-) -> Result<ConnId, TimesFault> {
+/// A request to open an input-only connection of the peer at this place.
+fn opening(alloc: Global, place: u8, size: u8, input: u8) -> Result<Event, OutOfMemory> {
     let mut bytes = OWN;
     let serial = place.wrapping_add(2);
     (bytes[12], bytes[16], bytes[49]) = (serial, serial, input);
     (bytes[32], bytes[47], bytes[39]) = (2, 0x98, size);
-    opened(request(alloc, device, place, &bytes)?)
+    request(alloc, place, &bytes)
+}
+
+/// A request to open the last input-only connection.
+pub fn last_opening(alloc: Global) -> Result<Event, OutOfMemory> {
+    opening(alloc, MOST.wrapping_sub(1), SINGLE, INPUT)
+}
+
+/// A request to close the last input-only connection.
+pub fn last_closing(alloc: Global) -> Result<Event, OutOfMemory> {
+    let place = MOST.wrapping_sub(1);
+    let mut bytes = CLOSE;
+    bytes[8] = place.wrapping_add(2);
+    request(alloc, place, &bytes)
 }
 
 /// Opens so many input-only connections.
@@ -157,7 +159,7 @@ pub fn fill<D: Device>(
         } else {
             (SINGLE, INPUT)
         };
-        let _id = gather(alloc, device, place, size, input)?;
+        let _id = opened(asked(device, &opening(alloc, place, size, input)?)?)?;
         if load == Load::Scattered {
             let _sent = tick(device, 9)?;
         }
@@ -165,31 +167,46 @@ pub fn fill<D: Device>(
     Ok(())
 }
 
-/// Opens the last input-only connection, and closes it.
-pub fn open_and_close<D: Device>(alloc: Global, device: &mut D) -> Result<(), TimesFault> {
-    let place = MOST.wrapping_sub(1);
-    let _id = gather(alloc, device, place, SINGLE, INPUT)?;
-    let mut bytes = CLOSE;
-    bytes[8] = place.wrapping_add(2);
-    match request(alloc, device, place, &bytes)? {
+/// Opens a connection, and closes it.
+pub fn open_and_close<D: Device>(
+    device: &mut D,
+    open: &Event,
+    close: &Event,
+) -> Result<(), TimesFault> {
+    let _id = opened(asked(device, open)?)?;
+    match asked(device, close)? {
         Some(Notice::Closed(_)) => Ok(()),
         _ => Err(TimesFault::Differs),
     }
 }
 
-/// Sends the owner's datagram with this number, and data of its own.
-fn send<D: Device>(device: &mut D, owner: ConnId, number: u32) -> Delivery {
-    let mut bytes = DATAGRAM;
-    [bytes[6], bytes[7], bytes[8], bytes[9]] = owner.0.to_le_bytes();
-    [bytes[10], bytes[11], bytes[12], bytes[13]] = number.to_le_bytes();
-    [bytes[18], bytes[19]] = [bytes[10], bytes[11]];
-    device.deliver(peer(0), &bytes)
+/// An owner's datagram of this number, in run mode, with four bytes of data.
+pub fn datagram(owner: ConnId, number: u32) -> [u8; 28] {
+    let [a, b, c, d] = owner.0.to_le_bytes();
+    let [n, o, p, q] = number.to_le_bytes();
+    [
+        2, 0, 2, 0x80, 8, 0, a, b, c, d, n, o, p, q, 0xB1, 0, 10, 0, n, o, 1, 0, 0, 0, 9, 8, 7, 6,
+    ]
 }
 
-/// Sends so many datagrams, each of which has to be applied.
-pub fn send_all<D: Device>(device: &mut D, owner: ConnId, count: u32) -> Result<(), TimesFault> {
-    for number in 0..count {
-        if send(device, owner, number) != Delivery::Applied {
+/// So many datagrams of an owner, with the numbers from this one on.
+pub fn datagrams(
+    alloc: Global,
+    owner: ConnId,
+    first: u32,
+    count: u32,
+) -> Result<Vec<[u8; 28]>, OutOfMemory> {
+    let mut datagrams = Vec::new(alloc);
+    for place in 0..count {
+        datagrams.push(datagram(owner, first.wrapping_add(place)))?;
+    }
+    Ok(datagrams)
+}
+
+/// Sends datagrams, each of which has to be applied.
+pub fn send_all<D: Device>(device: &mut D, datagrams: &[[u8; 28]]) -> Result<(), TimesFault> {
+    for bytes in datagrams {
+        if device.deliver(peer(0), bytes) != Delivery::Applied {
             return Err(TimesFault::Differs);
         }
     }

@@ -1,13 +1,18 @@
 //! How long an adapter takes for a datagram, for a tick and for a connection that is opened and closed, with one
 //! connection and with as many as there can be: the adapter over a plain list and the fast one, in one run.
 //!
-//! With no word: short runs, and how many datagrams they came to. With the word `times`:
-//! nanoseconds of processor time. With the word `hold`: a fast adapter with all its connections, and nothing else.
+//! With no word: short runs, and how many datagrams they came to, and one batch over sockets. With the word `times`:
+//! nanoseconds of processor time. With the word `sockets`: datagrams a second over sockets of this host, beside sockets
+//! alone. With the word `hold`: a fast adapter with all its connections, and nothing else.
 #![tactic(auto)]
 
 mod clock;
+mod ends;
 mod fault;
 mod loads;
+mod peer;
+mod sockets;
+mod speed;
 mod times;
 
 use adapter_engine::FastAdapter;
@@ -61,18 +66,28 @@ fn hold(alloc: Global) -> Result<(), TimesFault> {
     fill(alloc, &mut device, Load::Singles, MOST)
 }
 
+/// The short runs of both engines.
+fn check_both(rt: &(impl Print + CpuClock), alloc: Global) -> Result<(), TimesFault> {
+    check::<PlainAdapter>(rt, alloc)?;
+    check::<FastAdapter>(rt, alloc)
+}
+
+/// The times of both engines.
+fn print_both(rt: &(impl Print + CpuClock), alloc: Global) -> Result<(), TimesFault> {
+    print_times::<PlainAdapter>(rt, alloc, "plain")?;
+    print_times::<FastAdapter>(rt, alloc, "fast")
+}
+
 fn main(rt: HostRuntime) -> Result<(), TimesFault> {
     let mut args = env::args(&rt)?;
     let _program = args.next();
     let Some(word) = args.next() else {
-        check::<PlainAdapter>(&rt, rt.alloc())?;
-        return check::<FastAdapter>(&rt, rt.alloc());
+        check_both(&rt, rt.alloc())?;
+        return sockets::check(rt);
     };
     match word.as_str() {
-        "times" => {
-            print_times::<PlainAdapter>(&rt, rt.alloc(), "plain")?;
-            print_times::<FastAdapter>(&rt, rt.alloc(), "fast")
-        }
+        "times" => print_both(&rt, rt.alloc()),
+        "sockets" => sockets::tell(rt),
         "hold" => hold(rt.alloc()),
         _ => Err(TimesFault::Usage),
     }

@@ -2,13 +2,20 @@
 
 use crate::clock::cpu_nanos;
 use crate::fault::TimesFault;
-use crate::loads::{Load, MOST, adapter, fill, open_and_close, own, send_all, tick};
-use cip_tables::Device;
+use crate::loads::{
+    Load, MOST, adapter, datagrams, fill, last_closing, last_opening, open_and_close, own,
+    send_all, tick,
+};
+use cip_tables::{Device, Event};
+use cip_types::ConnId;
 use std::alloc::Global;
 use std::rt::CpuClock;
 
 /// How often each time is taken; the best counts.
 const ROUNDS: u32 = 7;
+
+/// So many datagrams are made before they are sent.
+const BATCH: u32 = 500;
 
 /// What is timed.
 #[derive(Clone, Copy)]
@@ -39,6 +46,34 @@ fn done<D: Device + Drop>(
     }
 }
 
+/// The time in which these datagrams are taken.
+fn batch<D: Device>(
+    rt: &impl CpuClock,
+    device: &mut D,
+    datagrams: &[[u8; 28]],
+) -> Result<u64, TimesFault> {
+    let start = cpu_nanos(rt)?;
+    send_all(device, datagrams)?;
+    Ok(cpu_nanos(rt)?.wrapping_sub(start))
+}
+
+/// The time in which so many batches of datagrams of this size are taken, each made before its time begins.
+fn batches<D: Device>(
+    rt: &impl CpuClock,
+    alloc: Global,
+    device: &mut D,
+    owner: ConnId,
+    size: u32,
+    count: u32,
+) -> Result<u64, TimesFault> {
+    let mut nanos: u64 = 0;
+    for number in 0..count {
+        let made = datagrams(alloc, owner, number.wrapping_mul(size), size)?;
+        nanos = nanos.wrapping_add(batch(rt, device, made.as_slice())?);
+    }
+    Ok(nanos)
+}
+
 fn deliveries<D: Device + Drop>(
     rt: &impl CpuClock,
     alloc: Global,
@@ -48,9 +83,10 @@ fn deliveries<D: Device + Drop>(
     let mut device = adapter::<D>(alloc)?;
     fill(alloc, &mut device, Load::Singles, others)?;
     let owner = own(alloc, &mut device)?;
-    let start = cpu_nanos(rt)?;
-    send_all(&mut device, owner, count)?;
-    Ok((cpu_nanos(rt)?.wrapping_sub(start), u64::from(count)))
+    let size = count.min(BATCH);
+    let number = count.checked_div(size).unwrap_or(0);
+    let nanos = batches(rt, alloc, &mut device, owner, size, number)?;
+    Ok((nanos, u64::from(count)))
 }
 
 fn ticks<D: Device + Drop>(
@@ -80,6 +116,21 @@ fn waits<D: Device + Drop>(
     Ok((nanos, u64::from(count)))
 }
 
+/// The time in which a connection is opened and closed so often.
+fn reopened<D: Device>(
+    rt: &impl CpuClock,
+    device: &mut D,
+    open: &Event,
+    close: &Event,
+    count: u32,
+) -> Result<u64, TimesFault> {
+    let start = cpu_nanos(rt)?;
+    for _ in 0..count {
+        open_and_close(device, open, close)?;
+    }
+    Ok(cpu_nanos(rt)?.wrapping_sub(start))
+}
+
 fn openings<D: Device + Drop>(
     rt: &impl CpuClock,
     alloc: Global,
@@ -87,11 +138,9 @@ fn openings<D: Device + Drop>(
 ) -> Result<(u64, u64), TimesFault> {
     let mut device = adapter::<D>(alloc)?;
     fill(alloc, &mut device, Load::Singles, MOST.wrapping_sub(1))?;
-    let start = cpu_nanos(rt)?;
-    for _ in 0..count {
-        open_and_close(alloc, &mut device)?;
-    }
-    Ok((cpu_nanos(rt)?.wrapping_sub(start), u64::from(count)))
+    let (open, close) = (last_opening(alloc)?, last_closing(alloc)?);
+    let nanos = reopened(rt, &mut device, &open, &close, count)?;
+    Ok((nanos, u64::from(count)))
 }
 
 /// Prints how many datagrams were sent or delivered in a short run.

@@ -1,7 +1,12 @@
 //! Plays traces over the devices of the line, each named for the behaviour that it shows, and prints a line
 //! for each: whether all outcomes are as recorded. An adapter's traces are played over each of its engines, which have
 //! to tell the same of every event, recorded or not.
+//!
+//! The traces behind the word `driven` are driven over memory instead, with a failure at each call of the port.
 #![tactic(auto)]
+
+mod driven;
+mod script;
 
 use adapter_engine::FastAdapter;
 use cip_tables::Config;
@@ -29,7 +34,16 @@ enum Failure {
     Engines,
 }
 
-/// Plays the traces whose files the command line names.
+/// What is done with the traces that are named.
+#[derive(Clone, Copy, PartialEq, Eq)]
+enum Task {
+    /// They are played over each engine.
+    Play,
+    /// They are driven over memory.
+    Drive,
+}
+
+/// Does what is to be done with the traces whose files the command line names.
 fn main(rt: HostRuntime) -> ExitCode {
     let Ok(words) = env::args(&rt) else {
         return ExitCode::from(2);
@@ -37,20 +51,44 @@ fn main(rt: HostRuntime) -> ExitCode {
     let Ok(words) = words.collect::<Vec<String>>(rt.alloc()) else {
         return ExitCode::from(2);
     };
+    let mut task = Task::Play;
     let mut status = 0;
-    for name in words.iter().skip(1) {
-        let told = match held(&rt, name.as_str()) {
-            Ok(engines) => println!(rt; "{name} holds over {engines}"),
-            Err(failure) => {
-                status = 1;
-                println!(rt; "{name}: {failure}")
-            }
-        };
-        if told.is_err() {
+    for word in words.iter().skip(1) {
+        if word.as_str() == "driven" {
+            task = Task::Drive;
+        } else if !is_well(&rt, task, word.as_str()) {
             status = 1;
         }
     }
     ExitCode::from(status)
+}
+
+/// Whether the trace of this file gives what it is to give, and all of it was printed.
+fn is_well<R: AllocGlobal + Files + Print>(rt: &R, task: Task, name: &str) -> bool {
+    match task {
+        Task::Play => is_played(rt, name),
+        Task::Drive => is_driven(rt, name),
+    }
+}
+
+fn is_driven<R: AllocGlobal + Files + Print>(rt: &R, name: &str) -> bool {
+    match driven::run(rt, name) {
+        Ok(()) => true,
+        Err(failure) => {
+            let _ = println!(rt; "{name}: {failure}");
+            false
+        }
+    }
+}
+
+fn is_played<R: AllocGlobal + Files + Print>(rt: &R, name: &str) -> bool {
+    match held(rt, name) {
+        Ok(engines) => println!(rt; "{name} holds over {engines}").is_ok(),
+        Err(failure) => {
+            let _ = println!(rt; "{name}: {failure}");
+            false
+        }
+    }
 }
 
 /// Whether the trace of this file holds over each engine, and which they are.

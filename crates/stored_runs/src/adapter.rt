@@ -109,7 +109,8 @@ fn print_receipt(rt: &impl Print, alloc: Global, receipt: Receipt) -> Result<(),
     print_answer(rt, alloc, u64::from(index), &Ok(receipt.answer))
 }
 
-fn print_answer(
+/// Prints what a device answers, as its trace would.
+pub fn print_answer(
     rt: &impl Print,
     alloc: Global,
     number: u64,
@@ -122,6 +123,14 @@ fn print_answer(
     Ok(())
 }
 
+/// The receipt for an event that a book takes.
+pub fn take<D: Device + Drop>(book: &mut Book<D>, event: Event) -> Result<Receipt, RunFault> {
+    match book.step(event) {
+        Ok(receipt) => Ok(receipt),
+        Err(fault) => Err(RunFault::Book(fault)),
+    }
+}
+
 /// Steps a book at an event, and prints the receipt.
 pub fn step<D: Device + Drop>(
     rt: &impl Print,
@@ -129,5 +138,5 @@ pub fn step<D: Device + Drop>(
     book: &mut Book<D>,
     event: Event,
 ) -> Result<(), RunFault> {
-    print_receipt(rt, alloc, book.step(event)?)
+    print_receipt(rt, alloc, take(book, event)?)
 }

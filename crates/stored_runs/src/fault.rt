@@ -8,6 +8,7 @@ use std::alloc::AllocError;
 use std::io;
 use thiserror::Error;
 use trace_text::TraceFault;
+use trace_words::LineFault;
 
 /// Why the program ends early.
 #[derive(Debug, Drop, Error)]
@@ -18,6 +19,8 @@ pub enum RunFault {
     Differs,
     #[error("the last segment is begun")]
     Rotated,
+    #[error("a line of a story that is none")]
+    Line,
     #[error("a wrong profile")]
     Profile(ProfileFault),
     #[error(transparent)]
@@ -47,5 +50,14 @@ impl From<AllocError> for RunFault {
 impl From<ProfileFault> for RunFault {
     fn from(first: ProfileFault) -> RunFault {
         RunFault::Profile(first)
+    }
+}
+
+impl From<LineFault> for RunFault {
+    fn from(fault: LineFault) -> RunFault {
+        match fault {
+            LineFault::Bad => RunFault::Line,
+            LineFault::OutOfMemory => RunFault::OutOfMemory,
+        }
     }
 }

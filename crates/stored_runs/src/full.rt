@@ -1,27 +1,28 @@
 //! A segment with as many events as one holds.
 
-use crate::adapter::{book, rotated, step, tick};
+use crate::adapter::{book, rotated, step, take, tick};
 use crate::fault::RunFault;
 use cip_tables::Device;
-use device_lock::{Book, BookFault, MOST_EVENTS, Segment};
+use device_lock::{Book, MOST_EVENTS, Segment};
 use std::alloc::Global;
+
+// One event more.
+fn one<D: Device + Drop>(book: &mut Book<D>) -> Result<(), RunFault> {
+    let _index = take(book, tick(0))?.index;
+    Ok(())
+}
 
 fn fill<D: Device + Drop>(book: &mut Book<D>) -> Result<(), RunFault> {
     for _ in 0..MOST_EVENTS {
-        let _index = book.step(tick(0))?.index;
+        one(book)?;
     }
     Ok(())
 }
 
-// What a book refuses one event more for.
-fn refusal<D: Device + Drop>(book: &mut Book<D>) -> Option<BookFault> {
-    book.step(tick(0)).err()
-}
-
-fn print_refusal(rt: &impl Print, refusal: Option<BookFault>) -> Result<(), RunFault> {
-    match refusal {
-        Some(fault) => println!(rt; "{fault}")?,
-        None => println!(rt; "the segment takes one event more")?,
+fn print_refusal(rt: &impl Print, taken: Result<(), RunFault>) -> Result<(), RunFault> {
+    match taken {
+        Ok(()) => println!(rt; "the segment takes one event more")?,
+        Err(fault) => println!(rt; "{fault}")?,
     }
     Ok(())
 }
@@ -37,7 +38,7 @@ fn overfill<D: Device + Drop>(
     book: &mut Book<D>,
 ) -> Result<(), RunFault> {
     fill(book)?;
-    print_refusal(rt, refusal(book))?;
+    print_refusal(rt, one(book))?;
     print_length(rt, &rotated(book)?)?;
     step(rt, alloc, book, tick(0))
 }

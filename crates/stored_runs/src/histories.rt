@@ -1,6 +1,6 @@
 //! Segments that follow on one another, and some that do not.
 
-use crate::adapter::{book, config, datagram, opening, rotated, tick};
+use crate::adapter::{book, config, datagram, opening, rotated, take, tick};
 use crate::fault::RunFault;
 use adapter_engine::FastAdapter;
 use cip_tables::{Device, Event};
@@ -19,23 +19,44 @@ fn end<D: Device + Drop>(
     segments: &mut Vec<Segment>,
     event: Event,
 ) -> Result<(), RunFault> {
-    let _index = book.step(event)?.index;
+    let _index = take(book, event)?.index;
     Ok(keep(segments, rotated(book)?)?)
 }
 
-// A connection is opened, data come, the adapter produces. The first event ends its segment or not.
+// A connection is opened, which ends its segment or not.
+fn begin<D: Device + Drop>(
+    alloc: Global,
+    book: &mut Book<D>,
+    segments: &mut Vec<Segment>,
+    apart: bool,
+) -> Result<(), RunFault> {
+    let event = opening(alloc)?;
+    if apart {
+        end(book, segments, event)
+    } else {
+        let _index = take(book, event)?.index;
+        Ok(())
+    }
+}
+
+// Data come.
+fn feed<D: Device + Drop>(
+    alloc: Global,
+    book: &mut Book<D>,
+    segments: &mut Vec<Segment>,
+) -> Result<(), RunFault> {
+    end(book, segments, datagram(alloc)?)
+}
+
+// A connection is opened, data come, the adapter produces.
 fn store<D: Device + Drop>(
     alloc: Global,
     book: &mut Book<D>,
     segments: &mut Vec<Segment>,
     apart: bool,
 ) -> Result<(), RunFault> {
-    if apart {
-        end(book, segments, opening(alloc)?)?;
-    } else {
-        let _index = book.step(opening(alloc)?)?.index;
-    }
-    end(book, segments, datagram(alloc)?)?;
+    begin(alloc, book, segments, apart)?;
+    feed(alloc, book, segments)?;
     end(book, segments, tick(1))
 }
 
@@ -82,18 +103,21 @@ fn print_places(rt: &impl Print, history: &History) -> Result<(), RunFault> {
     Ok(())
 }
 
+// The segments of a fresh adapter's book: the first event stands in one of its own, or with the second.
+fn stored(alloc: Global, apart: bool) -> Result<Vec<Segment>, RunFault> {
+    let mut segments = Vec::new(alloc);
+    store(alloc, &mut book(alloc)?, &mut segments, apart)?;
+    Ok(segments)
+}
+
 // Two segments: the first two events, and the third.
 fn two(alloc: Global) -> Result<Vec<Segment>, RunFault> {
-    let mut segments = Vec::new(alloc);
-    store(alloc, &mut book(alloc)?, &mut segments, false)?;
-    Ok(segments)
+    stored(alloc, false)
 }
 
 // Three segments of one event each.
 fn three(alloc: Global) -> Result<Vec<Segment>, RunFault> {
-    let mut segments = Vec::new(alloc);
-    store(alloc, &mut book(alloc)?, &mut segments, true)?;
-    Ok(segments)
+    stored(alloc, true)
 }
 
 // The three without one of them.

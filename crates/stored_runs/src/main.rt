@@ -1,9 +1,9 @@
 //! Runs of devices, fast adapters and plain scanners, each as it is told step by step.
 //!
-//! First devices on a simulated segment, act by act. In the race of two owners of one output a datagram that the first
-//! owner sent comes after the next owner has opened its connection, and changes nothing. Then a reply comes too late,
-//! and last stands what no segment is made of. What a device answers is printed behind its name, as its trace would
-//! tell it.
+//! First devices on a simulated segment, act by act, as files tell it. In the race of two owners of one output a
+//! datagram that the first owner sent comes after the next owner has opened its connection, and changes nothing. Then a
+//! reply comes too late. What a device answers is printed behind its name, as its trace would tell it. Then stands what
+//! no segment is made of, and a scanner that has no connection id left.
 //!
 //! Then books of an adapter: what they hand out, the histories that their segments give, a full one, and one that two
 //! threads step. What came of each is printed.
@@ -14,20 +14,22 @@ mod devices;
 mod fault;
 mod full;
 mod histories;
-mod late_reply;
-mod race;
+mod last_id;
 mod refusals;
 mod rotations;
 mod scene;
 mod shared;
-mod story;
+mod stories;
+mod text;
 
+use devices::{ADAPTER, FIRST, SECOND};
 use fault::RunFault;
 
 fn main(rt: HostRuntime) -> Result<(), RunFault> {
-    race::late_datagram(&rt, rt.alloc())?;
-    late_reply::late_reply(&rt, rt.alloc())?;
+    stories::tell(&rt, "race.story", &[ADAPTER, FIRST, SECOND])?;
+    stories::tell(&rt, "late_reply.story", &[ADAPTER, FIRST])?;
     refusals::no_worlds(&rt, rt.alloc())?;
+    last_id::tell(&rt, rt.alloc())?;
     rotations::tell(&rt, rt.alloc())?;
     histories::tell(&rt, rt.alloc())?;
     full::tell(&rt, rt.alloc())?;

@@ -7,13 +7,20 @@ use cip_tables::{Device, Event, TableCopy, run};
 use device_lock::{Book, Segment};
 use std::alloc::Global;
 
+fn play(alloc: Global, device: &mut impl Device, events: &[Event]) -> Result<(), RunFault> {
+    match run(alloc, device, events) {
+        Ok(_) => Ok(()),
+        Err(_) => Err(RunFault::OutOfMemory),
+    }
+}
+
 // The table of a device once it has had some events.
 fn table_after(
     alloc: Global,
     device: &mut impl Device,
     events: &[Event],
 ) -> Result<TableCopy, RunFault> {
-    let _count = run(alloc, device, events)?.len();
+    play(alloc, device, events)?;
     Ok(device.copy()?)
 }
 

@@ -2,21 +2,14 @@
 
 use crate::devices::configs;
 use crate::fault::RunFault;
-use crate::story::{push_fault, push_line, push_lines};
+use crate::text::{push_fault, push_line, push_lines};
 use adapter_engine::FastAdapter;
 use cip_tables::{Answer, Outcome};
-use cip_types::{Items, OutOfMemory};
+use cip_types::OutOfMemory;
 use plain_engine::PlainScanner;
-use segment_world::{Act, Call, Direction, World};
+use segment_world::{Act, World};
 use std::alloc::Global;
 use trace_outcomes::write_outcome;
-
-/// The place and the name of a device.
-#[derive(Clone, Copy)]
-pub struct Player {
-    pub place: u32,
-    pub name: &'static str,
-}
 
 /// How many events each of three devices has had.
 #[derive(Clone, Copy)]
@@ -87,77 +80,16 @@ impl Scene {
         push_line(&mut self.story, "#", words)
     }
 
-    /// One act, which makes an event of this device, if it makes one. Tells what the device answers, as its trace
-    /// would, behind its name; or why the act did not happen.
-    pub fn act(&mut self, who: Player, act: &Act) -> Result<(), OutOfMemory> {
+    /// One act, which makes an event of the device at this place, if it makes one. Tells what the device answers, as its
+    /// trace would, behind its name; or why the act did not happen.
+    pub fn act(&mut self, name: &str, place: u32, act: &Act) -> Result<(), OutOfMemory> {
         match self.world.act(act) {
             Ok(Some(answer)) => {
-                let lines = lines_of(self.alloc, self.events.next(who.place), answer)?;
-                push_lines(&mut self.story, who.name, lines.as_str())
+                let lines = lines_of(self.alloc, self.events.next(place), answer)?;
+                push_lines(&mut self.story, name, lines.as_str())
             }
             Ok(None) => Ok(()),
             Err(fault) => push_fault(self.alloc, &mut self.story, fault),
         }
-    }
-
-    /// A device's application does something, or time passes at it.
-    pub fn call(&mut self, who: Player, call: Call) -> Result<(), OutOfMemory> {
-        let act = Act::Local {
-            device: who.place,
-            call,
-        };
-        self.act(who, &act)
-    }
-
-    /// Time passes at a device.
-    pub fn tick(&mut self, who: Player, ms: u32) -> Result<(), OutOfMemory> {
-        self.call(who, Call::Tick { ms })
-    }
-
-    /// The application of a device sets four bytes.
-    pub fn write(&mut self, who: Player, point: u32, bytes: [u8; 4]) -> Result<(), OutOfMemory> {
-        let bytes = Items::copy_of(self.alloc, &bytes)?;
-        self.call(who, Call::Write { point, bytes })
-    }
-
-    /// The application of a device asks what a point holds.
-    pub fn read(&mut self, who: Player, point: u32) -> Result<(), OutOfMemory> {
-        self.call(who, Call::Read { point })
-    }
-
-    /// A device opens a stream to another.
-    pub fn open_stream(&mut self, from: Player, to: Player) -> Result<(), OutOfMemory> {
-        let act = Act::OpenStream {
-            from: from.place,
-            to: to.place,
-        };
-        self.act(from, &act)
-    }
-
-    /// What waits for the device that accepted a stream comes to it.
-    pub fn forth(&mut self, who: Player, stream: u16) -> Result<(), OutOfMemory> {
-        let act = Act::NextFrame {
-            stream,
-            direction: Direction::Forth,
-        };
-        self.act(who, &act)
-    }
-
-    /// What waits for the device that opened a stream comes to it.
-    pub fn back(&mut self, who: Player, stream: u16) -> Result<(), OutOfMemory> {
-        let act = Act::NextFrame {
-            stream,
-            direction: Direction::Back,
-        };
-        self.act(who, &act)
-    }
-
-    /// A datagram that was sent comes to a device.
-    pub fn deliver(&mut self, who: Player, index: usize) -> Result<(), OutOfMemory> {
-        let act = Act::Deliver {
-            index,
-            device: who.place,
-        };
-        self.act(who, &act)
     }
 }

@@ -18,10 +18,10 @@ const THREADS: [u8; 2] = [1, 2];
 
 // What a thread writes, by its number and that of the write.
 fn write(alloc: Global, thread: u8, number: u16) -> Result<Event, OutOfMemory> {
-    let [high, low] = number.to_be_bytes();
+    let bytes = (u32::from(thread) << 24 | u32::from(number)).to_be_bytes();
     Ok(Event::Write {
         point: 100,
-        bytes: Items::copy_of(alloc, &[thread, 0, high, low])?,
+        bytes: Items::copy_of(alloc, &bytes)?,
     })
 }
 

@@ -1,5 +1,6 @@
 //! Traces with their outcomes recorded: of an owner whose second datagram brings no new data, and of slots.
 
+use cip_tables::Outcome;
 use plain_engine::PlainAdapter;
 use std::alloc::Global;
 use std::test::Fail;
@@ -38,29 +39,39 @@ fn what_is_told_of_slots_is_written_again(rt: HostRuntime) -> Result<(), Fail> {
     Ok(())
 }
 
+/// Whether the outcomes of a trace's events compare so with what is recorded.
+fn compares_as(trace: &Trace, alloc: Global, wanted: Result<(), Differs>) -> bool {
+    match replay::<PlainAdapter>(alloc, trace) {
+        Ok(report) => compare(trace, report.outcomes.as_slice()) == wanted,
+        Err(_) => false,
+    }
+}
+
 #[test]
 fn replayed_outcomes_are_as_recorded(rt: HostRuntime) -> Result<(), Fail> {
     let trace = read_trace(rt.alloc(), TRACE.as_bytes())?;
-    let report = replay::<PlainAdapter>(rt.alloc(), &trace)?;
-    assert!(rt; compare(&trace, report.outcomes.as_slice()).is_ok());
+    assert!(rt; compares_as(&trace, rt.alloc(), Ok(())));
     Ok(())
 }
 
 #[test]
 fn the_first_difference_is_told(rt: HostRuntime) -> Result<(), Fail> {
     let trace = read_trace(rt.alloc(), OLD.as_bytes())?;
-    let report = replay::<PlainAdapter>(rt.alloc(), &trace)?;
-    assert!(rt; compare(&trace, report.outcomes.as_slice()) == Err(Differs(2)));
+    assert!(rt; compares_as(&trace, rt.alloc(), Err(Differs(2))));
     Ok(())
 }
 
+fn is_written_so(outcome: &Outcome, alloc: Global, text: &str) -> bool {
+    match write_outcome(alloc, 1, outcome) {
+        Ok(told) => told.as_str() == text,
+        Err(_) => false,
+    }
+}
+
 fn is_recorded_as(recorded: &Recorded, alloc: Global, text: &str) -> bool {
-    match recorded
-        .get()
-        .map(|outcome| write_outcome(alloc, 1, outcome))
-    {
-        Some(Ok(told)) => told.as_str() == text,
-        _ => false,
+    match recorded.get() {
+        Some(outcome) => is_written_so(outcome, alloc, text),
+        None => false,
     }
 }
 

@@ -2,7 +2,7 @@
 
 use crate::clock::cpu_nanos;
 use crate::ends::{Bare, Driven, End};
-use crate::fault::BenchFault;
+use crate::fault::TimesFault;
 use crate::peer::{BATCH, Peer, listener, socket};
 use cip_tables::Device;
 use std::net::{Net, TcpListener, TcpStream};
@@ -14,7 +14,7 @@ fn time<E: End>(
     peer: &mut Peer,
     end: &mut E,
     batches: u32,
-) -> Result<u64, BenchFault> {
+) -> Result<u64, TimesFault> {
     let mut nanos = 0u64;
     for _ in 0..batches {
         peer.send(BATCH)?;
@@ -28,14 +28,14 @@ fn time<E: End>(
 }
 
 /// What a socket alone needs.
-pub fn bare<R: Net + CpuClock>(rt: &R, batches: u32) -> Result<u64, BenchFault> {
+pub fn bare<R: Net + CpuClock>(rt: &R, batches: u32) -> Result<u64, TimesFault> {
     let here = socket(rt)?;
     let mut peer = Peer::of(rt, &here)?;
     time(rt, &mut peer, &mut Bare { socket: here }, batches)
 }
 
 /// What an adapter with an owner needs.
-pub fn driven<D, R>(rt: R, batches: u32) -> Result<u64, BenchFault>
+pub fn driven<D, R>(rt: R, batches: u32) -> Result<u64, TimesFault>
 where
     R: AllocGlobal + Clock + CpuClock + Net<Listener = TcpListener, Stream = TcpStream>,
     R: Copy + Drop,

@@ -1,25 +1,21 @@
-//! Drives an adapter over memory by the traces that the command line names: a tick and what comes after it make a
-//! turn. Prints what is sent, and then shows for each call of the port that its failure ends the run there.
-#![tactic(auto)]
+//! Drives an adapter over memory by a trace: a tick and what comes after it make a turn. Prints what is sent, and then
+//! shows for each call of the port that its failure ends the run there.
 
-mod script;
-
+use crate::script::{Script, read_script};
 use cip_events::NewFault;
 use cip_tables::{Device, TableCopy};
 use cip_types::{Node, OutOfMemory};
 use plain_engine::PlainAdapter;
-use script::{Script, read_script};
 use std::alloc::{AllocError, Global};
 use std::fs::{self, Files};
-use std::process::ExitCode;
-use std::{env, io};
+use std::io;
 use thiserror::Error;
 use trace_text::TraceFault;
 use udp_runner::{MemoryPort, Port, RunFault, Sent, SteppedClock, drive};
 
 /// Why a trace is not driven.
 #[derive(Debug, Drop, Error)]
-enum Failure {
+pub enum DriveFailure {
     #[error("no memory")]
     OutOfMemory,
     #[error("an event that comes over no port")]
@@ -34,15 +30,15 @@ enum Failure {
     Io(#[from] io::Error),
 }
 
-impl From<OutOfMemory> for Failure {
-    fn from(_error: OutOfMemory) -> Failure {
-        Failure::OutOfMemory
+impl From<OutOfMemory> for DriveFailure {
+    fn from(_error: OutOfMemory) -> DriveFailure {
+        DriveFailure::OutOfMemory
     }
 }
 
-impl From<AllocError> for Failure {
-    fn from(_error: AllocError) -> Failure {
-        Failure::OutOfMemory
+impl From<AllocError> for DriveFailure {
+    fn from(_error: AllocError) -> DriveFailure {
+        DriveFailure::OutOfMemory
     }
 }
 
@@ -55,7 +51,7 @@ struct Driven {
 }
 
 /// Drives a fresh adapter by the trace, over a port that fails at the call of that number.
-fn play(alloc: Global, text: &[u8], fails_at: u64) -> Result<Driven, Failure> {
+fn play(alloc: Global, text: &[u8], fails_at: u64) -> Result<Driven, DriveFailure> {
     let Script {
         config,
         times,
@@ -83,7 +79,7 @@ fn ends_at(part: &Driven, call: u64, whole: &Driven) -> bool {
 
 /// Whether a failure of each call ends the run there. The last call of a run is to be a send: the device then
 /// stands after the event whose answer could not be sent, as it does where nothing fails.
-fn ends_everywhere(alloc: Global, text: &[u8], whole: &Driven) -> Result<bool, Failure> {
+fn ends_everywhere(alloc: Global, text: &[u8], whole: &Driven) -> Result<bool, DriveFailure> {
     let mut last = false;
     for call in 1..=whole.port.calls() {
         let part = play(alloc, text, call)?;
@@ -95,7 +91,7 @@ fn ends_everywhere(alloc: Global, text: &[u8], whole: &Driven) -> Result<bool, F
     Ok(last)
 }
 
-fn print_sent(rt: &impl Print, alloc: Global, sent: &Sent) -> Result<(), Failure> {
+fn print_sent(rt: &impl Print, alloc: Global, sent: &Sent) -> Result<(), DriveFailure> {
     match sent {
         Sent::Frame { stream, bytes } => {
             let digits = hex::encode(alloc, bytes.as_slice())?;
@@ -112,42 +108,53 @@ fn print_sent(rt: &impl Print, alloc: Global, sent: &Sent) -> Result<(), Failure
     Ok(())
 }
 
-/// Drives an adapter by the trace of this file.
-fn show<R: AllocGlobal + Files + Print>(rt: &R, name: &str) -> Result<(), Failure> {
-    let text = fs::read(rt, name)?;
-    let whole = play(rt.alloc(), text.as_slice(), 0)?;
-    let events = match &whole.outcome {
-        Ok(events) => *events,
-        Err(fault) => return Err(Failure::Run(*fault)),
-    };
-    println!(rt; "{name}: {events} events")?;
-    for sent in whole.port.sent() {
-        print_sent(rt, rt.alloc(), sent)?;
+fn print_events(rt: &impl Print, name: &str, whole: &Driven) -> Result<(), DriveFailure> {
+    match &whole.outcome {
+        Ok(events) => Ok(println!(rt; "{name}: {events} events")?),
+        Err(fault) => Err(DriveFailure::Run(*fault)),
     }
-    let calls = whole.port.calls();
-    let said = if ends_everywhere(rt.alloc(), text.as_slice(), &whole)? {
+}
+
+fn print_all_sent(rt: &impl Print, alloc: Global, whole: &Driven) -> Result<(), DriveFailure> {
+    for sent in whole.port.sent() {
+        print_sent(rt, alloc, sent)?;
+    }
+    Ok(())
+}
+
+fn print_calls(
+    rt: &impl Print,
+    name: &str,
+    calls: u64,
+    everywhere: bool,
+) -> Result<(), DriveFailure> {
+    let said = if everywhere {
         "each ends the run where it fails"
     } else {
         "one does not end the run where it fails"
     };
-    println!(rt; "{name}: of {calls} calls {said}")?;
-    Ok(())
+    Ok(println!(rt; "{name}: of {calls} calls {said}")?)
 }
 
-/// Drives an adapter by each of the traces whose files the command line names.
-fn main(rt: HostRuntime) -> ExitCode {
-    let Ok(words) = env::args(&rt) else {
-        return ExitCode::from(2);
-    };
-    let Ok(words) = words.collect::<Vec<String>>(rt.alloc()) else {
-        return ExitCode::from(2);
-    };
-    let mut status = 0;
-    for name in words.iter().skip(1) {
-        if let Err(failure) = show(&rt, name.as_str()) {
-            status = 1;
-            let _ = println!(rt; "{name}: {failure}");
-        }
-    }
-    ExitCode::from(status)
+fn print_run(
+    rt: &impl Print,
+    alloc: Global,
+    name: &str,
+    text: &[u8],
+    whole: &Driven,
+) -> Result<(), DriveFailure> {
+    print_events(rt, name, whole)?;
+    print_all_sent(rt, alloc, whole)?;
+    let everywhere = ends_everywhere(alloc, text, whole)?;
+    print_calls(rt, name, whole.port.calls(), everywhere)
+}
+
+fn show(rt: &impl Print, alloc: Global, name: &str, text: &[u8]) -> Result<(), DriveFailure> {
+    print_run(rt, alloc, name, text, &play(alloc, text, 0)?)
+}
+
+/// Drives an adapter by the trace of this file.
+pub fn run<R: AllocGlobal + Files + Print>(rt: &R, name: &str) -> Result<(), DriveFailure> {
+    let text = fs::read(rt, name)?;
+    show(rt, rt.alloc(), name, text.as_slice())
 }

@@ -1,6 +1,7 @@
-//! The peers.
+//! Peers that do what no peer should.
 
-use crate::hall::{Hall, Heard, HostileFault, write};
+use crate::fault::SocketFault;
+use crate::hall::{Hall, Heard, write};
 use std::net::{Net, TcpListener, TcpStream};
 use std::rt::Clock;
 
@@ -24,7 +25,7 @@ const NOTHING: [u8; 240] = [0; 240];
 const MOST_REQUESTS: u32 = 40_000;
 
 /// Whether the peer gets a session.
-fn registers<R: Clock + Drop>(hall: &mut Hall<R>, peer: &TcpStream) -> Result<bool, HostileFault> {
+fn registers<R: Clock + Drop>(hall: &mut Hall<R>, peer: &TcpStream) -> Result<bool, SocketFault> {
     if write(peer, &REGISTER) != Some(REGISTER.len()) {
         return Ok(false);
     }
@@ -32,7 +33,7 @@ fn registers<R: Clock + Drop>(hall: &mut Hall<R>, peer: &TcpStream) -> Result<bo
 }
 
 /// Half a message, and then the end: the next peer gets a session.
-pub fn half_message<R>(hall: &mut Hall<R>) -> Result<bool, HostileFault>
+pub fn half_message<R>(hall: &mut Hall<R>) -> Result<bool, SocketFault>
 where
     R: AllocGlobal + Clock + Net<Listener = TcpListener, Stream = TcpStream> + Copy + Drop,
 {
@@ -45,7 +46,7 @@ where
 }
 
 /// A message in pieces of one byte gets its answer.
-pub fn single_bytes<R>(hall: &mut Hall<R>) -> Result<bool, HostileFault>
+pub fn single_bytes<R>(hall: &mut Hall<R>) -> Result<bool, SocketFault>
 where
     R: AllocGlobal + Clock + Net<Listener = TcpListener, Stream = TcpStream> + Copy + Drop,
 {
@@ -60,7 +61,7 @@ where
 }
 
 /// A message that is too long ends its stream.
-pub fn message_too_long<R>(hall: &mut Hall<R>) -> Result<bool, HostileFault>
+pub fn message_too_long<R>(hall: &mut Hall<R>) -> Result<bool, SocketFault>
 where
     R: AllocGlobal + Clock + Net<Listener = TcpListener, Stream = TcpStream> + Copy + Drop,
 {
@@ -70,7 +71,7 @@ where
 }
 
 /// As many messages as a peer can write do not keep another one from its session.
-pub fn flood_of_messages<R>(hall: &mut Hall<R>) -> Result<bool, HostileFault>
+pub fn flood_of_messages<R>(hall: &mut Hall<R>) -> Result<bool, SocketFault>
 where
     R: AllocGlobal + Clock + Net<Listener = TcpListener, Stream = TcpStream> + Copy + Drop,
 {
@@ -88,7 +89,7 @@ where
 }
 
 /// As many datagrams as a peer can throw do not keep another one from its session.
-pub fn flood_of_datagrams<R>(hall: &mut Hall<R>) -> Result<bool, HostileFault>
+pub fn flood_of_datagrams<R>(hall: &mut Hall<R>) -> Result<bool, SocketFault>
 where
     R: AllocGlobal + Clock + Net<Listener = TcpListener, Stream = TcpStream> + Copy + Drop,
 {
@@ -103,7 +104,7 @@ where
 }
 
 /// A peer ends without reading its answer, which resets its connection: the next one gets a session.
-pub fn reset<R>(hall: &mut Hall<R>) -> Result<bool, HostileFault>
+pub fn reset<R>(hall: &mut Hall<R>) -> Result<bool, SocketFault>
 where
     R: AllocGlobal + Clock + Net<Listener = TcpListener, Stream = TcpStream> + Copy + Drop,
 {
@@ -117,7 +118,7 @@ where
 }
 
 /// The first peer asks, and never reads an answer: its stream ends.
-pub fn never_reads<R>(hall: &mut Hall<R>) -> Result<bool, HostileFault>
+pub fn never_reads<R>(hall: &mut Hall<R>) -> Result<bool, SocketFault>
 where
     R: AllocGlobal + Clock + Net<Listener = TcpListener, Stream = TcpStream> + Copy + Drop,
 {
@@ -135,7 +136,7 @@ where
 }
 
 /// Sixteen peers get a session, the next one is closed unheard, and once one of them ends, another one gets one.
-pub fn seventeen<R>(hall: &mut Hall<R>) -> Result<bool, HostileFault>
+pub fn seventeen<R>(hall: &mut Hall<R>) -> Result<bool, SocketFault>
 where
     R: AllocGlobal + Clock + Net<Listener = TcpListener, Stream = TcpStream> + Copy + Drop,
 {
@@ -159,4 +160,54 @@ where
     hall.turns(40)?;
     let another = hall.peer()?;
     registers(hall, &another)
+}
+
+fn tell<R: Print>(rt: &R, what: &str, as_wanted: bool) -> Result<(), SocketFault> {
+    let told = if as_wanted { "as wanted" } else { "otherwise" };
+    Ok(println!(rt; "{what}: {told}")?)
+}
+
+fn tell_of_messages<R>(rt: &R, hall: &mut Hall<R>) -> Result<(), SocketFault>
+where
+    R: AllocGlobal + Clock + Print + Net<Listener = TcpListener, Stream = TcpStream> + Copy + Drop,
+{
+    tell(rt, "a peer that never reads", never_reads(hall)?)?;
+    tell(rt, "half a message", half_message(hall)?)?;
+    tell(rt, "single bytes", single_bytes(hall)?)?;
+    tell(rt, "a message too long", message_too_long(hall)?)
+}
+
+fn tell_of_floods<R>(rt: &R, hall: &mut Hall<R>) -> Result<(), SocketFault>
+where
+    R: AllocGlobal + Clock + Print + Net<Listener = TcpListener, Stream = TcpStream> + Copy + Drop,
+{
+    tell(rt, "a flood of messages", flood_of_messages(hall)?)?;
+    tell(rt, "a flood of datagrams", flood_of_datagrams(hall)?)
+}
+
+fn tell_of_connections<R>(rt: &R, hall: &mut Hall<R>) -> Result<(), SocketFault>
+where
+    R: AllocGlobal + Clock + Print + Net<Listener = TcpListener, Stream = TcpStream> + Copy + Drop,
+{
+    tell(rt, "a reset", reset(hall)?)?;
+    tell(rt, "seventeen connections", seventeen(hall)?)?;
+    hall.turns(60)?;
+    tell(rt, "the next peer", single_bytes(hall)?)
+}
+
+fn tell_of_all<R>(rt: &R, hall: &mut Hall<R>) -> Result<(), SocketFault>
+where
+    R: AllocGlobal + Clock + Print + Net<Listener = TcpListener, Stream = TcpStream> + Copy + Drop,
+{
+    tell_of_messages(rt, hall)?;
+    tell_of_floods(rt, hall)?;
+    tell_of_connections(rt, hall)
+}
+
+/// An adapter, and one such peer after another.
+pub fn run<R>(rt: R) -> Result<(), SocketFault>
+where
+    R: AllocGlobal + Clock + Print + Net<Listener = TcpListener, Stream = TcpStream> + Copy + Drop,
+{
+    tell_of_all(&rt, &mut Hall::open(rt)?)
 }

@@ -1,7 +1,8 @@
 //! Turns of a trace: a tick and what comes after it make one.
 
-use crate::Failure;
+use crate::driven::DriveFailure;
 use cip_tables::{Config, Event};
+use cip_types::OutOfMemory;
 use std::alloc::Global;
 use std::collections::VecDeque;
 use trace_text::read_trace;
@@ -16,14 +17,27 @@ pub struct Script {
     pub turns: u32,
 }
 
+fn keep_time(times: &mut VecDeque<u64>, ms: u32) -> Result<(), OutOfMemory> {
+    match times.push_back(u64::from(ms)) {
+        Ok(()) => Ok(()),
+        Err(_) => Err(OutOfMemory),
+    }
+}
+
+fn keep_input(
+    inputs: &mut VecDeque<Option<Input>>,
+    input: Option<Input>,
+) -> Result<(), OutOfMemory> {
+    match inputs.push_back(input) {
+        Ok(()) => Ok(()),
+        Err(_) => Err(OutOfMemory),
+    }
+}
+
 impl Script {
-    fn push(&mut self, ms: u32, input: Option<Input>) -> Result<(), Failure> {
-        let Ok(()) = self.times.push_back(u64::from(ms)) else {
-            return Err(Failure::OutOfMemory);
-        };
-        let Ok(()) = self.inputs.push_back(input) else {
-            return Err(Failure::OutOfMemory);
-        };
+    fn push(&mut self, ms: u32, input: Option<Input>) -> Result<(), OutOfMemory> {
+        keep_time(&mut self.times, ms)?;
+        keep_input(&mut self.inputs, input)?;
         self.turns = self.turns.saturating_add(1);
         Ok(())
     }
@@ -41,7 +55,7 @@ fn input_of(event: Event) -> Option<Input> {
 }
 
 /// The turns of a trace.
-pub fn read_script(alloc: Global, text: &[u8]) -> Result<Script, Failure> {
+pub fn read_script(alloc: Global, text: &[u8]) -> Result<Script, DriveFailure> {
     let trace = read_trace(alloc, text)?;
     let mut script = Script {
         config: trace.config,
@@ -58,7 +72,7 @@ pub fn read_script(alloc: Global, text: &[u8]) -> Result<Script, Failure> {
             passed = Some(ms);
         } else {
             let Some(input) = input_of(event) else {
-                return Err(Failure::Event);
+                return Err(DriveFailure::Event);
             };
             script.push(passed.unwrap_or(0), Some(input))?;
             passed = None;

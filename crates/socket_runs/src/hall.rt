@@ -1,5 +1,6 @@
 //! An adapter over sockets, and what its peers hear of it.
 
+use crate::fault::SocketFault;
 use cip_tables::{Config, Device, InputPoint, Profile};
 use cip_types::{Items, OutOfMemory};
 use plain_engine::PlainAdapter;
@@ -9,31 +10,9 @@ use std::alloc::Global;
 use std::io::{self, ErrorKind, Read, Write};
 use std::net::{Net, TcpListener, TcpStream, UdpSocket};
 use std::rt::Clock;
-use thiserror::Error;
 
 /// In so many turns an answer has to come.
 const MOST_TURNS: u32 = 20_000;
-
-/// Why a run ends early.
-#[derive(Debug, Drop, Error)]
-pub enum HostileFault {
-    #[error("the adapter failed")]
-    Line(LoopFault),
-    #[error(transparent)]
-    Io(#[from] io::Error),
-}
-
-impl From<LoopFault> for HostileFault {
-    fn from(fault: LoopFault) -> HostileFault {
-        HostileFault::Line(fault)
-    }
-}
-
-impl From<OutOfMemory> for HostileFault {
-    fn from(_refused: OutOfMemory) -> HostileFault {
-        HostileFault::Line(LoopFault::OutOfMemory)
-    }
-}
 
 /// What a peer hears.
 #[derive(Clone, Copy, PartialEq, Eq)]
@@ -55,7 +34,7 @@ pub struct Hall<R: Clock + Drop> {
 
 impl<R: Clock + Drop> Hall<R> {
     /// So many turns of the adapter.
-    pub fn turns(&mut self, count: u32) -> Result<(), HostileFault> {
+    pub fn turns(&mut self, count: u32) -> Result<(), SocketFault> {
         for _ in 0..count {
             self.station.turn()?;
         }
@@ -63,7 +42,7 @@ impl<R: Clock + Drop> Hall<R> {
     }
 
     /// What the peer hears, if it waits for so many bytes.
-    pub fn heard(&mut self, peer: &TcpStream, least: usize) -> Result<Heard, HostileFault> {
+    pub fn heard(&mut self, peer: &TcpStream, least: usize) -> Result<Heard, SocketFault> {
         let mut count = 0usize;
         for _ in 0..MOST_TURNS {
             self.station.turn()?;
@@ -85,7 +64,7 @@ where
     R: AllocGlobal + Clock + Net<Listener = TcpListener, Stream = TcpStream> + Copy + Drop,
 {
     /// An adapter at ports that nobody uses.
-    pub fn open(rt: R) -> Result<Hall<R>, HostileFault> {
+    pub fn open(rt: R) -> Result<Hall<R>, SocketFault> {
         let (tcp, udp) = free_ports(&rt)?;
         let config = Config::Adapter(profile(rt.alloc())?);
         let device = PlainAdapter::new(rt.alloc(), config).map_err(LoopFault::from)?;
@@ -108,7 +87,7 @@ where
     }
 
     /// A peer that connects.
-    pub fn peer(&self) -> Result<TcpStream, HostileFault> {
+    pub fn peer(&self) -> Result<TcpStream, SocketFault> {
         let peer = TcpStream::connect(&self.rt, loopback(self.tcp))?;
         peer.set_nonblocking(true)?;
         peer.set_nodelay(true)?;
@@ -116,7 +95,7 @@ where
     }
 
     /// A socket for datagrams.
-    pub fn thrower(&self) -> Result<UdpSocket, HostileFault> {
+    pub fn thrower(&self) -> Result<UdpSocket, SocketFault> {
         Ok(UdpSocket::bind(&self.rt, loopback(0))?)
     }
 

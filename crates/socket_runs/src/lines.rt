@@ -1,43 +1,19 @@
 //! Two lines at once, each of an adapter and a scanner that talk over sockets of this host, until the output of
 //! each scanner stands at its adapter; and lines at ports that are in use.
-#![tactic(auto)]
 
+use crate::fault::SocketFault;
 use cip_tables::{Device, DeviceTable, SlotState};
-use cip_types::OutOfMemory;
 use plain_engine::{PlainAdapter, PlainScanner};
 use socket_loop::{LoopFault, LoopLine};
 use socket_port::loopback;
 use std::io;
 use std::net::{Net, TcpListener, TcpStream, UdpSocket};
 use std::rt::Clock;
-use thiserror::Error;
 
 /// The output of the adapter.
 const POINT: u32 = 150;
 
 const MOST_TURNS: u32 = 100_000;
-
-#[derive(Debug, Drop, Error)]
-enum DriveFault {
-    #[error("the output was never applied")]
-    Never,
-    #[error("the line failed")]
-    Line(LoopFault),
-    #[error(transparent)]
-    Io(#[from] io::Error),
-}
-
-impl From<LoopFault> for DriveFault {
-    fn from(fault: LoopFault) -> DriveFault {
-        DriveFault::Line(fault)
-    }
-}
-
-impl From<OutOfMemory> for DriveFault {
-    fn from(_refused: OutOfMemory) -> DriveFault {
-        DriveFault::Line(LoopFault::OutOfMemory)
-    }
-}
 
 type Line<R> = LoopLine<R, PlainAdapter, PlainScanner>;
 
@@ -52,7 +28,7 @@ fn free_udp<R: Net>(rt: &R) -> io::Result<u16> {
 }
 
 /// A line at ports that nobody uses. The second port of UDP may be in use: then it is tried elsewhere.
-fn line<R>(rt: R) -> Result<Line<R>, DriveFault>
+fn line<R>(rt: R) -> Result<Line<R>, SocketFault>
 where
     R: AllocGlobal + Clock + Net<Listener = TcpListener, Stream = TcpStream> + Copy + Drop,
 {
@@ -63,7 +39,7 @@ where
             return Ok(line);
         }
     }
-    Err(DriveFault::Line(LoopFault::Port))
+    Err(SocketFault::Line(LoopFault::Port))
 }
 
 /// Whether what the scanner writes stands at the adapter.
@@ -86,7 +62,7 @@ fn is_established(table: &DeviceTable) -> bool {
 }
 
 /// Whether the line does what it is for.
-fn is_done<R: Clock + Drop>(line: &Line<R>, output: &[u8]) -> Result<bool, DriveFault> {
+fn is_done<R: Clock + Drop>(line: &Line<R>, output: &[u8]) -> Result<bool, SocketFault> {
     if !is_applied(line, output) {
         return Ok(false);
     }
@@ -94,7 +70,7 @@ fn is_done<R: Clock + Drop>(line: &Line<R>, output: &[u8]) -> Result<bool, Drive
 }
 
 /// Turns of both lines, until both are done.
-fn drive<R: Clock + Drop>(one: &mut Line<R>, two: &mut Line<R>) -> Result<(), DriveFault> {
+fn drive<R: Clock + Drop>(one: &mut Line<R>, two: &mut Line<R>) -> Result<(), SocketFault> {
     for _ in 0..MOST_TURNS {
         one.turn()?;
         two.turn()?;
@@ -102,14 +78,14 @@ fn drive<R: Clock + Drop>(one: &mut Line<R>, two: &mut Line<R>) -> Result<(), Dr
             return Ok(());
         }
     }
-    Err(DriveFault::Never)
+    Err(SocketFault::Never)
 }
 
 /// What the scanners write, and turns until it is applied.
 fn write_and_drive<R: Clock + Drop>(
     one: &mut Line<R>,
     two: &mut Line<R>,
-) -> Result<(), DriveFault> {
+) -> Result<(), SocketFault> {
     one.write(&[0x11, 0x22, 0x33, 0x44])?;
     two.write(&[0x55, 0x66, 0x77, 0x88])?;
     drive(one, two)
@@ -150,22 +126,23 @@ fn tell<R: Print>(rt: &R, what: &str, is_so: bool) -> io::Result<()> {
     println!(rt; "{what}: {told}")
 }
 
-fn main(rt: HostRuntime) -> Result<(), DriveFault> {
+fn tell_of_lines<R>(rt: R) -> Result<(), SocketFault>
+where
+    R: AllocGlobal + Clock + Print + Net<Listener = TcpListener, Stream = TcpStream> + Copy + Drop,
+{
     write_and_drive(&mut line(rt)?, &mut line(rt)?)?;
-    tell(
-        &rt,
-        "slot 0 established, output applied, on two lines at once",
-        true,
-    )?;
-    tell(
-        &rt,
-        "a port of TCP in use is a fault of the port",
-        tcp_in_use(rt)?,
-    )?;
-    tell(
-        &rt,
-        "a port of UDP in use is a fault of the port",
-        udp_in_use(rt)?,
-    )?;
-    Ok(())
+    let what = "slot 0 established, output applied, on two lines at once";
+    Ok(tell(&rt, what, true)?)
+}
+
+/// Two lines at once, and then lines at ports that are in use.
+pub fn run<R>(rt: R) -> Result<(), SocketFault>
+where
+    R: AllocGlobal + Clock + Print + Net<Listener = TcpListener, Stream = TcpStream> + Copy + Drop,
+{
+    tell_of_lines(rt)?;
+    let what = "a port of TCP in use is a fault of the port";
+    tell(&rt, what, tcp_in_use(rt)?)?;
+    let what = "a port of UDP in use is a fault of the port";
+    Ok(tell(&rt, what, udp_in_use(rt)?)?)
 }

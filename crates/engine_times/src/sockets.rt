@@ -1,21 +1,11 @@
 //! How many datagrams a second an adapter takes in and sends out over sockets of this host, beside a socket alone
 //! that takes in and sends out as many of the same sizes.
-//!
-//! With no word: one batch through each end. With a word, as `time`: datagrams a second of processor time, the best
-//! of seven rounds.
-#![tactic(auto)]
 
-mod clock;
-mod ends;
-mod fault;
-mod peer;
-mod speed;
-
+use crate::fault::TimesFault;
+use crate::peer::BATCH;
+use crate::speed;
 use adapter_engine::FastAdapter;
-use fault::BenchFault;
-use peer::BATCH;
 use plain_engine::PlainAdapter;
-use std::env::{self, Env};
 use std::io;
 use std::net::{Net, TcpListener, TcpStream};
 use std::rt::{Clock, CpuClock};
@@ -26,13 +16,6 @@ const ROUNDS: u32 = 7;
 /// A round has so many batches.
 const BATCHES: u32 = 300;
 
-/// Whether a word follows the program's name.
-fn has_word<R: AllocGlobal + Env>(rt: &R) -> io::Result<bool> {
-    let mut words = env::args(rt)?;
-    let _program = words.next();
-    Ok(words.next().is_some())
-}
-
 /// The nanoseconds for a datagram in and one out.
 #[derive(Clone, Copy)]
 struct Times {
@@ -42,7 +25,7 @@ struct Times {
 }
 
 /// A round of each end, of so many batches.
-fn round<R>(rt: R, batches: u32) -> Result<Times, BenchFault>
+fn round<R>(rt: R, batches: u32) -> Result<Times, TimesFault>
 where
     R: AllocGlobal + Clock + CpuClock + Net<Listener = TcpListener, Stream = TcpStream>,
     R: Copy + Drop,
@@ -54,7 +37,7 @@ where
 }
 
 /// The best of all rounds.
-fn best<R>(rt: R) -> Result<Times, BenchFault>
+fn best<R>(rt: R) -> Result<Times, TimesFault>
 where
     R: AllocGlobal + Clock + CpuClock + Net<Listener = TcpListener, Stream = TcpStream>,
     R: Copy + Drop,
@@ -96,10 +79,21 @@ fn print_times(rt: &impl Print, times: Times) -> io::Result<()> {
     )
 }
 
-fn main(rt: HostRuntime) -> Result<(), BenchFault> {
-    if has_word(&rt)? {
-        return Ok(print_times(&rt, best(rt)?)?);
-    }
+/// One batch through each end.
+pub fn check<R>(rt: R) -> Result<(), TimesFault>
+where
+    R: AllocGlobal + Clock + CpuClock + Net<Listener = TcpListener, Stream = TcpStream>,
+    R: Copy + Drop + Print,
+{
     let _times = round(rt, 1)?;
     Ok(println!(rt; "{BATCH} datagrams in, and as many out: three times")?)
+}
+
+/// Datagrams a second of processor time, the best of all rounds.
+pub fn tell<R>(rt: R) -> Result<(), TimesFault>
+where
+    R: AllocGlobal + Clock + CpuClock + Net<Listener = TcpListener, Stream = TcpStream>,
+    R: Copy + Drop + Print,
+{
+    Ok(print_times(&rt, best(rt)?)?)
 }

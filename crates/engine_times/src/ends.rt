@@ -1,6 +1,6 @@
 //! What takes datagrams in and sends as many out: a socket alone, and an adapter at its port.
 
-use crate::fault::BenchFault;
+use crate::fault::TimesFault;
 use crate::peer::{BATCH, REPLY};
 use cip_tables::{Config, Device, Event};
 use cip_types::Items;
@@ -21,7 +21,7 @@ const OWN: [u8; 50] = [
 /// What takes datagrams in and sends as many out.
 pub trait End {
     /// Takes in a batch that waits, and sends one datagram for each.
-    fn serve(&mut self) -> Result<(), BenchFault>;
+    fn serve(&mut self) -> Result<(), TimesFault>;
 }
 
 /// A socket alone.
@@ -31,7 +31,7 @@ pub struct Bare {
 }
 
 impl End for Bare {
-    fn serve(&mut self) -> Result<(), BenchFault> {
+    fn serve(&mut self) -> Result<(), TimesFault> {
         let mut buffer = [0u8; 64];
         for _ in 0..BATCH {
             let (_count, from) = self.socket.recv_from(&mut buffer)?;
@@ -65,7 +65,7 @@ pub struct Driven<R: System + Drop, D> {
 }
 
 /// A fresh adapter.
-fn fresh<D: Device, R: AllocGlobal>(rt: &R) -> Result<D, BenchFault> {
+fn fresh<D: Device, R: AllocGlobal>(rt: &R) -> Result<D, TimesFault> {
     let profile = adapter(rt.alloc())?;
     Ok(D::new(rt.alloc(), Config::Adapter(profile))?)
 }
@@ -85,7 +85,7 @@ impl<R: System + Drop, D: Device + Drop> Driven<R, D> {
         listener: TcpListener,
         socket: UdpSocket,
         to: u16,
-    ) -> Result<Driven<R, D>, BenchFault>
+    ) -> Result<Driven<R, D>, TimesFault>
     where
         R: AllocGlobal + Copy,
     {
@@ -95,7 +95,7 @@ impl<R: System + Drop, D: Device + Drop> Driven<R, D> {
     }
 
     /// Its peer opens the connection of an owner.
-    pub fn own(&mut self, rt: &impl AllocGlobal) -> Result<(), BenchFault> {
+    pub fn own(&mut self, rt: &impl AllocGlobal) -> Result<(), TimesFault> {
         let bytes = Items::copy_of(rt.alloc(), &OWN)?;
         let _opened = self.device.step(&Event::Request {
             peer: LOOPBACK,
@@ -106,13 +106,13 @@ impl<R: System + Drop, D: Device + Drop> Driven<R, D> {
 }
 
 impl<R: System + Drop, D: Device + Drop> End for Driven<R, D> {
-    fn serve(&mut self) -> Result<(), BenchFault> {
+    fn serve(&mut self) -> Result<(), TimesFault> {
         if self.port.failures() == u64::MAX {
-            return Err(BenchFault::Lost);
+            return Err(TimesFault::Lost);
         }
         let events = drive(&mut self.port, &mut self.device, &mut Steady, BATCH)?;
         if events != u64::from(BATCH) * 2 {
-            return Err(BenchFault::Lost);
+            return Err(TimesFault::Lost);
         }
         Ok(())
     }

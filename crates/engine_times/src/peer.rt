@@ -1,6 +1,8 @@
 //! Who sends the datagrams that are taken in, and takes what is sent out.
 
-use crate::fault::BenchFault;
+use crate::fault::TimesFault;
+use crate::loads::datagram;
+use cip_types::ConnId;
 use socket_port::loopback;
 use std::io;
 use std::net::{Net, SocketAddr, TcpListener, TcpStream, UdpSocket};
@@ -13,7 +15,7 @@ pub const BATCH: u32 = 64;
 pub const REPLY: usize = 24;
 
 /// The connection id that the one owner of a fresh adapter's output has.
-const ID: u32 = 0x1000_0001;
+const OWNER: ConnId = ConnId(0x1000_0001);
 
 /// The peer of an end.
 #[derive(Drop)]
@@ -22,15 +24,6 @@ pub struct Peer {
     to: SocketAddr,
     pub port: u16,
     number: u32,
-}
-
-/// An owner's datagram of this number, in run mode, with four bytes of data.
-fn datagram(number: u32) -> [u8; 28] {
-    let [a, b, c, d] = ID.to_le_bytes();
-    let [n, o, p, q] = number.to_le_bytes();
-    [
-        2, 0, 2, 0x80, 8, 0, a, b, c, d, n, o, p, q, 0xB1, 0, 10, 0, n, o, 1, 0, 0, 0, 9, 8, 7, 6,
-    ]
 }
 
 /// A socket at a port that nobody uses.
@@ -65,18 +58,18 @@ impl Peer {
     pub fn send(&mut self, count: u32) -> io::Result<()> {
         for _ in 0..count {
             self.number = self.number.wrapping_add(1);
-            self.socket.send_to(&datagram(self.number), self.to)?;
+            self.socket.send_to(&datagram(OWNER, self.number), self.to)?;
         }
         Ok(())
     }
 
     /// Takes a batch. Each of them has to come.
-    pub fn take_batch(&self) -> Result<(), BenchFault> {
+    pub fn take_batch(&self) -> Result<(), TimesFault> {
         let mut buffer = [0u8; 64];
         for _ in 0..BATCH {
             let (count, _from) = self.socket.recv_from(&mut buffer)?;
             if count != REPLY {
-                return Err(BenchFault::Lost);
+                return Err(TimesFault::Lost);
             }
         }
         Ok(())

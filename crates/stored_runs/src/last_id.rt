@@ -1,0 +1,73 @@
+//! A scanner whose counter of connection ids is at its end.
+
+use crate::adapter::print_answer;
+use crate::devices::{FIRST, config};
+use crate::fault::RunFault;
+use cip_tables::{Device, Event};
+use cip_types::{Items, Node};
+use plain_engine::PlainScanner;
+use std::alloc::Global;
+
+/// The counter at which no connection id is left.
+const NO_ID: u32 = 1 << 24;
+
+/// The target of the scanner's slot.
+const TARGET: Node = Node(0xC0A8_010A);
+
+/// The target's answer to RegisterSession: the session has the handle 1.
+const REGISTERED: [u8; 28] = [
+    0x65, 0, 4, 0, 1, 0, 0, 0, 0, 0, 0, 0, 0, 0, 0, 0, 0, 0, 0, 0, 0, 0, 0, 0, 1, 0, 0, 0,
+];
+
+fn registered(alloc: Global) -> Result<Event, RunFault> {
+    Ok(Event::Frame {
+        stream: 0,
+        bytes: Items::copy_of(alloc, &REGISTERED)?,
+    })
+}
+
+fn fresh(alloc: Global) -> Result<PlainScanner, RunFault> {
+    Ok(PlainScanner::new(alloc, config(alloc, FIRST)?)?)
+}
+
+/// The same scanner with the counter at its end.
+fn used_up(alloc: Global, scanner: &PlainScanner) -> Result<PlainScanner, RunFault> {
+    scanner.is_whole();
+    let copy = scanner.copy()?.with_next_id(NO_ID);
+    Ok(PlainScanner::from_copy(alloc, &copy)?)
+}
+
+fn step(
+    rt: &impl Print,
+    alloc: Global,
+    scanner: &mut PlainScanner,
+    number: u64,
+    event: Event,
+) -> Result<(), RunFault> {
+    print_answer(rt, alloc, number, &scanner.step(&event))
+}
+
+/// A session between the scanner and its target.
+fn register(rt: &impl Print, alloc: Global, scanner: &mut PlainScanner) -> Result<(), RunFault> {
+    let opened = Event::StreamOpened {
+        stream: 0,
+        peer: TARGET,
+    };
+    step(rt, alloc, scanner, 1, opened)?;
+    step(rt, alloc, scanner, 2, registered(alloc)?)
+}
+
+fn start(rt: &impl Print, alloc: Global, mut scanner: PlainScanner) -> Result<(), RunFault> {
+    step(rt, alloc, &mut scanner, 3, Event::Start { slot: 0 })
+}
+
+fn tell_of(rt: &impl Print, alloc: Global, mut scanner: PlainScanner) -> Result<(), RunFault> {
+    register(rt, alloc, &mut scanner)?;
+    start(rt, alloc, used_up(alloc, &scanner)?)
+}
+
+/// A scanner whose session is registered goes on from a copy with the counter at its end, and cannot start its slot.
+pub fn tell(rt: &impl Print, alloc: Global) -> Result<(), RunFault> {
+    println!(rt; "# a scanner with no connection id left")?;
+    tell_of(rt, alloc, fresh(alloc)?)
+}

@@ -1,5 +1,0 @@
-//! Tests of traces: read, written, replayed and compared.
-#![tactic(auto)]
-
-#[cfg(test)]
-mod tests;
