@@ -19,12 +19,22 @@ pub enum LoopFault {
 }
 
 impl From<OutOfMemory> for LoopFault {
+    ghost use Rattle.std.specs.Prelude.{◌≡◌};
+    ghost use Rattle.socket_loop.specs.declared.fault.LoopFault.TheVariants as loop;
+
+    ghost from_gives = { λ refused given. given ≡ loop.OutOfMemory };
+
     fn from(_refused: OutOfMemory) -> LoopFault {
         LoopFault::OutOfMemory
     }
 }
 
 impl From<OpenFault> for LoopFault {
+    ghost use Rattle.std.specs.Prelude.{◌≡◌};
+    ghost use Rattle.socket_loop.specs.Faults.{of_open};
+
+    ghost from_gives = { λ fault given. given ≡ of_open fault };
+
     fn from(fault: OpenFault) -> LoopFault {
         match fault {
             OpenFault::Socket => LoopFault::Port,
@@ -34,6 +44,11 @@ impl From<OpenFault> for LoopFault {
 }
 
 impl From<NewFault> for LoopFault {
+    ghost use Rattle.std.specs.Prelude.{◌≡◌};
+    ghost use Rattle.socket_loop.specs.Faults.{of_new};
+
+    ghost from_gives = { λ fault given. given ≡ of_new fault };
+
     fn from(fault: NewFault) -> LoopFault {
         match fault {
             NewFault::OutOfMemory => LoopFault::OutOfMemory,
@@ -43,6 +58,11 @@ impl From<NewFault> for LoopFault {
 }
 
 impl From<StepFault> for LoopFault {
+    ghost use Rattle.std.specs.Prelude.{◌≡◌};
+    ghost use Rattle.socket_loop.specs.Faults.{of_step};
+
+    ghost from_gives = { λ fault given. given ≡ of_step fault };
+
     fn from(fault: StepFault) -> LoopFault {
         match fault {
             StepFault::OutOfMemory => LoopFault::OutOfMemory,
@@ -52,6 +72,11 @@ impl From<StepFault> for LoopFault {
 }
 
 impl From<RunFault> for LoopFault {
+    ghost use Rattle.std.specs.Prelude.{◌≡◌};
+    ghost use Rattle.socket_loop.specs.Faults.{of_run};
+
+    ghost from_gives = { λ fault given. given ≡ of_run fault };
+
     fn from(fault: RunFault) -> LoopFault {
         match fault {
             RunFault::Port(PortFault::Memory) => LoopFault::OutOfMemory,

@@ -1,6 +1,6 @@
 //! A port over memory, which tells all that goes through it, and a clock that is stepped.
 
-ghost use Rattle.std.specs.Prelude.{◌≡◌, ◌∷◌, ◌++◌, [], true, OnOk, OnErr};
+ghost use Rattle.std.specs.Prelude.{◌≡◌, ◌∷◌, ◌++◌, [], true, nat_eq, OnOk, OnErr};
 ghost use Rattle.udp_runner.specs.Sending.{view_output};
 
 use crate::fault::PortFault;
@@ -30,6 +30,8 @@ impl MemoryPort {
     pub fn new(alloc: Global, inputs: VecDeque<Option<Input>>, fails_at: u64) -> MemoryPort
         ensures tape { ⟦<MemoryPort as Port>⟧.tape result ≡ record { coming = inputs.items; sent = [] } }
         ensures failed { ⟦<MemoryPort as Port>⟧.failed result ≡ 0 }
+        ensures uncalled { result.calls ≡ 0 }
+        ensures told { result.fails_at ≡ fails_at }
     {
         MemoryPort {
             alloc,
@@ -57,7 +59,8 @@ impl MemoryPort {
 
     /// Counts a call. Whether it is the one that fails.
     fn is_failing(&mut self) -> bool
-        ensures { self.new ≡ record self.old { calls = self.new.calls } }
+        ensures kept { self.new ≡ record self.old { calls = self.new.calls } }
+        ensures fails { result ≡ nat_eq self.new.calls self.old.fails_at }
     {
         self.calls = self.calls.saturating_add(1);
         self.calls == self.fails_at

@@ -1,10 +1,11 @@
 //! Turns of a device.
 
 ghost use Rattle.std.specs.Prelude.{◌≡◌, ◌<◌, ◌+◌, ◌-◌, ◌^◌, ◌∷◌, [], ℕ, true, None, drop, IfOk, IfErr, OnOk};
-ghost use Rattle.udp_runner.specs.Turns.{Blames, Drives, Stops, events_of, inputs_of, ticks_of, turn_of};
+ghost use Rattle.udp_runner.specs.Turns.{Blames, Drives, Stops, event_of, events_of, inputs_of, ticks_of, turn_of};
 ghost use Rattle.udp_runner.specs.Tape.{first_or, rest_of};
 
 use crate::fault::RunFault;
+use crate::input::Input;
 use crate::port::{Clock, Port};
 use crate::sending::send_answer;
 use cip_events::Event;
@@ -95,8 +96,26 @@ fn take_input<P: Port, D: Device>(port: &mut P, device: &mut D) -> Result<u64, R
     let Some(input) = port.receive()? else {
         return Ok(0);
     };
-    act(port, device, &input.into_event())?;
+    take(port, device, input)?;
     Ok(1)
+}
+
+/// What came, and what the device's answer has sent. A datagram goes straight to the device, which sends nothing for it.
+fn take<P: Port, D: Device>(port: &mut P, device: &mut D, input: Input) -> Result<(), RunFault>
+    requires { P.failed port.old < 2 ^ 64 - 1 }
+    ensures run { OnOk result (P.tells ≡ true → Drives (event_of input ∷ []) 1 (P.tape port.old) (P.tape port.new) (D.table device.old) (D.table device.new)) }
+    ensures inputs { OnOk result (P.tells ≡ true → (P.tape port.new).coming ≡ (P.tape port.old).coming) }
+    ensures stopped { IfErr result (λ fault. P.tells ≡ true → Stops fault (event_of input ∷ []) (P.tape port.old) (P.tape port.new) (D.table device.old) (D.table device.new)) }
+    ensures worked { OnOk result (P.failed port.new ≡ P.failed port.old) }
+    ensures blamed { IfErr result (Blames (P.failed port.old) (P.failed port.new)) }
+{
+    match input {
+        Input::Datagram { peer, bytes } => {
+            let _delivery = device.deliver(peer, bytes.as_slice());
+            Ok(())
+        }
+        other => act(port, device, &other.into_event()),
+    }
 }
 
 /// One event, and what its answer has sent.
