@@ -14,4 +14,4 @@ pub use datagram::{Datagram, DatagramFault};
 pub use laws::reads_back;
 pub use mode::{header, read_header};
 pub use read::read_datagram;
-pub use write::write_datagram;
+pub use write::{fixed_part, write_datagram};

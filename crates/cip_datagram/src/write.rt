@@ -7,6 +7,24 @@ ghost use Rattle.cip_datagram.specs.Reading.{datagram_reading};
 
 use crate::datagram::Datagram;
 
+/// The fixed part of the text of a datagram, which its data follow. Takes no memory.
+///
+/// Volume 2, chapter 2, common packet format.
+pub fn fixed_part(datagram: &Datagram<'_>) -> [u8; 20]
+    // The second length counts the sequence count and the data.
+    requires short { length datagram.now.«data».now ≤ 65533 }
+    ensures text { result ++ datagram.now.«data».now ≡ datagram_text (view_datagram datagram.now) }
+    ensures is_text { IsDatagramText (datagram_text (view_datagram datagram.now)) (view_datagram datagram.now) }
+{
+    let [a, b, c, d] = datagram.connection.0.to_le_bytes();
+    let [e, f, g, h] = datagram.sequence.to_le_bytes();
+    let [i, j] = (datagram.data.len() as u16 + 2).to_le_bytes();
+    let [k, l] = datagram.count.to_le_bytes();
+    [
+        2, 0, 0x02, 0x80, 8, 0, a, b, c, d, e, f, g, h, 0xB1, 0, i, j, k, l,
+    ]
+}
+
 /// Appends bytes for which there is room. Takes no memory.
 fn put(out: &mut Vec<u8>, bytes: &[u8])
     requires { vec_len out.old + length bytes.now ≤ vec_capacity out.old }
@@ -31,12 +49,6 @@ pub fn write_datagram(datagram: &Datagram<'_>, out: &mut Vec<u8>)
     ensures read_back { datagram_reading (datagram_text (view_datagram datagram.now)) ≡ Ok (view_datagram datagram.now) }
     ensures capacity { vec_capacity out.new ≡ vec_capacity out.old }
 {
-    let len = datagram.data.len() as u16 + 2;
-    put(out, &[2, 0, 0x02, 0x80, 8, 0]);
-    put(out, &datagram.connection.0.to_le_bytes());
-    put(out, &datagram.sequence.to_le_bytes());
-    put(out, &[0xB1, 0]);
-    put(out, &len.to_le_bytes());
-    put(out, &datagram.count.to_le_bytes());
+    put(out, &fixed_part(datagram));
     put(out, datagram.data);
 }

@@ -2,6 +2,8 @@
 
 ghost use Rattle.std.specs.Prelude.{◌≡◌};
 
+use crate::nodes::Nodes;
+use crate::octets::Octets;
 use crate::profile_fault::ProfileFault;
 use cip_types::{ConnId, Fault, Items, Mismatch, Node, OutOfMemory, Triad};
 use thiserror::Error;
@@ -53,8 +55,8 @@ pub struct Frame {
 #[derive(PartialEq, Drop)]
 pub struct Sending {
     pub address: Node,
-    pub nodes: Items<Node>,
-    pub bytes: Items<u8>,
+    pub nodes: Nodes,
+    pub bytes: Octets,
 }
 
 /// What became of a datagram. The first that holds, from the last of these to the first: it is

@@ -4,6 +4,8 @@
 
 mod copy;
 mod event;
+mod nodes;
+mod octets;
 mod profile_fault;
 mod same;
 
@@ -11,4 +13,6 @@ pub use event::{
     Answer, Delivery, Event, Frame, NewFault, Notice, Outcome, Reason, Recipient, Sending,
     StepFault, Verdict,
 };
+pub use nodes::Nodes;
+pub use octets::Octets;
 pub use profile_fault::ProfileFault;

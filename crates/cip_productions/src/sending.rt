@@ -6,22 +6,15 @@ ghost use Rattle.cip_productions.specs.Productions.{production_datagram, produce
 
 use crate::producing::next_count;
 use crate::production::Producer;
-use cip_datagram::{Datagram, write_datagram};
-use cip_events::Sending;
-use cip_types::{Items, Node, OutOfMemory};
+use cip_datagram::{Datagram, fixed_part};
+use cip_events::{Nodes, Octets, Sending};
+use cip_types::OutOfMemory;
 use std::alloc::Global;
 
-/// The bytes of a datagram before its data.
-const FIXED: usize = 20;
-
 /// The bytes of a producer's next datagram.
-fn written_datagram(
-    alloc: Global,
-    producer: &Producer,
-    input: &[u8],
-) -> Result<Vec<u8>, OutOfMemory>
+fn written_datagram(alloc: Global, producer: &Producer, input: &[u8]) -> Result<Octets, OutOfMemory>
     requires { length input.now ≤ 65533 }
-    ensures { IfOk result (λ bytes. bytes.items ≡ datagram_text (production_datagram producer.now.id producer.now.production input.now)) }
+    ensures { IfOk result (λ bytes. bytes ≡ datagram_text (production_datagram producer.now.id producer.now.production input.now)) }
 {
     let datagram = Datagram {
         connection: producer.id,
@@ -29,9 +22,7 @@ fn written_datagram(
         count: next_count(&producer.production),
         data: input,
     };
-    let mut bytes = Vec::with_capacity(alloc, FIXED + input.len())?;
-    write_datagram(&datagram, &mut bytes);
-    Ok(bytes)
+    Octets::joined(alloc, &fixed_part(&datagram), input)
 }
 
 /// What a producer sends next to these nodes, where its point holds these bytes. Want of memory is the only
@@ -40,18 +31,18 @@ fn written_datagram(
 /// Volume 1, chapter 3, class 1 transport; Volume 2, chapter 2, sequenced address item.
 pub fn sent_by(
     alloc: Global,
-    nodes: Vec<Node>,
+    nodes: Nodes,
     input: &[u8],
     producer: &Producer,
 ) -> Result<Sending, OutOfMemory>
     requires { length input.now ≤ 65533 }
-    ensures { IfOk result (λ sending. sending ≡ sent (produced_by nodes.items input.now producer.now)) }
+    ensures { IfOk result (λ sending. sending ≡ sent (produced_by nodes input.now producer.now)) }
 {
     let bytes = written_datagram(alloc, producer, input)?;
     Ok(Sending {
         address: producer.production.address,
-        nodes: Items::from_vec(nodes),
-        bytes: Items::from_vec(bytes),
+        nodes,
+        bytes,
     })
 }
 

@@ -12,8 +12,8 @@ pub use adapter_table::{
     State, Stream,
 };
 pub use cip_events::{
-    Answer, Delivery, Event, Frame, NewFault, Notice, Outcome, ProfileFault, Reason, Recipient,
-    Sending, StepFault, Verdict,
+    Answer, Delivery, Event, Frame, NewFault, Nodes, Notice, Octets, Outcome, ProfileFault, Reason,
+    Recipient, Sending, StepFault, Verdict,
 };
 pub use cip_productions::{Accepted, Kind, Production};
 pub use cip_router::{Asked, Command, EncapStatus, Refusal, Reply, Status, read_asked};

@@ -11,3 +11,4 @@ mod Hears
 mod Resting
 mod Ends
 mod Listening
+mod Producing

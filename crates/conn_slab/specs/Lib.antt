@@ -4,3 +4,4 @@ pub mod Layout
 pub mod Connections
 pub mod Hearing
 pub mod Bounds
+pub mod Producing

@@ -1,11 +1,11 @@
 //! The connections of an adapter.
 
-ghost use Rattle.std.specs.Prelude.{◌≡◌, ◌≤◌, ◌<◌, ◌^◌, ◌++◌, ◌∷◌, [], OnOk, OnErr, IfOk, find, map, length};
+ghost use Rattle.std.specs.Prelude.{◌≡◌, ◌≤◌, ◌<◌, ◌^◌, ◌++◌, ◌∷◌, [], Some, true, OnOk, OnErr, IfOk, find, map, length};
 ghost use Rattle.std.specs.List.{list_any};
 ghost use Rattle.slab.specs.Slab.{HasRoomFor};
 ghost use Rattle.indexmap.specs.IndexMap.{spare};
 ghost use Rattle.adapter_table.specs.Rows.{has_triad, holds_triad, written_row};
-ghost use Rattle.adapter_table.specs.Productions.{produced_row, changed_row};
+ghost use Rattle.adapter_table.specs.Productions.{is_produced_by, produced_row, changed_row};
 ghost use Rattle.adapter_table.specs.Closing.{without_triad};
 ghost use Rattle.adapter_table.specs.Datagrams.{is_for};
 ghost use Rattle.adapter_table.specs.Whole.{RowsFit};
@@ -16,6 +16,7 @@ ghost use Rattle.conn_slab.specs.Records.{row_of};
 ghost use Rattle.conn_slab.specs.Layout.{IsTied};
 ghost use Rattle.conn_slab.specs.Hearing.{heard_by, hearing};
 ghost use Rattle.conn_slab.specs.Bounds.{first_end, AllRest};
+ghost use Rattle.conn_slab.specs.Producing.{producer_by};
 ghost use Rattle.conn_slab.specs.Connections.{without, AreConnections, timed_out_if, accepting_if, is_opened_at, is_listening};
 
 use crate::bounds::first_end;
@@ -28,7 +29,7 @@ use crate::record::{Place, Record, key_for, record_of};
 use crate::rows::Rows;
 use adapter_table::{MOST_ROWS, Profile, Row};
 use cip_datagram::Datagram;
-use cip_productions::Accepted;
+use cip_productions::{Accepted, Producer};
 use cip_types::{ConnId, Ms, Node, OutOfMemory, Triad};
 use mcast_pool::Pool;
 use slab::Slab;
@@ -331,6 +332,17 @@ impl Connections {
         ensures { AllRest result self.now }
     {
         self.pool.first_due()
+    }
+
+    /// The producer of a number, which some connection has. It is first looked for at a place. Takes no memory.
+    ///
+    /// Volume 1, chapter 3, class 1 transport; Volume 2, chapter 3, multicast connections.
+    #[inline(always)]
+    pub fn producer_near(&self, number: u32, place: usize) -> Producer
+        requires { list_any (is_produced_by number) self.now ≡ true }
+        ensures { Some result ≡ producer_by number self.now }
+    {
+        self.pool.producer_near(number, place)
     }
 
     /// The producers that are due have produced. Takes no memory.

@@ -7,7 +7,7 @@ ghost use Rattle.cip_productions.specs.Productions.{same_producer, sent};
 ghost use Rattle.adapter_table.specs.Productions.{producer_in, producers, group, same_node, peer_of, consumers, production_of};
 
 use adapter_table::{Row, is_produced_by, producer_in};
-use cip_events::Sending;
+use cip_events::{Nodes, Sending};
 use cip_productions::{Producer, same_producer, sent_by};
 use cip_types::{Node, OutOfMemory};
 use std::alloc::Global;
@@ -113,5 +113,5 @@ pub fn sending(
     ensures { IfOk result (λ sending. sending ≡ sent (production_of rows.now input.now producer.now)) }
 {
     let nodes = consumers(alloc, rows, producer.production.producer)?;
-    sent_by(alloc, nodes, input, producer)
+    sent_by(alloc, Nodes::from_vec(nodes), input, producer)
 }

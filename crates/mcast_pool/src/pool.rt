@@ -4,7 +4,7 @@ ghost use Rattle.std.specs.Prelude.{◌≡◌, ◌≤◌, ◌<◌, ◌+◌, ◌^
 ghost use Rattle.std.specs.Option.{option_map};
 ghost use Rattle.cip_datagram.specs.Datagram.{datagram_text};
 ghost use Rattle.cip_productions.specs.Productions.{production_datagram};
-ghost use Rattle.mcast_pool.specs.Groups.{has_number, begun, production_of, touched, produced_group, produced_if_due, written_and_changed, is_at_once, is_new_at_once, numbered, IsInUse, subscribers, joined_group, change_first, joined_by, joined, left, is_last, lowest, first_due, FitsGroup, MayProduce, AreGroups};
+ghost use Rattle.mcast_pool.specs.Groups.{has_number, begun, production_of, producer_of, touched, produced_group, produced_if_due, written_and_changed, is_at_once, is_new_at_once, numbered, IsInUse, subscribers, joined_group, change_first, joined_by, joined, left, is_last, lowest, first_due, FitsGroup, MayProduce, AreGroups};
 
 use crate::group::{Group, begun};
 use crate::groups::{
@@ -252,6 +252,15 @@ impl Pool {
             .unwrap()
             .producer
             .production
+    }
+
+    /// The producer of a number, which is first looked for at a place. Takes no memory.
+    #[inline(always)]
+    pub fn producer_near(&self, number: u32, place: usize) -> Producer
+        requires { IsInUse number self.now }
+        ensures { Some result ≡ option_map producer_of (numbered number self.now) }
+    {
+        find_near(&self.groups, number, place).unwrap().producer
     }
 
     /// Where to look first for the producer after this one. Takes no memory.

@@ -7,3 +7,4 @@ mod Room
 mod Times
 mod Gone
 mod Counted
+mod Serving

@@ -1,9 +1,10 @@
 //! The table.
 
-ghost use Rattle.std.specs.Prelude.{◌≡◌, ◌||◌, ◌∷◌, [], IfOk};
+ghost use Rattle.std.specs.Prelude.{◌≡◌, ◌||◌, ◌∷◌, [], true, IfOk};
 ghost use Rattle.cip_events.specs.declared.event.Notice.{Notice};
 ghost use Rattle.conn_slab.specs.Bounds.{Rests, AllRest};
 ghost use Rattle.conn_slab.specs.Connections.{is_listening};
+ghost use Rattle.swift_sendings.specs.Servings.{servings};
 
 use crate::counting::{close, counted, open};
 use crate::fading::{drop_unsupported, expire};
@@ -18,14 +19,15 @@ use assembly_set::AssemblySet;
 use cip_datagram::Datagram;
 use cip_events::{Notice, Sending};
 use cip_types::{Ms, Node, OutOfMemory, Triad};
-use connection_rows::{sent_on_change, told_of_close, written_rows};
+use connection_rows::{sent_on_change, sent_when_due, told_of_close, written_rows};
 use connection_table::{ConnectionTable, Received};
 use owner_counts::Rules;
 use std::alloc::Global;
 use std::marker::Model;
-use swift_sendings::swift_sendings;
+use swift_sendings::{Served, swift_sendings};
 
-/// Connections in a slab, running counts of their owners and supporters, and bounds on their times.
+/// Connections in a slab, running counts of their owners and supporters, bounds on their times, and whom their
+/// producers serve.
 ///
 /// A datagram finds its connection by peer and O->T id, and a tick at which nothing happens compares two times.
 #[derive(Drop)]
@@ -38,6 +40,9 @@ pub struct SlabRows {
     lasting: u64,
     /// No producer is due before this.
     resting: u64,
+    /// Whether it is known whom each producer serves.
+    known: bool,
+    served: Served,
 }
 
 impl Model for SlabRows {
@@ -49,7 +54,7 @@ impl Model for SlabRows {
 
     ghost view = { λ t. t.connections };
 
-    ghost invariant = { λ t. AreKept t.connections t.rules t.listening t.lasting t.resting };
+    ghost invariant = { λ t. AreKept t.connections t.rules t.listening t.lasting t.resting t.known t.served };
 }
 
 /// When the producer of a connection is due; that of one that has timed out never is.
@@ -78,6 +83,22 @@ fn rest_until(connections: &conn_slab::Connections, clock: Ms, resting: u64) -> 
         return resting;
     }
     connections.first_due()
+}
+
+/// Whether it is known whom each producer serves, which is found out where it is asked for. Takes no memory.
+fn is_known(
+    served: &mut Served,
+    connections: &conn_slab::Connections,
+    known: bool,
+    asked: bool,
+) -> bool
+    requires { known ≡ true → served.old ≡ servings connections.now }
+    ensures { result ≡ true → served.new ≡ servings connections.now }
+{
+    if known || !asked {
+        return known;
+    }
+    served.find_out(connections)
 }
 
 /// That the connection of a triad is closed, and no other one is lost.
@@ -129,6 +150,8 @@ impl ConnectionTable for SlabRows {
             listening: false,
             lasting: u64::MAX,
             resting: u64::MAX,
+            known: false,
+            served: Served::new(alloc)?,
         })
     }
 
@@ -144,6 +167,8 @@ impl ConnectionTable for SlabRows {
             listening,
             lasting,
             resting,
+            known: false,
+            served: Served::new(alloc)?,
         })
     }
 
@@ -165,6 +190,7 @@ impl ConnectionTable for SlabRows {
         self.lasting = self.lasting.min(row.deadline.0);
         self.resting = self.resting.min(due_of(&row));
         self.listening = listens_with(self.listening, &row);
+        self.known = false;
         Ok(())
     }
 
@@ -177,6 +203,7 @@ impl ConnectionTable for SlabRows {
     }
 
     fn close(&mut self, triad: Triad) {
+        self.known = false;
         close(&mut self.connections, &mut self.rules, triad);
         drop_unsupported(&mut self.connections, &mut self.rules, self.listening);
     }
@@ -198,6 +225,8 @@ impl ConnectionTable for SlabRows {
 
     fn has_expired(&mut self, clock: Ms) -> bool {
         self.resting = rest_until(&self.connections, clock, self.resting);
+        let asked = clock.0 >= self.resting;
+        self.known = is_known(&mut self.served, &self.connections, self.known, asked);
         if clock.0 < self.lasting {
             return false;
         }
@@ -218,7 +247,11 @@ impl ConnectionTable for SlabRows {
         assemblies: &AssemblySet,
         clock: Ms,
     ) -> Result<Vec<Sending>, OutOfMemory> {
-        swift_sendings(alloc, &self.connections, assemblies, clock)
+        if self.known {
+            return swift_sendings(alloc, &self.served, &self.connections, assemblies, clock);
+        }
+        let rows = self.connections.to_vec(alloc)?;
+        sent_when_due(alloc, &rows, assemblies, clock)
     }
 
     fn produce(&mut self, clock: Ms) {
@@ -227,6 +260,7 @@ impl ConnectionTable for SlabRows {
     }
 
     fn elapse(&mut self, clock: Ms) {
+        self.known = false;
         expire(&mut self.connections, &mut self.rules, clock);
         drop_unsupported(&mut self.connections, &mut self.rules, self.listening);
         self.listening = self.connections.has_listeners();

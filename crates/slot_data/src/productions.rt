@@ -15,7 +15,7 @@ ghost use Rattle.slot_places.specs.Places.{view_place, table_of};
 ghost use Rattle.slot_data.specs.Told.{at_time};
 
 use cip_datagram::header;
-use cip_events::Sending;
+use cip_events::{Nodes, Sending};
 use cip_productions::{Kind, Producer, is_production_due, produced, sent_by};
 use cip_types::{Ms, OutOfMemory};
 use list_order::{Order, sorted};
@@ -83,14 +83,12 @@ fn sending(
     ensures { IfOk result (λ sending. sending ≡ sent (connection_production run (view_place place.entry) connection.now)) }
 {
     let bytes = slot_data(alloc, run, place)?;
-    let mut nodes = Vec::new(alloc);
-    nodes.push(place.config.target)?;
     let producer = Producer {
         point: place.number,
         id: connection.link.o_t_id,
         production: connection.production,
     };
-    sent_by(alloc, nodes, &bytes, &producer)
+    sent_by(alloc, Nodes::one(place.config.target), &bytes, &producer)
 }
 
 /// The places that are due, by when they are and then by their numbers.

@@ -1,4 +1,6 @@
-pub mod Groups
-pub mod Joining
-pub mod Rounds
-pub mod Keyed
+mod Logic
+mod Gathering
+mod Entries
+mod Numbers
+mod Keyed
+mod Due

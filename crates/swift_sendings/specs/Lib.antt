@@ -1,2 +1,4 @@
 pub mod Turns
 pub mod Keys
+pub mod Servings
+pub mod ServingLaws

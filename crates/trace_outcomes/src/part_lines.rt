@@ -6,7 +6,7 @@ ghost use Rattle.trace_outcomes.specs.Parts.{bytes_to, reply_reader, frame_out_r
 
 use crate::notice_lines::read_notice;
 use crate::part::Part;
-use cip_events::{Delivery, Frame, Recipient, Sending, StepFault, Verdict};
+use cip_events::{Delivery, Frame, Nodes, Octets, Recipient, Sending, StepFault, Verdict};
 use std::alloc::Global;
 use trace_words::{LineFault, Words};
 
@@ -120,7 +120,7 @@ fn read_sending(alloc: Global, words: &mut Words<'_>) -> Result<Sending, LineFau
     words.end()?;
     Ok(Sending {
         address,
-        nodes,
-        bytes,
+        nodes: Nodes::from_vec(nodes.into_vec()),
+        bytes: Octets::from_vec(bytes.into_vec()),
     })
 }

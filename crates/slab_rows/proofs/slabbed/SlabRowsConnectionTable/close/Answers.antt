@@ -39,5 +39,6 @@ invariant_of-self c =
             (rests_left own.resting (stays left) left (rests_left own.resting (λ row. not (has_triad c.args.triad row)) own.connections c.self.invariant.bounded.rest));
       };
       counted = c.drop_unsupported.ensures.counted;
+      serving = λ holds. absurd cc;
       quiet = λ off. ap (list_any is_listening) (c.drop_unsupported.ensures.rows ∙ ap staying c.close.ensures.rows) ∙ quiet_staying c.args.triad own.connections (c.self.invariant.quiet off);
     }

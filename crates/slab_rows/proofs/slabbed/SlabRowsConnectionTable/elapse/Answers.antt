@@ -31,5 +31,6 @@ pub invariant_of-self : goal.invariant_of-self
 invariant_of-self c = record {
   bounded = record { last = same_end c.first_end-self-inside.ensures; rest = c.first_due-self-inside.ensures };
   counted = subst (AreCounted c.drop_unsupported.new.rules) (sym c.produce.ensures) (produced_counted c.args.clock c.drop_unsupported.new.rules c.drop_unsupported.new.connections c.drop_unsupported.ensures.counted);
+  serving = λ holds. absurd cc;
   quiet = λ off. ap (list_any is_listening) c.produce.ensures ∙ produced_listen c.args.clock c.drop_unsupported.new.connections ∙ sym c.has_listeners-self-inside.ensures ∙ off;
 }

@@ -43,5 +43,6 @@ invariant_of-self-2 c =
         rest = subst (AllRest rest) (sym c.in_ok-open.ensures.rows) (rests_opened rest own.resting c.due_of.result c.replaced-gone.result own.connections c.args.row (omega arith) (omega arith) c.due_of.ensures c.self.invariant.bounded.rest);
       };
       counted = c.open.ensures.counted;
+      serving = λ holds. absurd cc;
       quiet = λ off. ap (list_any is_listening) c.in_ok-open.ensures.rows ∙ quiet_opened own.listening c.listens_with-self-inside.result c.replaced-gone.result own.connections c.args.row c.listens_with-self-inside.ensures c.self.invariant.quiet off;
     }

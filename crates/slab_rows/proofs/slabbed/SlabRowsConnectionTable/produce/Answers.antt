@@ -6,6 +6,8 @@ use Rattle.conn_slab.specs.Bounds.{first_end}
 use Rattle.owner_counts.specs.Counts.{AreCounted}
 use Rattle.slab_rows.proofs.Counted.{produced_counted, produced_listen}
 use Rattle.slab_rows.proofs.Times.{produced_ends}
+use Rattle.swift_sendings.specs.Servings.{servings}
+use Rattle.slab_rows.proofs.Serving.{produced_served}
 use Rattle.slab_rows.proofs.slabbed.SlabRowsConnectionTable.produce.Goals as goal
 
 pub invariant_of-self : goal.invariant_of-self
@@ -17,5 +19,6 @@ invariant_of-self c =
         rest = c.first_due-self-inside.ensures;
       };
       counted = subst (AreCounted own.rules) (sym c.produce.ensures) (produced_counted c.args.clock own.rules own.connections c.self.invariant.counted);
+      serving = λ holds. c.self.invariant.serving holds ∙ sym (ap servings c.produce.ensures ∙ produced_served c.args.clock own.connections);
       quiet = λ off. ap (list_any is_listening) c.produce.ensures ∙ produced_listen c.args.clock own.connections ∙ c.self.invariant.quiet off;
     }

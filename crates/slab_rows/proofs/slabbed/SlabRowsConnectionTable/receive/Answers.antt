@@ -9,6 +9,8 @@ use Rattle.owner_counts.specs.Counts.{AreCounted}
 use Rattle.slab_rows.proofs.Counted.{heard_counted, heard_listen}
 use Rattle.slab_rows.proofs.Times.{ends_heard, rests_heard}
 use Rattle.slab_rows.proofs.Whole.{whole_ids}
+use Rattle.swift_sendings.specs.Servings.{servings}
+use Rattle.slab_rows.proofs.Serving.{heard_served}
 use Rattle.slab_rows.proofs.slabbed.SlabRowsConnectionTable.receive.Goals as goal
 
 pub invariant_of-self-2 : goal.invariant_of-self-2
@@ -24,5 +26,6 @@ invariant_of-self-2 c =
         rest = subst (AllRest own.resting) (sym c.receive.ensures.rows) (rests_heard c.args.profile.now c.args.clock c.args.peer d own.resting own.connections c.self.invariant.bounded.rest);
       };
       counted = subst (AreCounted own.rules) (sym c.receive.ensures.rows) (heard_counted c.args.profile.now c.args.clock c.args.peer d own.rules own.connections c.self.invariant.counted);
+      serving = λ holds. c.self.invariant.serving holds ∙ sym (ap servings c.receive.ensures.rows ∙ heard_served c.args.profile.now c.args.clock c.args.peer d own.connections);
       quiet = λ off. ap (list_any is_listening) c.receive.ensures.rows ∙ heard_listen c.args.profile.now c.args.clock c.args.peer d own.connections ∙ c.self.invariant.quiet off;
     }

@@ -6,6 +6,8 @@ use Rattle.conn_slab.specs.Bounds.{first_end}
 use Rattle.owner_counts.specs.Counts.{AreCounted}
 use Rattle.slab_rows.proofs.Counted.{changed_counted, changed_listen}
 use Rattle.slab_rows.proofs.Times.{changed_ends}
+use Rattle.swift_sendings.specs.Servings.{servings}
+use Rattle.slab_rows.proofs.Serving.{changed_served}
 use Rattle.slab_rows.proofs.slabbed.SlabRowsConnectionTable.write.Goals as goal
 
 pub invariant_of-self : goal.invariant_of-self
@@ -17,5 +19,6 @@ invariant_of-self c =
         rest = c.first_due-self-inside.ensures;
       };
       counted = subst (AreCounted own.rules) (sym c.write.ensures) (changed_counted c.args.clock c.args.point own.rules own.connections c.self.invariant.counted);
+      serving = λ holds. c.self.invariant.serving holds ∙ sym (ap servings c.write.ensures ∙ changed_served c.args.clock c.args.point own.connections);
       quiet = λ off. ap (list_any is_listening) c.write.ensures ∙ changed_listen c.args.clock c.args.point own.connections ∙ c.self.invariant.quiet off;
     }

@@ -1,0 +1,93 @@
+//! Nodes that consume what is sent.
+
+ghost use Rattle.std.specs.Prelude.{◌≡◌, ◌∷◌, [], IfOk};
+
+use cip_types::{Node, OutOfMemory};
+use std::alloc::Global;
+use std::marker::Model;
+
+/// How many nodes stand in the value itself.
+const FEW: usize = 8;
+
+/// Nodes in order, which contracts see as a list. Up to eight of them stand in the value itself and take no memory.
+#[derive(Drop)]
+pub struct Nodes {
+    kept: KeptNodes,
+}
+
+#[derive(Drop)]
+pub(crate) enum KeptNodes {
+    /// So many of these.
+    Few([Node; FEW], u8),
+    Many(Vec<Node>),
+}
+
+impl Model for Nodes {
+    ghost use Rattle.std.specs.Prelude.{List};
+    ghost use Rattle.cip_types.specs.declared.names.Node.{Node};
+    ghost use Rattle.cip_events.specs.Kept.{kept_nodes, FitNodes};
+
+    ghost Value = { List Node };
+
+    ghost view = { λ n. kept_nodes n.kept };
+
+    ghost invariant = { λ n. FitNodes n.kept };
+}
+
+impl Nodes {
+    /// One node. Takes no memory.
+    pub fn one(node: Node) -> Self
+        ensures { result ≡ node ∷ [] }
+    {
+        Nodes {
+            kept: KeptNodes::Few([node; FEW], 1),
+        }
+    }
+
+    /// The nodes of a vector. Takes no memory.
+    pub fn from_vec(vec: Vec<Node>) -> Self
+        ensures { result ≡ vec.items }
+    {
+        Nodes {
+            kept: KeptNodes::Many(vec),
+        }
+    }
+
+    /// A copy of some nodes. Want of memory is the only fault, and none is wanted for up to eight.
+    pub fn copy_of(alloc: Global, nodes: &[Node]) -> Result<Self, OutOfMemory>
+        ensures { IfOk result (λ copy. copy ≡ nodes.now) }
+    {
+        if nodes.len() > FEW {
+            return Ok(Nodes::from_vec(Vec::from_slice(alloc, nodes)?));
+        }
+        let mut few = [Node(0); FEW];
+        few[..nodes.len()].copy_from_slice(nodes);
+        Ok(Nodes {
+            kept: KeptNodes::Few(few, nodes.len() as u8),
+        })
+    }
+
+    /// The nodes.
+    pub fn as_slice(&self) -> &[Node]
+        ensures { result.now ≡ self.now }
+    {
+        match &self.kept {
+            KeptNodes::Few(nodes, count) => &nodes[..usize::from(*count)],
+            KeptNodes::Many(nodes) => nodes.as_slice(),
+        }
+    }
+}
+
+impl PartialEq for Nodes {
+    ghost use Rattle.std.specs.Prelude.{nat_eq};
+    ghost use Rattle.std.specs.Cmp.{partial_equiv_from_equiv, on_per, nat_eq_equiv};
+    ghost use Rattle.std.specs.Cmp.Lexicographic.{pointwise, lists_per};
+
+    ghost eq = { λ x y. pointwise (λ a b. nat_eq a.0 b.0) x y };
+
+    ghost laws = { lists_per (on_per (λ node. node.0) (partial_equiv_from_equiv nat_eq_equiv)) };
+
+    fn eq(&self, other: &Self) -> bool {
+        self.as_slice() == other.as_slice()
+    }
+}

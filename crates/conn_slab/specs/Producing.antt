@@ -1,0 +1,14 @@
+-- The producers of connections by their numbers (Volume 1, chapter 3, class 1 transport).
+use Rattle.std.specs.Prelude.{ℕ, ◌==◌, Bool, List, find, Option}
+use Rattle.std.specs.List.{filter_map}
+use Rattle.cip_productions.specs.declared.production.Producer.{Producer}
+use Rattle.adapter_table.specs.declared.row.Row.{Row}
+use Rattle.adapter_table.specs.Productions.{producer_in}
+
+-- this is the producer's number
+abbrev pub is_producer : ℕ → Producer → Bool
+is_producer number producer = producer.production.producer == number
+
+-- the producer of this number, as the first of its connections tells of it
+abbrev pub producer_by : ℕ → List Row → Option Producer
+producer_by number rows = find (is_producer number) (filter_map producer_in rows)

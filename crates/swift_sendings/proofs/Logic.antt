@@ -1,0 +1,36 @@
+-- Truth values, numbers, and elements of lists.
+use Rattle.std.proofs.Common.{◌≡◌, ◌<◌, ℕ, zero, suc, ◌+◌, Bool, true, false, ◌||◌, ◌==◌, List, [], ◌∷◌, ◌++◌, length, map, take, drop, get_or, refl, sym, ◌∙◌, ap, arith}
+use Rattle.std.proofs.lemmas.Bool.Decides.{nat_tests}
+
+pub numbered : (a : ℕ) → (a == a) ≡ true
+numbered a = grind (arith, nat_tests)
+
+pub swapped : (a b : ℕ) → (a == b) ≡ (b == a)
+swapped a b = grind (arith, nat_tests)
+
+pub same_by : (a b c : ℕ) → (a == b) ≡ true → (b == c) ≡ true → (a == c) ≡ true
+same_by a b c ab bc = grind (arith, nat_tests)
+
+pub or_false : (a b : Bool) → (a || b) ≡ false → (a ≡ false) × (b ≡ false)
+or_false true b h = absurd cc
+or_false false b h = (refl, h)
+
+pub got_first : {X : Type 0} (front rest : List X) (x d : X) → get_or (front ++ x ∷ rest) (length front) d ≡ x
+got_first [] rest x d = refl
+got_first (next ∷ front) rest x d = got_first front rest x d
+
+pub is_within : {X : Type 0} (front rest : List X) (x : X) → length front < length (front ++ x ∷ rest)
+is_within [] rest x = omega arith
+is_within (next ∷ front) rest x = omega (arith, is_within front rest x)
+
+pub map_append : {X Y : Type 0} (f : X → Y) (xs ys : List X) → map f (xs ++ ys) ≡ map f xs ++ map f ys
+map_append f [] ys = refl
+map_append f (x ∷ xs) ys = ap (λ l. f x ∷ l) (map_append f xs ys)
+
+pub drop_front : {X : Type 0} (front rest : List X) → drop (length front) (front ++ rest) ≡ rest
+drop_front [] rest = refl
+drop_front (x ∷ front) rest = drop_front front rest
+
+pub length_append : {X : Type 0} (xs ys : List X) → length (xs ++ ys) ≡ length xs + length ys
+length_append [] ys = omega arith
+length_append (x ∷ xs) ys = omega (arith, length_append xs ys)
