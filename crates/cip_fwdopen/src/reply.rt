@@ -16,7 +16,7 @@ use cip_types::{ConnId, Fault, Triad};
 /// What a target says of a connection that it opened. Actual packet intervals are in microseconds.
 ///
 /// Volume 1, chapter 3, Forward_Open service, successful response.
-#[derive(Clone, Copy, Debug, PartialEq, Eq)]
+#[derive(Clone, Copy, PartialEq, Eq)]
 pub struct Opened {
     pub o_t_id: ConnId,
     pub t_o_id: ConnId,
