@@ -3,7 +3,7 @@
 ghost use Rattle.std.specs.Prelude.{◌≡◌};
 ghost use Rattle.cip_types.specs.Fields.{Finds, fields_at};
 
-use cip_types::fields::{u16_at, u32_at};
+use cip_types::fields::{u16_in, u32_in};
 
 /// The numbers in front of the data, as they are.
 #[derive(Clone, Copy)]
@@ -26,23 +26,19 @@ impl Head {
     pub fn at(bytes: &[u8]) -> Option<(Head, &[u8])>
         ensures { Finds (λ x. (head_numbers x.0, x.1.now)) result (fields_at packet_widths bytes.now) }
     {
-        let (interface, rest) = u32_at(bytes)?;
-        let (timeout, rest) = u16_at(rest)?;
-        let (count, rest) = u16_at(rest)?;
-        let (address, rest) = u16_at(rest)?;
-        let (address_len, rest) = u16_at(rest)?;
-        let (kind, rest) = u16_at(rest)?;
-        let (len, rest) = u16_at(rest)?;
+        if bytes.len() < 16 {
+            return None;
+        }
         let head = Head {
-            interface,
-            timeout,
-            count,
-            address,
-            address_len,
-            kind,
-            len,
+            interface: u32_in(bytes, 0),
+            timeout: u16_in(bytes, 4),
+            count: u16_in(bytes, 6),
+            address: u16_in(bytes, 8),
+            address_len: u16_in(bytes, 10),
+            kind: u16_in(bytes, 12),
+            len: u16_in(bytes, 14),
         };
-        Some((head, rest))
+        Some((head, &bytes[16..]))
     }
 
     /// Whether a null address item and an unconnected data item with data begin the items.

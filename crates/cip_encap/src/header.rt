@@ -1,24 +1,22 @@
 //! The header of a message.
 
-ghost use Rattle.std.specs.Prelude.{◌≡◌, Option};
+ghost use Rattle.std.specs.Prelude.{◌≡◌, ◌+◌, ◌≤◌, length, Option};
 ghost use Rattle.std.specs.Option.{option_map};
 ghost use Rattle.std.specs.Int.{w64};
-ghost use Rattle.cip_types.specs.Fields.{Finds, field_at, fields_at};
+ghost use Rattle.cip_types.specs.Fields.{Finds, fields_at};
+ghost use Rattle.cip_types.specs.Parts.{number_in};
 ghost use Rattle.cip_types.specs.Texts.{Tailed};
 ghost use Rattle.cip_encap.specs.Message.{header_widths, view_header, headed, IsHeaderReading};
 
-use cip_types::fields::{u16_at, u32_at};
+use cip_types::fields::{u16_in, u32_in};
 
-/// A number of eight bytes, and the bytes after it. None where there are fewer bytes.
-fn u64_at(bytes: &[u8]) -> Option<(u64, &[u8])>
-    ensures { Finds (λ x. (x.0, x.1.now)) result (field_at w64 bytes.now) }
+/// The number of eight bytes at a place.
+fn u64_in(bytes: &[u8], at: usize) -> u64
+    requires { at + 8 ≤ length bytes.now }
+    ensures { result ≡ number_in w64 bytes.now at }
 {
-    if bytes.len() < 8 {
-        return None;
-    }
-    let (f, rest) = bytes.split_at(8);
-    let number = u64::from_le_bytes([f[0], f[1], f[2], f[3], f[4], f[5], f[6], f[7]]);
-    Some((number, rest))
+    let f = &bytes[at..at + 8];
+    u64::from_le_bytes([f[0], f[1], f[2], f[3], f[4], f[5], f[6], f[7]])
 }
 
 /// The numbers of a header, as they are.
@@ -41,21 +39,18 @@ pub struct MessageHeader {
 pub fn header_at(bytes: &[u8]) -> Option<(MessageHeader, &[u8])>
     ensures { Finds (λ x. headed x.0 x.1.now) result (fields_at header_widths bytes.now) }
 {
-    let (command, rest) = u16_at(bytes)?;
-    let (len, rest) = u16_at(rest)?;
-    let (session, rest) = u32_at(rest)?;
-    let (status, rest) = u32_at(rest)?;
-    let (context, rest) = u64_at(rest)?;
-    let (options, rest) = u32_at(rest)?;
+    if bytes.len() < 24 {
+        return None;
+    }
     let header = MessageHeader {
-        command,
-        len,
-        session,
-        status,
-        context,
-        options,
+        command: u16_in(bytes, 0),
+        len: u16_in(bytes, 2),
+        session: u32_in(bytes, 4),
+        status: u32_in(bytes, 8),
+        context: u64_in(bytes, 12),
+        options: u32_in(bytes, 20),
     };
-    Some((header, rest))
+    Some((header, &bytes[24..]))
 }
 
 /// The header that the bytes begin with, and the bytes behind it, however many they are. None where

@@ -6,7 +6,7 @@ ghost use Rattle.std.specs.Prelude.{◌<◌};
 /// zero matches any device.
 ///
 /// Volume 1, appendix C, electronic key segment.
-#[derive(Clone, Copy, Debug, PartialEq, Eq)]
+#[derive(Clone, Copy, PartialEq, Eq)]
 pub struct Key {
     pub vendor: u16,
     pub device_type: u16,

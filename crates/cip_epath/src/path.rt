@@ -5,7 +5,7 @@ use crate::key::Key;
 /// The path of a connection. The fields have the order in which `write_path` writes the segments.
 ///
 /// Volume 1, chapter 3, connection path.
-#[derive(Clone, Copy, Debug)]
+#[derive(Clone, Copy)]
 pub struct ConnPath<'a> {
     /// The device that the originator wants to meet.
     pub key: Option<Key>,

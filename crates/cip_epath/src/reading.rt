@@ -1,9 +1,10 @@
 //! Reading the segment at the front of some bytes.
 
 ghost use Rattle.std.specs.Prelude.{◌≡◌};
+ghost use Rattle.std.specs.Option.{ok_or};
 ghost use Rattle.cip_epath.specs.Key.{view_key};
 ghost use Rattle.cip_epath.specs.Segment.{view_segment};
-ghost use Rattle.cip_epath.specs.Reading.{Gives, data_at, key_at, logical_at, type_of, segment_at};
+ghost use Rattle.cip_epath.specs.Reading.{Gives, data_at, key_fields_at, key_at, value_at, logical_at, type_of, segment_at};
 
 use crate::fault::PathFault;
 use crate::key::Key;
@@ -15,7 +16,9 @@ use cip_types::fields::{u8_at, u16_at, u32_at};
 fn data_of(bytes: &[u8]) -> Result<(&[u8], &[u8]), PathFault>
     ensures { Gives (λ x. (x.0.now, x.1.now)) result (data_at bytes.now) }
 {
-    let (words, rest) = u8_at(bytes).ok_or(PathFault::Truncated)?;
+    let Some((words, rest)) = u8_at(bytes) else {
+        return Err(PathFault::Truncated);
+    };
     let len = 2 * words as usize;
     if rest.len() < len {
         return Err(PathFault::Truncated);
@@ -23,20 +26,16 @@ fn data_of(bytes: &[u8]) -> Result<(&[u8], &[u8]), PathFault>
     Ok(rest.split_at(len))
 }
 
-/// The key behind the first byte of its segment.
-#[tactic(auto, unfolding(crate::specs::Reading::key_at, crate::specs::Reading::key_fields_at))]
-fn key_of(bytes: &[u8]) -> Result<(Key, &[u8]), PathFault>
-    ensures { Gives (λ x. (view_key x.0, x.1.now)) result (key_at bytes.now) }
+/// The fields of a key. None where there are fewer bytes.
+#[tactic(auto, unfolding(crate::specs::Reading::key_fields_at))]
+fn key_fields(bytes: &[u8]) -> Option<(Key, &[u8])>
+    ensures { Gives (λ x. (view_key x.0, x.1.now)) (ok_or result PathFault.Truncated) (key_fields_at bytes.now) }
 {
-    let (format, rest) = u8_at(bytes).ok_or(PathFault::Truncated)?;
-    if format != 4 {
-        return Err(PathFault::KeyFormat);
-    }
-    let (vendor, rest) = u16_at(rest).ok_or(PathFault::Truncated)?;
-    let (device_type, rest) = u16_at(rest).ok_or(PathFault::Truncated)?;
-    let (product, rest) = u16_at(rest).ok_or(PathFault::Truncated)?;
-    let (revision, rest) = u8_at(rest).ok_or(PathFault::Truncated)?;
-    let (minor, rest) = u8_at(rest).ok_or(PathFault::Truncated)?;
+    let (vendor, rest) = u16_at(bytes)?;
+    let (device_type, rest) = u16_at(rest)?;
+    let (product, rest) = u16_at(rest)?;
+    let (revision, rest) = u8_at(rest)?;
+    let (minor, rest) = u8_at(rest)?;
     let key = Key {
         vendor,
         device_type,
@@ -45,7 +44,21 @@ fn key_of(bytes: &[u8]) -> Result<(Key, &[u8]), PathFault>
         major: revision % 128,
         minor,
     };
-    Ok((key, rest))
+    Some((key, rest))
+}
+
+/// The key behind the first byte of its segment.
+#[tactic(auto, unfolding(crate::specs::Reading::key_at))]
+fn key_of(bytes: &[u8]) -> Result<(Key, &[u8]), PathFault>
+    ensures { Gives (λ x. (view_key x.0, x.1.now)) result (key_at bytes.now) }
+{
+    let Some((format, rest)) = u8_at(bytes) else {
+        return Err(PathFault::Truncated);
+    };
+    if format != 4 {
+        return Err(PathFault::KeyFormat);
+    }
+    key_fields(rest).ok_or(PathFault::Truncated)
 }
 
 /// The type in the six high bits of a logical segment's first byte.
@@ -62,6 +75,45 @@ fn logical_type(high: u8) -> Option<LogicalType>
     }
 }
 
+/// The logical segment of a type whose value has one byte.
+#[tactic(auto, unfolding(crate::specs::Reading::value_at))]
+fn byte_value(kind: LogicalType, bytes: &[u8]) -> Result<(Segment<'_>, &[u8]), PathFault>
+    ensures { Gives (λ x. (view_segment x.0, x.1.now)) result (value_at kind 0 bytes.now) }
+{
+    let Some((value, rest)) = u8_at(bytes) else {
+        return Err(PathFault::Truncated);
+    };
+    Ok((Segment::Logical(kind, u32::from(value)), rest))
+}
+
+/// The logical segment of a type whose value has two bytes, behind its pad byte.
+#[tactic(auto, unfolding(crate::specs::Reading::value_at))]
+fn word_value(kind: LogicalType, bytes: &[u8]) -> Result<(Segment<'_>, &[u8]), PathFault>
+    ensures { Gives (λ x. (view_segment x.0, x.1.now)) result (value_at kind 1 bytes.now) }
+{
+    let Some((_pad, rest)) = u8_at(bytes) else {
+        return Err(PathFault::Truncated);
+    };
+    let Some((value, rest)) = u16_at(rest) else {
+        return Err(PathFault::Truncated);
+    };
+    Ok((Segment::Logical(kind, u32::from(value)), rest))
+}
+
+/// The logical segment of a type whose value has four bytes, behind its pad byte.
+#[tactic(auto, unfolding(crate::specs::Reading::value_at))]
+fn long_value(kind: LogicalType, bytes: &[u8]) -> Result<(Segment<'_>, &[u8]), PathFault>
+    ensures { Gives (λ x. (view_segment x.0, x.1.now)) result (value_at kind 2 bytes.now) }
+{
+    let Some((_pad, rest)) = u8_at(bytes) else {
+        return Err(PathFault::Truncated);
+    };
+    let Some((value, rest)) = u32_at(rest) else {
+        return Err(PathFault::Truncated);
+    };
+    Ok((Segment::Logical(kind, value), rest))
+}
+
 /// The logical segment behind its first byte.
 #[tactic(auto, unfolding(crate::specs::Reading::logical_at, crate::specs::Reading::value_at))]
 fn logical_of(first: u8, bytes: &[u8]) -> Result<(Segment<'_>, &[u8]), PathFault>
@@ -71,20 +123,9 @@ fn logical_of(first: u8, bytes: &[u8]) -> Result<(Segment<'_>, &[u8]), PathFault
         return Err(PathFault::Segment);
     };
     match first & 3 {
-        0 => {
-            let (value, rest) = u8_at(bytes).ok_or(PathFault::Truncated)?;
-            Ok((Segment::Logical(kind, u32::from(value)), rest))
-        }
-        1 => {
-            let (_pad, rest) = u8_at(bytes).ok_or(PathFault::Truncated)?;
-            let (value, rest) = u16_at(rest).ok_or(PathFault::Truncated)?;
-            Ok((Segment::Logical(kind, u32::from(value)), rest))
-        }
-        2 => {
-            let (_pad, rest) = u8_at(bytes).ok_or(PathFault::Truncated)?;
-            let (value, rest) = u32_at(rest).ok_or(PathFault::Truncated)?;
-            Ok((Segment::Logical(kind, value), rest))
-        }
+        0 => byte_value(kind, bytes),
+        1 => word_value(kind, bytes),
+        2 => long_value(kind, bytes),
         _ => Err(PathFault::Segment),
     }
 }
@@ -94,14 +135,18 @@ fn logical_of(first: u8, bytes: &[u8]) -> Result<(Segment<'_>, &[u8]), PathFault
 pub fn segment_of(bytes: &[u8]) -> Result<(Segment<'_>, &[u8]), PathFault>
     ensures { Gives (λ x. (view_segment x.0, x.1.now)) result (segment_at bytes.now) }
 {
-    let (first, rest) = u8_at(bytes).ok_or(PathFault::Truncated)?;
+    let Some((first, rest)) = u8_at(bytes) else {
+        return Err(PathFault::Truncated);
+    };
     match first {
         0x34 => {
             let (key, rest) = key_of(rest)?;
             Ok((Segment::Key(key), rest))
         }
         0x43 => {
-            let (ms, rest) = u8_at(rest).ok_or(PathFault::Truncated)?;
+            let Some((ms, rest)) = u8_at(rest) else {
+                return Err(PathFault::Truncated);
+            };
             Ok((Segment::Inhibit(ms), rest))
         }
         0x80 => {

@@ -1,5 +1,6 @@
 -- The data of a Forward_Open is read one way, and what is written is read again.
-use Rattle.std.proofs.Common.{◌≡◌, ℕ, ◌<◌, Bool, List, ◌++◌, length, Some, None, Result, Ok, Err, refl, ap, ◌∙◌}
+use Rattle.std.proofs.Common.{◌≡◌, ℕ, ◌/◌, ◌%◌, ◌<◌, Bool, true, false, List, ◌∷◌, ◌++◌, length, Some, None, Result, Ok, Err, refl, ap, ◌∙◌, arith}
+use Rattle.std.specs.Int.{w32, to_le_bytes}
 use Rattle.std.specs.List.{AllByRecursion}
 use Rattle.cip_types.specs.Fields.{fields_text, fields_at}
 use Rattle.cip_types.specs.Texts.{IsPrefixFree, Found, found_image, Tailed, IsTailedText, tailed_found}
@@ -7,8 +8,10 @@ use Rattle.cip_types.specs.FieldLaws.{IsBytes, IsWide, wide8, wide16, wide32, fi
 use Rattle.cip_types.specs.TextLaws.{image_free, image_found, tailed_free, tailed_is_found}
 use Rattle.cip_fwdopen.specs.declared.fault.ReadFault.{ReadFault}
 use Rattle.cip_fwdopen.specs.declared.fault.ReadFault.TheVariants.{NotEnough, TooMuch}
+use Rattle.cip_netparams.specs.declared.NetParams.{NetParams}
 use Rattle.cip_fwdopen.specs.Readings.{answer_of}
-use Rattle.cip_fwdopen.specs.Open.{OpenFields, OpenFits, open_widths, path_len, open_of, IsOpenText, IsOpenReading, open_reading, params_of, params_word, open_numbers, open_text}
+use Rattle.cip_fwdopen.specs.Reply.{triad_widths, triad_numbers}
+use Rattle.cip_fwdopen.specs.Open.{OpenFields, OpenFits, open_widths, path_len, open_of, IsOpenText, IsOpenReading, open_reading, params_of, params_width, params_word, open_numbers, open_text}
 use Rattle.cip_fwdopen.proofs.ReadingLaws.{tailed_none, tailed_short, tailed_long, tailed_whole, found_is_reading, one_reading}
 use Rattle.cip_fwdopen.proofs.ParamsLaws.{wide_params, params_back}
 
@@ -56,6 +59,31 @@ same_open large p fits =
     let o_t : params_of large (params_word large p.o_t_params) ≡ p.o_t_params = params_back large p.o_t_params fits.o_t_size in
     let t_o : params_of large (params_word large p.t_o_params) ≡ p.t_o_params = params_back large p.t_o_params fits.t_o_size in
     rw (o_t, t_o) refl
+
+-- an interval and a word of connection parameters
+abbrev pub direction_text : Bool → ℕ → NetParams → List ℕ
+direction_text large rpi params = to_le_bytes w32 rpi ++ to_le_bytes (params_width large) (params_word large params)
+
+-- the text of a request, its parts one after the other
+pub open_text_parts : (large : Bool) (p : OpenFields) → p.priority_tick < 256 → p.ticks < 256 → p.multiplier < 256 → p.trigger < 256 → length p.path / 2 < 256
+    → open_text large p
+    ≡ p.priority_tick ∷ p.ticks ∷ (to_le_bytes w32 p.o_t_id.0 ++ (to_le_bytes w32 p.t_o_id.0 ++ (fields_text triad_widths (triad_numbers p.triad) ++ (p.multiplier ∷ 0 ∷ 0 ∷ 0 ∷
+    (direction_text large p.o_t_rpi p.o_t_params ++ (direction_text large p.t_o_rpi p.t_o_params ++ (p.trigger ∷ length p.path / 2 ∷ p.path)))))))
+unfolding open_text
+open_text_parts true p tick_fits ticks_fit multiplier_fits trigger_fits words_fit =
+    let tick : p.priority_tick % 256 ≡ p.priority_tick = omega arith in
+    let ticks : p.ticks % 256 ≡ p.ticks = omega arith in
+    let multiplier : p.multiplier % 256 ≡ p.multiplier = omega arith in
+    let trigger : p.trigger % 256 ≡ p.trigger = omega arith in
+    let words : length p.path / 2 % 256 ≡ length p.path / 2 = omega arith in
+    rw (tick, ticks, multiplier, trigger, words) refl
+open_text_parts false p tick_fits ticks_fit multiplier_fits trigger_fits words_fit =
+    let tick : p.priority_tick % 256 ≡ p.priority_tick = omega arith in
+    let ticks : p.ticks % 256 ≡ p.ticks = omega arith in
+    let multiplier : p.multiplier % 256 ≡ p.multiplier = omega arith in
+    let trigger : p.trigger % 256 ≡ p.trigger = omega arith in
+    let words : length p.path / 2 % 256 ≡ length p.path / 2 = omega arith in
+    rw (tick, ticks, multiplier, trigger, words) refl
 
 -- what is written of a request is a text of it
 pub open_text_is : (large : Bool) (p : OpenFields) → OpenFits large p → IsOpenText large (open_text large p) p

@@ -20,7 +20,7 @@ const CLOSED: usize = 14;
 /// The data of a Forward_Close.
 ///
 /// Volume 1, chapter 3, Forward_Close service.
-#[derive(Clone, Copy, Debug)]
+#[derive(Clone, Copy)]
 pub struct CloseRequest<'a> {
     /// Priority and time tick of the unconnected request.
     pub priority_tick: u8,

@@ -6,8 +6,8 @@ ghost use Rattle.std.specs.Int.{w16};
 ghost use Rattle.cip_types.specs.Fields.{Finds, field_at, fields_at};
 ghost use Rattle.cip_fwdopen.specs.Reply.{unread_reading};
 
-use crate::reply::Opened;
-use cip_types::fields::{u8_at, u16_at, u32_at};
+use crate::reply::{Opened, triad_in};
+use cip_types::fields::{u16_at, u32_in};
 use cip_types::{ConnId, Fault, Triad};
 
 /// What stands before the additional words of a reply.
@@ -27,15 +27,14 @@ impl Head {
     pub fn at(bytes: &[u8]) -> Option<(Head, &[u8])>
         ensures { Finds (λ x. (head_numbers x.0, x.1.now)) result (fields_at reply_widths bytes.now) }
     {
-        let (service, rest) = u8_at(bytes)?;
-        let (reserved, rest) = u8_at(rest)?;
-        let (general, rest) = u8_at(rest)?;
-        let (words, rest) = u8_at(rest)?;
+        let [service, reserved, general, words, rest @ ..] = bytes else {
+            return None;
+        };
         let head = Head {
-            service,
-            reserved,
-            general,
-            words,
+            service: *service,
+            reserved: *reserved,
+            general: *general,
+            words: *words,
         };
         Some((head, rest))
     }
@@ -94,32 +93,22 @@ impl Success {
     pub fn at(bytes: &[u8]) -> Option<(Success, &[u8])>
         ensures { Finds (λ x. (success_numbers x.0, x.1.now)) result (fields_at opened_widths bytes.now) }
     {
-        let (o_t_id, rest) = u32_at(bytes)?;
-        let (t_o_id, rest) = u32_at(rest)?;
-        let (serial, rest) = u16_at(rest)?;
-        let (vendor, rest) = u16_at(rest)?;
-        let (originator, rest) = u32_at(rest)?;
-        let (o_t_api, rest) = u32_at(rest)?;
-        let (t_o_api, rest) = u32_at(rest)?;
-        let (application_words, rest) = u8_at(rest)?;
-        let (reserved, rest) = u8_at(rest)?;
+        if bytes.len() < 26 {
+            return None;
+        }
         let opened = Opened {
-            o_t_id: ConnId(o_t_id),
-            t_o_id: ConnId(t_o_id),
-            triad: Triad {
-                serial,
-                vendor,
-                originator,
-            },
-            o_t_api,
-            t_o_api,
+            o_t_id: ConnId(u32_in(bytes, 0)),
+            t_o_id: ConnId(u32_in(bytes, 4)),
+            triad: triad_in(bytes, 8),
+            o_t_api: u32_in(bytes, 16),
+            t_o_api: u32_in(bytes, 20),
         };
         let success = Success {
             opened,
-            application_words,
-            reserved,
+            application_words: bytes[24],
+            reserved: bytes[25],
         };
-        Some((success, rest))
+        Some((success, &bytes[26..]))
     }
 }
 
@@ -141,26 +130,17 @@ impl CloseFront {
     pub fn at(bytes: &[u8]) -> Option<(CloseFront, &[u8])>
         ensures { Finds (λ x. (close_front_numbers x.0, x.1.now)) result (fields_at close_widths bytes.now) }
     {
-        let (priority_tick, rest) = u8_at(bytes)?;
-        let (ticks, rest) = u8_at(rest)?;
-        let (serial, rest) = u16_at(rest)?;
-        let (vendor, rest) = u16_at(rest)?;
-        let (originator, rest) = u32_at(rest)?;
-        let (path_words, rest) = u8_at(rest)?;
-        let (reserved, rest) = u8_at(rest)?;
-        let triad = Triad {
-            serial,
-            vendor,
-            originator,
-        };
+        if bytes.len() < 12 {
+            return None;
+        }
         let front = CloseFront {
-            priority_tick,
-            ticks,
-            triad,
-            path_words,
-            reserved,
+            priority_tick: bytes[0],
+            ticks: bytes[1],
+            triad: triad_in(bytes, 2),
+            path_words: bytes[10],
+            reserved: bytes[11],
         };
-        Some((front, rest))
+        Some((front, &bytes[12..]))
     }
 }
 
@@ -180,21 +160,14 @@ impl ClosedFront {
     pub fn at(bytes: &[u8]) -> Option<(ClosedFront, &[u8])>
         ensures { Finds (λ x. (closed_front_numbers x.0, x.1.now)) result (fields_at closed_widths bytes.now) }
     {
-        let (serial, rest) = u16_at(bytes)?;
-        let (vendor, rest) = u16_at(rest)?;
-        let (originator, rest) = u32_at(rest)?;
-        let (application_words, rest) = u8_at(rest)?;
-        let (reserved, rest) = u8_at(rest)?;
-        let triad = Triad {
-            serial,
-            vendor,
-            originator,
-        };
+        if bytes.len() < 10 {
+            return None;
+        }
         let front = ClosedFront {
-            triad,
-            application_words,
-            reserved,
+            triad: triad_in(bytes, 0),
+            application_words: bytes[8],
+            reserved: bytes[9],
         };
-        Some((front, rest))
+        Some((front, &bytes[10..]))
     }
 }

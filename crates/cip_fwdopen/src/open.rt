@@ -14,7 +14,7 @@ use cip_types::{ConnId, Triad};
 /// The data of a Forward_Open or of a Large_Forward_Open. Packet intervals are in microseconds.
 ///
 /// Volume 1, chapter 3, Forward_Open service.
-#[derive(Clone, Copy, Debug)]
+#[derive(Clone, Copy)]
 pub struct OpenRequest<'a> {
     /// Priority and time tick of the unconnected request.
     pub priority_tick: u8,

@@ -1,20 +1,22 @@
 //! Replies to a Forward_Open and to a Large_Forward_Open.
 
-ghost use Rattle.std.specs.Prelude.{◌≡◌, Result};
+ghost use Rattle.std.specs.Prelude.{◌≡◌, ◌+◌, ◌≤◌, length, Result};
+ghost use Rattle.std.specs.Int.{w16, w32};
 ghost use Rattle.cip_types.specs.Fields.{Finds, fields_at};
+ghost use Rattle.cip_types.specs.Parts.{number_in};
 ghost use Rattle.cip_fwdopen.specs.declared.fault.ReadFault.{ReadFault};
 ghost use Rattle.cip_fwdopen.specs.declared.reply.OpenReply.{OpenReply};
 ghost use Rattle.cip_fwdopen.specs.Reply.{triad_widths, triad_numbers, failure_reading, opened_reading, answer_reading, IsOpenReplyReading, open_reply_reading};
 
 use crate::fault::ReadFault;
 use crate::front::{Success, unread_at};
-use cip_types::fields::{u16_at, u32_at};
+use cip_types::fields::{u16_in, u32_in};
 use cip_types::{ConnId, Fault, Triad};
 
 /// What a target says of a connection that it opened. Actual packet intervals are in microseconds.
 ///
 /// Volume 1, chapter 3, Forward_Open service, successful response.
-#[derive(Clone, Copy, Debug, PartialEq, Eq)]
+#[derive(Clone, Copy, PartialEq, Eq)]
 pub struct Opened {
     pub o_t_id: ConnId,
     pub t_o_id: ConnId,
@@ -48,18 +50,29 @@ pub struct OpenReply {
     pub answer: OpenAnswer,
 }
 
+/// The numbers that name a connection, at a place.
+pub fn triad_in(bytes: &[u8], at: usize) -> Triad
+    requires { at + 8 ≤ length bytes.now }
+    ensures { result ≡ record {
+      serial = number_in w16 bytes.now at;
+      vendor = number_in w16 bytes.now (at + 2);
+      originator = number_in w32 bytes.now (at + 4);
+    } }
+{
+    Triad {
+        serial: u16_in(bytes, at),
+        vendor: u16_in(bytes, at + 2),
+        originator: u32_in(bytes, at + 4),
+    }
+}
+
 fn triad_at(bytes: &[u8]) -> Option<(Triad, &[u8])>
     ensures { Finds (λ x. (triad_numbers x.0, x.1.now)) result (fields_at triad_widths bytes.now) }
 {
-    let (serial, rest) = u16_at(bytes)?;
-    let (vendor, rest) = u16_at(rest)?;
-    let (originator, rest) = u32_at(rest)?;
-    let triad = Triad {
-        serial,
-        vendor,
-        originator,
-    };
-    Some((triad, rest))
+    if bytes.len() < 8 {
+        return None;
+    }
+    Some((triad_in(bytes, 0), &bytes[8..]))
 }
 
 /// The connection that the data of a failure names: 8 bytes, or 10, or none.

@@ -1,10 +1,10 @@
 //! What originator and target of a Forward_Open write.
 
 ghost use Rattle.std.specs.Prelude.{◌≡◌, ◌≢◌, ◌%◌, ◌≤◌, ◌++◌, length, IfOk, OnOk, Ok};
-ghost use Rattle.std.specs.Int.{to_le_bytes};
+ghost use Rattle.std.specs.Int.{w32, to_le_bytes};
 ghost use Rattle.cip_types.specs.Fields.{fields_text};
-ghost use Rattle.cip_fwdopen.specs.Open.{view_open, params_width, params_word, greatest_size, open_text, IsOpenText, open_reading};
-ghost use Rattle.cip_fwdopen.specs.Reply.{opened_text, opened_reply, refused_text, refused_reply, IsOpenReplyText, open_reply_reading, extra_text, failure_text, triad_widths, triad_numbers, TriadFits};
+ghost use Rattle.cip_fwdopen.specs.Open.{view_open, params_width, params_word, greatest_size, open_text, OpenFits, IsOpenText, open_reading};
+ghost use Rattle.cip_fwdopen.specs.Reply.{opened_service, opened_text, opened_reply, refused_text, refused_reply, IsOpenReplyText, open_reply_reading, extra_text, failure_text, triad_widths, triad_numbers, OpenedFits, TriadFits};
 
 use crate::open::OpenRequest;
 use crate::reply::Opened;
@@ -36,6 +36,42 @@ pub fn put_triad(out: &mut Vec<u8>, triad: Triad) -> Result<(), OutOfMemory>
     put_u32(out, triad.originator)
 }
 
+/// Appends what one direction asks for.
+fn put_direction(
+    out: &mut Vec<u8>,
+    large: bool,
+    rpi: u32,
+    params: &NetParams,
+) -> Result<(), OutOfMemory>
+    requires { params.now.size ≤ greatest_size large }
+    ensures { OnOk result (out.new.items ≡ out.old.items
+        ++ (to_le_bytes w32 rpi ++ to_le_bytes (params_width large) (params_word large params.now))) }
+{
+    put_u32(out, rpi)?;
+    put_params(out, large, params)
+}
+
+/// Appends the data of a Forward_Open, or of a Large_Forward_Open.
+fn put_open(out: &mut Vec<u8>, large: bool, request: &OpenRequest<'_>) -> Result<(), OutOfMemory>
+    requires whole_words { length request.now.path.now % 2 ≡ 0 }
+    requires short { length request.now.path.now ≤ 510 }
+    requires o_t_size { request.now.o_t_params.size ≤ greatest_size large }
+    requires t_o_size { request.now.t_o_params.size ≤ greatest_size large }
+    ensures text { OnOk result (out.new.items ≡ out.old.items ++ open_text large (view_open request.now)) }
+    ensures fits { OnOk result (OpenFits large (view_open request.now)) }
+{
+    put_bytes(out, &[request.priority_tick, request.ticks])?;
+    put_u32(out, request.o_t_id.0)?;
+    put_u32(out, request.t_o_id.0)?;
+    put_triad(out, request.triad)?;
+    put_bytes(out, &[request.multiplier, 0, 0, 0])?;
+    put_direction(out, large, request.o_t_rpi, &request.o_t_params)?;
+    put_direction(out, large, request.t_o_rpi, &request.t_o_params)?;
+    put_bytes(out, &[request.trigger, (request.path.len() / 2) as u8])?;
+    put_bytes(out, request.path)?;
+    Ok(())
+}
+
 /// The data of a Forward_Open, or of a Large_Forward_Open, with reserved bytes and spare bits zero.
 /// The path has to be whole words, of which there are at most 255, and in a Forward_Open the sizes
 /// have to fit nine bits. OutOfMemory where memory is refused, as of the other writers.
@@ -55,19 +91,30 @@ pub fn write_open(
     ensures read_back { IfOk result (λ v. open_reading large v.items ≡ Ok (view_open request.now)) }
 {
     let mut out = Vec::new(alloc);
-    put_u8(&mut out, request.priority_tick)?;
-    put_u8(&mut out, request.ticks)?;
-    put_u32(&mut out, request.o_t_id.0)?;
-    put_u32(&mut out, request.t_o_id.0)?;
-    put_triad(&mut out, request.triad)?;
-    put_bytes(&mut out, &[request.multiplier, 0, 0, 0])?;
-    put_u32(&mut out, request.o_t_rpi)?;
-    put_params(&mut out, large, &request.o_t_params)?;
-    put_u32(&mut out, request.t_o_rpi)?;
-    put_params(&mut out, large, &request.t_o_params)?;
-    put_bytes(&mut out, &[request.trigger, (request.path.len() / 2) as u8])?;
-    put_bytes(&mut out, request.path)?;
+    put_open(&mut out, large, request)?;
     Ok(out)
+}
+
+/// The service byte of a reply to a Large_Forward_Open or to a Forward_Open.
+fn service_of(large: bool) -> u8
+    ensures { result ≡ opened_service large }
+{
+    if large { 0xDB } else { 0xD4 }
+}
+
+/// Appends the whole reply that says that a connection is open.
+fn put_opened(out: &mut Vec<u8>, large: bool, opened: &Opened) -> Result<(), OutOfMemory>
+    ensures text { OnOk result (out.new.items ≡ out.old.items ++ opened_text large opened.now) }
+    ensures fits { OnOk result (OpenedFits opened.now) }
+{
+    put_bytes(out, &[service_of(large), 0, 0, 0])?;
+    put_u32(out, opened.o_t_id.0)?;
+    put_u32(out, opened.t_o_id.0)?;
+    put_triad(out, opened.triad)?;
+    put_u32(out, opened.o_t_api)?;
+    put_u32(out, opened.t_o_api)?;
+    put_bytes(out, &[0, 0])?;
+    Ok(())
 }
 
 /// The whole reply that says that a connection is open, to a Large_Forward_Open or to a
@@ -80,14 +127,7 @@ pub fn write_opened(alloc: Global, large: bool, opened: &Opened) -> Result<Vec<u
     ensures read_back { IfOk result (λ v. open_reply_reading v.items ≡ Ok (opened_reply large opened.now)) }
 {
     let mut out = Vec::with_capacity(alloc, OPENED)?;
-    put_u8(&mut out, if large { 0xDB } else { 0xD4 })?;
-    put_bytes(&mut out, &[0, 0, 0])?;
-    put_u32(&mut out, opened.o_t_id.0)?;
-    put_u32(&mut out, opened.t_o_id.0)?;
-    put_triad(&mut out, opened.triad)?;
-    put_u32(&mut out, opened.o_t_api)?;
-    put_u32(&mut out, opened.t_o_api)?;
-    put_bytes(&mut out, &[0, 0])?;
+    put_opened(&mut out, large, opened)?;
     Ok(out)
 }
 

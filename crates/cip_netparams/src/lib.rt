@@ -14,7 +14,7 @@ pub use word::{read16, read32, write16, write32};
 /// How urgent a connection's datagrams are.
 ///
 /// Volume 1, chapter 3, network connection parameters.
-#[derive(Clone, Copy, Debug, PartialEq, Eq)]
+#[derive(Clone, Copy, PartialEq, Eq)]
 pub enum Priority {
     Low,
     High,
@@ -25,7 +25,7 @@ pub enum Priority {
 /// Whom the datagrams of one direction go to.
 ///
 /// Volume 1, chapter 3, network connection parameters.
-#[derive(Clone, Copy, Debug, PartialEq, Eq)]
+#[derive(Clone, Copy, PartialEq, Eq)]
 pub enum ConnectionType {
     Null,
     Multicast,
@@ -36,7 +36,7 @@ pub enum ConnectionType {
 /// The network connection parameters of one direction.
 ///
 /// Volume 1, chapter 3, network connection parameters.
-#[derive(Clone, Copy, Debug, PartialEq, Eq)]
+#[derive(Clone, Copy, PartialEq, Eq)]
 pub struct NetParams {
     /// Bytes of a datagram's data, the sequence count included; at most 511 in a 16-bit word.
     pub size: u16,
@@ -51,7 +51,7 @@ pub struct NetParams {
 /// When a producer of a class 1 connection sends.
 ///
 /// Volume 1, chapter 3, transport class and trigger.
-#[derive(Clone, Copy, Debug, PartialEq, Eq)]
+#[derive(Clone, Copy, PartialEq, Eq)]
 pub enum Trigger {
     /// Once in each packet interval.
     Cyclic,

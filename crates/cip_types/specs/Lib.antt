@@ -4,6 +4,8 @@ pub mod Texts
 pub mod Order
 pub mod Cases
 pub mod FieldLaws
+pub mod Parts
+pub mod PartLaws
 pub mod TextLaws
 pub mod Places
 pub mod Firsts

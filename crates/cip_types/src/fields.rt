@@ -1,8 +1,9 @@
 //! Little-endian numbers at the front of some bytes, and behind some bytes.
 
-ghost use Rattle.std.specs.Prelude.{◌≡◌, ◌++◌, ◌∷◌, [], OnOk, OnErr, length};
+ghost use Rattle.std.specs.Prelude.{◌≡◌, ◌+◌, ◌≤◌, ◌++◌, ◌∷◌, [], OnOk, OnErr, length};
 ghost use Rattle.std.specs.Int.{w8, w16, w32, to_le_bytes};
 ghost use Rattle.cip_types.specs.Fields.{Finds, field_at};
+ghost use Rattle.cip_types.specs.Parts.{number_in};
 
 use crate::memory::OutOfMemory;
 
@@ -37,6 +38,24 @@ pub fn u32_at(bytes: &[u8]) -> Option<(u32, &[u8])>
     let (front, rest) = bytes.split_at(4);
     let number = u32::from_le_bytes([front[0], front[1], front[2], front[3]]);
     Some((number, rest))
+}
+
+/// The number of two bytes at a place.
+pub fn u16_in(bytes: &[u8], at: usize) -> u16
+    requires { at + 2 ≤ length bytes.now }
+    ensures { result ≡ number_in w16 bytes.now at }
+{
+    let number = &bytes[at..at + 2];
+    u16::from_le_bytes([number[0], number[1]])
+}
+
+/// The number of four bytes at a place.
+pub fn u32_in(bytes: &[u8], at: usize) -> u32
+    requires { at + 4 ≤ length bytes.now }
+    ensures { result ≡ number_in w32 bytes.now at }
+{
+    let number = &bytes[at..at + 4];
+    u32::from_le_bytes([number[0], number[1], number[2], number[3]])
 }
 
 /// Appends a number of one byte.

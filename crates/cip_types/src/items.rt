@@ -7,7 +7,7 @@ use std::alloc::Global;
 use std::marker::Model;
 
 /// Values in order, which contracts and definitions see as a list.
-#[derive(Debug, Drop)]
+#[derive(Drop)]
 pub struct Items<T> {
     vec: Vec<T>,
 }

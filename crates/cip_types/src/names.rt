@@ -4,7 +4,7 @@
 /// number and serial number of that originator.
 ///
 /// Volume 1, chapter 3, connection triad.
-#[derive(Clone, Copy, Debug, PartialEq, Eq)]
+#[derive(Clone, Copy, PartialEq, Eq)]
 pub struct Triad {
     pub serial: u16,
     pub vendor: u16,
@@ -12,28 +12,28 @@ pub struct Triad {
 }
 
 /// An IPv4 address, its first byte the most significant.
-#[derive(Clone, Copy, Debug, PartialEq, Eq, PartialOrd, Ord)]
+#[derive(Clone, Copy, PartialEq, Eq, PartialOrd, Ord)]
 pub struct Node(pub u32);
 
 /// The connection id that the datagrams of one direction carry.
-#[derive(Clone, Copy, Debug, PartialEq, Eq)]
+#[derive(Clone, Copy, PartialEq, Eq)]
 pub struct ConnId(pub u32);
 
 /// Milliseconds.
-#[derive(Clone, Copy, Debug, PartialEq, Eq, PartialOrd, Ord)]
+#[derive(Clone, Copy, PartialEq, Eq, PartialOrd, Ord)]
 pub struct Ms(pub u64);
 
 /// The general status of a refusal, with its additional status where there is one.
 ///
 /// Volume 1, appendix B and chapter 3, connection manager error codes.
-#[derive(Clone, Copy, Debug, PartialEq, Eq)]
+#[derive(Clone, Copy, PartialEq, Eq)]
 pub struct Fault {
     pub general: u8,
     pub extra: Option<u16>,
 }
 
 /// Why a reply does not open the connection that it is to open.
-#[derive(Clone, Copy, Debug, PartialEq, Eq)]
+#[derive(Clone, Copy, PartialEq, Eq)]
 pub enum Mismatch {
     /// The reply names another connection.
     Triad,
@@ -48,7 +48,7 @@ pub enum Mismatch {
 /// Who a device is: the fields of its Identity object that an electronic key names.
 ///
 /// Volume 1, chapter 5, Identity object.
-#[derive(Clone, Copy, Debug, PartialEq, Eq)]
+#[derive(Clone, Copy, PartialEq, Eq)]
 pub struct Identity {
     pub vendor: u16,
     pub device_type: u16,

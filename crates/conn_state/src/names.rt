@@ -6,7 +6,7 @@ use cip_types::{ConnId, Triad};
 /// leaves to the target.
 ///
 /// Volume 1, chapter 3, Forward_Open service.
-#[derive(Clone, Copy, Debug, PartialEq, Eq)]
+#[derive(Clone, Copy, PartialEq, Eq)]
 pub struct Wanted {
     pub triad: Triad,
     pub t_o_id: Option<ConnId>,
@@ -15,7 +15,7 @@ pub struct Wanted {
 /// What names an open connection: its triad, and the id that the datagrams of each direction carry.
 ///
 /// Volume 1, chapter 3, connection triad and network connection ids.
-#[derive(Clone, Copy, Debug, PartialEq, Eq)]
+#[derive(Clone, Copy, PartialEq, Eq)]
 pub struct Link {
     pub triad: Triad,
     pub o_t_id: ConnId,
