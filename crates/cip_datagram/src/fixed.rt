@@ -3,7 +3,7 @@
 ghost use Rattle.std.specs.Prelude.{◌≡◌};
 ghost use Rattle.cip_types.specs.Fields.{Finds, fields_at};
 
-use cip_types::fields::{u16_at, u32_at};
+use cip_types::fields::{u16_in, u32_in};
 
 /// The numbers in front of the data, as they are.
 #[derive(Clone, Copy)]
@@ -27,25 +27,20 @@ impl Fixed {
     pub fn at(bytes: &[u8]) -> Option<(Fixed, &[u8])>
         ensures { Finds (λ x. (numbers_of x.0, x.1.now)) result (fields_at datagram_widths bytes.now) }
     {
-        let (items, rest) = u16_at(bytes)?;
-        let (address, rest) = u16_at(rest)?;
-        let (address_len, rest) = u16_at(rest)?;
-        let (connection, rest) = u32_at(rest)?;
-        let (sequence, rest) = u32_at(rest)?;
-        let (connected, rest) = u16_at(rest)?;
-        let (len, rest) = u16_at(rest)?;
-        let (count, rest) = u16_at(rest)?;
+        if bytes.len() < 20 {
+            return None;
+        }
         let fixed = Fixed {
-            items,
-            address,
-            address_len,
-            connection,
-            sequence,
-            connected,
-            len,
-            count,
+            items: u16_in(bytes, 0),
+            address: u16_in(bytes, 2),
+            address_len: u16_in(bytes, 4),
+            connection: u32_in(bytes, 6),
+            sequence: u32_in(bytes, 10),
+            connected: u16_in(bytes, 14),
+            len: u16_in(bytes, 16),
+            count: u16_in(bytes, 18),
         };
-        Some((fixed, rest))
+        Some((fixed, &bytes[20..]))
     }
 
     /// Whether the items are those of a datagram.
