@@ -1,5 +1,5 @@
 -- Producers and whom they serve, taken up from one connection after another.
-use Rattle.std.proofs.Common.{◌≡◌, ◌≤◌, ℕ, zero, suc, ◌+◌, ◌-◌, Bool, true, false, cond, ◌||◌, ◌==◌, List, [], ◌∷◌, ◌++◌, length, map, take, drop, Option, Some, None, refl, sym, ◌∙◌, ap, subst, arith}
+use Rattle.std.proofs.Common.{◌≡◌, ◌≤◌, ℕ, zero, suc, ◌+◌, ◌-◌, Bool, true, false, ◌||◌, ◌==◌, List, [], ◌∷◌, ◌++◌, length, map, take, drop, Option, Some, None, refl, sym, ◌∙◌, ap, subst, arith}
 use Rattle.std.specs.List.{list_any, filter_map}
 use Rattle.std.proofs.lemmas.List.{append-nil, append_assoc}
 use Rattle.std.proofs.lemmas.List.Elements.{filter_map-append}
@@ -10,7 +10,7 @@ use Rattle.adapter_table.specs.declared.row.Row.{Row}
 use Rattle.adapter_table.specs.Productions.{consumers}
 use Rattle.swift_sendings.specs.declared.served.Entry.{Entry}
 use Rattle.swift_sendings.specs.Servings.{Serving, number_in, same_number, numbers, serving_of, servings, nodes_in, serving_in, AreWithin, has_number, is_of, more_by}
-use Rattle.swift_sendings.proofs.Logic.{same_by, map_append, drop_front, length_append}
+use Rattle.swift_sendings.proofs.Logic.{same_by, map_append, drop_front, length_append, take_whole}
 
 -- ---- entries whose nodes stand in front of others
 
@@ -37,10 +37,6 @@ within_more len more (entry ∷ entries) within le = (omega (arith, within.0), w
 pub within_last : (len : ℕ) (entries : List Entry) (entry : Entry) → AreWithin len entries → entry.first + entry.count ≤ len → AreWithin len (entries ++ entry ∷ [])
 within_last len [] entry within le = (le, tt)
 within_last len (next ∷ entries) entry within le = (within.0, within_last len entries entry within.1 le)
-
-take_whole : (xs : List Node) → take (length xs) xs ≡ xs
-take_whole [] = refl
-take_whole (x ∷ xs) = ap (λ (l : List Node). x ∷ l) (take_whole xs)
 
 -- the nodes of a new entry are those that were put last
 pub last_nodes : (nodes added : List Node) (entry : Entry) → entry.first ≡ length nodes → entry.count ≡ length added → nodes_in (nodes ++ added) entry ≡ added

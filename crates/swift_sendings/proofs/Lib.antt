@@ -2,5 +2,6 @@ mod Logic
 mod Gathering
 mod Entries
 mod Numbers
+mod Settling
 mod Keyed
 mod Due

@@ -1,5 +1,5 @@
 -- Truth values, numbers, and elements of lists.
-use Rattle.std.proofs.Common.{◌≡◌, ◌<◌, ℕ, zero, suc, ◌+◌, Bool, true, false, ◌||◌, ◌==◌, List, [], ◌∷◌, ◌++◌, length, map, take, drop, get_or, refl, sym, ◌∙◌, ap, arith}
+use Rattle.std.proofs.Common.{◌≡◌, ◌≤◌, ◌<◌, ℕ, zero, suc, ◌+◌, Bool, true, false, ◌||◌, ◌==◌, List, [], ◌∷◌, ◌++◌, length, map, take, drop, get_or, refl, ap, arith}
 use Rattle.std.proofs.lemmas.Bool.Decides.{nat_tests}
 
 pub numbered : (a : ℕ) → (a == a) ≡ true
@@ -34,3 +34,12 @@ drop_front (x ∷ front) rest = drop_front front rest
 pub length_append : {X : Type 0} (xs ys : List X) → length (xs ++ ys) ≡ length xs + length ys
 length_append [] ys = omega arith
 length_append (x ∷ xs) ys = omega (arith, length_append xs ys)
+
+pub take_whole : {X : Type 0} (xs : List X) → take (length xs) xs ≡ xs
+take_whole [] = refl
+take_whole (x ∷ xs) = ap (λ l. x ∷ l) (take_whole xs)
+
+pub length_take : {X : Type 0} (n : ℕ) (xs : List X) → n ≤ length xs → length (take n xs) ≡ n
+length_take zero xs le = refl
+length_take (suc n) [] le = absurd (omega arith)
+length_take (suc n) (x ∷ xs) le = omega (arith, length_take n xs (omega arith))

@@ -1,12 +1,12 @@
 -- Whom producers serve stays where each connection keeps its peer and the number of its producer.
-use Rattle.std.proofs.Common.{◌≡◌, ℕ, Bool, true, false, cond, ◌==◌, List, [], ◌∷◌, map, filter, Option, Some, None, refl, sym, ◌∙◌, ap}
+use Rattle.std.proofs.Common.{◌≡◌, ℕ, Bool, true, false, cond, ◌==◌, List, [], ◌∷◌, map, Option, Some, None, refl, sym, ◌∙◌, ap}
 use Rattle.std.specs.List.{filter_map}
 use Rattle.cip_types.specs.declared.names.Node.{Node}
 use Rattle.cip_types.specs.Order.{first_of_each}
 use Rattle.adapter_table.specs.declared.row.Row.{Row}
 use Rattle.adapter_table.specs.declared.row.State.{State}
 use Rattle.adapter_table.specs.declared.row.State.TheVariants.{Established, TimedOut}
-use Rattle.adapter_table.specs.Productions.{has_number, is_produced_by, group, same_node, peer_of, consumers}
+use Rattle.adapter_table.specs.Productions.{has_number, is_produced_by, group, same_node, peer_of}
 use Rattle.swift_sendings.specs.Servings.{Serving, state_number, number_in, same_number, numbers, serving_of, servings}
 
 -- a connection keeps its peer and the number of its producer

@@ -1,6 +1,6 @@
 -- Whom the producers of connections serve, in the order of their first connections (Volume 1, chapter 3, class 1
 -- transport; Volume 2, chapter 3, multicast connections).
-use Rattle.std.specs.Prelude.{ℕ, ◌≤◌, ◌+◌, ◌==◌, Bool, if◌then◌else◌, List, [], ◌∷◌, length, map, take, drop, Option, Some, None}
+use Rattle.std.specs.Prelude.{ℕ, ◌≤◌, ◌+◌, ◌==◌, Bool, if◌then◌else◌, List, [], ◌∷◌, map, take, drop, Option, Some, None}
 use Rattle.std.specs.List.{list_any, filter_map}
 use Rattle.cip_types.specs.declared.names.Node.{Node}
 use Rattle.cip_types.specs.Order.{first_of_each, unless}

@@ -1,5 +1,4 @@
-use Rattle.std.proofs.Common.{◌≡◌, ◌++◌, ℕ, List, length, drop, ap, ◌∙◌, sym, subst}
-use Rattle.cip_types.specs.declared.names.Node.{Node}
+use Rattle.std.proofs.Common.{◌++◌, ℕ, List, drop, ap, ◌∙◌, subst}
 use Rattle.adapter_table.specs.declared.row.Row.{Row}
 use Rattle.swift_sendings.specs.Servings.{one_consumer}
 use Rattle.swift_sendings.proofs.Gathering.{Gathered, gathered_more, gathered_all}

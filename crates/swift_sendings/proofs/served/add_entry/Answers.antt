@@ -1,4 +1,4 @@
-use Rattle.std.proofs.Common.{◌-◌, arith, refl}
+use Rattle.std.proofs.Common.{arith, refl}
 use Rattle.swift_sendings.proofs.Entries.{entry_added}
 use Rattle.swift_sendings.proofs.served.add_entry.Goals as goal
 

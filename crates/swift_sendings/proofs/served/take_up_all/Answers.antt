@@ -1,4 +1,4 @@
-use Rattle.std.proofs.Common.{List, map, subst, ◌≡◌}
+use Rattle.std.proofs.Common.{List, map, subst}
 use Rattle.adapter_table.specs.declared.row.Row.{Row}
 use Rattle.swift_sendings.specs.Servings.{serving_in}
 use Rattle.swift_sendings.proofs.Entries.{TakenUp, taken_more, taken_all}
