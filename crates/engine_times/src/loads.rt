@@ -2,7 +2,7 @@
 
 use crate::fault::TimesFault;
 use cip_tables::{
-    Action, Config, Delivery, Device, Event, InputPoint, Notice, OutputPoint, Profile,
+    Action, Config, Delivery, Device, Event, InputPoint, Notice, OutputPoint, Profile, StepFault,
 };
 use cip_types::{ConnId, Identity, Items, Node, OutOfMemory};
 use std::alloc::Global;
@@ -106,7 +106,7 @@ fn request(alloc: Global, place: u8, bytes: &[u8]) -> Result<Event, OutOfMemory>
 }
 
 /// What an adapter tells of a request.
-fn asked<D: Device>(device: &mut D, request: &Event) -> Result<Option<Notice>, TimesFault> {
+fn asked<D: Device>(device: &mut D, request: &Event) -> Result<Option<Notice>, StepFault> {
     let answer = device.step(request)?;
     Ok(answer.notices.as_slice().first().copied())
 }
@@ -214,7 +214,7 @@ pub fn send_all<D: Device>(device: &mut D, datagrams: &[[u8; 28]]) -> Result<(),
 }
 
 /// How many datagrams an adapter sends when milliseconds have passed.
-pub fn tick<D: Device>(device: &mut D, ms: u32) -> Result<u64, TimesFault> {
+pub fn tick<D: Device>(device: &mut D, ms: u32) -> Result<u64, StepFault> {
     let answer = device.step(&Event::Tick { ms })?;
     Ok(answer.datagrams.as_slice().len() as u64)
 }
