@@ -7,6 +7,7 @@ use cip_types::{ConnId, Ms, Node, OutOfMemory, Triad};
 use conn_slab::Connections;
 use std::alloc::Global;
 use std::test::Fail;
+use swift_sendings::Served;
 
 const TRIAD: Triad = Triad {
     serial: 1,
@@ -75,6 +76,19 @@ fn lives(connections: Connections) -> bool {
 #[test]
 fn a_connection_lives_and_goes(rt: HostRuntime) -> Result<(), Fail> {
     assert!(rt; lives(opened(rt.alloc())?));
+    Ok(())
+}
+
+/// Whether it is found out whom the producers serve.
+fn is_found_out(connections: &Connections, served: Served) -> bool {
+    let mut served = served;
+    served.find_out(connections)
+}
+
+#[test]
+fn whom_producers_serve_is_found_out(rt: HostRuntime) -> Result<(), Fail> {
+    let connections = opened(rt.alloc())?;
+    assert!(rt; is_found_out(&connections, Served::new(rt.alloc())?));
     Ok(())
 }
 
