@@ -10,6 +10,7 @@ use crate::datagram::Datagram;
 /// The fixed part of the text of a datagram, which its data follow. Takes no memory.
 ///
 /// Volume 2, chapter 2, common packet format.
+#[inline(always)]
 pub fn fixed_part(datagram: &Datagram<'_>) -> [u8; 20]
     // The second length counts the sequence count and the data.
     requires short { length datagram.now.«data».now ≤ 65533 }

@@ -18,7 +18,7 @@ pub struct Nodes {
 #[derive(Drop)]
 pub(crate) enum KeptNodes {
     /// So many of these.
-    Few([Node; FEW], u8),
+    Few(usize, [Node; FEW]),
     Many(Vec<Node>),
 }
 
@@ -36,11 +36,12 @@ impl Model for Nodes {
 
 impl Nodes {
     /// One node. Takes no memory.
+    #[inline(always)]
     pub fn one(node: Node) -> Self
         ensures { result ≡ node ∷ [] }
     {
         Nodes {
-            kept: KeptNodes::Few([node; FEW], 1),
+            kept: KeptNodes::Few(1, [node; FEW]),
         }
     }
 
@@ -54,25 +55,30 @@ impl Nodes {
     }
 
     /// A copy of some nodes. Want of memory is the only fault, and none is wanted for up to eight.
+    #[inline(always)]
     pub fn copy_of(alloc: Global, nodes: &[Node]) -> Result<Self, OutOfMemory>
         ensures { IfOk result (λ copy. copy ≡ nodes.now) }
     {
+        if let [node] = nodes {
+            return Ok(Nodes::one(*node));
+        }
         if nodes.len() > FEW {
             return Ok(Nodes::from_vec(Vec::from_slice(alloc, nodes)?));
         }
         let mut few = [Node(0); FEW];
         few[..nodes.len()].copy_from_slice(nodes);
         Ok(Nodes {
-            kept: KeptNodes::Few(few, nodes.len() as u8),
+            kept: KeptNodes::Few(nodes.len(), few),
         })
     }
 
     /// The nodes.
+    #[inline(always)]
     pub fn as_slice(&self) -> &[Node]
         ensures { result.now ≡ self.now }
     {
         match &self.kept {
-            KeptNodes::Few(nodes, count) => &nodes[..usize::from(*count)],
+            KeptNodes::Few(count, nodes) => &nodes[..*count],
             KeptNodes::Many(nodes) => nodes.as_slice(),
         }
     }

@@ -7,9 +7,9 @@ use std::alloc::Global;
 use std::marker::Model;
 
 /// How many bytes stand in the value itself.
-const FEW: usize = 62;
+const FEW: usize = 56;
 
-/// Bytes in order, which contracts see as a list. Up to 62 of them stand in the value itself and take no memory.
+/// Bytes in order, which contracts see as a list. Up to 56 of them stand in the value itself and take no memory.
 #[derive(Drop)]
 pub struct Octets {
     kept: KeptOctets,
@@ -18,7 +18,7 @@ pub struct Octets {
 #[derive(Drop)]
 pub(crate) enum KeptOctets {
     /// So many of these.
-    Few([u8; FEW], u8),
+    Few(usize, [u8; FEW]),
     Many(Vec<u8>),
 }
 
@@ -34,6 +34,7 @@ impl Model for Octets {
 }
 
 /// Copies bytes behind those in front of a place.
+#[inline(always)]
 fn copy_in(places: &mut [u8], start: usize, source: &[u8])
     requires { start + length source.now ≤ length places.old }
     ensures front { take (start + length source.now) places.new ≡ take start places.old ++ source.now }
@@ -52,7 +53,8 @@ impl Octets {
         }
     }
 
-    /// These bytes, and then those. Want of memory is the only fault, and none is wanted for up to 62 bytes.
+    /// These bytes, and then those. Want of memory is the only fault, and none is wanted for up to 56 bytes.
+    #[inline(always)]
     pub fn joined(alloc: Global, front: &[u8], back: &[u8]) -> Result<Self, OutOfMemory>
         ensures { IfOk result (λ joined. joined ≡ front.now ++ back.now) }
     {
@@ -67,16 +69,17 @@ impl Octets {
         copy_in(&mut few, 0, front);
         copy_in(&mut few, front.len(), back);
         Ok(Octets {
-            kept: KeptOctets::Few(few, len as u8),
+            kept: KeptOctets::Few(len, few),
         })
     }
 
     /// The bytes.
+    #[inline(always)]
     pub fn as_slice(&self) -> &[u8]
         ensures { result.now ≡ self.now }
     {
         match &self.kept {
-            KeptOctets::Few(bytes, count) => &bytes[..usize::from(*count)],
+            KeptOctets::Few(count, bytes) => &bytes[..*count],
             KeptOctets::Many(bytes) => bytes.as_slice(),
         }
     }

@@ -12,6 +12,7 @@ use cip_types::OutOfMemory;
 use std::alloc::Global;
 
 /// The bytes of a producer's next datagram.
+#[inline(always)]
 fn written_datagram(alloc: Global, producer: &Producer, input: &[u8]) -> Result<Octets, OutOfMemory>
     requires { length input.now ≤ 65533 }
     ensures { IfOk result (λ bytes. bytes ≡ datagram_text (production_datagram producer.now.id producer.now.production input.now)) }
@@ -29,6 +30,7 @@ fn written_datagram(alloc: Global, producer: &Producer, input: &[u8]) -> Result<
 /// fault.
 ///
 /// Volume 1, chapter 3, class 1 transport; Volume 2, chapter 2, sequenced address item.
+#[inline(always)]
 pub fn sent_by(
     alloc: Global,
     nodes: Nodes,
