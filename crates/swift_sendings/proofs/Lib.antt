@@ -5,3 +5,4 @@ mod Numbers
 mod Settling
 mod Keyed
 mod Due
+mod Standing
