@@ -37,7 +37,8 @@ pub fn period(count: u64, token: Token) -> u64
     if token.0 < count / 2 {
         return 160;
     }
-    10 + 5 * (token.0 % 7)
+    let steps = [10, 15, 20, 25, 30, 35, 40];
+    steps[(token.0 % 7) as usize]
 }
 
 /// A steady load, or ticks of so many milliseconds in which nothing is due for 16,000 s.

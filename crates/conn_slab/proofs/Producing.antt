@@ -1,9 +1,8 @@
 -- The producer that a connection has is that of its number in the pool.
-use Rattle.std.proofs.Common.{◌≡◌, ℕ, ◌==◌, ◌||◌, Bool, true, false, cond, List, [], ◌∷◌, map, find, Option, Some, None, refl, sym, ◌∙◌, ap, subst}
-use Rattle.std.specs.List.{AllByRecursion, list_any, filter_map}
+use Rattle.std.proofs.Common.{◌≡◌, ℕ, ◌||◌, Bool, true, false, cond, List, [], ◌∷◌, map, Option, Some, None, refl, sym, ◌∙◌, ap, subst}
+use Rattle.std.specs.List.{AllByRecursion, list_any}
 use Rattle.std.specs.Option.{option_map, is_some}
 use Rattle.std.proofs.lemmas.Bool.{eqb-true}
-use Rattle.cip_productions.specs.declared.production.Producer.{Producer}
 use Rattle.adapter_table.specs.declared.row.Row.{Row}
 use Rattle.adapter_table.specs.declared.row.State.TheVariants.{Established, TimedOut}
 use Rattle.adapter_table.specs.Productions.{is_produced_by, producer_in, state_producer, has_number as made_by}
@@ -11,8 +10,8 @@ use Rattle.mcast_pool.specs.declared.group.Group.{Group}
 use Rattle.mcast_pool.specs.Groups.{has_number, number_of, numbered, producer_of, IsInUse}
 use Rattle.conn_slab.specs.declared.record.Record.{Record}
 use Rattle.conn_slab.specs.Records.{row_of, state_of, production_in}
-use Rattle.conn_slab.specs.Layout.{IsServed, SharesBy, SharesFound, Shares}
-use Rattle.conn_slab.specs.Producing.{is_producer, producer_by}
+use Rattle.conn_slab.specs.Layout.{IsServed, SharesBy, SharesFound}
+use Rattle.conn_slab.specs.Producing.{producer_by}
 
 some_is : (x g : Group) → Some x ≡ Some g → x ≡ g
 some_is x g e = cc

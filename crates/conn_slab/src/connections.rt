@@ -22,7 +22,8 @@ ghost use Rattle.conn_slab.specs.Connections.{without, AreConnections, timed_out
 use crate::bounds::first_end;
 use crate::hearing::{Heard, hear};
 use crate::index::{
-    Places, Triads, has_listeners, make_room, place_among, put_last, running, take_record,
+    Places, Triads, find_near, has_listeners, make_room, place_among, put_last, running,
+    take_record,
 };
 use crate::producers::{enter, leave, row_of};
 use crate::record::{Place, Record, key_for, record_of};
@@ -36,13 +37,19 @@ use slab::Slab;
 use std::alloc::Global;
 use std::marker::Model;
 
+/// So many positions in the index of places are kept, each for the O->T ids that leave the same remainder.
+const NEAR: usize = 64;
+
 /// The connections of an adapter, which contracts see as their list in opening order.
+///
+/// Where a datagram of an O->T id was found last, the next one of this id is looked for first.
 #[derive(Drop)]
 pub struct Connections {
     records: Slab<Record>,
     by_triad: Triads,
     by_place: Places,
     pool: Pool,
+    near: [usize; NEAR],
 }
 
 impl Model for Connections {
@@ -114,6 +121,7 @@ impl Connections {
             by_triad: Triads::with_capacity(alloc, MOST_ROWS)?,
             by_place: Places::with_capacity(alloc, MOST_ROWS)?,
             pool: Pool::new(alloc)?,
+            near: [0; NEAR],
         })
     }
 
@@ -310,7 +318,10 @@ impl Connections {
             peer: peer.0,
             id: datagram.connection.0,
         };
-        let (key, _) = running(&self.records, self.by_place.get(&place))?;
+        let near = place.id as usize % NEAR;
+        let (position, filed) = find_near(&self.by_place, self.near[near], place)?;
+        self.near[near] = position;
+        let (key, _) = running(&self.records, Some(&filed))?;
         let record = &mut self.records[key];
         Some(hear(record, profile, clock, datagram))
     }

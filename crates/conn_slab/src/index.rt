@@ -3,7 +3,7 @@
 ghost use Rattle.std.specs.Prelude.{◌≡◌, ◌≤◌, ◌<◌, ◌++◌, ◌∷◌, [], None, Some, OnOk, find, filter, not, nat_eq};
 ghost use Rattle.std.specs.List.{list_any};
 ghost use Rattle.std.specs.Map.{lookup, values_of};
-ghost use Rattle.std.specs.Option.{option_copied};
+ghost use Rattle.std.specs.Option.{option_copied, option_map};
 ghost use Rattle.slab.specs.Slab.{HasRoomFor, get};
 ghost use Rattle.indexmap.specs.IndexMap.{spare};
 ghost use Rattle.conn_slab.specs.Index.{items_of};
@@ -86,6 +86,28 @@ pub(crate) fn put_last(
     let key = records.insert_reserved(opened);
     by_triad.insert(name, key).unwrap();
     by_place.insert(place, key).unwrap();
+}
+
+/// Where a place stands in its index, and the key under it. It is first looked for at one position.
+#[inline(always)]
+pub(crate) fn find_near(by_place: &Places, first: usize, place: Place) -> Option<(usize, usize)>
+    ensures { option_map (λ found. found.1) result ≡ lookup (same_place place) by_place.now.entries }
+{
+    if let Some((known, key)) = by_place.get_index(first) {
+        if *known == place {
+            return Some((first, *key));
+        }
+    }
+    find_anew(by_place, place)
+}
+
+/// Where a place stands in its index, and the key under it.
+#[inline(never)]
+fn find_anew(by_place: &Places, place: Place) -> Option<(usize, usize)>
+    ensures { option_map (λ found. found.1) result ≡ lookup (same_place place) by_place.now.entries }
+{
+    let (position, _, key) = by_place.get_full(&place)?;
+    Some((position, *key))
 }
 
 /// The key that an index gives, if the record under it is established, and the number of its producer.

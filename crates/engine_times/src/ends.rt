@@ -79,7 +79,7 @@ fn to_loopback(port: u16) -> Routes {
 }
 
 impl<R: System + Drop, D: Device + Drop> Driven<R, D> {
-    /// A fresh adapter at these sockets, whose datagrams go to this port.
+    /// A fresh adapter at these sockets, which sends its datagrams to this port and hears those from there.
     pub fn at(
         rt: R,
         listener: TcpListener,
@@ -89,7 +89,8 @@ impl<R: System + Drop, D: Device + Drop> Driven<R, D> {
     where
         R: AllocGlobal + Copy,
     {
-        let port = SocketPort::listening(rt.alloc(), rt, listener, socket, to_loopback(to))?;
+        let mut port = SocketPort::listening(rt.alloc(), rt, listener, socket, to_loopback(to))?;
+        port.join()?;
         let device = fresh(&rt)?;
         Ok(Driven { port, device })
     }

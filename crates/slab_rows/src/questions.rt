@@ -30,6 +30,7 @@ pub fn is_any_established(rows: Rows<'_>) -> bool
 }
 
 /// Whether the producer of one is due.
+#[inline(never)]
 pub fn is_any_due(rows: Rows<'_>, clock: Ms) -> bool
     ensures { result ≡ list_any (is_due clock) rows.entry }
 {

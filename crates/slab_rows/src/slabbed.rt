@@ -1,6 +1,8 @@
 //! The table.
 
 ghost use Rattle.std.specs.Prelude.{◌≡◌, ◌||◌, ◌∷◌, [], true, IfOk};
+ghost use Rattle.std.specs.List.{list_any};
+ghost use Rattle.adapter_table.specs.Ticks.{has_expired};
 ghost use Rattle.cip_events.specs.declared.event.Notice.{Notice};
 ghost use Rattle.conn_slab.specs.Bounds.{Rests, AllRest};
 ghost use Rattle.conn_slab.specs.Connections.{is_listening};
@@ -108,6 +110,25 @@ fn told_alone(alloc: Global, triad: Triad) -> Result<Vec<Notice>, OutOfMemory>
     let mut notices = Vec::new(alloc);
     notices.push(Notice::Closed(triad))?;
     Ok(notices)
+}
+
+impl SlabRows {
+    /// Whether the deadline of a connection has come, where a bound has. The bounds are put right, and whom producers
+    /// serve is found out where one may be due. Takes no memory.
+    #[inline(never)]
+    fn look(&mut self, clock: Ms) -> bool
+        ensures expired { result ≡ list_any (has_expired clock) self.old }
+        ensures same { self.new ≡ self.old }
+    {
+        self.resting = rest_until(&self.connections, clock, self.resting);
+        let asked = clock.0 >= self.resting;
+        self.known = is_known(&mut self.served, &self.connections, self.known, asked);
+        if clock.0 < self.lasting {
+            return false;
+        }
+        self.lasting = self.connections.first_end();
+        first_expired(self.connections.rows(), clock).is_some()
+    }
 }
 
 impl Connections for SlabRows {
@@ -223,17 +244,15 @@ impl ConnectionTable for SlabRows {
         })
     }
 
+    #[inline(always)]
     fn has_expired(&mut self, clock: Ms) -> bool {
-        self.resting = rest_until(&self.connections, clock, self.resting);
-        let asked = clock.0 >= self.resting;
-        self.known = is_known(&mut self.served, &self.connections, self.known, asked);
-        if clock.0 < self.lasting {
+        if clock.0 < self.resting && clock.0 < self.lasting {
             return false;
         }
-        self.lasting = self.connections.first_end();
-        first_expired(self.connections.rows(), clock).is_some()
+        self.look(clock)
     }
 
+    #[inline(always)]
     fn is_due(&self, clock: Ms) -> bool {
         if clock.0 < self.resting {
             return false;

@@ -96,8 +96,10 @@ where
         let Some(next) = udp.checked_add(1) else {
             return Err(LoopFault::Port);
         };
-        let adapter = SocketPort::adapter(alloc, rt, tcp, udp, next)?;
-        let scanner = SocketPort::scanner(alloc, rt, tcp, next, udp)?;
+        let mut adapter = SocketPort::adapter(alloc, rt, tcp, udp, next)?;
+        let mut scanner = SocketPort::scanner(alloc, rt, tcp, next, udp)?;
+        adapter.join()?;
+        scanner.join()?;
         LoopLine::begin(alloc, rt, adapter, scanner)
     }
 }

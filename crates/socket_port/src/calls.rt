@@ -78,11 +78,22 @@ pub fn receive(
     }
 }
 
-/// Sends a datagram. One that the socket does not take now is lost, as it may be on its way. The fault: `Send`.
-pub fn send(socket: &UdpSocket, bytes: &[u8], to: SocketAddr) -> Result<(), PortFault> {
-    match socket.send_to(bytes, to) {
+/// What is made of a send of a datagram. One that the socket does not take now is lost, as it may be on its way. The
+/// fault: `Send`.
+fn sent(outcome: io::Result<usize>) -> Result<(), PortFault> {
+    match outcome {
         Ok(_) => Ok(()),
         Err(error) if is_passing(&error) => Ok(()),
         Err(_) => Err(PortFault::Send),
     }
+}
+
+/// Sends a datagram. The fault: `Send`.
+pub fn send(socket: &UdpSocket, bytes: &[u8], to: SocketAddr) -> Result<(), PortFault> {
+    sent(socket.send_to(bytes, to))
+}
+
+/// Sends a datagram over a socket that is connected. The fault: `Send`.
+pub fn send_joined(socket: &UdpSocket, bytes: &[u8]) -> Result<(), PortFault> {
+    sent(socket.send(bytes))
 }

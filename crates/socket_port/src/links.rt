@@ -8,6 +8,7 @@ use crate::calls::{self, Arrival};
 use cip_types::{Items, Node, OutOfMemory};
 use port_streams::{Routes, Streams};
 use std::alloc::Global;
+use std::io;
 use std::net::{SocketAddr, TcpListener, TcpStream, UdpSocket};
 use udp_runner::{Input, Output, PortFault};
 
@@ -36,6 +37,8 @@ pub struct Links {
     udp: UdpSocket,
     streams: Streams<TcpStream>,
     routes: Routes,
+    /// Whether the UDP socket is connected to the one place that all datagrams go to.
+    joined: bool,
     buffer: Vec<u8>,
     first: u16,
     polls: u8,
@@ -57,6 +60,7 @@ impl Links {
             udp,
             streams: Streams::new(alloc)?,
             routes,
+            joined: false,
             buffer: vec![in alloc; 0; ROOM]?,
             first: 0,
             polls: 0,
@@ -71,6 +75,15 @@ impl Links {
             return;
         }
         let _ = self.streams.accept(peer, socket);
+    }
+
+    /// Connects the UDP socket to the one place that all datagrams go to, if there is one.
+    pub fn join(&mut self) -> io::Result<()> {
+        if let Routes::One(to) = &self.routes {
+            self.udp.connect(address_of(*to))?;
+            self.joined = true;
+        }
+        Ok(())
     }
 
     /// What is there before the port waits: where the last poll found nothing, that was a moment ago, and nothing is
@@ -206,6 +219,9 @@ impl Links {
 
     /// Sends a datagram to a node, if there is a way to it.
     fn send_datagram(&mut self, node: Node, bytes: &[u8]) -> Result<(), PortFault> {
+        if self.joined {
+            return calls::send_joined(&self.udp, bytes);
+        }
         match self.routes.destination_of(node) {
             Some(to) => calls::send(&self.udp, bytes, address_of(to)),
             None => Ok(()),

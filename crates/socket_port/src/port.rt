@@ -90,6 +90,16 @@ impl<R: System + Drop> SocketPort<R> {
         })
     }
 
+    /// From now on only datagrams from the one place that all datagrams go to are heard, where there is such a place. The
+    /// UDP socket is connected to it, so that the system does not look for the way of each datagram anew. The fault:
+    /// `Socket`.
+    pub fn join(&mut self) -> Result<(), OpenFault>
+        ensures { self.new.failures ≡ self.old.failures }
+    {
+        self.links.join()?;
+        Ok(())
+    }
+
     /// What came within a millisecond.
     fn next_input(&mut self) -> Result<Option<Input>, PortFault>
         ensures { self.new.failures ≡ self.old.failures }

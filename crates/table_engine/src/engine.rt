@@ -21,8 +21,9 @@ ghost use Rattle.adapter_table.specs.Ticks.{clocked_table, has_expired, elapsed,
 ghost use Rattle.connection_table.specs.Tables.{elapsed_rows};
 ghost use Rattle.adapter_table.specs.Shapes.{len_of};
 ghost use Rattle.adapter_table.specs.Whole.{IsWhole};
-ghost use Rattle.adapter_table.specs.Step.{write, read, written_table, changed_table, write_answer, written};
+ghost use Rattle.adapter_table.specs.Step.{adapter_step, write, read, written_table, changed_table, write_answer, written};
 ghost use Rattle.cip_events.specs.Outcomes.{Follows};
+ghost use Rattle.cip_tables.specs.Step.{is_datagram};
 ghost use Rattle.assembly_set.specs.Assemblies.{config_len, is_output, write_fault};
 ghost use Rattle.std.specs.List.{list_any};
 
@@ -408,6 +409,7 @@ impl<T: ConnectionTable> Adapter<T> {
     }
 
     /// Milliseconds pass, and connections time out.
+    #[inline(never)]
     #[tactic(auto, unfolding(adapter_table::specs::Ticks::clocked_table, adapter_table::specs::Ticks::expired_table, adapter_table::specs::Ticks::produced_table))]
     fn expire(&mut self, ms: u32) -> Outcome
         requires { self.old.clock.0 + ms ≤ 2 ^ 48 }
@@ -426,6 +428,7 @@ impl<T: ConnectionTable> Adapter<T> {
     }
 
     /// Milliseconds pass in which no connection times out.
+    #[inline(never)]
     fn produce(&mut self, ms: u32) -> Outcome
         requires time { self.old.clock.0 + ms ≤ 2 ^ 48 }
         requires lasting { list_any (has_expired (record { 0 = self.old.clock.0 + ms })) self.old.rows ≡ false }
@@ -442,6 +445,7 @@ impl<T: ConnectionTable> Adapter<T> {
     }
 
     /// Milliseconds pass in which no connection times out and no producer is due.
+    #[inline(always)]
     fn wait(&mut self, ms: u32) -> Outcome
         requires time { self.old.clock.0 + ms ≤ 2 ^ 48 }
         requires lasting { list_any (has_expired (record { 0 = self.old.clock.0 + ms })) self.old.rows ≡ false }
@@ -453,6 +457,7 @@ impl<T: ConnectionTable> Adapter<T> {
     }
 
     /// Whether the deadline of a connection has come at a later time.
+    #[inline(always)]
     fn has_expired(&mut self, clock: Ms) -> bool
         ensures expired { result ≡ list_any (has_expired clock) self.old.rows }
         ensures same { self.new ≡ self.old }
@@ -461,6 +466,7 @@ impl<T: ConnectionTable> Adapter<T> {
     }
 
     /// Milliseconds pass that do not lead past the end of the clock.
+    #[inline(always)]
     fn elapse(&mut self, ms: u32) -> Outcome
         requires { self.old.clock.0 + ms ≤ 2 ^ 48 }
         ensures { Follows (Ok (elapsed (clocked_table self.old ms))) self.old result self.new }
@@ -476,6 +482,7 @@ impl<T: ConnectionTable> Adapter<T> {
     }
 
     /// Milliseconds pass.
+    #[inline(always)]
     #[tactic(auto, unfolding(adapter_table::specs::Ticks::tick))]
     fn tick(&mut self, ms: u32) -> Outcome
         ensures { Follows (tick self.old ms) self.old result self.new }
@@ -596,6 +603,34 @@ fn lose_owner(assemblies: &mut AssemblySet, row: &Row)
     }
 }
 
+// EVENTS
+
+impl<T: ConnectionTable> Adapter<T> {
+    /// Any event. A tick at which nothing is to be done is cheaper where `step` stands in its caller.
+    #[inline(never)]
+    fn take(&mut self, event: &Event) -> Outcome
+        ensures step { Follows (adapter_step self.old event.now) self.old result self.new }
+        ensures no_memory { is_datagram event.now ≡ true → result ≢ Err StepFault.OutOfMemory }
+    {
+        match event {
+            Event::Request { peer, bytes } => self.request(*peer, bytes.as_slice()),
+            Event::StreamOpened { stream, peer } => self.open_stream(*stream, *peer),
+            Event::Frame { stream, bytes } => self.frame(*stream, bytes.as_slice()),
+            Event::StreamCut { stream } => self.cut_stream(*stream),
+            Event::Datagram { peer, bytes } => {
+                let delivery = self.receive(*peer, bytes.as_slice());
+                Ok(plain_answer(self.alloc, Verdict::Delivered(delivery)))
+            }
+            Event::Write { point, bytes } => self.write(*point, bytes.as_slice()),
+            Event::Read { point } => self.read(*point),
+            Event::Tick { ms } => self.tick(*ms),
+            Event::Mode { .. } | Event::Start { .. } | Event::Stop { .. } => {
+                Err(StepFault::NotAllowedNow)
+            }
+        }
+    }
+}
+
 impl<T: ConnectionTable> Device for Adapter<T> {
     ghost use Rattle.cip_tables.specs.declared.table.DeviceTable.{DeviceTable};
 
@@ -625,23 +660,12 @@ impl<T: ConnectionTable> Device for Adapter<T> {
         })
     }
 
+    #[inline(always)]
     #[tactic(auto, unfolding(cip_tables::specs::Step::step), using(cip_tables::specs::FollowLaws::adapter_follows))]
     fn step(&mut self, event: &Event) -> Outcome {
         match event {
-            Event::Request { peer, bytes } => self.request(*peer, bytes.as_slice()),
-            Event::StreamOpened { stream, peer } => self.open_stream(*stream, *peer),
-            Event::Frame { stream, bytes } => self.frame(*stream, bytes.as_slice()),
-            Event::StreamCut { stream } => self.cut_stream(*stream),
-            Event::Datagram { peer, bytes } => {
-                let delivery = self.receive(*peer, bytes.as_slice());
-                Ok(plain_answer(self.alloc, Verdict::Delivered(delivery)))
-            }
-            Event::Write { point, bytes } => self.write(*point, bytes.as_slice()),
-            Event::Read { point } => self.read(*point),
             Event::Tick { ms } => self.tick(*ms),
-            Event::Mode { .. } | Event::Start { .. } | Event::Stop { .. } => {
-                Err(StepFault::NotAllowedNow)
-            }
+            _ => self.take(event),
         }
     }
 

@@ -1,4 +1,4 @@
-use Rattle.std.proofs.Common.{◌≡◌, ◌∙◌, Some, None, find, sym, ap}
+use Rattle.std.proofs.Common.{◌≡◌, ◌∙◌, ℕ, Some, None, find, sym, ap}
 use Rattle.std.specs.Option.{option_map}
 use Rattle.std.specs.Map.{lookup}
 use Rattle.cip_datagram.specs.Datagram.{view_datagram}
@@ -11,11 +11,15 @@ use Rattle.conn_slab.specs.Hearing.{heard_by, hearing}
 use Rattle.conn_slab.proofs.Hears.{found_fits, told_is, unheard, heard_found, heard_kept, heard_rows}
 use Rattle.conn_slab.proofs.connections.Connections.receive.Goals as goal
 
-pub returns-in_err-key : goal.returns-in_err-key
-returns-in_err-key c =
+abbrev second : ℕ × ℕ → ℕ
+second found = found.1
+
+pub returns-in_err-position : goal.returns-in_err-position
+returns-in_err-position c =
     let own = c.self.inside in
     let d = view_datagram c.args.datagram.now in
-    let none : running_key own.records (lookup (same_place (record { peer = c.args.peer.0; id = d.connection })) own.by_place.entries) ≡ None = ap (running_key own.records) (sym c.get.ensures.value) ∙ sym c.running.ensures ∙ c.in_err-key.was in
+    let nowhere : lookup (same_place (record { peer = c.args.peer.0; id = d.connection })) own.by_place.entries ≡ None = sym c.find_near.ensures ∙ ap (option_map second) c.in_err-position.was in
+    let none : running_key own.records (lookup (same_place (record { peer = c.args.peer.0; id = d.connection })) own.by_place.entries) ≡ None = ap (running_key own.records) nowhere in
     let nobody : find (is_for c.args.peer d.connection) c.args.self.now ≡ None =
     ap (find (is_for c.args.peer d.connection)) (sym c.self.view_is) ∙ unheard own.records own.by_triad.entries own.by_place.entries own.pool c.self.invariant c.args.peer d.connection none in
     record {
@@ -23,8 +27,20 @@ returns-in_err-key c =
       rows = ap (λ o. hearing c.args.profile.now c.args.clock c.args.peer d o c.args.self.now) (sym nobody);
     }
 
+pub returns-in_err-key : goal.returns-in_err-key
+returns-in_err-key c =
+    let own = c.self.inside in
+    let d = view_datagram c.args.datagram.now in
+    let none : running_key own.records (lookup (same_place (record { peer = c.args.peer.0; id = d.connection })) own.by_place.entries) ≡ None = ap (running_key own.records) (sym c.find_near.ensures ∙ ap (option_map second) c.in_ok-position.was) ∙ sym c.running.ensures ∙ c.in_err-key.was in
+    let nobody : find (is_for c.args.peer d.connection) c.args.self.now ≡ None =
+    ap (find (is_for c.args.peer d.connection)) (sym c.self.view_is) ∙ unheard own.records own.by_triad.entries own.by_place.entries own.pool c.self.invariant c.args.peer d.connection none in
+    record {
+      heard = c.from_residual-in_err-key.ensures ∙ ap (option_map (heard_by c.args.profile.now c.args.clock d)) (sym nobody);
+      rows = c.self.view_is ∙ ap (λ o. hearing c.args.profile.now c.args.clock c.args.peer d o c.args.self.now) (sym nobody);
+    }
+
 some : (c : goal.After-index_mut-record) → running_key c.self.inside.records (lookup (same_place (record { peer = c.args.peer.0; id = (view_datagram c.args.datagram.now).connection })) c.self.inside.by_place.entries) ≡ Some (c.in_ok-key.key, c.in_ok-key.field-0-1)
-some c = ap (running_key c.self.inside.records) (sym c.get.ensures.value) ∙ sym c.running.ensures ∙ c.in_ok-key.was
+some c = ap (running_key c.self.inside.records) (sym c.find_near.ensures ∙ ap (option_map second) c.in_ok-position.was) ∙ sym c.running.ensures ∙ c.in_ok-key.was
 
 fits : (c : goal.After-index_mut-record) → FitsRow (row_of c.self.inside.pool c.index_mut-record.result.now)
 fits c =
@@ -42,10 +58,13 @@ pub hear-requires-clause-interval : goal.hear-requires-clause-interval
 hear-requires-clause-interval c = (fits c).o_t_api
 
 done : (c : goal.After-self-1) → running_key c.self.inside.records (lookup (same_place (record { peer = c.args.peer.0; id = (view_datagram c.args.datagram.now).connection })) c.self.inside.by_place.entries) ≡ Some (c.in_ok-key.key, c.in_ok-key.field-0-1)
-done c = ap (running_key c.self.inside.records) (sym c.get.ensures.value) ∙ sym c.running.ensures ∙ c.in_ok-key.was
+done c = ap (running_key c.self.inside.records) (sym c.find_near.ensures ∙ ap (option_map second) c.in_ok-position.was) ∙ sym c.running.ensures ∙ c.in_ok-key.was
 
 pub invariant_of-self : goal.invariant_of-self
-invariant_of-self c =
+invariant_of-self c = c.self.invariant
+
+pub invariant_of-self-2 : goal.invariant_of-self-2
+invariant_of-self-2 c =
     let own = c.self.inside in
     let d = view_datagram c.args.datagram.now in
     rw c.hear.ensures.after
