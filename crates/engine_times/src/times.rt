@@ -15,7 +15,7 @@ use std::rt::CpuClock;
 const ROUNDS: u32 = 7;
 
 /// So many datagrams are made before they are sent.
-const BATCH: u32 = 500;
+const BATCH: u32 = 1_000;
 
 /// What is timed.
 #[derive(Clone, Copy)]
