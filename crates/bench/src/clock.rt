@@ -12,9 +12,18 @@ pub const ROUNDS: u32 = 7;
 
 /// The processor time of this thread so far, in nanoseconds.
 pub fn cpu_nanos(rt: &impl CpuClock) -> io::Result<u64> {
-    let time = rt.thread_cpu_time()?;
-    let seconds = time.as_secs().wrapping_mul(1_000_000_000);
-    Ok(seconds.wrapping_add(u64::from(time.subsec_nanos())))
+    Ok(u64::try_from(rt.thread_cpu_time()?.as_nanos()).unwrap_or(u64::MAX))
+}
+
+/// Copies data in pieces of so many bytes.
+fn copy_pieces(out: &mut Vec<u8>, data: &[u8], piece_len: usize) -> Result<(), BenchFault>
+    requires { 0 < piece_len }
+{
+    out.clear();
+    for piece in data.chunks(piece_len) {
+        out.extend_from_slice(piece)?;
+    }
+    Ok(())
 }
 
 /// The time of copying data in pieces of so many bytes, so many times.
@@ -29,10 +38,7 @@ pub fn copy_nanos(
 {
     let start = cpu_nanos(rt)?;
     for _ in 0..times {
-        out.clear();
-        for piece in data.chunks(piece_len) {
-            out.extend_from_slice(piece)?;
-        }
+        copy_pieces(out, data, piece_len)?;
     }
     Ok(cpu_nanos(rt)?.wrapping_sub(start))
 }

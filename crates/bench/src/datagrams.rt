@@ -32,11 +32,9 @@ fn append(out: &mut Vec<u8>, sequence: u32, data: &[u8])
 
 /// The sum of all bytes.
 fn sum(bytes: &[u8]) -> u64 {
-    let mut sum: u64 = 0;
-    for byte in bytes {
-        sum = sum.wrapping_add(u64::from(*byte));
-    }
-    sum
+    bytes
+        .iter()
+        .fold(0u64, |sum, byte| sum.wrapping_add(u64::from(*byte)))
 }
 
 fn write_nanos(rt: &impl CpuClock, out: &mut Vec<u8>, data: &[u8]) -> Result<u64, BenchFault>

@@ -50,12 +50,18 @@ pub fn check(rt: &impl Print, alloc: Global) -> Result<(), BenchFault> {
     Ok(())
 }
 
-/// The nanoseconds of all ticks.
-fn tick_nanos<T: Timers>(rt: &impl CpuClock, load: &mut Load<T>) -> Result<u64, BenchFault> {
-    let start = cpu_nanos(rt)?;
+/// Takes all ticks.
+fn tick_all<T: Timers>(load: &mut Load<T>) -> Result<(), BenchFault> {
     for _ in 0..TICKS {
         load.step()?;
     }
+    Ok(())
+}
+
+/// The nanoseconds of all ticks.
+fn tick_nanos<T: Timers>(rt: &impl CpuClock, load: &mut Load<T>) -> Result<u64, BenchFault> {
+    let start = cpu_nanos(rt)?;
+    tick_all(load)?;
     Ok(cpu_nanos(rt)?.wrapping_sub(start))
 }
 

@@ -18,22 +18,26 @@ const LENGTHS: u32 = 1_477;
 /// common divisor with their number, so each of them comes.
 const STEP: u32 = 389;
 
-/// A message of each length from 24 to 1,500 bytes, mixed, so many times over. Each has its number as
-/// its session handle.
-fn stream(alloc: Global, times: u32) -> Result<Vec<u8>, BenchFault> {
+/// The message of a number, which is its session handle.
+fn message_of(alloc: Global, number: u32) -> Result<Vec<u8>, BenchFault> {
+    let len = number.wrapping_mul(STEP) % LENGTHS;
     let data = [7; 1_476];
+    let message = MessageView {
+        command: 0x6F,
+        session: number,
+        status: 0,
+        context: 0,
+        options: 0,
+        data: &data[..len as usize],
+    };
+    Ok(write_message(alloc, &message)?)
+}
+
+/// A message of each length from 24 to 1,500 bytes, mixed, so many times over.
+fn stream(alloc: Global, times: u32) -> Result<Vec<u8>, BenchFault> {
     let mut stream = Vec::new(alloc);
     for number in 0..times.wrapping_mul(LENGTHS) {
-        let len = number.wrapping_mul(STEP) % LENGTHS;
-        let message = MessageView {
-            command: 0x6F,
-            session: number,
-            status: 0,
-            context: 0,
-            options: 0,
-            data: &data[..len as usize],
-        };
-        stream.extend_from_slice(&write_message(alloc, &message)?)?;
+        stream.extend_from_slice(&message_of(alloc, number)?)?;
     }
     Ok(stream)
 }

@@ -37,8 +37,15 @@ pub fn period(count: u64, token: Token) -> u64
     if token.0 < count / 2 {
         return 160;
     }
-    let steps = [10, 15, 20, 25, 30, 35, 40];
-    steps[(token.0 % 7) as usize]
+    match token.0 % 7 {
+        0 => 10,
+        1 => 15,
+        2 => 20,
+        3 => 25,
+        4 => 30,
+        5 => 35,
+        _ => 40,
+    }
 }
 
 /// A steady load, or ticks of so many milliseconds in which nothing is due for 16,000 s.

@@ -1,18 +1,10 @@
-//! Tests of the codecs and of the timing wheel: each call once on its way, and what no clause says. What
-//! worked bytes mean stands in the codecs' own samples.
+//! Tests of the codecs that no device runs: a call once on its way, and what no clause says. What worked bytes
+//! mean stands in the codecs' own samples; what devices call, the scenarios run.
 #![tactic(auto)]
 
-#[cfg(test)]
-mod of_datagram;
-#[cfg(test)]
-mod of_encap;
 #[cfg(test)]
 mod of_epath;
 #[cfg(test)]
 mod of_fwdopen;
 #[cfg(test)]
-mod of_netparams;
-#[cfg(test)]
-mod of_types;
-#[cfg(test)]
-mod of_wheel;
+mod of_states;

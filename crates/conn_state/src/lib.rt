@@ -7,6 +7,3 @@ mod states;
 
 pub use names::{Link, Wanted};
 pub use states::{Closing, Established, Idle, Opening, TimedOut};
-
-#[cfg(test)]
-mod tests;

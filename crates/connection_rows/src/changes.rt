@@ -36,13 +36,12 @@ fn on_change_only(
     requires { clock.0 ≤ 2 ^ 48 }
     ensures { IfOk result (λ changing. changing.items ≡ filter (produces_on_change clock point) rows.now) }
 {
-    let mut changing = Vec::new(alloc);
-    for row in rows {
-        if produces_on_change(row, clock, point) {
-            changing.push(*row)?;
-        }
-    }
-    Ok(changing)
+    Ok(
+        rows.iter()
+            .copied()
+            .filter(|row| produces_on_change(row, clock, point))
+            .collect(alloc)?,
+    )
 }
 
 /// The producers of an input that produce at once when it is written, by their numbers.
@@ -113,20 +112,6 @@ pub fn written_rows(alloc: Global, rows: &[Row], point: u32) -> Result<Vec<Row>,
     let mut written = copied(alloc, rows)?;
     write_rows(&mut written, point);
     Ok(written)
-}
-
-/// The connections once the change-of-state producers of an input have done what a write asks of them.
-/// Takes no memory.
-///
-/// Volume 1, chapter 3, production triggers and production inhibit time.
-pub fn changed_rows(rows: Vec<Row>, clock: Ms, point: u32) -> Vec<Row>
-    requires fit { RowsFit rows.items }
-    requires time { clock.0 ≤ 2 ^ 48 }
-    ensures { result.items ≡ map (changed_row clock point) rows.items }
-{
-    let mut after = rows;
-    change_rows(&mut after, clock, point);
-    after
 }
 
 /// The producers of an input have new data, and its change-of-state producers have done what a write asks

@@ -25,13 +25,12 @@ pub fn expired(alloc: Global, rows: &[Row], clock: Ms) -> Result<Vec<Row>, OutOf
 fn expiring(alloc: Global, rows: &[Row], clock: Ms) -> Result<Vec<Row>, OutOfMemory>
     ensures { IfOk result (λ gone. gone.items ≡ filter (has_expired clock) rows.now) }
 {
-    let mut gone = Vec::new(alloc);
-    for row in rows {
-        if has_expired(row, clock) {
-            gone.push(*row)?;
-        }
-    }
-    Ok(gone)
+    Ok(
+        rows.iter()
+            .copied()
+            .filter(|row| has_expired(row, clock))
+            .collect(alloc)?,
+    )
 }
 
 /// The connections whose deadline has come have timed out. Takes no memory.
@@ -73,9 +72,9 @@ pub fn expiry_notices(alloc: Global, gone: &[Row], left: &[Row]) -> Result<Vec<N
 fn expired_notices(alloc: Global, gone: &[Row]) -> Result<Vec<Notice>, OutOfMemory>
     ensures { IfOk result (λ notices. notices.items ≡ map expired_notice gone.now) }
 {
-    let mut notices = Vec::new(alloc);
-    for row in gone {
-        notices.push(Notice::Expired(row.triad))?;
-    }
-    Ok(notices)
+    Ok(
+        gone.iter()
+            .map(|row| Notice::Expired(row.triad))
+            .collect(alloc)?,
+    )
 }

@@ -15,14 +15,12 @@ mod producers;
 mod productions;
 mod rows;
 
-pub use changes::{
-    changed_rows, produces_at_once, sent_on_change, write_and_change_rows, written_rows,
-};
+pub use changes::{produces_at_once, sent_on_change, write_and_change_rows, written_rows};
 pub use deliveries::{accept_rows, find_target};
 pub use dropping::drop_unsupported;
 pub use expiries::{expire_rows, expired, expired_rows, expiry_notices};
-pub use productions::{produce_rows, produced_rows, sent_when_due};
+pub use productions::{produce_rows, sent_when_due};
 pub use rows::{
-    append_row, closed_notices, copied, find_row, make_room, others, remove_triad, replaced,
-    staying, told_of_close,
+    append_row, closed_notices, copied, find_row, make_room, remove_triad, replaced, staying,
+    told_of_close,
 };

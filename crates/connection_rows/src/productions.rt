@@ -18,13 +18,12 @@ use std::alloc::Global;
 fn due_only(alloc: Global, rows: &[Row], clock: Ms) -> Result<Vec<Row>, OutOfMemory>
     ensures { IfOk result (λ due. due.items ≡ filter (is_due clock) rows.now) }
 {
-    let mut due = Vec::new(alloc);
-    for row in rows {
-        if is_due(row, clock) {
-            due.push(*row)?;
-        }
-    }
-    Ok(due)
+    Ok(
+        rows.iter()
+            .copied()
+            .filter(|row| is_due(row, clock))
+            .collect(alloc)?,
+    )
 }
 
 /// The producers that are due, by when they are and then by their numbers.
@@ -101,17 +100,4 @@ pub fn produce_rows(rows: &mut [Row], clock: Ms)
     for row in rows.iter_mut() {
         *row = produced_row(*row, clock);
     }
-}
-
-/// The connections once the producers that are due have produced. Takes no memory.
-///
-/// Volume 1, chapter 3, production triggers.
-pub fn produced_rows(rows: Vec<Row>, clock: Ms) -> Vec<Row>
-    requires fit { RowsFit rows.items }
-    requires time { clock.0 ≤ 2 ^ 48 }
-    ensures { result.items ≡ map (produced_row clock) rows.items }
-{
-    let mut after = rows;
-    produce_rows(&mut after, clock);
-    after
 }

@@ -118,15 +118,6 @@ pub fn copied(alloc: Global, rows: &[Row]) -> Result<Vec<Row>, OutOfMemory>
     Ok(Vec::from_slice(alloc, rows)?)
 }
 
-/// The other connections.
-pub fn others(alloc: Global, rows: &[Row], triad: Triad) -> Result<Vec<Row>, OutOfMemory>
-    ensures { IfOk result (λ left. left.items ≡ without_triad triad rows.now) }
-{
-    let mut left = copied(alloc, rows)?;
-    remove_triad(&mut left, triad);
-    Ok(left)
-}
-
 /// Whether a connection is an established listen-only one without support.
 pub fn is_unsupported(rows: &[Row], row: &Row) -> bool
     ensures { result ≡ is_unsupported rows.now row.now }

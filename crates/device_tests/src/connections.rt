@@ -7,7 +7,6 @@ use cip_types::{ConnId, Ms, Node, OutOfMemory, Triad};
 use conn_slab::Connections;
 use std::alloc::Global;
 use std::test::Fail;
-use swift_sendings::Served;
 
 const TRIAD: Triad = Triad {
     serial: 1,
@@ -76,33 +75,5 @@ fn lives(connections: Connections) -> bool {
 #[test]
 fn a_connection_lives_and_goes(rt: HostRuntime) -> Result<(), Fail> {
     assert!(rt; lives(opened(rt.alloc())?));
-    Ok(())
-}
-
-/// Whether it is found out whom the producers serve.
-fn is_found_out(connections: &Connections, served: Served) -> bool {
-    let mut served = served;
-    served.find_out(connections)
-}
-
-#[test]
-fn whom_producers_serve_is_found_out(rt: HostRuntime) -> Result<(), Fail> {
-    let connections = opened(rt.alloc())?;
-    assert!(rt; is_found_out(&connections, Served::new(rt.alloc())?));
-    Ok(())
-}
-
-fn is_owner(row: &Row) -> bool {
-    row.opening == 1 && row.deadline == Ms(10_000)
-}
-
-fn are_in_order(rows: &[Row]) -> bool {
-    rows.len() == 1 && rows.iter().all(|row| is_owner(row))
-}
-
-#[test]
-fn connections_are_copied_in_order(rt: HostRuntime) -> Result<(), Fail> {
-    let rows = opened(rt.alloc())?.to_vec(rt.alloc())?;
-    assert!(rt; are_in_order(&rows));
     Ok(())
 }

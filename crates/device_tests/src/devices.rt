@@ -109,7 +109,7 @@ fn is_reply(outcome: &Outcome, bytes: &[u8]) -> bool {
 }
 
 /// Whether a request is answered by these bytes.
-fn replies(alloc: Global, device: &mut impl Device, asked: &[u8], bytes: &[u8]) -> bool {
+fn replies<D: Device>(alloc: Global, device: &mut D, asked: &[u8], bytes: &[u8]) -> bool {
     match request(alloc, asked) {
         Ok(event) => is_reply(&device.step(&event), bytes),
         Err(_) => false,
@@ -246,19 +246,20 @@ fn nearly_used(alloc: Global) -> Result<TableCopy, Fail> {
 }
 
 /// Whether a new group, which needs two ids, is refused.
-fn refuses_a_group(alloc: Global, device: &mut impl Device) -> bool {
+fn refuses_a_group<D: Device>(alloc: Global, device: &mut D) -> bool {
     replies(alloc, device, &GATHER, &USED_UP)
 }
 
-fn takes_an_owner(alloc: Global, device: &mut impl Device) -> bool {
+fn takes_an_owner<D: Device>(alloc: Global, device: &mut D) -> bool {
     replies(alloc, device, &OPEN, &LAST_OPENED)
 }
 
 /// Whether a new group is refused before an owner takes the last id and after it.
-fn uses_the_last(alloc: Global, device: &mut impl Device) -> bool {
-    refuses_a_group(alloc, device)
-        && takes_an_owner(alloc, device)
-        && refuses_a_group(alloc, device)
+fn uses_the_last<D: Device>(alloc: Global, device: &mut D) -> bool {
+    let before = refuses_a_group(alloc, device);
+    let taken = takes_an_owner(alloc, device);
+    let after = refuses_a_group(alloc, device);
+    before && taken && after
 }
 
 #[test]

@@ -1,5 +1,5 @@
-//! Tests of adapters: the pool of producers and the connections over it, whole devices and the tables that they mean,
-//! and their traces, read, written, replayed and compared.
+//! Tests of what no scenario runs: the pool of producers and the connections over it, calls of whole devices beside
+//! `step`, copies of devices, traces as they are written, and the program over streams that fail.
 #![tactic(auto)]
 
 #[cfg(test)]
@@ -9,6 +9,6 @@ mod devices;
 #[cfg(test)]
 mod producers;
 #[cfg(test)]
-mod tables;
+mod streams;
 #[cfg(test)]
 mod traces;

@@ -5,7 +5,5 @@ use std::rt::CpuClock;
 
 /// The processor time of this thread so far, in nanoseconds.
 pub fn cpu_nanos(rt: &impl CpuClock) -> io::Result<u64> {
-    let time = rt.thread_cpu_time()?;
-    let seconds = time.as_secs().wrapping_mul(1_000_000_000);
-    Ok(seconds.wrapping_add(u64::from(time.subsec_nanos())))
+    Ok(u64::try_from(rt.thread_cpu_time()?.as_nanos()).unwrap_or(u64::MAX))
 }

@@ -18,6 +18,9 @@ const INPUT: u8 = 100;
 
 const INPUTS: u8 = 8;
 
+/// The place of the last connection.
+const LAST: u8 = 63;
+
 /// The size word of a connection that is point to point, and of one that is multicast.
 const SINGLE: u8 = 0x48;
 
@@ -38,7 +41,7 @@ const CLOSE: [u8; 24] = [
 ];
 
 /// Which connections an adapter has.
-#[derive(Clone, Copy, PartialEq, Eq)]
+#[derive(Clone, Copy)]
 pub enum Load {
     /// Point to point ones, due in the order of their openings.
     Singles,
@@ -50,10 +53,10 @@ pub enum Load {
     Halves,
 }
 
+/// The inputs, the lowest first.
 fn inputs(alloc: Global) -> Result<Items<InputPoint>, OutOfMemory> {
-    let mut inputs = Vec::new(alloc);
-    for place in 0..INPUTS {
-        let instance = u32::from(INPUT.wrapping_add(place));
+    let mut inputs = Vec::with_capacity(alloc, 8)?;
+    for instance in 100..108 {
         inputs.push(InputPoint { instance, len: 4 })?;
     }
     Ok(Items::from_vec(inputs))
@@ -134,15 +137,31 @@ fn opening(alloc: Global, place: u8, size: u8, input: u8) -> Result<Event, OutOf
 
 /// A request to open the last input-only connection.
 pub fn last_opening(alloc: Global) -> Result<Event, OutOfMemory> {
-    opening(alloc, MOST.wrapping_sub(1), SINGLE, INPUT)
+    opening(alloc, LAST, SINGLE, INPUT)
 }
 
 /// A request to close the last input-only connection.
 pub fn last_closing(alloc: Global) -> Result<Event, OutOfMemory> {
-    let place = MOST.wrapping_sub(1);
     let mut bytes = CLOSE;
-    bytes[8] = place.wrapping_add(2);
-    request(alloc, place, &bytes)
+    bytes[8] = LAST + 2;
+    request(alloc, LAST, &bytes)
+}
+
+/// Whether the connection at a place is multicast.
+fn is_grouped(load: Load, place: u8) -> bool {
+    match load {
+        Load::Singles | Load::Scattered => false,
+        Load::Groups => true,
+        Load::Halves => place % 2 == 1,
+    }
+}
+
+/// The size word of the connection at a place, and its input.
+fn asked_for(load: Load, place: u8) -> (u8, u8) {
+    if is_grouped(load, place) {
+        return (GROUP, INPUT + place / 2 % INPUTS);
+    }
+    (SINGLE, INPUT)
 }
 
 /// Opens so many input-only connections.
@@ -153,14 +172,9 @@ pub fn fill<D: Device>(
     count: u8,
 ) -> Result<(), TimesFault> {
     for place in 0..count {
-        let grouped = load == Load::Groups || (load == Load::Halves && place % 2 == 1);
-        let (size, input) = if grouped {
-            (GROUP, INPUT.wrapping_add(place / 2 % INPUTS))
-        } else {
-            (SINGLE, INPUT)
-        };
+        let (size, input) = asked_for(load, place);
         let _id = opened(asked(device, &opening(alloc, place, size, input)?)?)?;
-        if load == Load::Scattered {
+        if matches!(load, Load::Scattered) {
             let _sent = tick(device, 9)?;
         }
     }

@@ -89,6 +89,15 @@ fn deliveries<D: Device + Drop>(
     Ok((nanos, u64::from(count)))
 }
 
+/// So many ticks, and how many datagrams they send.
+fn tick_all<D: Device>(device: &mut D, ms: u32, count: u32) -> Result<u64, TimesFault> {
+    let mut sent: u64 = 0;
+    for _ in 0..count {
+        sent = sent.wrapping_add(tick(device, ms)?);
+    }
+    Ok(sent)
+}
+
 fn ticks<D: Device + Drop>(
     rt: &impl CpuClock,
     alloc: Global,
@@ -100,10 +109,7 @@ fn ticks<D: Device + Drop>(
     fill(alloc, &mut device, load, MOST)?;
     let _first = tick(&mut device, 10)?;
     let start = cpu_nanos(rt)?;
-    let mut sent: u64 = 0;
-    for _ in 0..count {
-        sent = sent.wrapping_add(tick(&mut device, ms)?);
-    }
+    let sent = tick_all(&mut device, ms, count)?;
     Ok((cpu_nanos(rt)?.wrapping_sub(start), sent))
 }
 
@@ -116,6 +122,19 @@ fn waits<D: Device + Drop>(
     Ok((nanos, u64::from(count)))
 }
 
+/// Opens and closes a connection so often.
+fn reopen<D: Device>(
+    device: &mut D,
+    open: &Event,
+    close: &Event,
+    count: u32,
+) -> Result<(), TimesFault> {
+    for _ in 0..count {
+        open_and_close(device, open, close)?;
+    }
+    Ok(())
+}
+
 /// The time in which a connection is opened and closed so often.
 fn reopened<D: Device>(
     rt: &impl CpuClock,
@@ -125,9 +144,7 @@ fn reopened<D: Device>(
     count: u32,
 ) -> Result<u64, TimesFault> {
     let start = cpu_nanos(rt)?;
-    for _ in 0..count {
-        open_and_close(device, open, close)?;
-    }
+    reopen(device, open, close, count)?;
     Ok(cpu_nanos(rt)?.wrapping_sub(start))
 }
 

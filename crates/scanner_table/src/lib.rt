@@ -14,6 +14,3 @@ pub use laws::{elapsing_keeps_tables_whole, fresh_tables_are_whole, steps_keep_t
 pub use profile::{ScannerProfile, SlotConfig};
 pub use slot::{Closing, Connection, Opening, Slot, SlotState};
 pub use table::{ScannerTable, Session, Stage, TargetStream};
-
-#[cfg(test)]
-mod tests;

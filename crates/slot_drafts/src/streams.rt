@@ -1,15 +1,12 @@
 //! The streams of a scanner in a draft.
 
-ghost use Rattle.std.specs.Prelude.{◌≡◌, ◌++◌, ◌∷◌, [], IfOk, filter, map};
+ghost use Rattle.std.specs.Prelude.{◌≡◌, filter, map};
 ghost use Rattle.scanner_table.specs.declared.profile.ScannerProfile.{ScannerProfile};
 ghost use Rattle.scanner_table.specs.Sessions.{is_stream, is_other_stream, staged_stream};
-ghost use Rattle.scanner_table.specs.Encapsulation.{registering_on};
-ghost use Rattle.slot_drafts.specs.Drafts.{view_draft, followed, with_staged, without_cut};
+ghost use Rattle.slot_drafts.specs.Drafts.{view_draft, with_staged, without_cut};
 
 use crate::draft::Draft;
-use cip_types::{Node, OutOfMemory};
 use scanner_table::{Stage, TargetStream};
-use slot_requests::registration_frame;
 
 fn is_stream(stream: &TargetStream, number: u16) -> bool
     ensures { result ≡ is_stream number stream.now }
@@ -43,23 +40,6 @@ fn drop_stream(streams: &mut Vec<TargetStream>, number: u16)
 }
 
 impl Draft {
-    /// A stream to a target opens, the last one, and a session is asked for on it.
-    ///
-    /// Volume 2, chapter 2, RegisterSession.
-    pub fn add_stream(&mut self, number: u16, target: Node) -> Result<(), OutOfMemory>
-        ensures effect { IfOk result (λ _. (profile : ScannerProfile) → view_draft profile self.new ≡ followed (view_draft profile self.old) (registering_on (view_draft profile self.old).table number target)) }
-        ensures clock { self.new.present.clock ≡ self.old.present.clock }
-    {
-        let frame = registration_frame(self.alloc, number)?;
-        self.frames.push(frame)?;
-        self.present.streams.push(TargetStream {
-            number,
-            peer: target,
-            stage: Stage::Waiting,
-        })?;
-        Ok(())
-    }
-
     /// The session of a stream has come so far. Takes no memory.
     pub fn set_stage(&mut self, number: u16, stage: Stage)
         ensures effect { (profile : ScannerProfile) → view_draft profile self.new ≡ with_staged number stage (view_draft profile self.old) }

@@ -13,5 +13,5 @@ mod states;
 pub use laws::{found_places_stand, one_place_changes, places_go_on};
 pub use places::{PlaceView, place_at};
 pub use present::{Present, session_with};
-pub use search::{PlaceTest, any_passes, find_place, is_id_free, places_that};
+pub use search::{PlaceTest, any_passes, find_place, places_that};
 pub use states::{consumes, has_expired, is_due, is_overdue, is_ready, number_of, waits_for};

@@ -1,8 +1,7 @@
 //! A scanner's table beside its profile, and the sessions of its streams.
 
-ghost use Rattle.std.specs.Prelude.{◌≡◌, ◌<◌, length, IfOk, find, option_and_then};
+ghost use Rattle.std.specs.Prelude.{◌≡◌, IfOk, find, option_and_then};
 ghost use Rattle.scanner_table.specs.declared.profile.ScannerProfile.{ScannerProfile};
-ghost use Rattle.scanner_table.specs.Slots.{with_slot};
 ghost use Rattle.scanner_table.specs.Sessions.{is_to, session_at, session_on};
 ghost use Rattle.slot_places.specs.Places.{table_of};
 
@@ -49,14 +48,6 @@ impl Present {
             next_request: self.next_request,
             streams,
         })
-    }
-
-    /// Another slot stands in the place of a number. Takes no memory.
-    pub fn set_slot(&mut self, number: u32, slot: Slot)
-        requires { number < length self.old.slots.items }
-        ensures { (profile : ScannerProfile) → table_of profile self.new ≡ with_slot (table_of profile self.old) number slot }
-    {
-        self.slots[number as usize] = slot;
     }
 }
 

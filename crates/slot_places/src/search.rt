@@ -1,6 +1,6 @@
 //! Searches among places.
 
-ghost use Rattle.std.specs.Prelude.{◌≡◌, ◌≤◌, ◌^◌, ◌==◌, not, find, filter, map, length, IfOk};
+ghost use Rattle.std.specs.Prelude.{◌≡◌, ◌≤◌, ◌^◌, ◌==◌, find, filter, map, length, IfOk};
 ghost use Rattle.std.specs.Option.{option_map};
 ghost use Rattle.std.specs.List.{list_any};
 ghost use Rattle.scanner_table.specs.Slots.{is_with, is_numbered, places_from};
@@ -116,15 +116,4 @@ pub fn any_passes(configs: &[SlotConfig], slots: &[Slot], test: PlaceTest) -> bo
     ensures { result ≡ list_any (passes test) (places_from 0 configs.now slots.now) }
 {
     find_place(configs, slots, test).is_some()
-}
-
-/// Whether no established slot but this one has this T->O id with its target. Takes no memory.
-///
-/// Volume 1, chapter 3, Forward_Open service, network connection ids.
-pub fn is_id_free(configs: &[SlotConfig], slots: &[Slot], place: PlaceView<'_>, id: ConnId) -> bool
-    requires { length configs.now ≤ 2 ^ 32 }
-    ensures { result ≡ not (list_any (uses_id place.entry.number place.entry.config.now.target id) (places_from 0 configs.now slots.now)) }
-{
-    let used = PlaceTest::UsesId(place.number, place.config.target, id);
-    !any_passes(configs, slots, used)
 }

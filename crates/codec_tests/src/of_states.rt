@@ -1,6 +1,6 @@
-use super::*;
 use cip_fwdopen::{OpenAnswer, OpenReply, Opened};
 use cip_types::{ConnId, Mismatch, Triad};
+use conn_state::Idle;
 
 fn triad() -> Triad {
     Triad {

@@ -1,4 +1,6 @@
-use crate::program;
+//! The program over streams that fail, or that hold as much as a trace may and more.
+
+use line_program::program;
 use std::alloc::{AllocError, Global};
 use std::cmp::min;
 use std::io::{self, ErrorKind, Read, Write};
