@@ -1,5 +1,5 @@
 //! Tests of what no scenario runs: the pool of producers and the connections over it, calls of whole devices beside
-//! `step`, copies of devices, traces as they are written, and the program over streams that fail.
+//! `step`, copies of devices, and traces as they are written.
 #![tactic(auto)]
 
 #[cfg(test)]
@@ -8,7 +8,5 @@ mod connections;
 mod devices;
 #[cfg(test)]
 mod producers;
-#[cfg(test)]
-mod streams;
 #[cfg(test)]
 mod traces;
