@@ -14,7 +14,7 @@ use Rattle.table_samples.specs.Devices.{common, double, peer, other, group}
 use Rattle.table_samples.specs.Requests.{opening, owner, gatherer, consumer, inhibited}
 use Rattle.table_samples.specs.Datagrams.{datagram, sending, to_one}
 use Rattle.table_samples.specs.Runs.{after, opens, closes, emits, holds}
-use Rattle.table_samples.specs.Rows.{row, production, producing, connected_at}
+use Rattle.table_samples.specs.Rows.{connection_in, production, producing, connected_at}
 use Rattle.table_samples.proofs.Computing.{computing}
 
 abbrev zeros : List ℕ
@@ -105,7 +105,7 @@ abbrev begun_again : Production
 begun_again = record (production 1) { sequence = 0; count = 0; written = false; due = record { 0 = 10 }; last = Some (record { 0 = 4 }) }
 
 in_the_table_too :
-    table_after (producing at_the_end) (Tick 1 ∷ []) ≡ connected_at 4 (row 1 (Established begun_again) ∷ [])
+    table_after (producing at_the_end) (Tick 1 ∷ []) ≡ connected_at 4 (connection_in 1 (Established begun_again) ∷ [])
 unfolding computing
 in_the_table_too = refl
 

@@ -26,8 +26,8 @@ abbrev pub at_counter : ℕ → DeviceTable
 at_counter counter = Adapter (record (adapter_table common) { next_id = counter })
 
 -- an input-only connection of the first originator, point to point, every 10 ms, by its opening number
-abbrev pub row : ℕ → State → Row
-row opening state = record {
+abbrev pub connection_in : ℕ → State → Row
+connection_in opening state = record {
   triad = own opening;
   peer = peer;
   kind = InputOnly;
@@ -61,11 +61,11 @@ production opening = record {
 
 -- an established connection
 abbrev pub alive : ℕ → Row
-alive opening = row opening (Established (production opening))
+alive opening = connection_in opening (Established (production opening))
 
 -- a timed-out one
 abbrev pub lost : ℕ → Row
-lost opening = row opening TimedOut
+lost opening = connection_in opening TimedOut
 
 -- a device with these connections, at a clock; the next one is the 65th
 abbrev pub connected_at : ℕ → List Row → DeviceTable
@@ -77,4 +77,4 @@ connected rows = connected_at 3 rows
 
 -- a device with one connection that has this producer
 abbrev pub producing : Production → DeviceTable
-producing p = connected (row 1 (Established p) ∷ [])
+producing p = connected (connection_in 1 (Established p) ∷ [])
