@@ -1,10 +1,11 @@
 -- What the engine keeps, by the effects of the table.
-use Rattle.std.proofs.Common.{◌≡◌, ◌≤◌, ◌+◌, ◌^◌, ℕ, Bool, true, false, cond, not, ◌||◌, ◌&&◌, ◌==◌, List, [], ◌∷◌, map, filter, length, find, Option, Some, None, refl, sym, ◌∙◌, ap, subst}
+use Rattle.std.proofs.Common.{◌≡◌, ◌<◌, ◌≤◌, ◌+◌, ◌^◌, ℕ, Bool, true, false, cond, not, ◌||◌, ◌&&◌, ◌==◌, List, [], ◌∷◌, map, filter, length, drop, get_or, find, Option, Some, None, refl, sym, ◌∙◌, ap, subst}
 use Rattle.std.specs.Prelude.{IsTrue, Result, Ok, Err, OnOk}
 use Rattle.std.specs.Result.{result_err}
 use Rattle.std.specs.Option.{option_map}
 use Rattle.std.specs.List.{list_any}
 use Rattle.std.proofs.lemmas.Bool.{eqb-true}
+use Rattle.std.proofs.lemmas.List.{drop_more}
 use Rattle.cip_types.specs.declared.names.Node.{Node}
 use Rattle.cip_types.specs.declared.names.Ms.{Ms}
 use Rattle.cip_datagram.specs.Datagram.{DatagramFields}
@@ -22,6 +23,7 @@ use Rattle.adapter_table.specs.declared.row.State.{State}
 use Rattle.adapter_table.specs.declared.row.State.TheVariants.{Established, TimedOut}
 use Rattle.adapter_table.specs.declared.table.AdapterTable.{AdapterTable}
 use Rattle.adapter_table.specs.declared.table.PointValue.{PointValue}
+use Rattle.adapter_table.specs.Closing.{closed_values}
 use Rattle.adapter_table.specs.Datagrams.{is_for, row_delivery, run_data, accepted_if_for, accepted_values, accepted_table, found_datagram, delivered}
 use Rattle.adapter_table.specs.EachLemmas.{each_found}
 use Rattle.adapter_table.specs.Laws.{AppliedDataHaveOutputs, AppliedDataFit, EffectsKeep}
@@ -31,7 +33,7 @@ use Rattle.adapter_table.specs.Requests.{Next}
 use Rattle.adapter_table.specs.Rows.{is_unsupported, written_state, written_row}
 use Rattle.adapter_table.specs.Shapes.{len_of}
 use Rattle.adapter_table.specs.Sound.{ListenersAreSupported}
-use Rattle.adapter_table.specs.Ticks.{has_expired, expired_rows, clocked_table, expired_table, produced_table, elapsed}
+use Rattle.adapter_table.specs.Ticks.{has_expired, expired_rows, expired_values, clocked_table, expired_table, produced_table, elapsed}
 use Rattle.adapter_table.specs.Whole.{ConsumesOutput, IsWhole}
 use Rattle.assembly_set.specs.declared.fault.PointFault.{PointFault}
 use Rattle.assembly_set.specs.declared.fault.PointFault.TheVariants.{WrongLength}
@@ -39,10 +41,6 @@ use Rattle.assembly_set.specs.Assemblies.{is_output, input_fault, write_fault}
 use Rattle.connection_table.specs.declared.table.Received.{Received}
 use Rattle.connection_table.specs.Receiving.{received_by, receiving}
 use Rattle.connection_table.specs.Tables.{AreWhole}
-
--- a table that is equal to a whole one is whole
-pub whole_by : (t t' : AdapterTable) → t' ≡ t → IsWhole t → IsWhole t'
-whole_by t t' same whole = subst IsWhole (sym same) whole
 
 -- the connections of a whole table are those of one
 pub are_whole : (t : AdapterTable) → IsWhole t → AreWhole t.rows
@@ -182,6 +180,12 @@ missed_found t peer d (Some row) new is told rows = absurd cc
 
 pub missed_by : (t : AdapterTable) (peer : Node) (d : DatagramFields) (told : Option Received) (new : List Row) → told ≡ option_map (received_by t.profile d) (find (is_for peer d.connection) t.rows) → new ≡ receiving t.profile t.clock peer d (find (is_for peer d.connection) t.rows) t.rows → told ≡ None → Missed t peer d new
 missed_by t peer d told new is rows none = missed_found t peer d (find (is_for peer d.connection) t.rows) new refl (sym is ∙ none) rows
+
+-- ---- connections that time out
+
+-- the next one's output is done, and those of the others are left
+pub lost_more : (profile : Profile) (gone : List Row) (i : ℕ) (d : Row) (values : List PointValue) → i < length gone → expired_values profile (drop (i + 1) gone) (closed_values profile (get_or gone i d) values) ≡ expired_values profile (drop i gone) values
+lost_more profile gone i d values lt = ap (λ (l : List Row). expired_values profile l values) (sym (drop_more gone i d lt))
 
 -- ---- a tick in which no connection times out
 

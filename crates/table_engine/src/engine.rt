@@ -533,7 +533,7 @@ impl<T: ConnectionTable> Adapter<T> {
     }
 
     /// Sets what an input holds, and its change-of-state producers produce.
-    #[tactic(auto, unfolding(adapter_table::specs::Step::written_table))]
+    #[tactic(auto, unfolding(adapter_table::specs::Step::written_table, adapter_table::specs::Step::changed_table))]
     fn write_on_change(&mut self, point: u32, bytes: &[u8]) -> Outcome
         requires input { write_fault self.old.profile point (length bytes.now) ≡ None }
         requires short { length bytes.now ≤ 1400 }
