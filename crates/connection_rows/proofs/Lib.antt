@@ -2,3 +2,4 @@ pub mod Places
 pub mod Orders
 pub mod Support
 pub mod Without
+pub mod Passing
