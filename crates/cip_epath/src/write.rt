@@ -5,7 +5,7 @@ ghost use Rattle.cip_epath.specs.Key.{view_key};
 ghost use Rattle.cip_epath.specs.Segment.{type_code, key_text, KeyFits};
 ghost use Rattle.cip_epath.specs.Path.{view_path, IsPath, IsTarget, IsTextOf};
 ghost use Rattle.cip_epath.specs.Reading.{path_reading, target_reading};
-ghost use Rattle.cip_epath.specs.Written.{logical_text, path_text, target_text, AreWords};
+ghost use Rattle.cip_epath.specs.Written.{logical_text, path_text, target_text, AreWords, PathFits};
 
 use crate::key::Key;
 use crate::path::{ConnPath, Target};
@@ -47,7 +47,7 @@ fn put_logical(out: &mut Vec<u8>, kind: LogicalType, value: u32) -> Result<(), O
 /// Appends a key segment, whose numbers are within their fields by their types.
 fn put_key(out: &mut Vec<u8>, key: &Key) -> Result<(), OutOfMemory>
     ensures text { OnOk result (out.new.items ≡ out.old.items ++ key_text (view_key key.now)) }
-    ensures fits { KeyFits (view_key key.now) }
+    ensures fits { OnOk result (KeyFits (view_key key.now)) }
 {
     put_bytes(out, &[0x34, 4])?;
     put_u16(out, key.vendor)?;
@@ -74,20 +74,11 @@ fn put_data(out: &mut Vec<u8>, content: &[u8]) -> Result<(), OutOfMemory>
     put_bytes(out, content)
 }
 
-/// The least text of the path: key, inhibit time, class, configuration as an instance, consumed and
-/// produced point as connection points, data; each value as narrow as it may be.
-///
-/// Volume 1, appendix C, segment types, and chapter 3, connection path.
-pub fn write_path(alloc: Global, path: &ConnPath<'_>) -> Result<Vec<u8>, OutOfMemory>
-    // The data segment is whole words, and a byte counts them.
+/// The text of the path.
+fn path_bytes(alloc: Global, path: &ConnPath<'_>) -> Result<Vec<u8>, OutOfMemory>
     requires words { IfSome (view_path path.now).segment AreWords }
-    // A byte counts the words of the path.
     requires short { length (path_text (view_path path.now)) ≤ 510 }
-    ensures text { IfOk result (λ v. v.items ≡ path_text (view_path path.now)) }
-    ensures is_text { IfOk result (λ v. IsTextOf IsPath v.items (view_path path.now)) }
-    ensures read_back { IfOk result (λ v. path_reading v.items ≡ Ok (view_path path.now)) }
-    ensures whole_words { IfOk result (λ v. length v.items % 2 ≡ 0) }
-    ensures short { IfOk result (λ v. length v.items ≤ 510) }
+    ensures { IfOk result (λ v. PathFits (view_path path.now) × (v.items ≡ path_text (view_path path.now))) }
 {
     let mut out = Vec::new(alloc);
     if let Some(key) = &path.key {
@@ -106,6 +97,24 @@ pub fn write_path(alloc: Global, path: &ConnPath<'_>) -> Result<Vec<u8>, OutOfMe
         put_data(&mut out, content)?;
     }
     Ok(out)
+}
+
+/// The least text of the path: key, inhibit time, class, configuration as an instance, consumed and
+/// produced point as connection points, data; each value as narrow as it may be.
+///
+/// Volume 1, appendix C, segment types, and chapter 3, connection path.
+pub fn write_path(alloc: Global, path: &ConnPath<'_>) -> Result<Vec<u8>, OutOfMemory>
+    // The data segment is whole words, and a byte counts them.
+    requires words { IfSome (view_path path.now).segment AreWords }
+    // A byte counts the words of the path.
+    requires short { length (path_text (view_path path.now)) ≤ 510 }
+    ensures text { IfOk result (λ v. v.items ≡ path_text (view_path path.now)) }
+    ensures is_text { IfOk result (λ v. IsTextOf IsPath v.items (view_path path.now)) }
+    ensures read_back { IfOk result (λ v. path_reading v.items ≡ Ok (view_path path.now)) }
+    ensures whole_words { IfOk result (λ v. length v.items % 2 ≡ 0) }
+    ensures short { IfOk result (λ v. length v.items ≤ 510) }
+{
+    path_bytes(alloc, path)
 }
 
 /// The least text of a request path: class, instance, and the attribute, where there is one; each
