@@ -4,7 +4,7 @@ ghost use Rattle.std.specs.Prelude.{◌≡◌, ◌%◌, ◌≤◌, length, Resul
 ghost use Rattle.cip_fwdopen.specs.declared.fault.ReadFault.{ReadFault};
 ghost use Rattle.cip_fwdopen.specs.declared.close.CloseReply.{CloseReply};
 ghost use Rattle.cip_fwdopen.specs.Readings.{seen};
-ghost use Rattle.cip_fwdopen.specs.Close.{CloseFields, view_close, IsCloseText, IsCloseReading, close_reading, close_text, closed_text, closed_reply, closed_reading, close_answer_reading, IsCloseReplyText, IsCloseReplyReading, close_reply_reading};
+ghost use Rattle.cip_fwdopen.specs.Close.{CloseFields, CloseFits, view_close, IsCloseText, IsCloseReading, close_reading, close_text, closed_text, closed_reply, closed_reading, close_answer_reading, IsCloseReplyText, IsCloseReplyReading, close_reply_reading};
 
 use crate::fault::ReadFault;
 use crate::front::{CloseFront, ClosedFront, unread_at};
@@ -143,6 +143,21 @@ pub fn read_close_reply(bytes: &[u8]) -> Result<CloseReply, ReadFault>
     whole_reply(bytes)
 }
 
+/// The data of a Forward_Close.
+fn close_bytes(alloc: Global, request: &CloseRequest<'_>) -> Result<Vec<u8>, OutOfMemory>
+    requires whole_words { length request.now.path.now % 2 ≡ 0 }
+    requires short { length request.now.path.now ≤ 510 }
+    ensures { IfOk result (λ v. CloseFits (view_close request.now) × (v.items ≡ close_text (view_close request.now))) }
+{
+    let mut out = Vec::new(alloc);
+    put_u8(&mut out, request.priority_tick)?;
+    put_u8(&mut out, request.ticks)?;
+    put_triad(&mut out, request.triad)?;
+    put_bytes(&mut out, &[(request.path.len() / 2) as u8, 0])?;
+    put_bytes(&mut out, request.path)?;
+    Ok(out)
+}
+
 /// The data of a Forward_Close, with the reserved byte zero. The path has to be whole words, of which
 /// there are at most 255. OutOfMemory where memory is refused, as of the other writers.
 ///
@@ -154,12 +169,17 @@ pub fn write_close(alloc: Global, request: &CloseRequest<'_>) -> Result<Vec<u8>,
     ensures is_text { IfOk result (λ v. IsCloseText v.items (view_close request.now)) }
     ensures read_back { IfOk result (λ v. close_reading v.items ≡ Ok (view_close request.now)) }
 {
-    let mut out = Vec::new(alloc);
-    put_u8(&mut out, request.priority_tick)?;
-    put_u8(&mut out, request.ticks)?;
-    put_triad(&mut out, request.triad)?;
-    put_bytes(&mut out, &[(request.path.len() / 2) as u8, 0])?;
-    put_bytes(&mut out, request.path)?;
+    close_bytes(alloc, request)
+}
+
+/// The whole reply that says that a connection is closed.
+fn closed_bytes(alloc: Global, triad: Triad) -> Result<Vec<u8>, OutOfMemory>
+    ensures { IfOk result (λ v. v.items ≡ closed_text triad) }
+{
+    let mut out = Vec::with_capacity(alloc, CLOSED)?;
+    put_bytes(&mut out, &[0xCE, 0, 0, 0])?;
+    put_triad(&mut out, triad)?;
+    put_bytes(&mut out, &[0, 0])?;
     Ok(out)
 }
 
@@ -171,9 +191,5 @@ pub fn write_closed(alloc: Global, triad: Triad) -> Result<Vec<u8>, OutOfMemory>
     ensures is_text { IfOk result (λ v. IsCloseReplyText v.items (closed_reply triad)) }
     ensures read_back { IfOk result (λ v. close_reply_reading v.items ≡ Ok (closed_reply triad)) }
 {
-    let mut out = Vec::with_capacity(alloc, CLOSED)?;
-    put_bytes(&mut out, &[0xCE, 0, 0, 0])?;
-    put_triad(&mut out, triad)?;
-    put_bytes(&mut out, &[0, 0])?;
-    Ok(out)
+    closed_bytes(alloc, triad)
 }

@@ -57,8 +57,7 @@ fn put_open(out: &mut Vec<u8>, large: bool, request: &OpenRequest<'_>) -> Result
     requires short { length request.now.path.now ≤ 510 }
     requires o_t_size { request.now.o_t_params.size ≤ greatest_size large }
     requires t_o_size { request.now.t_o_params.size ≤ greatest_size large }
-    ensures text { OnOk result (out.new.items ≡ out.old.items ++ open_text large (view_open request.now)) }
-    ensures fits { OnOk result (OpenFits large (view_open request.now)) }
+    ensures { OnOk result (OpenFits large (view_open request.now) × (out.new.items ≡ out.old.items ++ open_text large (view_open request.now))) }
 {
     put_bytes(out, &[request.priority_tick, request.ticks])?;
     put_u32(out, request.o_t_id.0)?;
@@ -104,8 +103,7 @@ fn service_of(large: bool) -> u8
 
 /// Appends the whole reply that says that a connection is open.
 fn put_opened(out: &mut Vec<u8>, large: bool, opened: &Opened) -> Result<(), OutOfMemory>
-    ensures text { OnOk result (out.new.items ≡ out.old.items ++ opened_text large opened.now) }
-    ensures fits { OnOk result (OpenedFits opened.now) }
+    ensures { OnOk result (OpenedFits opened.now × (out.new.items ≡ out.old.items ++ opened_text large opened.now)) }
 {
     put_bytes(out, &[service_of(large), 0, 0, 0])?;
     put_u32(out, opened.o_t_id.0)?;
@@ -151,6 +149,22 @@ fn put_failure(out: &mut Vec<u8>, triad: Option<Triad>) -> Result<(), OutOfMemor
     put_bytes(out, &[0, 0])
 }
 
+/// The whole reply that refuses a request of the service.
+fn refused_bytes(
+    alloc: Global,
+    service: u8,
+    fault: Fault,
+    triad: Option<Triad>,
+) -> Result<Vec<u8>, OutOfMemory>
+    ensures { IfOk result (λ v. v.items ≡ refused_text service fault triad) }
+{
+    let mut out = Vec::new(alloc);
+    put_bytes(&mut out, &[service | 0x80, 0, fault.general])?;
+    put_extra(&mut out, fault.extra)?;
+    put_failure(&mut out, triad)?;
+    Ok(out)
+}
+
 /// The whole reply that refuses a request of the service. Its data names a connection where one is
 /// given, with remaining path size 0. The general status of a refusal is not 0.
 ///
@@ -166,9 +180,5 @@ pub fn write_refused(
     ensures is_text { IfOk result (λ v. IsOpenReplyText v.items (refused_reply service fault triad)) }
     ensures read_back { IfOk result (λ v. open_reply_reading v.items ≡ Ok (refused_reply service fault triad)) }
 {
-    let mut out = Vec::new(alloc);
-    put_bytes(&mut out, &[service | 0x80, 0, fault.general])?;
-    put_extra(&mut out, fault.extra)?;
-    put_failure(&mut out, triad)?;
-    Ok(out)
+    refused_bytes(alloc, service, fault, triad)
 }
