@@ -11,15 +11,9 @@ use cip_types::fields::{put_bytes, put_u16, put_u32};
 use std::alloc::Global;
 
 /// The text of the message.
-///
-/// Volume 2, chapter 2, encapsulation messages.
-pub fn write_message(alloc: Global, message: &MessageView<'_>) -> Result<Vec<u8>, OutOfMemory>
-    // The length field counts the data.
+fn message_bytes(alloc: Global, message: &MessageView<'_>) -> Result<Vec<u8>, OutOfMemory>
     requires { length message.now.«data».now ≤ 65535 }
-    ensures text { IfOk result (λ v. v.items ≡ message_text (view_message message.now)) }
-    ensures is_text { IfOk result (λ v. IsMessageText v.items (view_message message.now)) }
-    ensures read_back { IfOk result (λ v. message_reading v.items ≡ Ok (view_message message.now)) }
-    ensures first { IfOk result (λ v. length message.now.«data».now ≤ 2048 → StandsFirst v.items) }
+    ensures { IfOk result (λ v. IsMessageText v.items (view_message message.now)) }
 {
     let mut out = Vec::new(alloc);
     put_u16(&mut out, message.command)?;
@@ -30,4 +24,18 @@ pub fn write_message(alloc: Global, message: &MessageView<'_>) -> Result<Vec<u8>
     put_u32(&mut out, message.options)?;
     put_bytes(&mut out, message.data)?;
     Ok(out)
+}
+
+/// The text of the message.
+///
+/// Volume 2, chapter 2, encapsulation messages.
+pub fn write_message(alloc: Global, message: &MessageView<'_>) -> Result<Vec<u8>, OutOfMemory>
+    // The length field counts the data.
+    requires { length message.now.«data».now ≤ 65535 }
+    ensures text { IfOk result (λ v. v.items ≡ message_text (view_message message.now)) }
+    ensures is_text { IfOk result (λ v. IsMessageText v.items (view_message message.now)) }
+    ensures read_back { IfOk result (λ v. message_reading v.items ≡ Ok (view_message message.now)) }
+    ensures first { IfOk result (λ v. length message.now.«data».now ≤ 2048 → StandsFirst v.items) }
+{
+    message_bytes(alloc, message)
 }

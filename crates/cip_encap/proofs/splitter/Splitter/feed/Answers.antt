@@ -1,4 +1,4 @@
-use Rattle.std.proofs.Common.{List, ℕ, ◌++◌, ◌∙◌, sym, subst, inl, inr}
+use Rattle.std.proofs.Common.{List, ℕ, ◌++◌, ◌∙◌, rules, sym, subst, inl, inr}
 use Rattle.std.proofs.lemmas.Bool.{false≢true}
 use Rattle.cip_encap.specs.Stream.{AreMessages, EndsTooLong}
 use Rattle.cip_encap.proofs.StreamLaws.{one_messages, messages_go_on}
@@ -30,3 +30,6 @@ returns-clause-small c =
       | inl long ↦ absurd (not_long c (c.in_ok-messages.messages.items, (c.in_ok-messages.rest.items, returns-clause-messages c, long)))
       | inr small ↦ small
     ]
+
+pub returns-then-is_too_long-clause-err : goal.returns-then-is_too_long-clause-err
+returns-then-is_too_long-clause-err c = search rules
