@@ -47,7 +47,7 @@ fn put_logical(out: &mut Vec<u8>, kind: LogicalType, value: u32) -> Result<(), O
 /// Appends a key segment, whose numbers are within their fields by their types.
 fn put_key(out: &mut Vec<u8>, key: &Key) -> Result<(), OutOfMemory>
     ensures text { OnOk result (out.new.items ≡ out.old.items ++ key_text (view_key key.now)) }
-    ensures fits { OnOk result (KeyFits (view_key key.now)) }
+    ensures fits { KeyFits (view_key key.now) }
 {
     put_bytes(out, &[0x34, 4])?;
     put_u16(out, key.vendor)?;
