@@ -117,27 +117,6 @@ fn put_socket(out: &mut Vec<u8>, socket: SocketAddress) -> Result<(), OutOfMemor
     put_bytes(out, &[0; 8])
 }
 
-/// The text of the items around the data.
-fn items_bytes(
-    alloc: Global,
-    data: &[u8],
-    socket: Option<SocketAddress>,
-) -> Result<Vec<u8>, OutOfMemory>
-    requires { length «data».now ≤ 65535 }
-    ensures { IfOk result (λ v. v.items ≡ packet_text «data».now socket) }
-{
-    let mut out = Vec::new(alloc);
-    put_bytes(&mut out, &[0, 0, 0, 0, 0, 0])?;
-    put_u16(&mut out, if socket.is_some() { 3 } else { 2 })?;
-    put_bytes(&mut out, &[0, 0, 0, 0, 0xB2, 0])?;
-    put_u16(&mut out, data.len() as u16)?;
-    put_bytes(&mut out, data)?;
-    if let Some(socket) = socket {
-        put_socket(&mut out, socket)?;
-    }
-    Ok(out)
-}
-
 /// The text of the items around the data of a request or reply, with timeout 0, and a T->O socket
 /// address item where there is a socket address.
 ///
@@ -154,5 +133,14 @@ pub fn write_items(
     ensures is_text { IfOk result (λ v. IsPacketText v.items (record { timeout = 0; payload = «data».now })) }
     ensures read_back { IfOk result (λ v. packet_reading v.items ≡ Ok (record { timeout = 0; payload = «data».now })) }
 {
-    items_bytes(alloc, data, socket)
+    let mut out = Vec::new(alloc);
+    put_bytes(&mut out, &[0, 0, 0, 0, 0, 0])?;
+    put_u16(&mut out, if socket.is_some() { 3 } else { 2 })?;
+    put_bytes(&mut out, &[0, 0, 0, 0, 0xB2, 0])?;
+    put_u16(&mut out, data.len() as u16)?;
+    put_bytes(&mut out, data)?;
+    if let Some(socket) = socket {
+        put_socket(&mut out, socket)?;
+    }
+    Ok(out)
 }

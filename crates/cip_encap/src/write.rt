@@ -11,22 +11,6 @@ use cip_types::fields::{put_bytes, put_u16, put_u32};
 use std::alloc::Global;
 
 /// The text of the message.
-fn message_bytes(alloc: Global, message: &MessageView<'_>) -> Result<Vec<u8>, OutOfMemory>
-    requires { length message.now.«data».now ≤ 65535 }
-    ensures { IfOk result (λ v. IsMessageText v.items (view_message message.now)) }
-{
-    let mut out = Vec::new(alloc);
-    put_u16(&mut out, message.command)?;
-    put_u16(&mut out, message.data.len() as u16)?;
-    put_u32(&mut out, message.session)?;
-    put_u32(&mut out, message.status)?;
-    put_bytes(&mut out, &message.context.to_le_bytes())?;
-    put_u32(&mut out, message.options)?;
-    put_bytes(&mut out, message.data)?;
-    Ok(out)
-}
-
-/// The text of the message.
 ///
 /// Volume 2, chapter 2, encapsulation messages.
 pub fn write_message(alloc: Global, message: &MessageView<'_>) -> Result<Vec<u8>, OutOfMemory>
@@ -37,5 +21,13 @@ pub fn write_message(alloc: Global, message: &MessageView<'_>) -> Result<Vec<u8>
     ensures read_back { IfOk result (λ v. message_reading v.items ≡ Ok (view_message message.now)) }
     ensures first { IfOk result (λ v. length message.now.«data».now ≤ 2048 → StandsFirst v.items) }
 {
-    message_bytes(alloc, message)
+    let mut out = Vec::new(alloc);
+    put_u16(&mut out, message.command)?;
+    put_u16(&mut out, message.data.len() as u16)?;
+    put_u32(&mut out, message.session)?;
+    put_u32(&mut out, message.status)?;
+    put_bytes(&mut out, &message.context.to_le_bytes())?;
+    put_u32(&mut out, message.options)?;
+    put_bytes(&mut out, message.data)?;
+    Ok(out)
 }
