@@ -23,7 +23,6 @@ pub enum FrameView<'a> {
 }
 
 /// What the bytes of a frame say. Status and options of a request are not looked at.
-#[tactic(auto, using(cip_router::specs::FrameLaws::whole_reads, cip_router::specs::FrameLaws::misfit_reads, cip_router::specs::FrameLaws::headless_reads))]
 pub fn read_frame(bytes: &[u8]) -> FrameView<'_>
     ensures { view_frame result ≡ frame_reading bytes.now }
 {
