@@ -1,5 +1,5 @@
 -- The fifteen checks in the order of the work: some before the points are looked up, the others of them.
-use Rattle.std.specs.Prelude.{ℕ, Bool, ◌==◌, not, List, [], ◌∷◌, Option, Some, None, Result, Ok, Err, take, drop}
+use Rattle.std.specs.Prelude.{ℕ, ◌≡◌, Bool, ◌==◌, not, List, [], ◌∷◌, Option, Some, None, Result, Ok, Err, take, drop}
 use Rattle.std.specs.Result.{result_ok}
 use Rattle.cip_epath.specs.declared.fault.PathFault.{PathFault}
 use Rattle.cip_epath.specs.declared.fault.PathFault.TheVariants as path_fault
@@ -80,6 +80,11 @@ terms_of request = record {
   t_o_api = interval_ms request.t_o_rpi;
   watchdog = record { 0 = timeout request.multiplier (interval_ms request.o_t_rpi) };
 }
+
+-- what is returned of the checks: these terms where none fails, or the answer of the first that does
+abbrev pub IsJudged : Check → Terms → Result Terms Refusal → Type 0
+IsJudged checked terms (Ok found) = (checked ≡ None) × (found ≡ terms)
+IsJudged checked terms (Err why) = checked ≡ Some why
 
 -- what points are admitted as on these terms
 abbrev pub admission_at : Points → Terms → Bool → ℕ → Admitted

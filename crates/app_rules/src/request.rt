@@ -1,13 +1,13 @@
 //! What a request asks by itself.
 
-ghost use Rattle.std.specs.Prelude.{◌≡◌, ◌&&◌, nat_lt, IfErr, OnOk, IfOk};
+ghost use Rattle.std.specs.Prelude.{◌≡◌, ◌&&◌, nat_lt};
 ghost use Rattle.std.specs.Option.{option_map};
 ghost use Rattle.cip_epath.specs.Path.{view_path};
 ghost use Rattle.cip_fwdopen.specs.Open.{view_open};
 ghost use Rattle.cip_epath.specs.Reading.{path_reading};
 ghost use Rattle.adapter_table.specs.Checks.{Gives, key_of, key_check, inhibit_of, is_point_to_point, is_produced_type, is_multicast, is_unserved, is_change_of_state, served_inhibit};
 ghost use Rattle.app_rules.specs.Views.{seen};
-ghost use Rattle.app_rules.specs.Stages.{readable, type_check, request_check, terms_of};
+ghost use Rattle.app_rules.specs.Stages.{readable, type_check, request_check, terms_of, IsJudged};
 
 use crate::connections::Connections;
 use crate::view::View;
@@ -132,9 +132,7 @@ pub fn terms_of<C: Connections>(
     request: &OpenRequest<'_>,
     path: &Option<ConnPath<'_>>,
 ) -> Result<Terms, Refusal>
-    ensures refused { IfErr result (λ why. request_check (seen C.rows view.now request.now.triad) (view_open request.now) (option_map view_path path.now) ≡ Some why) }
-    ensures passed { OnOk result (request_check (seen C.rows view.now request.now.triad) (view_open request.now) (option_map view_path path.now) ≡ None) }
-    ensures value { IfOk result (λ terms. terms ≡ terms_of (view_open request.now)) }
+    ensures { IsJudged (request_check (seen C.rows view.now request.now.triad) (view_open request.now) (option_map view_path path.now)) (terms_of (view_open request.now)) result }
 {
     if view.connections.is_held(request.triad) {
         return Err(Refusal::InUse);
