@@ -1,0 +1,5 @@
+use Rattle.std.proofs.Common.{rules}
+use Rattle.assembly_set.proofs.set.AssemblySet.holding.Goals as goal
+
+pub returns : goal.returns
+returns c = search rules
