@@ -1,7 +1,7 @@
 use Rattle.scanner_table.specs.declared.table.ScannerTable.{ScannerTable}
 use Rattle.scanner_laws.specs.Whole.{IsWholeScanner}
 use Rattle.cip_tables.specs.Whole.{next_id_of}
-use Rattle.std.proofs.Common.{◌≤◌, subst, sym}
+use Rattle.std.proofs.Common.{◌≤◌, subst, sym, rules}
 use Rattle.cip_tables.proofs.RunKeeps.{later_scanner}
 use Rattle.cip_tables.proofs.copy.TableCopy.with_next_id.Goals as goal
 
@@ -11,3 +11,6 @@ scanner-requires c =
     let whole = later_scanner c.later_counters_keep_tables_whole.ensures c.self.inside.table c.in-Scanner.table c.args.counter c.in-Scanner.is later c.requires.last c.self.invariant in
     let moved = subst (λ (t : ScannerTable). IsWholeScanner (record t { next_id = c.args.counter })) (sym c.in-Scanner.table-is) whole in
     subst IsWholeScanner (sym c.with_next_id-in-Scanner.ensures.value) moved
+
+pub returns-in-Adapter : goal.returns-in-Adapter
+returns-in-Adapter c = search rules
