@@ -5,7 +5,7 @@ ghost use Rattle.std.specs.Prelude.{◌≡◌};
 use cip_events::StepFault;
 
 /// Why a point is not read or written, the first that holds.
-#[derive(Clone, Copy)]
+#[derive(Clone, Copy, Debug, PartialEq, Eq)]
 pub enum PointFault {
     /// No point of this instance can be read or written so.
     NoSuchPoint,

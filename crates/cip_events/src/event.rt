@@ -63,7 +63,7 @@ pub struct Sending {
 /// `Malformed`, then of an `UnknownId`, then of a `WrongSize`, then `Old`; otherwise it is accepted.
 ///
 /// Volume 1, chapter 3, class 1 transport and run/idle; Volume 2, chapter 2, sequenced address item.
-#[derive(Clone, Copy, PartialEq, Eq)]
+#[derive(Clone, Copy, Debug, PartialEq, Eq)]
 pub enum Delivery {
     /// It was accepted, and its run-mode data stand at the output.
     Applied,
@@ -184,7 +184,7 @@ impl From<OutOfMemory> for StepFault {
 pub type Outcome = Result<Answer, StepFault>;
 
 /// Why a device was not made.
-#[derive(Clone, Copy, Debug, Error)]
+#[derive(Clone, Copy, Debug, PartialEq, Eq, Error)]
 pub enum NewFault {
     /// The profile is wrong, and this is first of what is wrong with it.
     #[error("bad profile: {0}")]
