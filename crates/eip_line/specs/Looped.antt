@@ -3,9 +3,9 @@ use Rattle.std.specs.Prelude.{ℕ, ◌≡◌, ◌≤◌, List, codes, Option, Re
 use Rattle.std.specs.Io.KnownBytes.{Appends}
 use Rattle.trace_stepper.specs.Written.{BeginsToWrite}
 use Rattle.socket_loop.specs.declared.fault.LoopFault.TheVariants as loop
-use Rattle.line_program.specs.Faults.{numbered_line}
-use Rattle.line_program.specs.declared.loops.LoopEnd.{LoopEnd}
-use Rattle.line_program.specs.declared.loops.LoopEnd.TheVariants as ending
+use Rattle.eip_line.specs.Faults.{numbered_line}
+use Rattle.eip_line.specs.declared.loops.LoopEnd.{LoopEnd}
+use Rattle.eip_line.specs.declared.loops.LoopEnd.TheVariants as ending
 
 -- the line that tells how many turns were done
 abbrev pub turns_line : ℕ → List ℕ

@@ -3,7 +3,7 @@
 ghost use Rattle.std.specs.Prelude.{◌≡◌, ◌≤◌, IfErr};
 ghost use Rattle.std.specs.Io.KnownBytes.{Appends, Keeps};
 ghost use Rattle.trace_stepper.specs.Written.{IsTaken};
-ghost use Rattle.line_program.specs.Looped.{FailsLoop, IsLooped, end_line, turns_line};
+ghost use Rattle.eip_line.specs.Looped.{FailsLoop, IsLooped, end_line, turns_line};
 
 use crate::commands::LoopTask;
 use crate::console::write_numbered;
@@ -16,7 +16,7 @@ use std::rt::Clock;
 use trace_stepper::{NotTaken, write_text};
 
 /// Why a loop ended with status 1, as standard error tells it.
-#[derive(Clone, Copy, Debug, PartialEq, Eq)]
+#[derive(Clone, Copy)]
 pub enum LoopEnd {
     /// The line failed: `fault Port`, `fault New`, `fault Step` or `no memory`.
     Line(LoopFault),
@@ -25,7 +25,7 @@ pub enum LoopEnd {
 }
 
 impl From<NotTaken> for LoopEnd {
-    ghost use Rattle.line_program.specs.declared.loops.LoopEnd.TheVariants as ending;
+    ghost use Rattle.eip_line.specs.declared.loops.LoopEnd.TheVariants as ending;
 
     ghost from_gives = { λ _ end. end ≡ ending.Write };
 
@@ -35,7 +35,7 @@ impl From<NotTaken> for LoopEnd {
 }
 
 impl From<LoopFault> for LoopEnd {
-    ghost use Rattle.line_program.specs.declared.loops.LoopEnd.TheVariants as ending;
+    ghost use Rattle.eip_line.specs.declared.loops.LoopEnd.TheVariants as ending;
 
     ghost from_gives = { λ fault end. end ≡ ending.Line fault };
 

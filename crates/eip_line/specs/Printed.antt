@@ -11,9 +11,9 @@ use Rattle.trace_stepper.specs.Stepping.{outcomes_told}
 use Rattle.trace_stepper.specs.Written.{BeginsToWrite}
 use Rattle.trace_stepper.specs.declared.player.PlayFault.{PlayFault}
 use Rattle.trace_stepper.specs.declared.player.PlayFault.TheVariants as play
-use Rattle.line_program.specs.Faults.{numbered_line, fault_line}
-use Rattle.line_program.specs.declared.console.ProgramFault.{ProgramFault}
-use Rattle.line_program.specs.declared.console.ProgramFault.TheVariants as program
+use Rattle.eip_line.specs.Faults.{numbered_line, fault_line}
+use Rattle.eip_line.specs.declared.console.ProgramFault.{ProgramFault}
+use Rattle.eip_line.specs.declared.console.ProgramFault.TheVariants as program
 
 -- the most bytes of a trace
 abbrev pub longest_trace : ℕ

@@ -1,5 +1,5 @@
-use Rattle.line_program.proofs.Turns.{looped_flushed}
-use Rattle.line_program.proofs.loops.print_turns.Goals as goal
+use Rattle.eip_line.proofs.Turns.{looped_flushed}
+use Rattle.eip_line.proofs.loops.print_turns.Goals as goal
 
 pub returns : goal.returns
 returns g c = looped_flushed _ _ _ _ c.flush.result (rw c.from.ensures at c.in_ok-write_numbered.ensures) c.flush.ensures.kept c.flush.ensures.fault

@@ -11,9 +11,9 @@ use Rattle.trace_stepper.specs.declared.player.PlayFault.TheVariants as play
 use Rattle.trace_stepper.specs.Playing.{IsPlayed, WritesFirst}
 use Rattle.trace_stepper.specs.Stepping.{outcomes_told}
 use Rattle.trace_stepper.specs.Written.{BeginsToWrite, IsTaken}
-use Rattle.line_program.specs.declared.console.ProgramFault.{ProgramFault}
-use Rattle.line_program.specs.declared.console.ProgramFault.TheVariants as program
-use Rattle.line_program.specs.Printed.{longest_trace, Reads, IsStepped, IsTraceRead, IsTextFault, IsFinished, IsStop}
+use Rattle.eip_line.specs.declared.console.ProgramFault.{ProgramFault}
+use Rattle.eip_line.specs.declared.console.ProgramFault.TheVariants as program
+use Rattle.eip_line.specs.Printed.{longest_trace, Reads, IsStepped, IsTraceRead, IsTextFault, IsFinished, IsStop}
 
 chained : (old mid new : Option (List ℕ)) (a b : List ℕ) → Appends old mid a → Appends mid new b → Appends old new (a ++ b)
 chained None mid new a b one two = tt

@@ -2,8 +2,8 @@
 use Rattle.std.specs.Prelude.{ℕ, List, ◌++◌, codes, decimal}
 use Rattle.trace_text.specs.declared.trace.TraceFault.{TraceFault}
 use Rattle.trace_text.specs.declared.trace.TraceFault.TheVariants as trace
-use Rattle.line_program.specs.declared.console.ProgramFault.{ProgramFault}
-use Rattle.line_program.specs.declared.console.ProgramFault.TheVariants as program
+use Rattle.eip_line.specs.declared.console.ProgramFault.{ProgramFault}
+use Rattle.eip_line.specs.declared.console.ProgramFault.TheVariants as program
 
 abbrev pub program_fault_of_trace : TraceFault → ProgramFault
 program_fault_of_trace (trace.BadLine number) = program.BadLine number

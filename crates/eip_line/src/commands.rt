@@ -1,7 +1,7 @@
 //! The command line.
 
 ghost use Rattle.std.specs.Prelude.{◌≡◌, map, true, IfOk};
-ghost use Rattle.line_program.specs.Tasks.{Asks};
+ghost use Rattle.eip_line.specs.Tasks.{Asks};
 
 use clap::error::ErrorKind;
 use clap::{Arg, ArgAction, ArgMatches, Command, value_parser};
@@ -9,7 +9,7 @@ use std::alloc::{AllocError, Global};
 use std::convert::AsStr;
 
 /// What a command line asks for.
-#[derive(Clone, Copy, Debug, PartialEq, Eq)]
+#[derive(Clone, Copy)]
 pub enum Task {
     /// Steps an adapter by the lines of the input.
     Step,
@@ -18,7 +18,7 @@ pub enum Task {
 }
 
 /// Where an adapter and a scanner talk, and for how many turns of each.
-#[derive(Clone, Copy, Debug, PartialEq, Eq)]
+#[derive(Clone, Copy)]
 pub struct LoopTask {
     /// The adapter's port of TCP.
     pub tcp: u16,
@@ -38,7 +38,7 @@ const UDP: u16 = 2_222;
 const TURNS: u32 = 1_000;
 
 /// Why a command line asks for nothing.
-#[derive(Clone, Copy, Debug, PartialEq, Eq)]
+#[derive(Clone, Copy)]
 pub enum Misuse {
     /// It is none of the program's, or asks for help.
     Usage,

@@ -4,9 +4,9 @@ ghost use Rattle.std.specs.Prelude.{◌≡◌, ◌<◌, ◌≤◌, ◌⊎◌, ma
 ghost use Rattle.std.specs.Io.KnownBytes.{Appends, Keeps};
 ghost use Rattle.trace_stepper.specs.Playing.{IsPlayed};
 ghost use Rattle.trace_stepper.specs.Written.{BeginsToWrite, IsTaken};
-ghost use Rattle.line_program.specs.Faults.{fault_line};
-ghost use Rattle.line_program.specs.Printed.{longest_trace, PrintsRun, Fails, IsStepped, IsFinished, IsTraceRead, IsTextFault, IsStop};
-ghost use Rattle.line_program.specs.Tasks.{FailsTask, HasFailed, IsDone, Prints};
+ghost use Rattle.eip_line.specs.Faults.{fault_line};
+ghost use Rattle.eip_line.specs.Printed.{longest_trace, PrintsRun, Fails, IsStepped, IsFinished, IsTraceRead, IsTextFault, IsStop};
+ghost use Rattle.eip_line.specs.Tasks.{FailsTask, HasFailed, IsDone, Prints};
 
 use crate::commands::{Misuse, Task, read_task};
 use crate::loops::loop_status;
@@ -32,7 +32,7 @@ const USAGE: u8 = 2;
 const LONGEST_TRACE: usize = 16_777_216;
 
 /// Why a run ended with status 1, as standard error tells it.
-#[derive(Clone, Copy, Debug, PartialEq, Eq)]
+#[derive(Clone, Copy)]
 pub enum ProgramFault {
     /// The trace is longer than any that is read: `too long`.
     TooLong,
@@ -49,7 +49,7 @@ pub enum ProgramFault {
 }
 
 impl From<NotTaken> for ProgramFault {
-    ghost use Rattle.line_program.specs.declared.console.ProgramFault.TheVariants as program;
+    ghost use Rattle.eip_line.specs.declared.console.ProgramFault.TheVariants as program;
 
     ghost from_gives = { λ _ fault. fault ≡ program.Write };
 
@@ -59,7 +59,7 @@ impl From<NotTaken> for ProgramFault {
 }
 
 impl From<TraceFault> for ProgramFault {
-    ghost use Rattle.line_program.specs.Faults.{program_fault_of_trace};
+    ghost use Rattle.eip_line.specs.Faults.{program_fault_of_trace};
 
     ghost from_gives = { λ error fault. fault ≡ program_fault_of_trace error };
 

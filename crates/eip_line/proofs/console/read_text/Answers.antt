@@ -1,8 +1,8 @@
 use Rattle.std.proofs.Common.{rules, ◌≡◌, ◌++◌, [], take}
 use Rattle.std.specs.Prelude.{IfSome}
 use Rattle.std.specs.Option.{option_map}
-use Rattle.line_program.proofs.Limits.{whole, longer, cut, at_most}
-use Rattle.line_program.proofs.console.read_text.Goals as goal
+use Rattle.eip_line.proofs.Limits.{whole, longer, cut, at_most}
+use Rattle.eip_line.proofs.console.read_text.Goals as goal
 
 pub returns-then-len-gt-LONGEST_TRACE-clause-long : goal.returns-then-len-gt-LONGEST_TRACE-clause-long
 returns-then-len-gt-LONGEST_TRACE-clause-long g c e =

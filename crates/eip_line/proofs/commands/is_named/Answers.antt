@@ -1,8 +1,8 @@
 use Rattle.std.proofs.Common.{rules, ◌≡◌, codes, true, Some, refl, length}
 use Rattle.std.proofs.lemmas.Option.{slice_get_read}
 use Rattle.std.specs.Prelude.{slice_get}
-use Rattle.line_program.proofs.Words.{spelled}
-use Rattle.line_program.proofs.commands.is_named.Goals as goal
+use Rattle.eip_line.proofs.Words.{spelled}
+use Rattle.eip_line.proofs.commands.is_named.Goals as goal
 
 pub returns-in-Step : goal.returns-in-Step
 returns-in-Step g c same =

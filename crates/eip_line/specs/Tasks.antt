@@ -2,10 +2,10 @@
 use Rattle.std.specs.Prelude.{ℕ, ◌≡◌, ◌⊎◌, List, codes, slice_get, Option, Some}
 use Rattle.std.specs.Io.KnownBytes.{Appends}
 use Rattle.trace_stepper.specs.Written.{BeginsToWrite}
-use Rattle.line_program.specs.Looped.{FailsLoop, turns_line}
-use Rattle.line_program.specs.Printed.{PrintsRun, Fails}
-use Rattle.line_program.specs.declared.commands.Task.{Task}
-use Rattle.line_program.specs.declared.commands.Task.TheVariants as task
+use Rattle.eip_line.specs.Looped.{FailsLoop, turns_line}
+use Rattle.eip_line.specs.Printed.{PrintsRun, Fails}
+use Rattle.eip_line.specs.declared.commands.Task.{Task}
+use Rattle.eip_line.specs.declared.commands.Task.TheVariants as task
 
 -- the word behind the program's name is the command's
 abbrev pub Asks : List (List ℕ) → Task → Type 0
