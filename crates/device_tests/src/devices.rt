@@ -1,6 +1,7 @@
 //! A plain adapter's calls beside `step`, and copies of adapters. What their steps answer is shown by the traces of
 //! the scenarios.
 
+use adapter_engine::FastAdapter;
 use cip_tables::{
     Action, Config, Delivery, Device, DeviceTable, Event, InputPoint, Outcome, OutputPoint,
     Profile, StepFault, TableCopy, run,
@@ -108,7 +109,7 @@ fn is_reply(outcome: &Outcome, bytes: &[u8]) -> bool {
 }
 
 /// Whether a request is answered by these bytes.
-fn replies(alloc: Global, device: &mut PlainAdapter, asked: &[u8], bytes: &[u8]) -> bool {
+fn replies<D: Device>(alloc: Global, device: &mut D, asked: &[u8], bytes: &[u8]) -> bool {
     match request(alloc, asked) {
         Ok(event) => is_reply(&device.step(&event), bytes),
         Err(_) => false,
@@ -245,16 +246,16 @@ fn nearly_used(alloc: Global) -> Result<TableCopy, Fail> {
 }
 
 /// Whether a new group, which needs two ids, is refused.
-fn refuses_a_group(alloc: Global, device: &mut PlainAdapter) -> bool {
+fn refuses_a_group<D: Device>(alloc: Global, device: &mut D) -> bool {
     replies(alloc, device, &GATHER, &USED_UP)
 }
 
-fn takes_an_owner(alloc: Global, device: &mut PlainAdapter) -> bool {
+fn takes_an_owner<D: Device>(alloc: Global, device: &mut D) -> bool {
     replies(alloc, device, &OPEN, &LAST_OPENED)
 }
 
 /// Whether a new group is refused before an owner takes the last id and after it.
-fn uses_the_last(alloc: Global, device: &mut PlainAdapter) -> bool {
+fn uses_the_last<D: Device>(alloc: Global, device: &mut D) -> bool {
     let before = refuses_a_group(alloc, device);
     let taken = takes_an_owner(alloc, device);
     let after = refuses_a_group(alloc, device);
@@ -264,7 +265,12 @@ fn uses_the_last(alloc: Global, device: &mut PlainAdapter) -> bool {
 #[test]
 fn the_last_id_is_not_enough_for_a_new_group(rt: HostRuntime) -> Result<(), Fail> {
     let table = nearly_used(rt.alloc())?;
-    let mut device = PlainAdapter::from_copy(rt.alloc(), &table)?;
-    assert!(rt; uses_the_last(rt.alloc(), &mut device));
+    assert!(rt;
+        uses_the_last(
+            rt.alloc(),
+            &mut PlainAdapter::from_copy(rt.alloc(), &table)?
+        )
+    );
+    assert!(rt; uses_the_last(rt.alloc(), &mut FastAdapter::from_copy(rt.alloc(), &table)?));
     Ok(())
 }

@@ -11,7 +11,7 @@ use std::convert::AsStr;
 /// What a command line asks for.
 #[derive(Clone, Copy)]
 pub enum Task {
-    /// Steps an adapter by the lines of the input.
+    /// Steps a device by the lines of the input.
     Step,
     /// Runs an adapter and a scanner over sockets of this host.
     Loop(LoopTask),
