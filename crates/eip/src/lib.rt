@@ -6,12 +6,12 @@ pub use adapter_engine::FastAdapter;
 pub use cip_netparams::Trigger;
 pub use cip_tables::{
     Action, Answer, Config, Delivery, Device, Event, Frame, InputPoint, Kind, NewFault, Notice,
-    Outcome, OutputPoint, Profile, ProfileFault, Reason, Recipient, ScannerProfile, Sending,
-    SlotConfig, StepFault, TableCopy, Verdict, run,
+    Outcome, OutgoingDatagram, OutputPoint, Profile, ProfileFault, Reason, Recipient,
+    ScannerProfile, SlotConfig, StepFault, TableCopy, Verdict, run,
 };
 pub use cip_types::{ConnId, Fault, Identity, Items, Mismatch, Ms, Node, OutOfMemory, Triad};
 pub use device_lock::{Book, BookFault, History, LockedDevice, Receipt, Segment};
 pub use plain_engine::{PlainAdapter, PlainScanner};
 pub use udp_runner::{
-    Clock, Input, MemoryPort, Output, Port, PortFault, RunFault, Sent, SteppedClock, drive,
+    Clock, Input, MemoryPort, Output, Port, PortFault, RunFault, SentOutput, SteppedClock, drive,
 };
