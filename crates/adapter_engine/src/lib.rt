@@ -2,8 +2,8 @@
 //! whose every step is the table's.
 #![tactic(auto)]
 
-use slab_rows::SlabRows;
-use table_engine::Adapter;
+use adapter::Adapter;
+use indexed_connections::IndexedConnections;
 
 /// An adapter over connections in a slab, with indexes, running counts and bounds, which contracts see as its table.
-pub type FastAdapter = Adapter<SlabRows>;
+pub type FastAdapter = Adapter<IndexedConnections>;

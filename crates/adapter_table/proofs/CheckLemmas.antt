@@ -17,9 +17,9 @@ use Rattle.adapter_table.specs.declared.row.Row.{Row}
 use Rattle.adapter_table.specs.declared.profile.InputPoint.{InputPoint}
 use Rattle.adapter_table.specs.declared.profile.Profile.{Profile}
 use Rattle.adapter_table.specs.declared.table.AdapterTable.{AdapterTable}
-use Rattle.adapter_table.specs.declared.admission.Consumer.{Consumer}
+use Rattle.adapter_table.specs.declared.admission.ConsumedPoint.{ConsumedPoint}
 use Rattle.adapter_table.specs.Rows.{holds_triad, is_timed_out, drives, is_supported}
-use Rattle.adapter_table.specs.Checks.{Check, check, first_of, View, view_of, Points, points_of, named_points, path_check, consumer_of, input_of, is_known_config, is_multicast, named_len, has_other_length, stored, is_unserved, are_intervals, group_of, joined, joins, drawn_ids, checks, judged, verdict, admission, Admitted, admitted_at}
+use Rattle.adapter_table.specs.Checks.{Check, check, first_of, View, view_of, Points, points_of, named_points, path_check, consumed_point_of, input_of, is_known_config, is_multicast, named_len, has_other_length, stored, is_unserved, are_intervals, group_of, joined, joins, drawn_ids, checks, judged, verdict, admission, Admitted, admitted_at}
 
 -- each check passes
 abbrev pub AllPass : List Check → Type 0
@@ -41,7 +41,7 @@ check_passes false why none = refl
 record IsNamed (profile : Profile) (path : PathFields) (group : Option Row) (points : Points) : Type 0 where
   path_is : points.path ≡ path
   group_is : points.group ≡ group
-  consumer_is : consumer_of profile path.consumed ≡ Some points.consumer
+  consumer_is : consumed_point_of profile path.consumed ≡ Some points.consumer
   config_is_known : not (is_known_config profile.config path.config) ≡ false
 
 abbrev found : Points → Result Points Refusal
@@ -55,7 +55,7 @@ config_passes profile path none =
     let passed = all_pass (check (not (path.class == 4)) refusal.Path ∷ check (not (is_known_config profile.config path.config)) refusal.ConfigurationPath ∷ []) none in
     check_passes _ _ passed.1.0
 
-named_by : (profile : Profile) (path : PathFields) (group : Option Row) (c : Check) (consumer : Option Consumer) (input : Option InputPoint) (points : Points) → path_check profile path ≡ c → consumer_of profile path.consumed ≡ consumer → named_points path group c consumer input ≡ Ok points → IsNamed profile path group points
+named_by : (profile : Profile) (path : PathFields) (group : Option Row) (c : Check) (consumer : Option ConsumedPoint) (input : Option InputPoint) (points : Points) → path_check profile path ≡ c → consumed_point_of profile path.consumed ≡ consumer → named_points path group c consumer input ≡ Ok points → IsNamed profile path group points
 named_by profile path group (Some why) consumer input points passes consumes e = absurd cc
 named_by profile path group None None input points passes consumes e = absurd cc
 named_by profile path group None (Some consumer) None points passes consumes e = absurd cc
@@ -67,17 +67,17 @@ named_by profile path group None (Some consumer) (Some input) points passes cons
 -- the same of the points that a request names
 record AreNamed (t : AdapterTable) (request : OpenFields) (points : Points) : Type 0 where
   group_is : points.group ≡ joined (is_multicast request.t_o_params.kind) (group_of t.rows points.path.produced)
-  consumer_is : consumer_of t.profile points.path.consumed ≡ Some points.consumer
+  consumer_is : consumed_point_of t.profile points.path.consumed ≡ Some points.consumer
   config_is_known : not (is_known_config t.profile.config points.path.config) ≡ false
 
 are_named : (t : AdapterTable) (request : OpenFields) (path : Option PathFields) (points : Points) → points_of (view_of t request.triad) request path ≡ Ok points → AreNamed t request points
 are_named t request None points e = absurd cc
 are_named t request (Some path) points e =
     let group = joined (is_multicast request.t_o_params.kind) (group_of t.rows path.produced) in
-    let is = named_by t.profile path group (path_check t.profile path) (consumer_of t.profile path.consumed) (input_of t.profile path.produced) points refl refl e in
+    let is = named_by t.profile path group (path_check t.profile path) (consumed_point_of t.profile path.consumed) (input_of t.profile path.produced) points refl refl e in
     record {
       group_is = is.group_is ∙ ap (λ (p : PathFields). joined (is_multicast request.t_o_params.kind) (group_of t.rows p.produced)) (sym is.path_is);
-      consumer_is = ap (λ (p : PathFields). consumer_of t.profile p.consumed) is.path_is ∙ is.consumer_is;
+      consumer_is = ap (λ (p : PathFields). consumed_point_of t.profile p.consumed) is.path_is ∙ is.consumer_is;
       config_is_known = ap (λ (p : PathFields). not (is_known_config t.profile.config p.config)) is.path_is ∙ is.config_is_known;
     }
 
@@ -112,15 +112,15 @@ is_judged view request admitted e =
 -- what a joiner has in common with the connection that it joins
 abbrev pub HasSameApi : ℕ → Option Row → Type 0
 HasSameApi api None = Unit {0}
-HasSameApi api (Some member) = api ≡ member.t_o_api
+HasSameApi api (Some member) = api ≡ member.t_o_api_ms
 
 -- what an opening relies on
 pub record IsAdmitted (t : AdapterTable) (request : OpenFields) (admitted : Admitted) : Type 0 where
   pub triad_is_free : list_any (holds_triad request.triad) t.rows ≡ false
   pub is_served : is_unserved request ≡ false
   pub are_intervals : not (are_intervals request) ≡ false
-  pub o_t_api : admitted.o_t_api ≡ interval_ms request.o_t_rpi
-  pub t_o_api : admitted.t_o_api ≡ interval_ms request.t_o_rpi
+  pub o_t_api_ms : admitted.o_t_api_ms ≡ interval_ms request.o_t_rpi
+  pub t_o_api_ms : admitted.t_o_api_ms ≡ interval_ms request.t_o_rpi
   pub watchdog : admitted.watchdog.0 ≡ timeout request.multiplier (interval_ms request.o_t_rpi)
   -- the configuration that the path names, and its data segment
   pub config : Option ℕ
@@ -128,22 +128,22 @@ pub record IsAdmitted (t : AdapterTable) (request : OpenFields) (admitted : Admi
   pub segment_is : admitted.segment ≡ stored config segment
   pub segment_fits : has_other_length (named_len t.profile.config config) segment ≡ false
   pub config_is_known : not (is_known_config t.profile.config config) ≡ false
-  pub consumer : Consumer
+  pub consumer : ConsumedPoint
   pub kind_is : admitted.kind ≡ consumer.kind
-  pub consumer_is : consumer_of t.profile admitted.consumed ≡ Some consumer
+  pub consumer_is : consumed_point_of t.profile admitted.consumed ≡ Some consumer
   pub output_is_free : (is_owner admitted.kind && list_any (drives admitted.consumed) t.rows) ≡ false
   pub is_supported : (is_listener admitted.kind && not (is_supported t.rows admitted.kind admitted.produced)) ≡ false
   pub group_is : admitted.group ≡ joined admitted.multicast (group_of t.rows admitted.produced)
-  pub same_api : HasSameApi admitted.t_o_api admitted.group
+  pub same_api : HasSameApi admitted.t_o_api_ms admitted.group
   pub ids_are_left : t.next_id + drawn_ids admitted.multicast admitted.group ≤ 16777216
-  pub room_is_left : (nat_le 64 (length t.rows) && not (list_any is_timed_out t.rows)) ≡ false
+  pub capacity_is_left : (nat_le 64 (length t.rows) && not (list_any is_timed_out t.rows)) ≡ false
 
 same_number : (a b : ℕ) → not (a == b) ≡ false → a ≡ b
 same_number a b h = grind (arith, nat_tests)
 
-api_passes : (api : ℕ) (group : Option Row) → joins group (λ member. not (api == member.t_o_api)) ≡ false → HasSameApi api group
+api_passes : (api : ℕ) (group : Option Row) → joins group (λ member. not (api == member.t_o_api_ms)) ≡ false → HasSameApi api group
 api_passes api None same = tt
-api_passes api (Some member) same = same_number api member.t_o_api same
+api_passes api (Some member) same = same_number api member.t_o_api_ms same
 
 -- the support of a listener is that of listen-only connections
 listener_supported : (kind : Kind) (rows : List Row) (point : ℕ) → (is_listener kind && not (is_supported rows ListenOnly point)) ≡ false → (is_listener kind && not (is_supported rows kind point)) ≡ false
@@ -167,8 +167,8 @@ admitted_is t request admitted e =
       triad_is_free = check_passes _ _ first.1.0;
       is_served = check_passes _ _ first.1.1.1.1.1.1.0;
       are_intervals = check_passes _ _ first.1.1.1.1.1.1.1.0;
-      o_t_api = refl;
-      t_o_api = refl;
+      o_t_api_ms = refl;
+      t_o_api_ms = refl;
       watchdog = refl;
       config = j.points.path.config;
       segment = j.points.path.segment;
@@ -183,7 +183,7 @@ admitted_is t request admitted e =
       group_is = named.group_is;
       same_api = api_passes (interval_ms request.t_o_rpi) j.points.group (check_passes _ _ third.0);
       ids_are_left = ids_left t.next_id (drawn_ids (is_multicast request.t_o_params.kind) j.points.group) (check_passes _ _ third.1.1.1.0);
-      room_is_left = check_passes _ _ third.1.1.1.1.0;
+      capacity_is_left = check_passes _ _ third.1.1.1.1.0;
     } in
     subst (IsAdmitted t request) j.said made
 

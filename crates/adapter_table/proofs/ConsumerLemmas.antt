@@ -9,11 +9,11 @@ use Rattle.adapter_table.specs.declared.row.Row.{Row}
 use Rattle.cip_productions.specs.declared.kind.Kind.{Kind}
 use Rattle.cip_productions.specs.declared.kind.Kind.TheVariants.{InputOnly, ListenOnly}
 use Rattle.adapter_table.specs.declared.row.State.TheVariants.{TimedOut}
-use Rattle.adapter_table.specs.declared.admission.Consumer.{Consumer}
+use Rattle.adapter_table.specs.declared.admission.ConsumedPoint.{ConsumedPoint}
 use Rattle.adapter_table.specs.Profiles.{is_output_at}
 use Rattle.cip_productions.specs.Kinds.{is_owner}
 use Rattle.adapter_table.specs.declared.table.AdapterTable.{AdapterTable}
-use Rattle.adapter_table.specs.Checks.{heartbeat_kind, heartbeat_consumer, consumer_at, Admitted}
+use Rattle.adapter_table.specs.Checks.{heartbeat_kind, heartbeat_point, consumed_point_at, Admitted}
 use Rattle.adapter_table.specs.Ticks.{has_expired, expired_row, expired_rows}
 use Rattle.adapter_table.specs.Whole.{ConsumesOutput, OwnersConsume}
 use Rattle.adapter_table.proofs.CheckLemmas.{IsAdmitted}
@@ -40,12 +40,12 @@ consume_expired clock profile rows all = each_map (ConsumesOutput profile) (expi
 -- ---- what is admitted
 
 -- a heartbeat's connection is no owner
-no_owner : (b c : Bool) (consumer : Consumer) → option_map heartbeat_consumer (heartbeat_kind b c) ≡ Some consumer → is_owner consumer.kind ≡ false
+no_owner : (b c : Bool) (consumer : ConsumedPoint) → option_map heartbeat_point (heartbeat_kind b c) ≡ Some consumer → is_owner consumer.kind ≡ false
 no_owner true c consumer is = ap (λ (k : Kind). is_owner k) (let same : consumer.kind ≡ InputOnly = cc in same)
 no_owner false true consumer is = ap (λ (k : Kind). is_owner k) (let same : consumer.kind ≡ ListenOnly = cc in same)
 no_owner false false consumer is = absurd cc
 
-owner_by : (profile : Profile) (point : ℕ) (found : Option OutputPoint) (consumer : Consumer) → consumer_at profile point found ≡ Some consumer → is_owner consumer.kind ≡ true → is_some found ≡ true
+owner_by : (profile : Profile) (point : ℕ) (found : Option OutputPoint) (consumer : ConsumedPoint) → consumed_point_at profile point found ≡ Some consumer → is_owner consumer.kind ≡ true → is_some found ≡ true
 owner_by profile point None consumer is owns = let none = no_owner (profile.input_only == point) (profile.listen_only == point) consumer is in absurd cc
 owner_by profile point (Some output) consumer is owns = refl
 

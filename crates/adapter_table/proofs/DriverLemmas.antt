@@ -13,11 +13,11 @@ use Rattle.cip_productions.specs.Kinds.{is_owner, is_listener}
 use Rattle.adapter_table.specs.Rows.{is_established, is_timed_out, is_supported, same_triad, has_triad, holds_triad, drives, drivers, others, Each, EachTwo}
 use Rattle.adapter_table.specs.Closing.{without_triad, stays, staying}
 use Rattle.adapter_table.specs.Scratch.{is_lost}
-use Rattle.adapter_table.specs.Opening.{makes_room_by}
+use Rattle.adapter_table.specs.Opening.{is_replaced_by}
 use Rattle.adapter_table.specs.Sound.{TriadsDiffer, OpeningsRise}
 use Rattle.adapter_table.proofs.SoundLemmas.{count_filter}
 use Rattle.adapter_table.specs.EachLemmas.{each_weak, two_found}
-use Rattle.adapter_table.proofs.SupportLemmas.{gone_room, any_kept}
+use Rattle.adapter_table.proofs.SupportLemmas.{removed_replaced, any_kept}
 
 -- ---- an owner that stays
 
@@ -40,10 +40,10 @@ driver_lives : (point : ℕ) (row : Row) → drives point row ≡ true → is_es
 driver_lives point row is = (and_parts (is_established row) _ is).0
 
 -- an opening takes no owner from an output
-pub owner_opened : (b c : Bool) (triad : Triad) (rows : List Row) (new : Row) (point : ℕ) → list_any (holds_triad triad) rows ≡ false → OpeningsRise rows → is_lost point rows (others (makes_room_by b c (find is_timed_out rows) triad) rows ++ new ∷ []) ≡ false
+pub owner_opened : (b c : Bool) (triad : Triad) (rows : List Row) (new : Row) (point : ℕ) → list_any (holds_triad triad) rows ≡ false → OpeningsRise rows → is_lost point rows (others (is_replaced_by b c (find is_timed_out rows) triad) rows ++ new ∷ []) ≡ false
 owner_opened b c triad rows new point free rise =
-    let kept = any_kept (makes_room_by b c (find is_timed_out rows) triad) (drives point) rows (driver_lives point) (gone_room b c triad rows free rise) in
-    kept_owner point rows (others (makes_room_by b c (find is_timed_out rows) triad) rows ++ new ∷ []) (λ is. list_any-append (drives point) (others (makes_room_by b c (find is_timed_out rows) triad) rows) (new ∷ []) ∙ or_left _ _ (kept ∙ is))
+    let kept = any_kept (is_replaced_by b c (find is_timed_out rows) triad) (drives point) rows (driver_lives point) (removed_replaced b c triad rows free rise) in
+    kept_owner point rows (others (is_replaced_by b c (find is_timed_out rows) triad) rows ++ new ∷ []) (λ is. list_any-append (drives point) (others (is_replaced_by b c (find is_timed_out rows) triad) rows) (new ∷ []) ∙ or_left _ _ (kept ∙ is))
 
 -- ---- what is closed is found by its triad
 
@@ -170,9 +170,9 @@ owner_stays triad rows row point differ is other =
       triad_turned a b same = grind (arith, nat_tests)
 
 both : (a b : Bool) → a ≡ true → b ≡ false → (a && not b) ≡ true
-both true true there gone = absurd cc
-both true false there gone = refl
-both false b there gone = absurd cc
+both true true there removed = absurd cc
+both true false there removed = refl
+both false b there removed = absurd cc
 
 -- a close of its only driver does
 pub owner_closed : (triad : Triad) (rows : List Row) (row : Row) (point : ℕ) → find (has_triad triad) rows ≡ Some row → drives point row ≡ true → length (drivers point rows) ≤ 1 → is_lost point rows (staying (without_triad row.triad rows)) ≡ true

@@ -20,13 +20,13 @@ use Rattle.adapter_table.specs.Points.{bytes_at}
 use Rattle.adapter_table.specs.Checks.{Admitted, admission}
 use Rattle.adapter_table.specs.Opening.{opened_row, opened_table}
 use Rattle.adapter_table.specs.Closing.{closed_table}
-use Rattle.cip_router.specs.Asking.{asked_reading}
+use Rattle.cip_router.specs.Requests.{router_request_reading}
 use Rattle.adapter_table.specs.Requests.{Next, requested}
 use Rattle.adapter_table.specs.Streams.{is_taken, with_stream, without_stream, registered_table}
 use Rattle.adapter_table.specs.Datagrams.{delivered, found_datagram, datagram_of, received, row_delivery, accepted_table, is_for}
 use Rattle.cip_events.specs.Answers.{is_accepted}
 use Rattle.cip_events.specs.Clock.{longest_tick, clock_end}
-use Rattle.adapter_table.specs.Ticks.{clocked_table, expired_table, produced_table, elapsed, tick}
+use Rattle.adapter_table.specs.Ticks.{clocked_table, expired_table, produced_table, advanced, tick}
 use Rattle.adapter_table.specs.Step.{adapter_step, read, read_of, write, write_of, written_table, changed_table, written}
 use Rattle.adapter_table.specs.Laws.{EffectsKeep}
 use Rattle.adapter_table.proofs.RequestLemmas.{RequestsDo, answered_does, frame_does, next_is, IsStreamed, streamed_is, cut_does}
@@ -54,12 +54,12 @@ write_is t point bytes next is = write_by t point bytes (find (is_at point) t.pr
 -- a tick that is done does not pass the end of the clock
 pub record IsTick (t : AdapterTable) (ms : ℕ) (next : Next) : Type 0 where
   pub in_time : t.clock.0 + ms ≤ 2 ^ 48
-  pub said : elapsed (clocked_table t ms) ≡ next
+  pub said : advanced (clocked_table t ms) ≡ next
 
 in_time_by : (end time : ℕ) → nat_lt end time ≡ false → time ≤ end
 in_time_by end time late = grind (arith, nat_tests)
 
-tick_step : (a b : Bool) (t : AdapterTable) (ms : ℕ) (next : Next) → nat_lt clock_end (t.clock.0 + ms) ≡ b → ◌≡◌ {A = Result Next StepFault} (cond a (Err TickTooLong) (cond b (Err ClockEnd) (Ok (elapsed (clocked_table t ms))))) (Ok next) → IsTick t ms next
+tick_step : (a b : Bool) (t : AdapterTable) (ms : ℕ) (next : Next) → nat_lt clock_end (t.clock.0 + ms) ≡ b → ◌≡◌ {A = Result Next StepFault} (cond a (Err TickTooLong) (cond b (Err ClockEnd) (Ok (advanced (clocked_table t ms))))) (Ok next) → IsTick t ms next
 tick_step true b t ms next late is = absurd cc
 tick_step false true t ms next late is = absurd cc
 tick_step false false t ms next late is = record { in_time = in_time_by clock_end (t.clock.0 + ms) late; said = next_is _ _ is }
@@ -97,7 +97,7 @@ keeps_write : (P : AdapterTable → Type 0) → EffectsKeep P → (t : AdapterTa
 keeps_write P keep t point bytes next is holds = subst (λ (n : Next). P n.1) is.said (keep.written t point bytes is.input is.found is.long holds)
 
 keeps_tick : (P : AdapterTable → Type 0) → EffectsKeep P → (t : AdapterTable) (ms : ℕ) (next : Next) → IsTick t ms next → P t → P next.1
-keeps_tick P keep t ms next is holds = subst (λ (n : Next). P n.1) is.said (keep.elapsed t ms is.in_time holds)
+keeps_tick P keep t ms next is holds = subst (λ (n : Next). P n.1) is.said (keep.advanced t ms is.in_time holds)
 
 keeps_streamed : (P : AdapterTable → Type 0) → EffectsKeep P → (t : AdapterTable) (number : ℕ) (peer : Node) (next : Next) → IsStreamed t number peer next → P t → P next.1
 keeps_streamed P keep t number peer next is holds = subst (λ (n : Next). P n.1) is.said (keep.streamed t number peer is.free holds)
@@ -108,7 +108,7 @@ keeps_read P t (Some bytes) next is holds = subst (λ (n : Next). P n.1) (next_i
 
 pub adapter_keeps : (P : AdapterTable → Type 0) → EffectsKeep P → (t : AdapterTable) (event : Event) (next : Next) → adapter_step t event ≡ Ok next → P t → P next.1
 unfolding requested received read
-adapter_keeps P keep t (Request peer bytes) next is holds = subst (λ (n : Next). P n.1) (next_is _ _ is) (answered_does (λ t next. P t → P next) (requests_keep P keep) t peer (asked_reading bytes) holds)
+adapter_keeps P keep t (Request peer bytes) next is holds = subst (λ (n : Next). P n.1) (next_is _ _ is) (answered_does (λ t next. P t → P next) (requests_keep P keep) t peer (router_request_reading bytes) holds)
 adapter_keeps P keep t (StreamOpened number peer) next is holds = keeps_streamed P keep t number peer next (streamed_is t number peer next is) holds
 adapter_keeps P keep t (Frame number bytes) next is holds = frame_does (λ t next. P t → P next) (requests_keep P keep) t number bytes next is holds
 adapter_keeps P keep t (StreamCut number) next is holds = cut_does (λ t next. P t → P next) (requests_keep P keep) t number next is holds

@@ -25,16 +25,16 @@ use Rattle.adapter_table.proofs.ServedLemmas.{closed_here, closed_beside}
 
 -- ---- whose owner times out
 
-lost_by : (before after gone : ℕ) → after + gone ≡ before → before ≤ 1 → (nat_lt 0 before && not (nat_lt 0 after)) ≡ nat_lt 0 gone
-lost_by before after gone all one = grind (arith, nat_tests)
+lost_by : (before after removed : ℕ) → after + removed ≡ before → before ≤ 1 → (nat_lt 0 before && not (nat_lt 0 after)) ≡ nat_lt 0 removed
+lost_by before after removed all one = grind (arith, nat_tests)
 
 -- an output loses its owner where one of those that time out drives it
 pub owner_expired : (clock : Ms) (rows : List Row) (point : ℕ) → length (drivers point rows) ≤ 1 → is_lost point rows (map (produced_row clock) (staying (expired_rows clock rows))) ≡ list_any (drives point) (expired clock rows)
 owner_expired clock rows point one =
     let left = expired_rows clock rows in
     let after = any_driver_kept (produced_row clock) (due_keeps clock) point (staying left) ∙ any_staying left point ∙ any_counted (drives point) left in
-    let gone = any_counted (drives point) (expired clock rows) ∙ ap (nat_lt 0) (count_in_order by_deadline (drives point) (filter (has_expired clock) rows)) in
-    rw (after, gone, any_counted (drives point) rows) (lost_by _ _ _ (count_expired clock point rows) one)
+    let removed = any_counted (drives point) (expired clock rows) ∙ ap (nat_lt 0) (count_in_order by_deadline (drives point) (filter (has_expired clock) rows)) in
+    rw (after, removed, any_counted (drives point) rows) (lost_by _ _ _ (count_expired clock point rows) one)
 
 -- one of them at most
 pub one_expired : (clock : Ms) (rows : List Row) (point : ℕ) → length (drivers point rows) ≤ 1 → length (drivers point (expired clock rows)) ≤ 1

@@ -28,11 +28,11 @@ same_opening_faded true row = refl
 same_opening_faded false row = refl
 
 -- who drives an output still does, or has timed out
-count_step : (expires drives_it : Bool) (row row' : Row) (left gone rows : List Row) → length left + length gone ≡ length rows → length (cond (not expires && drives_it) (row' ∷ left) left) + length (cond expires (cond drives_it (row ∷ gone) gone) gone) ≡ length (cond drives_it (row ∷ rows) rows)
-count_step true true row row' left gone rows same = omega arith
-count_step true false row row' left gone rows same = same
-count_step false true row row' left gone rows same = omega arith
-count_step false false row row' left gone rows same = same
+count_step : (expires drives_it : Bool) (row row' : Row) (left removed rows : List Row) → length left + length removed ≡ length rows → length (cond (not expires && drives_it) (row' ∷ left) left) + length (cond expires (cond drives_it (row ∷ removed) removed) removed) ≡ length (cond drives_it (row ∷ rows) rows)
+count_step true true row row' left removed rows same = omega arith
+count_step true false row row' left removed rows same = same
+count_step false true row row' left removed rows same = omega arith
+count_step false false row row' left removed rows same = same
 
 drives_faded : (b : Bool) (place : ℕ) (row : Row) → drives place (faded b row) ≡ (not b && drives place row)
 drives_faded true place row = refl

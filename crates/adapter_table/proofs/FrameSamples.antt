@@ -21,7 +21,7 @@ use Rattle.adapter_table.specs.declared.profile.Action.TheVariants.{Zero}
 use Rattle.adapter_table.specs.declared.profile.Profile.{Profile}
 use Rattle.adapter_table.specs.declared.table.Stream.{Stream}
 use Rattle.adapter_table.specs.declared.table.AdapterTable.{AdapterTable}
-use Rattle.cip_router.specs.Asking.{asked_reading}
+use Rattle.cip_router.specs.Requests.{router_request_reading}
 use Rattle.adapter_table.specs.Checks.{verdict}
 use Rattle.adapter_table.specs.Opening.{opened_row, opened_table}
 use Rattle.adapter_table.specs.Requests.{Next, served_open, admitted_open, served_assembly}
@@ -258,7 +258,7 @@ abbrev multicast_opened : List ℕ
 multicast_opened = 0x6F ∷ 0x00 ∷ 0x42 ∷ 0x00 ∷ 0x01 ∷ 0x00 ∷ 0x00 ∷ 0x00 ∷ 0x00 ∷ 0x00 ∷ 0x00 ∷ 0x00 ∷ 0x01 ∷ 0x02 ∷ 0x03 ∷ 0x04 ∷ 0x05 ∷ 0x06 ∷ 0x07 ∷ 0x08 ∷ 0x00 ∷ 0x00 ∷ 0x00 ∷ 0x00 ∷ 0x00 ∷ 0x00 ∷ 0x00 ∷ 0x00 ∷ 0x00 ∷ 0x00 ∷ 0x03 ∷ 0x00 ∷ 0x00 ∷ 0x00 ∷ 0x00 ∷ 0x00 ∷ 0xB2 ∷ 0x00 ∷ 0x1E ∷ 0x00 ∷ 0xD4 ∷ 0x00 ∷ 0x00 ∷ 0x00 ∷ 0x01 ∷ 0x00 ∷ 0x00 ∷ 0x10 ∷ 0x02 ∷ 0x00 ∷ 0x00 ∷ 0x10 ∷ 0x05 ∷ 0x00 ∷ 0x34 ∷ 0x12 ∷ 0x78 ∷ 0x56 ∷ 0x34 ∷ 0x12 ∷ 0x10 ∷ 0x27 ∷ 0x00 ∷ 0x00 ∷ 0x10 ∷ 0x27 ∷ 0x00 ∷ 0x00 ∷ 0x00 ∷ 0x00 ∷ 0x01 ∷ 0x80 ∷ 0x10 ∷ 0x00 ∷ 0x00 ∷ 0x02 ∷ 0x08 ∷ 0xAE ∷ 0xEF ∷ 0xC0 ∷ 0x02 ∷ 0x20 ∷ 0x00 ∷ 0x00 ∷ 0x00 ∷ 0x00 ∷ 0x00 ∷ 0x00 ∷ 0x00 ∷ 0x00 ∷ []
 
 a_multicast_open_tells_the_address : answer_of (after registered multicast_open) ≡ Some (says multicast_opened (Opened (record { serial = 5; vendor = 0x1234; originator = 0x12345678 }) (record { 0 = 0x10000001 }) ∷ []))
-unfolding frame frame_reading handled messages.message_reading packets.packet_reading packets.are_sockets asked_reading requests.request_reading opens.open_reading paths.path_reading paths.target_reading paths.segments_at paths.segment_at paths.logical_at paths.value_at words.params16 verdict served_open admitted_open opened_row opened_table replies.opened_text
+unfolding frame frame_reading handled messages.message_reading packets.packet_reading packets.are_sockets router_request_reading requests.request_reading opens.open_reading paths.path_reading paths.target_reading paths.segments_at paths.segment_at paths.logical_at paths.value_at words.params16 verdict served_open admitted_open opened_row opened_table replies.opened_text
 a_multicast_open_tells_the_address = refl
 
 abbrev open_request : List ℕ
@@ -268,7 +268,7 @@ abbrev open_reply : List ℕ
 open_reply = 0x6F ∷ 0x00 ∷ 0x2E ∷ 0x00 ∷ 0x01 ∷ 0x00 ∷ 0x00 ∷ 0x00 ∷ 0x00 ∷ 0x00 ∷ 0x00 ∷ 0x00 ∷ 0x01 ∷ 0x02 ∷ 0x03 ∷ 0x04 ∷ 0x05 ∷ 0x06 ∷ 0x07 ∷ 0x08 ∷ 0x00 ∷ 0x00 ∷ 0x00 ∷ 0x00 ∷ 0x00 ∷ 0x00 ∷ 0x00 ∷ 0x00 ∷ 0x00 ∷ 0x00 ∷ 0x02 ∷ 0x00 ∷ 0x00 ∷ 0x00 ∷ 0x00 ∷ 0x00 ∷ 0xB2 ∷ 0x00 ∷ 0x1E ∷ 0x00 ∷ 0xD4 ∷ 0x00 ∷ 0x00 ∷ 0x00 ∷ 0x01 ∷ 0x00 ∷ 0x00 ∷ 0x10 ∷ 0x01 ∷ 0x00 ∷ 0x00 ∷ 0x20 ∷ 0x01 ∷ 0x00 ∷ 0x34 ∷ 0x12 ∷ 0x78 ∷ 0x56 ∷ 0x34 ∷ 0x12 ∷ 0x10 ∷ 0x27 ∷ 0x00 ∷ 0x00 ∷ 0x10 ∷ 0x27 ∷ 0x00 ∷ 0x00 ∷ 0x00 ∷ 0x00 ∷ []
 
 a_point_to_point_open_tells_none : answer_of (after registered open_request) ≡ Some (says open_reply (Opened (record { serial = 1; vendor = 0x1234; originator = 0x12345678 }) (record { 0 = 0x10000001 }) ∷ []))
-unfolding frame frame_reading handled messages.message_reading packets.packet_reading packets.are_sockets asked_reading requests.request_reading opens.open_reading paths.path_reading paths.target_reading paths.segments_at paths.segment_at paths.logical_at paths.value_at words.params16 verdict served_open admitted_open opened_row opened_table replies.opened_text
+unfolding frame frame_reading handled messages.message_reading packets.packet_reading packets.are_sockets router_request_reading requests.request_reading opens.open_reading paths.path_reading paths.target_reading paths.segments_at paths.segment_at paths.logical_at paths.value_at words.params16 verdict served_open admitted_open opened_row opened_table replies.opened_text
 a_point_to_point_open_tells_none = refl
 
 abbrev joiner_open : List ℕ
@@ -282,7 +282,7 @@ table_of t (Ok next) = next.1
 table_of t (Err fault) = t
 
 a_joiner_is_told_it_too : answer_of (after (table_of registered (after registered multicast_open)) joiner_open) ≡ Some (says joiner_opened (Opened (record { serial = 7; vendor = 0x1234; originator = 0x12345678 }) (record { 0 = 0x10000003 }) ∷ []))
-unfolding frame frame_reading handled messages.message_reading packets.packet_reading packets.are_sockets asked_reading requests.request_reading opens.open_reading paths.path_reading paths.target_reading paths.segments_at paths.segment_at paths.logical_at paths.value_at words.params16 verdict served_open admitted_open opened_row opened_table replies.opened_text
+unfolding frame frame_reading handled messages.message_reading packets.packet_reading packets.are_sockets router_request_reading requests.request_reading opens.open_reading paths.path_reading paths.target_reading paths.segments_at paths.segment_at paths.logical_at paths.value_at words.params16 verdict served_open admitted_open opened_row opened_table replies.opened_text
 a_joiner_is_told_it_too = refl
 
 abbrev get_value : List ℕ
@@ -292,7 +292,7 @@ abbrev got_value : List ℕ
 got_value = 0x6F ∷ 0x00 ∷ 0x18 ∷ 0x00 ∷ 0x01 ∷ 0x00 ∷ 0x00 ∷ 0x00 ∷ 0x00 ∷ 0x00 ∷ 0x00 ∷ 0x00 ∷ 0x01 ∷ 0x02 ∷ 0x03 ∷ 0x04 ∷ 0x05 ∷ 0x06 ∷ 0x07 ∷ 0x08 ∷ 0x00 ∷ 0x00 ∷ 0x00 ∷ 0x00 ∷ 0x00 ∷ 0x00 ∷ 0x00 ∷ 0x00 ∷ 0x00 ∷ 0x00 ∷ 0x02 ∷ 0x00 ∷ 0x00 ∷ 0x00 ∷ 0x00 ∷ 0x00 ∷ 0xB2 ∷ 0x00 ∷ 0x08 ∷ 0x00 ∷ 0x8E ∷ 0x00 ∷ 0x00 ∷ 0x00 ∷ 0x00 ∷ 0x00 ∷ 0x00 ∷ 0x00 ∷ []
 
 a_value_is_replied : after registered get_value ≡ replies_only registered got_value
-unfolding frame frame_reading handled messages.message_reading packets.packet_reading packets.are_sockets asked_reading requests.request_reading paths.target_reading paths.segments_at paths.segment_at paths.logical_at paths.value_at served_assembly values.got_text
+unfolding frame frame_reading handled messages.message_reading packets.packet_reading packets.are_sockets router_request_reading requests.request_reading paths.target_reading paths.segments_at paths.segment_at paths.logical_at paths.value_at served_assembly values.got_text
 a_value_is_replied = refl
 
 abbrev other_session : List ℕ

@@ -15,7 +15,7 @@ use Rattle.adapter_table.specs.Rows.{lives, has_triad, drives, drivers, is_membe
 use Rattle.cip_netparams.specs.declared.Trigger.{Trigger}
 use Rattle.cip_netparams.specs.declared.Trigger.TheVariants.{Cyclic, ChangeOfState}
 use Rattle.cip_productions.specs.declared.production.Production.{Production}
-use Rattle.cip_productions.specs.Productions.{produced, changed, changed_by, held, is_free}
+use Rattle.cip_productions.specs.Productions.{produced, changed, changed_by, deferred, is_free}
 use Rattle.adapter_table.specs.Productions.{producer_of, produced_state, produced_row, changed_state, changed_row}
 use Rattle.adapter_table.specs.Datagrams.{is_for, accepted_row, accepted_if_for}
 use Rattle.adapter_table.specs.Sound.{TriadsDiffer, has_o_t_id, IdsDiffer, IdsAreDrawn, ListenersAreSupported, Agree, AllAgree, GroupsAgree}
@@ -33,15 +33,15 @@ pub record IsLike (row row' : Row) : Type 0 where
   pub o_t_id : row'.o_t_id ≡ row.o_t_id
   pub opening : row'.opening ≡ row.opening
   pub t_o_id : row'.t_o_id ≡ row.t_o_id
-  pub t_o_api : row'.t_o_api ≡ row.t_o_api
+  pub t_o_api_ms : row'.t_o_api_ms ≡ row.t_o_api_ms
 
 -- each connection is changed into one like it, and those of one producer in the same way
 pub record Keeps (f : Row → Row) : Type 0 where
   pub like : (row : Row) → IsLike row (f row)
-  pub same : (a b : Row) → a.produced ≡ b.produced → a.t_o_api ≡ b.t_o_api → a.state ≡ b.state → (f a).state ≡ (f b).state
+  pub same : (a b : Row) → a.produced ≡ b.produced → a.t_o_api_ms ≡ b.t_o_api_ms → a.state ≡ b.state → (f a).state ≡ (f b).state
 
 like_itself : (row : Row) → IsLike row row
-like_itself row = record { lives = refl; producer = refl; kind = refl; multicast = refl; produced = refl; consumed = refl; triad = refl; o_t_id = refl; opening = refl; t_o_id = refl; t_o_api = refl }
+like_itself row = record { lives = refl; producer = refl; kind = refl; multicast = refl; produced = refl; consumed = refl; triad = refl; o_t_id = refl; opening = refl; t_o_id = refl; t_o_api_ms = refl }
 
 -- ---- drivers, triads, ids
 
@@ -121,7 +121,7 @@ agree_kept f keeps a b agree = λ here there.
     let there' : is_member a.produced b ≡ true = sym (member_like a.produced b (f b) lb) ∙ subst (λ (n : ℕ). is_member n (f b) ≡ true) place there in
     let s = agree here' there' in
     let same = sym (produced_is a.produced b there') in
-    record { id = la.t_o_id ∙ s.id ∙ sym lb.t_o_id; api = la.t_o_api ∙ s.api ∙ sym lb.t_o_api; state = keeps.same a b same s.api s.state }
+    record { id = la.t_o_id ∙ s.id ∙ sym lb.t_o_id; api = la.t_o_api_ms ∙ s.api ∙ sym lb.t_o_api_ms; state = keeps.same a b same s.api s.state }
 
 all_agree : (f : Row → Row) → Keeps f → (row : Row) (rows : List Row) → AllAgree row rows → AllAgree (f row) (map f rows)
 all_agree f keeps row [] agree = tt
@@ -134,7 +134,7 @@ groups_kept f keeps (row ∷ rows) agree = (all_agree f keeps row rows agree.0, 
 -- ---- the state alone is changed
 
 like_stated : (row : Row) (state : State) → lives state ≡ lives row.state → producer_of state ≡ producer_of row.state → IsLike row (record row { state = state })
-like_stated row state live same = record { lives = live; producer = same; kind = refl; multicast = refl; produced = refl; consumed = refl; triad = refl; o_t_id = refl; opening = refl; t_o_id = refl; t_o_api = refl }
+like_stated row state live same = record { lives = live; producer = same; kind = refl; multicast = refl; produced = refl; consumed = refl; triad = refl; o_t_id = refl; opening = refl; t_o_id = refl; t_o_api_ms = refl }
 
 -- a connection in another state where a test says so
 stated_like : (b : Bool) (row : Row) (state : State) → lives state ≡ lives row.state → producer_of state ≡ producer_of row.state → IsLike row (cond b (record row { state = state }) row)
@@ -172,7 +172,7 @@ fed_state true clock d row = refl
 fed_state false clock d row = refl
 
 fed_like : (b : Bool) (clock : Ms) (d : DatagramFields) (row : Row) → IsLike row (cond b (accepted_row clock d row) row)
-fed_like true clock d row = record { lives = refl; producer = refl; kind = refl; multicast = refl; produced = refl; consumed = refl; triad = refl; o_t_id = refl; opening = refl; t_o_id = refl; t_o_api = refl }
+fed_like true clock d row = record { lives = refl; producer = refl; kind = refl; multicast = refl; produced = refl; consumed = refl; triad = refl; o_t_id = refl; opening = refl; t_o_id = refl; t_o_api_ms = refl }
 fed_like false clock d row = like_itself row
 
 pub fed_keeps : (clock : Ms) (peer : Node) (d : DatagramFields) → Keeps (accepted_if_for clock peer d)
@@ -201,8 +201,8 @@ producer_due clock api TimedOut = refl
 
 pub due_keeps : (clock : Ms) → Keeps (produced_row clock)
 due_keeps clock = record {
-  like = λ row. like_stated row (produced_state clock row.t_o_api row.state) (lives_due clock row.t_o_api row.state) (producer_due clock row.t_o_api row.state);
-  same = λ a b produced api state. ap (λ (n : ℕ). produced_state clock n a.state) api ∙ ap (produced_state clock b.t_o_api) state;
+  like = λ row. like_stated row (produced_state clock row.t_o_api_ms row.state) (lives_due clock row.t_o_api_ms row.state) (producer_due clock row.t_o_api_ms row.state);
+  same = λ a b produced api state. ap (λ (n : ℕ). produced_state clock n a.state) api ∙ ap (produced_state clock b.t_o_api_ms) state;
 }
 
 lives_changed : (clock : Ms) (api : ℕ) (state : State) → lives (changed_state clock api state) ≡ lives state
@@ -215,7 +215,7 @@ changed_producer false x y n first second = second
 
 producer_changed : (trigger : Trigger) (clock : Ms) (api : ℕ) (production : Production) → (changed_by trigger clock api production).producer ≡ production.producer
 producer_changed Cyclic clock api production = refl
-producer_changed ChangeOfState clock api production = changed_producer (is_free clock production) (produced clock api production) (held production) production.producer refl refl
+producer_changed ChangeOfState clock api production = changed_producer (is_free clock production) (produced clock api production) (deferred production) production.producer refl refl
 
 producer_after_change : (clock : Ms) (api : ℕ) (state : State) → producer_of (changed_state clock api state) ≡ producer_of state
 producer_after_change clock api (Established production) = producer_changed production.trigger clock api production
@@ -223,9 +223,9 @@ producer_after_change clock api TimedOut = refl
 
 pub changed_keeps : (clock : Ms) (point : ℕ) → Keeps (changed_row clock point)
 changed_keeps clock point = record {
-  like = λ row. stated_like (row.produced == point) row (changed_state clock row.t_o_api row.state) (lives_changed clock row.t_o_api row.state) (producer_after_change clock row.t_o_api row.state);
+  like = λ row. stated_like (row.produced == point) row (changed_state clock row.t_o_api_ms row.state) (lives_changed clock row.t_o_api_ms row.state) (producer_after_change clock row.t_o_api_ms row.state);
   same = λ a b produced api state.
-      stated_same (a.produced == point) (b.produced == point) a b (changed_state clock a.t_o_api a.state) (changed_state clock b.t_o_api b.state)
+      stated_same (a.produced == point) (b.produced == point) a b (changed_state clock a.t_o_api_ms a.state) (changed_state clock b.t_o_api_ms b.state)
       (ap (λ (n : ℕ). n == point) produced)
-      (ap (λ (n : ℕ). changed_state clock n a.state) api ∙ ap (changed_state clock b.t_o_api) state) state;
+      (ap (λ (n : ℕ). changed_state clock n a.state) api ∙ ap (changed_state clock b.t_o_api_ms) state) state;
 }

@@ -33,8 +33,8 @@ opened_fifth kind consumed = record {
   produced = 100;
   o_t_id = record { 0 = 0x10000005 };
   t_o_id = record { 0 = 9 };
-  o_t_api = 10;
-  t_o_api = 10;
+  o_t_api_ms = 10;
+  t_o_api_ms = 10;
   multiplier = 0;
   multicast = false;
   opening = 5;

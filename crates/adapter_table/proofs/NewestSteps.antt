@@ -16,9 +16,9 @@ use Rattle.cip_events.specs.declared.event.Event.TheVariants.{Request, StreamOpe
 use Rattle.cip_events.specs.Answers.{is_accepted}
 use Rattle.cip_fwdopen.specs.Open.{OpenFields}
 use Rattle.cip_productions.specs.declared.acceptance.Accepted.{Accepted}
-use Rattle.cip_productions.specs.Acceptance.{is_news, is_repeated}
+use Rattle.cip_productions.specs.Acceptance.{accepts_sequence, is_duplicate}
 use Rattle.cip_productions.specs.Kinds.{is_owner}
-use Rattle.cip_router.specs.Asking.{asked_reading}
+use Rattle.cip_router.specs.Requests.{router_request_reading}
 use Rattle.adapter_table.specs.declared.profile.Profile.{Profile}
 use Rattle.adapter_table.specs.declared.row.Row.{Row}
 use Rattle.adapter_table.specs.declared.row.State.{State}
@@ -27,7 +27,7 @@ use Rattle.adapter_table.specs.declared.table.AdapterTable.{AdapterTable}
 use Rattle.adapter_table.specs.Rows.{is_established, has_triad, Each, written_state, written_row}
 use Rattle.adapter_table.specs.Points.{bytes_at}
 use Rattle.adapter_table.specs.Checks.{Admitted}
-use Rattle.adapter_table.specs.Opening.{connection_id, opened_row, opened_table, makes_room}
+use Rattle.adapter_table.specs.Opening.{connection_id, opened_row, opened_table, is_replaced}
 use Rattle.adapter_table.specs.Closing.{without_triad, stays, closed_table}
 use Rattle.adapter_table.specs.Streams.{with_stream, without_stream, registered_table}
 use Rattle.adapter_table.specs.Datagrams.{is_for, expected_len, run_bit, moded, accepted_delivery, row_delivery, accepted_row, accepted_if_for, accepted_table, delivered, found_datagram, datagram_of, received}
@@ -53,16 +53,16 @@ is_newer_by a b is =
       le_of m n h = grind (arith, nat_tests)
 
 -- its number is news
-accepted_news : (sized news : Bool) (delivery : Delivery) → is_accepted (cond sized (cond news delivery Old) WrongSize) ≡ true → news ≡ true
-accepted_news true true delivery is = refl
-accepted_news true false delivery is = absurd cc
-accepted_news false news delivery is = absurd cc
+accepted_newer : (sized newer : Bool) (delivery : Delivery) → is_accepted (cond sized (cond newer delivery Old) WrongSize) ≡ true → newer ≡ true
+accepted_newer true true delivery is = refl
+accepted_newer true false delivery is = absurd cc
+accepted_newer false newer delivery is = absurd cc
 
-newer_than : (last : Option Accepted) (next : Acceptance) → is_news last next.datagram.number ≡ true → HasNewerNumber last next
-newer_than None next news = tt
-newer_than (Some last) next news = is_newer_by next.datagram.number last.number news
+newer_than : (last : Option Accepted) (next : Acceptance) → accepts_sequence last next.datagram.number ≡ true → HasNewerNumber last next
+newer_than None next newer = tt
+newer_than (Some last) next newer = is_newer_by next.datagram.number last.number newer
 
--- where it is applied, its count is no repeated one and its header says run
+-- where it is applied, its count is not the last one's and its header says run
 applied_mode : (header : Option (Bool × List ℕ)) → is_applied (moded header) ≡ true → run_bit header ≡ true
 applied_mode None is = absurd cc
 applied_mode (Some x) is = mode_step x.0 is where
@@ -70,22 +70,22 @@ applied_mode (Some x) is = mode_step x.0 is where
   mode_step true is = refl
   mode_step false is = absurd cc
 
-applied_parts : (sized news owner repeated : Bool) (what : Delivery) → is_applied (cond sized (cond news (cond owner (cond repeated Duplicate what) Heartbeat) Old) WrongSize) ≡ true → (repeated ≡ false) × (is_applied what ≡ true)
+applied_parts : (sized newer owner duplicate : Bool) (what : Delivery) → is_applied (cond sized (cond newer (cond owner (cond duplicate Duplicate what) Heartbeat) Old) WrongSize) ≡ true → (duplicate ≡ false) × (is_applied what ≡ true)
 applied_parts true true true true what is = absurd cc
 applied_parts true true true false what is = (refl, is)
-applied_parts true true false repeated what is = absurd cc
-applied_parts true false owner repeated what is = absurd cc
-applied_parts false news owner repeated what is = absurd cc
+applied_parts true true false duplicate what is = absurd cc
+applied_parts true false owner duplicate what is = absurd cc
+applied_parts false newer owner duplicate what is = absurd cc
 
-other_count : (last : Option Accepted) (next : Acceptance) → is_repeated last next.datagram.count ≡ false → HasOtherCount last next
-other_count None next repeated = tt
-other_count (Some last) next repeated = λ same. differ next.datagram.count last.count repeated same where
+other_count : (last : Option Accepted) (next : Acceptance) → is_duplicate last next.datagram.count ≡ false → HasOtherCount last next
+other_count None next duplicate = tt
+other_count (Some last) next duplicate = λ same. differ next.datagram.count last.count duplicate same where
   differ : (a b : ℕ) → (a == b) ≡ false → a ≢ b
   differ a b h same = absurd (grind (arith, nat_tests))
 
 applied_new : (profile : Profile) (row : Row) (d : DatagramFields) → IsAppliedNew row.last (acceptance_of d (row_delivery profile row d))
 applied_new profile row d = λ applied.
-    let parts = applied_parts (length d.payload == expected_len profile row) (is_news row.last d.sequence) (is_owner row.kind) (is_repeated row.last d.count) (moded (header_at d.payload)) applied in
+    let parts = applied_parts (length d.payload == expected_len profile row) (accepts_sequence row.last d.sequence) (is_owner row.kind) (is_duplicate row.last d.count) (moded (header_at d.payload)) applied in
     (applied_mode (header_at d.payload) parts.1, other_count row.last (acceptance_of d (row_delivery profile row d)) parts.0)
 
 not_again : (last : Option Accepted) (next : Acceptance) → IsAppliedNew last next → IsNotAgain last next
@@ -117,18 +117,18 @@ remembers_opened opening last t peer request admitted remembers =
     let row = opened_row t peer request admitted in
     let new : RemembersLast opening last row = λ same. sym (remembers.unopened (omega arith)) in
     remembers_rows opening last t (opened_table t row admitted) (omega arith)
-    (each_append (RemembersLast opening last) _ row (each_filter (RemembersLast opening last) (λ r. not (makes_room t.rows request.triad r)) t.rows remembers.there) new) remembers
+    (each_append (RemembersLast opening last) _ row (each_filter (RemembersLast opening last) (λ r. not (is_replaced t.rows request.triad r)) t.rows remembers.there) new) remembers
 
 remembers_written : (opening : ℕ) (last : Option Accepted) (t : AdapterTable) (point : ℕ) (bytes : List ℕ) → TableRemembers opening last t → TableRemembers opening last (changed_table (written_table t point bytes) point)
 unfolding written_table changed_table
 remembers_written opening last t point bytes remembers =
     remembers_rows opening last t (changed_table (written_table t point bytes) point) (omega arith)
-    (each_map (RemembersLast opening last) (changed_row t.clock point) (λ row. remembers_step (row.produced == point) opening last row (changed_state t.clock row.t_o_api row.state)) (map (written_row point) t.rows)
+    (each_map (RemembersLast opening last) (changed_row t.clock point) (λ row. remembers_step (row.produced == point) opening last row (changed_state t.clock row.t_o_api_ms row.state)) (map (written_row point) t.rows)
     (each_map (RemembersLast opening last) (written_row point) (λ row. remembers_step (row.produced == point) opening last row (written_state row.state)) t.rows remembers.there)) remembers
 
-remembers_elapsed : (opening : ℕ) (last : Option Accepted) (t : AdapterTable) (ms : ℕ) → TableRemembers opening last t → TableRemembers opening last (produced_table (expired_table (clocked_table t ms)))
+remembers_advanced : (opening : ℕ) (last : Option Accepted) (t : AdapterTable) (ms : ℕ) → TableRemembers opening last t → TableRemembers opening last (produced_table (expired_table (clocked_table t ms)))
 unfolding clocked_table expired_table produced_table
-remembers_elapsed opening last t ms remembers =
+remembers_advanced opening last t ms remembers =
     let clock : Ms = record { 0 = t.clock.0 + ms } in
     let left = expired_rows clock t.rows in
     remembers_rows opening last t (produced_table (expired_table (clocked_table t ms))) (omega arith)
@@ -280,7 +280,7 @@ goes_read R holds opening last t peer (Ok d) sound remembers = goes_found R hold
 -- ---- an event
 
 remembers_tick : (opening : ℕ) (last : Option Accepted) (t : AdapterTable) (ms : ℕ) (next : Next) → IsTick t ms next → TableRemembers opening last t → TableRemembers opening last next.1
-remembers_tick opening last t ms next is remembers = subst (λ (n : Next). TableRemembers opening last n.1) is.said (remembers_elapsed opening last t ms remembers)
+remembers_tick opening last t ms next is remembers = subst (λ (n : Next). TableRemembers opening last n.1) is.said (remembers_advanced opening last t ms remembers)
 
 remembers_write : (opening : ℕ) (last : Option Accepted) (t : AdapterTable) (point : ℕ) (bytes : List ℕ) (next : Next) → IsWrite t point bytes next → TableRemembers opening last t → TableRemembers opening last next.1
 remembers_write opening last t point bytes next is remembers = subst (λ (n : Next). TableRemembers opening last n.1) is.said (remembers_written opening last t point bytes remembers)
@@ -295,7 +295,7 @@ remembers_read opening last t (Some bytes) next is remembers = subst (λ (n : Ne
 steps_accept : (R : Option Accepted → Acceptance → Type 0) → OfAccepted R → StepsAcceptAfter R
 unfolding requested received read
 steps_accept R holds opening last t (Request peer bytes) next is sound remembers =
-    (tt, subst (λ (n : Next). TableRemembers opening last n.1) (next_is _ _ is) (answered_does (λ t next. TableRemembers opening last t → TableRemembers opening last next) (requests_remember opening last) t peer (asked_reading bytes) remembers))
+    (tt, subst (λ (n : Next). TableRemembers opening last n.1) (next_is _ _ is) (answered_does (λ t next. TableRemembers opening last t → TableRemembers opening last next) (requests_remember opening last) t peer (router_request_reading bytes) remembers))
 steps_accept R holds opening last t (StreamOpened number peer) next is sound remembers = (tt, remembers_streamed opening last t number peer next (streamed_is t number peer next is) remembers)
 steps_accept R holds opening last t (Frame number bytes) next is sound remembers =
     (tt, frame_does (λ t next. TableRemembers opening last t → TableRemembers opening last next) (requests_remember opening last) t number bytes next is remembers)
@@ -312,7 +312,7 @@ steps_accept R holds opening last t (Start slot) next is sound remembers = absur
 steps_accept R holds opening last t (Stop slot) next is sound remembers = absurd cc
 
 pub steps_accept_newer : StepsAcceptAfter HasNewerNumber
-steps_accept_newer = steps_accept HasNewerNumber (λ profile row d is. newer_than row.last (acceptance_of d (row_delivery profile row d)) (accepted_news (length d.payload == expected_len profile row) (is_news row.last d.sequence) (accepted_delivery row d) is))
+steps_accept_newer = steps_accept HasNewerNumber (λ profile row d is. newer_than row.last (acceptance_of d (row_delivery profile row d)) (accepted_newer (length d.payload == expected_len profile row) (accepts_sequence row.last d.sequence) (accepted_delivery row d) is))
 
 pub steps_apply_new : StepsAcceptAfter IsAppliedNew
 steps_apply_new = steps_accept IsAppliedNew (λ profile row d is. applied_new profile row d)

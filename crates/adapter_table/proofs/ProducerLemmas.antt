@@ -48,7 +48,7 @@ share_like f keeps a b share = λ a_lives b_lives same.
       first = la.multicast ∙ group.first;
       second = lb.multicast ∙ group.second;
       input = la.produced ∙ group.input ∙ sym lb.produced;
-      shared = record { id = la.t_o_id ∙ shared.id ∙ sym lb.t_o_id; api = la.t_o_api ∙ shared.api ∙ sym lb.t_o_api; state = keeps.same a b group.input shared.api shared.state };
+      shared = record { id = la.t_o_id ∙ shared.id ∙ sym lb.t_o_id; api = la.t_o_api_ms ∙ shared.api ∙ sym lb.t_o_api_ms; state = keeps.same a b group.input shared.api shared.state };
     }
 
 pub producers_kept : (f : Row → Row) → Keeps f → (profile : Profile) (next_id : ℕ) (rows : List Row) → ProducersAreSound profile next_id rows → ProducersAreSound profile next_id (map f rows)

@@ -10,7 +10,7 @@ use Rattle.cip_fwdopen.specs.Open.{OpenFields}
 use Rattle.cip_fwdopen.specs.Close.{CloseFields, closed_text}
 use Rattle.cip_fwdopen.specs.Get.{got_text}
 use Rattle.cip_fwdopen.specs.declared.reply.Opened.{Opened}
-use Rattle.cip_fwdopen.specs.Reply.{reply_service, extra_text, failure_text, opened_text, refused_text}
+use Rattle.cip_fwdopen.specs.Reply.{reply_service, extended_text, failure_text, opened_text, refused_text}
 use Rattle.cip_encap.specs.declared.packet.ItemFault.{ItemFault}
 use Rattle.cip_encap.specs.declared.packet.SocketAddress.{SocketAddress}
 use Rattle.cip_encap.specs.Packet.{PacketFields, packet_widths, packet_numbers, socket_count, socket_items, packet_text}
@@ -27,12 +27,12 @@ use Rattle.adapter_table.specs.Points.{bytes_at}
 use Rattle.adapter_table.specs.Rows.{has_triad}
 use Rattle.adapter_table.specs.Shapes.{IsShaped}
 use Rattle.adapter_table.specs.Checks.{Admitted, admission}
-use Rattle.cip_router.specs.Asking.{AskedFields, nothing, refused, closing, assembly, opening, asked_reading}
+use Rattle.cip_router.specs.Requests.{RouterRequestFields, nothing, refused, closing, assembly, opening, router_request_reading}
 use Rattle.cip_router.specs.Replies.{ReplyFields, opened, closed, got, reply_text, GetsFew}
 use Rattle.cip_router.specs.ReplyLaws.{items_length, reply_is_short}
 use Rattle.adapter_table.specs.Requests.{Served, served_open, judged_open, admitted_open, served_close, close_of, served_assembly, assembly_of, is_value_attribute, router_refusal, served}
 use Rattle.adapter_table.specs.Streams.{has_session}
-use Rattle.cip_router.specs.Frames.{Echo, FrameReply, services, registered, other_version, router_reply, protocol_text, socket_of, reply_message}
+use Rattle.cip_router.specs.Frames.{ReplyHeader, FrameReply, services, registered, other_version, router_reply, protocol_text, socket_of, reply_message}
 use Rattle.adapter_table.specs.Encapsulation.{Handled, refusal, session_begun, register_session, request_replied, packet_replied, handled}
 use Rattle.cip_router.specs.Frames as frames
 use Rattle.adapter_table.specs.Limits.{held_short}
@@ -48,16 +48,16 @@ SaysFew (router_reply reply address) = GetsFew reply
 SaysFew (frames.refused why) = Unit {0}
 
 -- its data are at most those of the longest message that a stream takes
-pub data_short : (echo : Echo) (reply : FrameReply) → SaysFew reply → length (reply_message echo reply).payload ≤ 2048
-data_short echo services few = omega arith
-data_short echo (registered session) few = omega arith
-data_short echo other_version few = omega arith
-data_short echo (router_reply reply address) few = omega (arith, items_length (reply_text reply) (option_map socket_of address), (reply_is_short reply few).few)
-data_short echo (frames.refused why) few = omega arith
+pub data_short : (reply_header : ReplyHeader) (reply : FrameReply) → SaysFew reply → length (reply_message reply_header reply).payload ≤ 2048
+data_short reply_header services few = omega arith
+data_short reply_header (registered session) few = omega arith
+data_short reply_header other_version few = omega arith
+data_short reply_header (router_reply reply address) few = omega (arith, items_length (reply_text reply) (option_map socket_of address), (reply_is_short reply few).few)
+data_short reply_header (frames.refused why) few = omega arith
 
 -- and within the length field
-pub data_fit : (echo : Echo) (reply : FrameReply) → SaysFew reply → length (reply_message echo reply).payload ≤ 65535
-data_fit echo reply few = omega (arith, data_short echo reply few)
+pub data_fit : (reply_header : ReplyHeader) (reply : FrameReply) → SaysFew reply → length (reply_message reply_header reply).payload ≤ 65535
+data_fit reply_header reply few = omega (arith, data_short reply_header reply few)
 
 -- ---- what is served
 
@@ -86,7 +86,7 @@ abbrev pub ServesFew : Option Served → Type 0
 ServesFew None = Unit {0}
 ServesFew (Some s) = GetsFew s.reply
 
-pub served_few : (t : AdapterTable) (peer : Node) (asked : AskedFields) → IsShaped t.profile t.values → ServesFew (served t peer asked)
+pub served_few : (t : AdapterTable) (peer : Node) (router_request : RouterRequestFields) → IsShaped t.profile t.values → ServesFew (served t peer router_request)
 unfolding served_open served_close served_assembly
 served_few t peer nothing shaped = tt
 served_few t peer (refused service why) shaped = tt
@@ -95,8 +95,8 @@ served_few t peer (assembly service instance attribute body) shaped = few_assemb
 served_few t peer (opening large request) shaped = few_judged t peer large request (admission t request)
 
 -- the reply of what is served
-pub served_gets_few : (t : AdapterTable) (peer : Node) (asked : AskedFields) (s : Served) → served t peer asked ≡ Some s → IsShaped t.profile t.values → GetsFew s.reply
-served_gets_few t peer asked s is shaped = subst ServesFew is (served_few t peer asked shaped)
+pub served_gets_few : (t : AdapterTable) (peer : Node) (router_request : RouterRequestFields) (s : Served) → served t peer router_request ≡ Some s → IsShaped t.profile t.values → GetsFew s.reply
+served_gets_few t peer router_request s is shaped = subst ServesFew is (served_few t peer router_request shaped)
 
 -- ---- what becomes of a message
 
@@ -122,17 +122,17 @@ few_replied t (Some s) few = few
 
 few_packet : (t : AdapterTable) (peer : Node) (reading : Result PacketFields ItemFault) → IsShaped t.profile t.values → RepliesFew (packet_replied t peer reading).reply
 few_packet t peer (Err fault) shaped = tt
-few_packet t peer (Ok packet) shaped = few_replied t (served t peer (asked_reading packet.payload)) (served_few t peer (asked_reading packet.payload) shaped)
+few_packet t peer (Ok packet) shaped = few_replied t (served t peer (router_request_reading packet.payload)) (served_few t peer (router_request_reading packet.payload) shaped)
 
-pub handled_few : (t : AdapterTable) (stream : Stream) (echo : Echo) (body : List ℕ) (asked : Command) → IsShaped t.profile t.values → RepliesFew (handled t stream echo body asked).reply
+pub handled_few : (t : AdapterTable) (stream : Stream) (reply_header : ReplyHeader) (body : List ℕ) (router_request : Command) → IsShaped t.profile t.values → RepliesFew (handled t stream reply_header body router_request).reply
 unfolding handled
-handled_few t stream echo body command.Nop shaped = tt
-handled_few t stream echo body command.ListServices shaped = tt
-handled_few t stream echo body command.RegisterSession shaped = few_register t stream body
-handled_few t stream echo body command.UnregisterSession shaped = either_few (has_session stream echo.session) _ _ tt tt
-handled_few t stream echo body command.SendRrData shaped = either_few (has_session stream echo.session) _ _ (few_packet t stream.peer (packet_reading body) shaped) tt
-handled_few t stream echo body command.Other shaped = tt
+handled_few t stream reply_header body command.Nop shaped = tt
+handled_few t stream reply_header body command.ListServices shaped = tt
+handled_few t stream reply_header body command.RegisterSession shaped = few_register t stream body
+handled_few t stream reply_header body command.UnregisterSession shaped = either_few (has_session stream reply_header.session) _ _ tt tt
+handled_few t stream reply_header body command.SendRrData shaped = either_few (has_session stream reply_header.session) _ _ (few_packet t stream.peer (packet_reading body) shaped) tt
+handled_few t stream reply_header body command.Other shaped = tt
 
 -- the reply to a message
-pub handled_says_few : (t : AdapterTable) (stream : Stream) (echo : Echo) (body : List ℕ) (asked : Command) (reply : FrameReply) → (handled t stream echo body asked).reply ≡ Some reply → IsShaped t.profile t.values → SaysFew reply
-handled_says_few t stream echo body asked reply is shaped = subst RepliesFew is (handled_few t stream echo body asked shaped)
+pub handled_says_few : (t : AdapterTable) (stream : Stream) (reply_header : ReplyHeader) (body : List ℕ) (router_request : Command) (reply : FrameReply) → (handled t stream reply_header body router_request).reply ≡ Some reply → IsShaped t.profile t.values → SaysFew reply
+handled_says_few t stream reply_header body router_request reply is shaped = subst RepliesFew is (handled_few t stream reply_header body router_request shaped)

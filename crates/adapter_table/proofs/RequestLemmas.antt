@@ -25,12 +25,12 @@ use Rattle.adapter_table.specs.Checks.{Admitted, admission}
 use Rattle.adapter_table.specs.Opening.{opened_row, opened_table}
 use Rattle.adapter_table.specs.Closing.{closed_table}
 use Rattle.cip_router.specs.Replies.{got}
-use Rattle.cip_router.specs.Asking.{AskedFields, nothing, refused, closing, assembly, opening, asked_reading}
+use Rattle.cip_router.specs.Requests.{RouterRequestFields, nothing, refused, closing, assembly, opening, router_request_reading}
 use Rattle.adapter_table.specs.Requests.{Next, Served, served_open, judged_open, admitted_open, served_close, close_of, served_assembly, assembly_of, get_of, is_value_attribute, router_refusal, served, answered}
 use Rattle.cip_events.specs.Answers.{plain_answer}
 use Rattle.adapter_table.specs.Streams.{is_stream, is_taken, with_stream, without_stream, has_session, registered_table, stream_opened, cut_of, stream_cut}
 use Rattle.cip_router.specs.Commands.{command_of, is_silent}
-use Rattle.cip_router.specs.Frames.{Echo, FrameFields, headless, misfit, whole, frame_reading, protocol_text}
+use Rattle.cip_router.specs.Frames.{ReplyHeader, FrameFields, headless, misfit, whole, frame_reading, protocol_text}
 use Rattle.adapter_table.specs.Encapsulation.{Handled, refusal, session_begun, register_session, request_replied, packet_replied, handled, framed, frame_answer, frame_of, frame}
 
 -- a request changes nothing, opens a connection, or closes one; a frame may also end a stream, or register a
@@ -70,7 +70,7 @@ abbrev pub served_table : AdapterTable → Option Served → AdapterTable
 served_table t None = t
 served_table t (Some s) = s.table
 
-served_does : (R : AdapterTable → AdapterTable → Type 0) → RequestsDo R → (t : AdapterTable) (peer : Node) (asked : AskedFields) → R t (served_table t (served t peer asked))
+served_does : (R : AdapterTable → AdapterTable → Type 0) → RequestsDo R → (t : AdapterTable) (peer : Node) (router_request : RouterRequestFields) → R t (served_table t (served t peer router_request))
 unfolding served_open served_close served_assembly
 served_does R does t peer nothing = does.stays t
 served_does R does t peer (refused service why) = does.stays t
@@ -82,8 +82,8 @@ answered_by : (P : AdapterTable → Type 0) (t : AdapterTable) (peer : Node) (s 
 answered_by P t peer None does = does
 answered_by P t peer (Some s) does = does
 
-pub answered_does : (R : AdapterTable → AdapterTable → Type 0) → RequestsDo R → (t : AdapterTable) (peer : Node) (asked : AskedFields) → R t (answered t peer (served t peer asked)).1
-answered_does R does t peer asked = answered_by (R t) t peer (served t peer asked) (served_does R does t peer asked)
+pub answered_does : (R : AdapterTable → AdapterTable → Type 0) → RequestsDo R → (t : AdapterTable) (peer : Node) (router_request : RouterRequestFields) → R t (answered t peer (served t peer router_request)).1
+answered_does R does t peer router_request = answered_by (R t) t peer (served t peer router_request) (served_does R does t peer router_request)
 
 -- ---- frames
 
@@ -104,25 +104,25 @@ replied_by P t (Some s) does = does
 
 does_packet : (R : AdapterTable → AdapterTable → Type 0) → RequestsDo R → (t : AdapterTable) (peer : Node) (reading : Result PacketFields ItemFault) → R t (packet_replied t peer reading).table
 does_packet R does t peer (Err fault) = does.stays t
-does_packet R does t peer (Ok packet) = replied_by (R t) t (served t peer (asked_reading packet.payload)) (served_does R does t peer (asked_reading packet.payload))
+does_packet R does t peer (Ok packet) = replied_by (R t) t (served t peer (router_request_reading packet.payload)) (served_does R does t peer (router_request_reading packet.payload))
 
-pub handled_does : (R : AdapterTable → AdapterTable → Type 0) → RequestsDo R → (t : AdapterTable) (stream : Stream) (echo : Echo) (body : List ℕ) (asked : Command) → R t (handled t stream echo body asked).table
+pub handled_does : (R : AdapterTable → AdapterTable → Type 0) → RequestsDo R → (t : AdapterTable) (stream : Stream) (reply_header : ReplyHeader) (body : List ℕ) (router_request : Command) → R t (handled t stream reply_header body router_request).table
 unfolding handled
-handled_does R does t stream echo body command.Nop = does.stays t
-handled_does R does t stream echo body command.ListServices = does.stays t
-handled_does R does t stream echo body command.RegisterSession = does_register R does t stream body
-handled_does R does t stream echo body command.UnregisterSession = either_does (R t) (has_session stream echo.session) _ _ (does.unstreamed t stream.number) (does.stays t)
-handled_does R does t stream echo body command.SendRrData = either_does (R t) (has_session stream echo.session) _ _ (does_packet R does t stream.peer (packet_reading body)) (does.stays t)
-handled_does R does t stream echo body command.Other = does.stays t
+handled_does R does t stream reply_header body command.Nop = does.stays t
+handled_does R does t stream reply_header body command.ListServices = does.stays t
+handled_does R does t stream reply_header body command.RegisterSession = does_register R does t stream body
+handled_does R does t stream reply_header body command.UnregisterSession = either_does (R t) (has_session stream reply_header.session) _ _ (does.unstreamed t stream.number) (does.stays t)
+handled_does R does t stream reply_header body command.SendRrData = either_does (R t) (has_session stream reply_header.session) _ _ (does_packet R does t stream.peer (packet_reading body)) (does.stays t)
+handled_does R does t stream reply_header body command.Other = does.stays t
 
-does_misfit : (b : Bool) (R : AdapterTable → AdapterTable → Type 0) → RequestsDo R → (t : AdapterTable) (number : ℕ) (echo : Echo) → R t (cond b (plain_answer BadFrame, t) (framed number echo (refusal t encap.InvalidLength))).1
-does_misfit true R does t number echo = does.stays t
-does_misfit false R does t number echo = does.stays t
+does_misfit : (b : Bool) (R : AdapterTable → AdapterTable → Type 0) → RequestsDo R → (t : AdapterTable) (number : ℕ) (reply_header : ReplyHeader) → R t (cond b (plain_answer BadFrame, t) (framed number reply_header (refusal t encap.InvalidLength))).1
+does_misfit true R does t number reply_header = does.stays t
+does_misfit false R does t number reply_header = does.stays t
 
 does_frame : (R : AdapterTable → AdapterTable → Type 0) → RequestsDo R → (t : AdapterTable) (stream : Stream) (fields : FrameFields) → R t (frame_answer t stream fields).1
 does_frame R does t stream headless = does.stays t
-does_frame R does t stream (misfit echo) = does_misfit (is_silent (command_of echo.command)) R does t stream.number echo
-does_frame R does t stream (whole echo body) = handled_does R does t stream echo body (command_of echo.command)
+does_frame R does t stream (misfit reply_header) = does_misfit (is_silent (command_of reply_header.command)) R does t stream.number reply_header
+does_frame R does t stream (whole reply_header body) = handled_does R does t stream reply_header body (command_of reply_header.command)
 
 pub next_is : (x y : Next) → ◌≡◌ {A = Result Next StepFault} (Ok x) (Ok y) → x ≡ y
 next_is x y h = cc

@@ -17,7 +17,7 @@ use Rattle.adapter_table.specs.declared.table.AdapterTable.{AdapterTable}
 use Rattle.adapter_table.specs.Profiles.{as_point, is_at, is_output_at}
 use Rattle.adapter_table.specs.Points.{data_points, put_value, bytes_at}
 use Rattle.adapter_table.specs.Rows.{written_row}
-use Rattle.cip_router.specs.Asking.{asked_reading}
+use Rattle.cip_router.specs.Requests.{router_request_reading}
 use Rattle.adapter_table.specs.Requests.{Next, requested}
 use Rattle.adapter_table.specs.Datagrams.{is_for, row_delivery, accepted_if_for, accepted_table, judged_datagram, found_datagram, datagram_of, received}
 use Rattle.adapter_table.specs.Productions.{changed_row}
@@ -59,15 +59,15 @@ leaves_write t point bytes next is shaped = subst (λ (n : Next). LeavesHeld t (
 
 -- ---- a tick
 
-leaves_elapsed : (t : AdapterTable) (ms : ℕ) → IsWhole t → LeavesHeld t (Tick ms) (produced_table (expired_table (clocked_table t ms)))
+leaves_advanced : (t : AdapterTable) (ms : ℕ) → IsWhole t → LeavesHeld t (Tick ms) (produced_table (expired_table (clocked_table t ms)))
 unfolding clocked_table expired_table produced_table
-leaves_elapsed t ms whole = λ point output held is holds.
+leaves_advanced t ms whole = λ point output held is holds.
     let clock : Ms = record { 0 = t.clock.0 + ms } in
     let one = whole.sound.one_owner point in
     rw (owner_expired clock t.rows point one) (expired_value t.profile (expired clock t.rows) t.values point output held (one_expired clock t.rows point one) whole.shaped is holds)
 
 leaves_tick : (t : AdapterTable) (ms : ℕ) (next : Next) → IsTick t ms next → IsWhole t → LeavesHeld t (Tick ms) next.1
-leaves_tick t ms next is whole = subst (λ (n : Next). LeavesHeld t (Tick ms) n.1) is.said (leaves_elapsed t ms whole)
+leaves_tick t ms next is whole = subst (λ (n : Next). LeavesHeld t (Tick ms) n.1) is.said (leaves_advanced t ms whole)
 
 -- ---- a datagram
 
@@ -137,7 +137,7 @@ leaves_streamed t number peer next is = subst (λ (n : Next). LeavesHeld t (Stre
 -- each event that has a step
 leaves_held : (t : AdapterTable) (event : Event) (next : Next) → adapter_step t event ≡ Ok next → IsWhole t → LeavesHeld t event next.1
 unfolding requested received read
-leaves_held t (Request peer bytes) next is whole = subst (λ (n : Next). LeavesHeld t (Request peer bytes) n.1) (next_is _ _ is) (answered_does (λ t next. IsWhole t → LosesOnly t next) requests_lose t peer (asked_reading bytes) whole)
+leaves_held t (Request peer bytes) next is whole = subst (λ (n : Next). LeavesHeld t (Request peer bytes) n.1) (next_is _ _ is) (answered_does (λ t next. IsWhole t → LosesOnly t next) requests_lose t peer (router_request_reading bytes) whole)
 leaves_held t (StreamOpened number peer) next is whole = leaves_streamed t number peer next (streamed_is t number peer next is)
 leaves_held t (Frame number bytes) next is whole = frame_does (λ t next. IsWhole t → LosesOnly t next) requests_lose t number bytes next is whole
 leaves_held t (StreamCut number) next is whole = cut_does (λ t next. IsWhole t → LosesOnly t next) requests_lose t number next is whole

@@ -17,7 +17,7 @@ use Rattle.adapter_table.specs.Points.{bytes_at, lost_values}
 use Rattle.adapter_table.specs.Rows.{is_established, has_triad, drives, drivers, others}
 use Rattle.cip_productions.specs.Kinds.{is_owner}
 use Rattle.adapter_table.specs.Checks.{Admitted, admission}
-use Rattle.adapter_table.specs.Opening.{makes_room, opened_row, configured, opened_table}
+use Rattle.adapter_table.specs.Opening.{is_replaced, opened_row, configured, opened_table}
 use Rattle.adapter_table.specs.Closing.{without_triad, staying, closed_values, closed_table}
 use Rattle.adapter_table.specs.Streams.{with_stream, without_stream, registered_table}
 use Rattle.adapter_table.specs.Shapes.{IsShaped}
@@ -57,7 +57,7 @@ unfolding opened_table opened_row
 loses_opened t peer request admitted e whole = λ point output held is holds.
     let row = opened_row t peer request admitted in
     let free = (admitted_is t request admitted e).triad_is_free in
-    unlost (is_lost point t.rows (others (makes_room t.rows request.triad) t.rows ++ row ∷ [])) (left_lost (find (is_output_at point) t.profile.outputs)) held (bytes_at (configured t.profile.config admitted.segment t.values) point)
+    unlost (is_lost point t.rows (others (is_replaced t.rows request.triad) t.rows ++ row ∷ [])) (left_lost (find (is_output_at point) t.profile.outputs)) held (bytes_at (configured t.profile.config admitted.segment t.values) point)
     (owner_opened (list_any (has_triad request.triad) t.rows) (nat_le 64 (length t.rows)) request.triad t.rows row point free whole.sound.producers.openings_rise)
     (configured_beside t.profile t.profile.config admitted.segment t.values point output held refl whole.shaped is holds)
 

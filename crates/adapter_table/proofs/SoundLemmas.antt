@@ -10,7 +10,7 @@ use Rattle.cip_types.specs.declared.names.ConnId.{ConnId}
 use Rattle.adapter_table.specs.declared.profile.Profile.{Profile}
 use Rattle.adapter_table.specs.declared.row.Row.{Row}
 use Rattle.adapter_table.specs.Rows.{same_triad, has_triad, drives, drivers, others, is_timed_out}
-use Rattle.adapter_table.specs.Opening.{connection_id, is_opened_as, makes_room_by}
+use Rattle.adapter_table.specs.Opening.{connection_id, is_opened_as, is_replaced_by}
 use Rattle.adapter_table.specs.Sound.{TriadsDiffer, has_o_t_id, IdsDiffer, IdsAreDrawn}
 
 pub or_false : (a b : Bool) → (a || b) ≡ false → (a ≡ false) × (b ≡ false)
@@ -153,14 +153,14 @@ any_first : (p : Row → Bool) (rows : List Row) → list_any p rows ≡ true �
 any_first p [] found = absurd cc
 any_first p (row ∷ rows) found = opened_step (p row) row (find p rows) rows (λ none. any_first p rows (any_later (p row) (list_any p rows) found none))
 
-pub length_opened : (b c : Bool) (triad : Triad) (rows : List Row) → list_any (has_triad triad) rows ≡ b → nat_le 64 (length rows) ≡ c → length rows ≤ 64 → (c && not (list_any is_timed_out rows)) ≡ false → length (others (makes_room_by b c (find is_timed_out rows) triad) rows) + 1 ≤ 64
+pub length_opened : (b c : Bool) (triad : Triad) (rows : List Row) → list_any (has_triad triad) rows ≡ b → nat_le 64 (length rows) ≡ c → length rows ≤ 64 → (c && not (list_any is_timed_out rows)) ≡ false → length (others (is_replaced_by b c (find is_timed_out rows) triad) rows) + 1 ≤ 64
 length_opened true c triad rows known full few free = omega (arith, length_others (has_triad triad) rows known)
 length_opened false true triad rows known full few free = omega (arith, length_others (is_opened_as (find is_timed_out rows)) rows (any_first is_timed_out rows (not_false _ free)))
 length_opened false false triad rows known full few free = grind (arith, nat_tests, length_filter_le (λ _. true) rows)
 
-pub any_opened : (b c : Bool) (triad : Triad) (rows : List Row) → list_any (has_triad triad) rows ≡ b → list_any (has_triad triad) (others (makes_room_by b c (find is_timed_out rows) triad) rows) ≡ false
+pub any_opened : (b c : Bool) (triad : Triad) (rows : List Row) → list_any (has_triad triad) rows ≡ b → list_any (has_triad triad) (others (is_replaced_by b c (find is_timed_out rows) triad) rows) ≡ false
 any_opened true c triad rows known = none_left (has_triad triad) rows
-any_opened false c triad rows known = any_filter (λ row. not (makes_room_by false c (find is_timed_out rows) triad row)) (has_triad triad) rows known
+any_opened false c triad rows known = any_filter (λ row. not (is_replaced_by false c (find is_timed_out rows) triad row)) (has_triad triad) rows known
 
 -- the output of the new row has no other driver
 pub drivers_opened : (b : Bool) (rows without : List Row) (new : Row) (point : ℕ) → drives point new ≡ b → length (drivers point without) ≤ length (drivers point rows) → (b ≡ true → drivers point rows ≡ []) → length (drivers point rows) ≤ 1 → length (drivers point (without ++ new ∷ [])) ≤ 1

@@ -18,7 +18,7 @@ use Rattle.adapter_table.specs.Rows.{others, drives, drivers, written_row, is_es
 use Rattle.cip_productions.specs.declared.kind.Kind.{Kind}
 use Rattle.cip_productions.specs.Kinds.{is_owner, is_listener}
 use Rattle.adapter_table.specs.Checks.{Admitted, admission, group_of, joined, drawn_ids}
-use Rattle.adapter_table.specs.Opening.{makes_room_by, opened_row, opened_table, opened_state, opened_t_o_id}
+use Rattle.adapter_table.specs.Opening.{is_replaced_by, opened_row, opened_table, opened_state, opened_t_o_id}
 use Rattle.adapter_table.specs.Closing.{closed_table, stays, without_triad}
 use Rattle.adapter_table.specs.Points.{put_value}
 use Rattle.adapter_table.specs.Streams.{is_other_stream, is_taken, new_stream, with_stream, without_stream, registered_stream, registered_table}
@@ -34,7 +34,7 @@ use Rattle.adapter_table.proofs.SupportLemmas.{listeners_opened, listeners_stayi
 use Rattle.adapter_table.proofs.LikeLemmas.{Keeps, count_kept, triads_kept, ids_kept, drawn_kept, listeners_kept, groups_kept, written_keeps, fed_keeps, due_keeps, changed_keeps}
 use Rattle.adapter_table.proofs.FadeLemmas.{count_expired, triads_expired, ids_expired, drawn_expired, groups_expired}
 use Rattle.adapter_table.proofs.ProducerLemmas.{Produces, is_single as is_alone, is_first as is_leader, is_joiner as is_follower, producers_opened, producers_filter, producers_kept, producers_expired}
-use Rattle.adapter_table.proofs.StreamLemmas.{has_room, few_with, few_left, differ_with, differ_left, differ_registered}
+use Rattle.adapter_table.proofs.StreamLemmas.{has_capacity, few_with, few_left, differ_with, differ_left, differ_registered}
 use Rattle.adapter_table.proofs.SoundLemmas.{length_opened, any_opened, drivers_opened, filter_none, triads_append, ids_append, IsDrawn, drawn_new, drawn_append, length_filter_le, count_filter, triads_filter, ids_filter, drawn_filter}
 
 free_output : (rows : List Row) (kind : Kind) (consumed point : ℕ) → (is_owner kind && list_any (drives consumed) rows) ≡ false → (is_owner kind && consumed == point) ≡ true → drivers point rows ≡ []
@@ -52,7 +52,7 @@ record IsOpened (t : AdapterTable) (request : OpenFields) (admitted : Admitted) 
   consumed : row.consumed ≡ admitted.consumed
   produced : row.produced ≡ admitted.produced
   multicast : row.multicast ≡ admitted.multicast
-  t_o_api : row.t_o_api ≡ admitted.t_o_api
+  t_o_api_ms : row.t_o_api_ms ≡ admitted.t_o_api_ms
   t_o_id : row.t_o_id ≡ opened_t_o_id t request admitted.multicast admitted.group
   state : (member : Row) → admitted.group ≡ Some member → row.state ≡ member.state
   own : admitted.group ≡ None → producer_of row.state ≡ t.next_id
@@ -74,7 +74,7 @@ row_is_opened t peer request admitted = record {
   consumed = refl;
   produced = refl;
   multicast = refl;
-  t_o_api = refl;
+  t_o_api_ms = refl;
   t_o_id = refl;
   state = state_of t peer admitted admitted.group;
   own = own_of t peer admitted admitted.group;
@@ -87,7 +87,7 @@ drives_no_other point row kind consumed same place is = rw (← same, ← place)
 -- what it has in common with the producer that it joins
 joins_of : (t : AdapterTable) (request : OpenFields) (admitted : Admitted) (row : Row) → IsOpened t request admitted row → IsAdmitted t request admitted → Joins t.rows row
 joins_of t request admitted row is ok = joins_by admitted.multicast admitted.group refl refl is.multicast ok.group_is ok.same_api is.t_o_id where
-  joins_by : (m : Bool) (group : Option Row) → admitted.multicast ≡ m → admitted.group ≡ group → row.multicast ≡ admitted.multicast → admitted.group ≡ joined admitted.multicast (group_of t.rows admitted.produced) → HasSameApi admitted.t_o_api admitted.group → row.t_o_id ≡ opened_t_o_id t request admitted.multicast admitted.group → Joins t.rows row
+  joins_by : (m : Bool) (group : Option Row) → admitted.multicast ≡ m → admitted.group ≡ group → row.multicast ≡ admitted.multicast → admitted.group ≡ joined admitted.multicast (group_of t.rows admitted.produced) → HasSameApi admitted.t_o_api_ms admitted.group → row.t_o_id ≡ opened_t_o_id t request admitted.multicast admitted.group → Joins t.rows row
   joins_by false group single known multicast found api id = is_single (multicast ∙ single)
   joins_by true None many known multicast found api id =
       let none : group_of t.rows admitted.produced ≡ None = sym (rw many at found) ∙ known in
@@ -95,21 +95,21 @@ joins_of t request admitted row is ok = joins_by admitted.multicast admitted.gro
   joins_by true (Some member) many known multicast found api id =
       let some : group_of t.rows admitted.produced ≡ Some member = sym (rw many at found) ∙ known in
       let same_id : row.t_o_id ≡ member.t_o_id = id ∙ ap (opened_t_o_id t request admitted.multicast) known in
-      let same_api : admitted.t_o_api ≡ member.t_o_api = subst (HasSameApi admitted.t_o_api) known api in
+      let same_api : admitted.t_o_api_ms ≡ member.t_o_api_ms = subst (HasSameApi admitted.t_o_api_ms) known api in
       is_joiner member (ap (λ (n : ℕ). find (is_member n) t.rows) is.produced ∙ some)
-      (record { id = same_id; api = is.t_o_api ∙ same_api; state = is.state member known })
+      (record { id = same_id; api = is.t_o_api_ms ∙ same_api; state = is.state member known })
 
 -- what its producer is
 produces_of : (t : AdapterTable) (request : OpenFields) (admitted : Admitted) (row : Row) → IsOpened t request admitted row → IsAdmitted t request admitted → Produces t.profile t.next_id (t.next_id + drawn_ids admitted.multicast admitted.group) t.rows row
 produces_of t request admitted row is ok = produces_by admitted.multicast admitted.group refl refl ok.group_is ok.same_api is.t_o_id is.own where
-  produces_by : (m : Bool) (group : Option Row) → admitted.multicast ≡ m → admitted.group ≡ group → group ≡ joined admitted.multicast (group_of t.rows admitted.produced) → HasSameApi admitted.t_o_api group → row.t_o_id ≡ opened_t_o_id t request admitted.multicast group → (group ≡ None → producer_of row.state ≡ t.next_id) → Produces t.profile t.next_id (t.next_id + drawn_ids admitted.multicast group) t.rows row
+  produces_by : (m : Bool) (group : Option Row) → admitted.multicast ≡ m → admitted.group ≡ group → group ≡ joined admitted.multicast (group_of t.rows admitted.produced) → HasSameApi admitted.t_o_api_ms group → row.t_o_id ≡ opened_t_o_id t request admitted.multicast group → (group ≡ None → producer_of row.state ≡ t.next_id) → Produces t.profile t.next_id (t.next_id + drawn_ids admitted.multicast group) t.rows row
   produces_by false None single known found api id own = is_alone (is.multicast ∙ single) (own refl)
   produces_by false (Some member) single known found api id own = let none : Some member ≡ None = rw single at found in absurd cc
   produces_by true None many known found api id own = is_leader (own refl) (rw many at id) (rw many (omega arith)) (is.multicast ∙ many)
   produces_by true (Some member) many known found api id own =
       let some : group_of t.rows admitted.produced ≡ Some member = sym (rw many at found) in
       is_follower member (is.multicast ∙ many) (ap (λ (n : ℕ). find (is_member n) t.rows) is.produced ∙ some)
-      (record { id = id; api = is.t_o_api ∙ api; state = is.state member known })
+      (record { id = id; api = is.t_o_api_ms ∙ api; state = is.state member known })
 
 opened_sound : (t : AdapterTable) (request : OpenFields) (admitted : Admitted) (row : Row) → IsOpened t request admitted row → IsAdmitted t request admitted → IsSound t → IsSound (opened_table t row admitted)
 unfolding opened_table
@@ -117,13 +117,13 @@ opened_sound t request admitted row is ok sound =
     let b = list_any (has_triad row.triad) t.rows in
     let c = nat_le 64 (length t.rows) in
     let draws = draws_some admitted.multicast admitted.group in
-    let left = others (makes_room_by b c (find is_timed_out t.rows) row.triad) t.rows in
-    let stays_there : Row → Bool = λ r. not (makes_room_by b c (find is_timed_out t.rows) row.triad r) in
+    let left = others (is_replaced_by b c (find is_timed_out t.rows) row.triad) t.rows in
+    let stays_there : Row → Bool = λ r. not (is_replaced_by b c (find is_timed_out t.rows) row.triad r) in
     let drawn = drawn_filter stays_there t.profile t.next_id t.rows sound.ids_are_drawn in
     let held : list_any (holds_triad row.triad) t.rows ≡ false = ap (λ (triad : Triad). list_any (holds_triad triad) t.rows) is.triad ∙ ok.triad_is_free in
     let alone : (is_listener row.kind && not (is_supported t.rows row.kind row.produced)) ≡ false = rw (is.kind, is.produced) ok.is_supported in
     record {
-      few = simp length-append (length_opened b c row.triad t.rows refl refl sound.few ok.room_is_left);
+      few = simp length-append (length_opened b c row.triad t.rows refl refl sound.few ok.capacity_is_left);
       one_owner = λ point.
           drivers_opened (drives point row) t.rows left row point refl
           (count_filter stays_there (drives point) t.rows)
@@ -220,8 +220,8 @@ sound_produced : (t : AdapterTable) → IsSound t → IsSound (produced_table t)
 unfolding produced_table
 sound_produced t sound = sound_kept (produced_row t.clock) (due_keeps t.clock) t t.values sound
 
-pub sound_elapsed : (t : AdapterTable) (ms : ℕ) → IsSound t → IsSound (produced_table (expired_table (clocked_table t ms)))
-sound_elapsed t ms sound = sound_produced (expired_table (clocked_table t ms)) (sound_expired (clocked_table t ms) (sound_clocked t ms sound))
+pub sound_advanced : (t : AdapterTable) (ms : ℕ) → IsSound t → IsSound (produced_table (expired_table (clocked_table t ms)))
+sound_advanced t ms sound = sound_produced (expired_table (clocked_table t ms)) (sound_expired (clocked_table t ms) (sound_clocked t ms sound))
 
 -- ---- streams
 
@@ -243,7 +243,7 @@ sound_streams t streams few differ sound = record {
 pub sound_with : (t : AdapterTable) (number : ℕ) (peer : Node) → is_taken t.streams number ≡ false → IsSound t → IsSound (with_stream t number peer)
 unfolding with_stream
 sound_with t number peer free sound =
-    let has = has_room t.streams number free in
+    let has = has_capacity t.streams number free in
     sound_streams t (t.streams ++ new_stream number peer ∷ []) (few_with t.streams (new_stream number peer) has.room) (differ_with t.streams (new_stream number peer) sound.streams_differ has.free) sound
 
 pub sound_without : (t : AdapterTable) (number : ℕ) → IsSound t → IsSound (without_stream t number)
@@ -264,7 +264,7 @@ sound_effects = record {
   closed = sound_closed;
   written = λ t point bytes input found long sound. sound_written t point bytes sound;
   fed = λ t peer d row delivery is found sound. sound_fed t peer d row delivery sound;
-  elapsed = λ t ms in_time sound. sound_elapsed t ms sound;
+  advanced = λ t ms in_time sound. sound_advanced t ms sound;
   streamed = sound_with;
   unstreamed = sound_without;
   registered = sound_registered;

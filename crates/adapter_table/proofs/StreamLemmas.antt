@@ -12,12 +12,12 @@ use Rattle.adapter_table.specs.Sound.{StreamsDiffer}
 -- ---- a stream opens
 
 -- there is room for a stream of this number
-pub record HasRoom (streams : List Stream) (number : ℕ) : Type 0 where
+pub record HasCapacity (streams : List Stream) (number : ℕ) : Type 0 where
   pub free : list_any (is_stream number) streams ≡ false
   pub room : length streams + 1 ≤ 16
 
-pub has_room : (streams : List Stream) (number : ℕ) → is_taken streams number ≡ false → HasRoom streams number
-has_room streams number free =
+pub has_capacity : (streams : List Stream) (number : ℕ) → is_taken streams number ≡ false → HasCapacity streams number
+has_capacity streams number free =
     let parts = or_parts (list_any (is_stream number) streams) (nat_le 16 (length streams)) free in
     record { free = parts.0; room = grind (arith, nat_tests, parts.1) }
 

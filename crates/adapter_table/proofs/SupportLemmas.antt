@@ -12,7 +12,7 @@ use Rattle.cip_productions.specs.Kinds.{is_listener, same_kind}
 use Rattle.adapter_table.specs.Rows.{is_established, is_timed_out, has_triad, holds_triad, is_member, supports, is_supported, is_unsupported, others, Each}
 use Rattle.adapter_table.specs.Closing.{stays, staying}
 use Rattle.adapter_table.specs.Sound.{ListenersAreSupported, OpensBefore, OpeningsRise}
-use Rattle.adapter_table.specs.Opening.{is_opened_as, makes_room_by}
+use Rattle.adapter_table.specs.Opening.{is_opened_as, is_replaced_by}
 use Rattle.adapter_table.proofs.SoundLemmas.{or_false, any_filter}
 use Rattle.adapter_table.specs.EachLemmas.{each_found}
 
@@ -35,64 +35,64 @@ not_false false h = absurd cc
 -- ---- one that does not live makes room
 
 -- what passes the test does not live
-abbrev pub Gone : (Row → Bool) → List Row → Type 0
-Gone p rows = Each (λ row. p row ≡ true → is_established row ≡ false) rows
+abbrev pub AreRemoved : (Row → Bool) → List Row → Type 0
+AreRemoved p rows = Each (λ row. p row ≡ true → is_established row ≡ false) rows
 
-gone_triad : (triad : Triad) (rows : List Row) → list_any (holds_triad triad) rows ≡ false → Gone (has_triad triad) rows
-gone_triad triad [] none = tt
-gone_triad triad (row ∷ rows) none =
+removed_triad : (triad : Triad) (rows : List Row) → list_any (holds_triad triad) rows ≡ false → AreRemoved (has_triad triad) rows
+removed_triad triad [] none = tt
+removed_triad triad (row ∷ rows) none =
     let parts = or_false (holds_triad triad row) (list_any (holds_triad triad) rows) none in
-    (λ has. held_not (is_established row) (has_triad triad row) parts.0 has, gone_triad triad rows parts.1) where
+    (λ has. held_not (is_established row) (has_triad triad row) parts.0 has, removed_triad triad rows parts.1) where
       held_not : (a b : Bool) → (a && b) ≡ false → b ≡ true → a ≡ false
       held_not true b h has = absurd cc
       held_not false b h has = refl
 
 -- none of an opening number that is earlier than all
-gone_later : (found row : Row) (rows : List Row) → found ≡ row → Each (OpensBefore row) rows → Gone (is_opened_as (Some found)) rows
-gone_later found row [] is later = tt
-gone_later found row (other ∷ rows) is later =
+removed_later : (found row : Row) (rows : List Row) → found ≡ row → Each (OpensBefore row) rows → AreRemoved (is_opened_as (Some found)) rows
+removed_later found row [] is later = tt
+removed_later found row (other ∷ rows) is later =
     let before : row.opening < other.opening = later.0 in
-    ((λ same. absurd (earlier row.opening other.opening found.opening before (ap (λ (r : Row). r.opening) is) same)), gone_later found row rows is later.1) where
+    ((λ same. absurd (earlier row.opening other.opening found.opening before (ap (λ (r : Row). r.opening) is) same)), removed_later found row rows is later.1) where
       earlier : (a b c : ℕ) → a < b → c ≡ a → (b == c) ≡ true → ⊥
       earlier a b c less same is = grind (arith, nat_tests)
 
-gone_step : (b : Bool) (row : Row) (found : Option Row) (rows : List Row) → is_timed_out row ≡ b → Each (OpensBefore row) rows → ((other : Row) → found ≡ Some other → row.opening < other.opening) → Gone (is_opened_as found) rows → Gone (is_opened_as (cond b (Some row) found)) (row ∷ rows)
-gone_step true row found rows out later after rest = ((λ _. not_true (is_established row) out), gone_later row row rows refl later)
-gone_step false row None rows out later after rest = ((λ same. absurd cc), rest)
-gone_step false row (Some other) rows out later after rest =
+removed_step : (b : Bool) (row : Row) (found : Option Row) (rows : List Row) → is_timed_out row ≡ b → Each (OpensBefore row) rows → ((other : Row) → found ≡ Some other → row.opening < other.opening) → AreRemoved (is_opened_as found) rows → AreRemoved (is_opened_as (cond b (Some row) found)) (row ∷ rows)
+removed_step true row found rows out later after rest = ((λ _. not_true (is_established row) out), removed_later row row rows refl later)
+removed_step false row None rows out later after rest = ((λ same. absurd cc), rest)
+removed_step false row (Some other) rows out later after rest =
     let before = after other refl in
     ((λ same. absurd (earlier row.opening other.opening before same)), rest) where
       earlier : (a b : ℕ) → a < b → (a == b) ≡ true → ⊥
       earlier a b less same = grind (arith, nat_tests)
 
 -- of the first timed-out one's opening number there is no other
-gone_timed_out : (rows : List Row) → OpeningsRise rows → Gone (is_opened_as (find is_timed_out rows)) rows
-gone_timed_out [] rise = tt
-gone_timed_out (row ∷ rows) rise =
-    gone_step (is_timed_out row) row (find is_timed_out rows) rows refl rise.0 (λ other is. each_found (OpensBefore row) is_timed_out rows other is rise.0) (gone_timed_out rows rise.1)
+removed_timed_out : (rows : List Row) → OpeningsRise rows → AreRemoved (is_opened_as (find is_timed_out rows)) rows
+removed_timed_out [] rise = tt
+removed_timed_out (row ∷ rows) rise =
+    removed_step (is_timed_out row) row (find is_timed_out rows) rows refl rise.0 (λ other is. each_found (OpensBefore row) is_timed_out rows other is rise.0) (removed_timed_out rows rise.1)
 
-gone_none : (rows : List Row) → Gone (λ _. false) rows
-gone_none [] = tt
-gone_none (row ∷ rows) = (λ out. absurd cc, gone_none rows)
+removed_none : (rows : List Row) → AreRemoved (λ _. false) rows
+removed_none [] = tt
+removed_none (row ∷ rows) = (λ out. absurd cc, removed_none rows)
 
-pub gone_room : (b c : Bool) (triad : Triad) (rows : List Row) → list_any (holds_triad triad) rows ≡ false → OpeningsRise rows → Gone (makes_room_by b c (find is_timed_out rows) triad) rows
-gone_room true c triad rows none rise = gone_triad triad rows none
-gone_room false true triad rows none rise = gone_timed_out rows rise
-gone_room false false triad rows none rise = gone_none rows
+pub removed_replaced : (b c : Bool) (triad : Triad) (rows : List Row) → list_any (holds_triad triad) rows ≡ false → OpeningsRise rows → AreRemoved (is_replaced_by b c (find is_timed_out rows) triad) rows
+removed_replaced true c triad rows none rise = removed_triad triad rows none
+removed_replaced false true triad rows none rise = removed_timed_out rows rise
+removed_replaced false false triad rows none rise = removed_none rows
 
 -- what lives is still there
 kept_step : (b : Bool) (q : Row → Bool) (row : Row) (rows left : List Row) → ((r : Row) → q r ≡ true → is_established r ≡ true) → (b ≡ true → is_established row ≡ false) → list_any q left ≡ list_any q rows → list_any q (cond (not b) (row ∷ left) left) ≡ list_any q (row ∷ rows)
-kept_step true q row rows left lives gone rest =
-    let dead = gone refl in
+kept_step true q row rows left lives removed rest =
+    let dead = removed refl in
     elim (cases_Bool (q row)) [
       | inl t ↦ absurd (let e = lives row t in cc)
       | inr f ↦ rw f rest
     ]
-kept_step false q row rows left lives gone rest = ap (λ (x : Bool). q row || x) rest
+kept_step false q row rows left lives removed rest = ap (λ (x : Bool). q row || x) rest
 
-pub any_kept : (p q : Row → Bool) (rows : List Row) → ((r : Row) → q r ≡ true → is_established r ≡ true) → Gone p rows → list_any q (others p rows) ≡ list_any q rows
-any_kept p q [] lives gone = refl
-any_kept p q (row ∷ rows) lives gone = kept_step (p row) q row rows (others p rows) lives gone.0 (any_kept p q rows lives gone.1)
+pub any_kept : (p q : Row → Bool) (rows : List Row) → ((r : Row) → q r ≡ true → is_established r ≡ true) → AreRemoved p rows → list_any q (others p rows) ≡ list_any q rows
+any_kept p q [] lives removed = refl
+any_kept p q (row ∷ rows) lives removed = kept_step (p row) q row rows (others p rows) lives removed.0 (any_kept p q rows lives removed.1)
 
 supporter_lives : (kind : Kind) (point : ℕ) (row : Row) → supports kind point row ≡ true → is_established row ≡ true
 supporter_lives kind point row is = (and_parts (is_established row) _ (and_parts (is_member point row) _ is).0).0
@@ -123,10 +123,10 @@ or_left : (a b : Bool) → a ≡ true → (a || b) ≡ true
 or_left true b h = refl
 or_left false b h = absurd cc
 
-supported_opened : (b c : Bool) (triad : Triad) (rows : List Row) (new : Row) → list_any (holds_triad triad) rows ≡ false → OpeningsRise rows → (kind : Kind) (point : ℕ) → is_supported rows kind point ≡ true → is_supported (others (makes_room_by b c (find is_timed_out rows) triad) rows ++ new ∷ []) kind point ≡ true
+supported_opened : (b c : Bool) (triad : Triad) (rows : List Row) (new : Row) → list_any (holds_triad triad) rows ≡ false → OpeningsRise rows → (kind : Kind) (point : ℕ) → is_supported rows kind point ≡ true → is_supported (others (is_replaced_by b c (find is_timed_out rows) triad) rows ++ new ∷ []) kind point ≡ true
 supported_opened b c triad rows new free rise kind point is =
-    let kept = any_kept (makes_room_by b c (find is_timed_out rows) triad) (supports kind point) rows (supporter_lives kind point) (gone_room b c triad rows free rise) in
-    list_any-append (supports kind point) (others (makes_room_by b c (find is_timed_out rows) triad) rows) (new ∷ []) ∙ or_left _ _ (kept ∙ is)
+    let kept = any_kept (is_replaced_by b c (find is_timed_out rows) triad) (supports kind point) rows (supporter_lives kind point) (removed_replaced b c triad rows free rise) in
+    list_any-append (supports kind point) (others (is_replaced_by b c (find is_timed_out rows) triad) rows) (new ∷ []) ∙ or_left _ _ (kept ∙ is)
 
 -- a listener that is opened is supported
 new_supported : (rows more : List Row) (new : Row) → (is_listener new.kind && not (is_supported rows new.kind new.produced)) ≡ false → ((kind : Kind) (point : ℕ) → is_supported rows kind point ≡ true → is_supported more kind point ≡ true) → is_unsupported more new ≡ false
@@ -135,13 +135,13 @@ new_supported rows more new alone all = less_unsupported rows more all new (and_
   and_less true b h = h
   and_less false b h = refl
 
-pub listeners_opened : (b c : Bool) (triad : Triad) (rows : List Row) (new : Row) → list_any (holds_triad triad) rows ≡ false → OpeningsRise rows → (is_listener new.kind && not (is_supported rows new.kind new.produced)) ≡ false → ListenersAreSupported rows → ListenersAreSupported (others (makes_room_by b c (find is_timed_out rows) triad) rows ++ new ∷ [])
+pub listeners_opened : (b c : Bool) (triad : Triad) (rows : List Row) (new : Row) → list_any (holds_triad triad) rows ≡ false → OpeningsRise rows → (is_listener new.kind && not (is_supported rows new.kind new.produced)) ≡ false → ListenersAreSupported rows → ListenersAreSupported (others (is_replaced_by b c (find is_timed_out rows) triad) rows ++ new ∷ [])
 listeners_opened b c triad rows new free rise alone supported =
-    let all = others (makes_room_by b c (find is_timed_out rows) triad) rows ++ new ∷ [] in
+    let all = others (is_replaced_by b c (find is_timed_out rows) triad) rows ++ new ∷ [] in
     let more = supported_opened b c triad rows new free rise in
-    let old = any_filter (λ row. not (makes_room_by b c (find is_timed_out rows) triad row)) (is_unsupported all) rows (any_less (is_unsupported rows) (is_unsupported all) rows (less_unsupported rows all more) supported) in
-    let fresh = new_supported rows (others (makes_room_by b c (find is_timed_out rows) triad) rows ++ new ∷ []) new alone more in
-    rw (list_any-append (is_unsupported (others (makes_room_by b c (find is_timed_out rows) triad) rows ++ new ∷ [])) (others (makes_room_by b c (find is_timed_out rows) triad) rows) (new ∷ []), old, fresh) refl
+    let old = any_filter (λ row. not (is_replaced_by b c (find is_timed_out rows) triad row)) (is_unsupported all) rows (any_less (is_unsupported rows) (is_unsupported all) rows (less_unsupported rows all more) supported) in
+    let fresh = new_supported rows (others (is_replaced_by b c (find is_timed_out rows) triad) rows ++ new ∷ []) new alone more in
+    rw (list_any-append (is_unsupported (others (is_replaced_by b c (find is_timed_out rows) triad) rows ++ new ∷ [])) (others (is_replaced_by b c (find is_timed_out rows) triad) rows) (new ∷ []), old, fresh) refl
 
 -- ---- the listeners that are left alone go
 

@@ -24,7 +24,7 @@ use Rattle.adapter_table.specs.Checks.{Admitted, admission, stored, is_known_con
 use Rattle.adapter_table.specs.Opening.{opened_row, opened_state}
 use Rattle.adapter_table.specs.Datagrams.{is_for, accepted_row, accepted_if_for}
 use Rattle.adapter_table.specs.Productions.{due_of, produced_state, produced_row, changed_state, changed_row}
-use Rattle.cip_productions.specs.Productions.{due_again, produced, is_free, sooner_due, held, changed_by}
+use Rattle.cip_productions.specs.Productions.{due_again, produced, is_free, sooner_due, deferred, changed_by}
 use Rattle.adapter_table.specs.Shapes.{len_in}
 use Rattle.adapter_table.specs.Sound.{IdsAreDrawn}
 use Rattle.adapter_table.specs.Whole.{FitsRow, RowsFit, IsWhole}
@@ -57,13 +57,13 @@ due_fits clock api (Established production) time short due = due_step (nat_le pr
 due_fits clock api TimedOut time short due = due
 
 pub fits_due : (clock : Ms) → clock.0 ≤ 2 ^ 48 → (row : Row) → FitsRow row → FitsRow (produced_row clock row)
-fits_due clock time row fits = fits_stated row (produced_state clock row.t_o_api row.state) (due_fits clock row.t_o_api row.state time fits.t_o_api fits.due) fits
+fits_due clock time row fits = fits_stated row (produced_state clock row.t_o_api_ms row.state) (due_fits clock row.t_o_api_ms row.state time fits.t_o_api_ms fits.due) fits
 
 sooner_fits : (last : Option Ms) (inhibit : ℕ) (due : Ms) → due.0 ≤ 2 ^ 48 + 10000 → (sooner_due last inhibit due).0 ≤ 2 ^ 48 + 10000
 sooner_fits None inhibit due fits = fits
 sooner_fits (Some last) inhibit due fits = omega arith
 
-changed_step : (b : Bool) (clock : Ms) (api : ℕ) (production : Production) → production.trigger ≡ ChangeOfState → clock.0 ≤ 2 ^ 48 → api ≤ 10000 → production.due.0 ≤ 2 ^ 48 + 10000 → due_of (Established (cond b (produced clock api production) (held production))) ≤ 2 ^ 48 + 10000
+changed_step : (b : Bool) (clock : Ms) (api : ℕ) (production : Production) → production.trigger ≡ ChangeOfState → clock.0 ≤ 2 ^ 48 → api ≤ 10000 → production.due.0 ≤ 2 ^ 48 + 10000 → due_of (Established (cond b (produced clock api production) (deferred production))) ≤ 2 ^ 48 + 10000
 changed_step true clock api production is time short due = rw is (omega arith)
 changed_step false clock api production is time short due = sooner_fits production.last production.inhibit production.due due
 
@@ -77,12 +77,12 @@ changed_fits clock api TimedOut time short due = due
 
 pub fits_changed : (clock : Ms) (point : ℕ) → clock.0 ≤ 2 ^ 48 → (row : Row) → FitsRow row → FitsRow (changed_row clock point row)
 fits_changed clock point time row fits =
-    fits_chosen (row.produced == point) row (changed_state clock row.t_o_api row.state) (changed_fits clock row.t_o_api row.state time fits.t_o_api fits.due) fits
+    fits_chosen (row.produced == point) row (changed_state clock row.t_o_api_ms row.state) (changed_fits clock row.t_o_api_ms row.state time fits.t_o_api_ms fits.due) fits
 
 -- ---- a datagram is accepted
 
 fed_step : (b : Bool) (clock : Ms) (d : DatagramFields) (row : Row) → FitsRow row → FitsRow (cond b (accepted_row clock d row) row)
-fed_step true clock d row fits = record { multiplier = fits.multiplier; o_t_api = fits.o_t_api; t_o_api = fits.t_o_api; due = fits.due }
+fed_step true clock d row fits = record { multiplier = fits.multiplier; o_t_api_ms = fits.o_t_api_ms; t_o_api_ms = fits.t_o_api_ms; due = fits.due }
 fed_step false clock d row fits = fits
 
 pub fits_fed : (clock : Ms) (peer : Node) (d : DatagramFields) (row : Row) → FitsRow row → FitsRow (accepted_if_for clock peer d row)
@@ -111,8 +111,8 @@ is_timed t request admitted e =
     let t_o = interval_fits request.t_o_rpi both.1 in
     record {
       multiplier = few;
-      o_t_api = rw is.o_t_api o_t;
-      t_o_api = rw is.t_o_api t_o;
+      o_t_api_ms = rw is.o_t_api_ms o_t;
+      t_o_api_ms = rw is.t_o_api_ms t_o;
       watchdog = rw is.watchdog (timeout_fits request.multiplier (interval_ms request.o_t_rpi) few o_t);
       left = is.ids_are_left;
       draws = draws_some admitted.multicast admitted.group;
@@ -133,8 +133,8 @@ fits_opened t peer request admitted e fit time =
     let timed = is_timed t request admitted e in
     record {
       multiplier = timed.multiplier;
-      o_t_api = timed.o_t_api;
-      t_o_api = timed.t_o_api;
+      o_t_api_ms = timed.o_t_api_ms;
+      t_o_api_ms = timed.t_o_api_ms;
       due = due_opened t peer admitted admitted.group is.group_is fit time;
     }
 

@@ -13,7 +13,7 @@ use Rattle.adapter_table.specs.declared.table.AdapterTable.{AdapterTable}
 use Rattle.adapter_table.specs.Profiles.{is_at, profile_fault}
 use Rattle.adapter_table.specs.Rows.{has_triad, others, written_row}
 use Rattle.adapter_table.specs.Checks.{Admitted, admission}
-use Rattle.adapter_table.specs.Opening.{makes_room, opened_row, opened_table}
+use Rattle.adapter_table.specs.Opening.{is_replaced, opened_row, opened_table}
 use Rattle.adapter_table.specs.Closing.{without_triad, stays, staying, closed_table}
 use Rattle.adapter_table.specs.Streams.{is_taken, with_stream, without_stream, registered_table}
 use Rattle.adapter_table.specs.Datagrams.{is_for, row_delivery, accepted_if_for, accepted_table}
@@ -30,7 +30,7 @@ use Rattle.adapter_table.proofs.ConsumerLemmas.{consume_kept, consume_expired, a
 use Rattle.adapter_table.proofs.FedLemmas.{shaped_fed}
 use Rattle.adapter_table.specs.Laws.{EffectsKeep}
 use Rattle.adapter_table.proofs.EffectLemmas.{adapter_keeps}
-use Rattle.adapter_table.proofs.StepLemmas.{sound_fresh, sound_opened, sound_closed, sound_written, sound_fed, sound_elapsed, sound_with, sound_without, sound_registered}
+use Rattle.adapter_table.proofs.StepLemmas.{sound_fresh, sound_opened, sound_closed, sound_written, sound_fed, sound_advanced, sound_with, sound_without, sound_registered}
 use Rattle.adapter_table.specs.RowLimits.{fits_written, fits_expired}
 use Rattle.adapter_table.proofs.WholeLemmas.{fits_due, fits_changed, fits_fed, fits_opened}
 
@@ -39,8 +39,8 @@ unfolding opened_table opened_row
 whole_opened t peer request admitted e whole =
     let is = admitted_is t request admitted e in
     let row = opened_row t peer request admitted in
-    let stays_there : Row → Bool = λ r. not (makes_room t.rows request.triad r) in
-    let left = others (makes_room t.rows request.triad) t.rows in
+    let stays_there : Row → Bool = λ r. not (is_replaced t.rows request.triad r) in
+    let left = others (is_replaced t.rows request.triad) t.rows in
     record {
       sound = sound_opened t peer request admitted e whole.sound;
       shaped =
@@ -86,13 +86,13 @@ whole_fed t peer d row delivery is found whole = record {
   clock = whole.clock;
 }
 
-pub whole_elapsed : (t : AdapterTable) (ms : ℕ) → t.clock.0 + ms ≤ 2 ^ 48 → IsWhole t → IsWhole (produced_table (expired_table (clocked_table t ms)))
+pub whole_advanced : (t : AdapterTable) (ms : ℕ) → t.clock.0 + ms ≤ 2 ^ 48 → IsWhole t → IsWhole (produced_table (expired_table (clocked_table t ms)))
 unfolding clocked_table expired_table produced_table
-whole_elapsed t ms in_time whole =
+whole_advanced t ms in_time whole =
     let clock : Ms = record { 0 = t.clock.0 + ms } in
     let left = expired_rows clock t.rows in
     record {
-      sound = sound_elapsed t ms whole.sound;
+      sound = sound_advanced t ms whole.sound;
       shaped = shaped_expired t.profile (expired clock t.rows) t.values whole.shaped;
       consume = consume_kept (produced_row clock) (due_keeps clock) t.profile (staying left) (each_filter (ConsumesOutput t.profile) (stays left) left (consume_expired clock t.profile t.rows whole.consume));
       fits = each_map FitsRow (produced_row clock) (fits_due clock in_time) (staying left) (each_filter FitsRow (stays left) left (each_map FitsRow (expired_row clock) (fits_expired clock) t.rows whole.fits));
@@ -117,7 +117,7 @@ whole_effects = record {
   closed = whole_closed;
   written = whole_written;
   fed = whole_fed;
-  elapsed = whole_elapsed;
+  advanced = whole_advanced;
   streamed = whole_with;
   unstreamed = whole_without;
   registered = whole_registered;

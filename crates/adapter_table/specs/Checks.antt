@@ -12,7 +12,7 @@ use Rattle.cip_epath.specs.declared.fault.PathFault.{PathFault}
 use Rattle.cip_epath.specs.declared.fault.PathFault.TheVariants as path_fault
 use Rattle.cip_epath.specs.declared.key.KeyFault.{KeyFault}
 use Rattle.cip_epath.specs.declared.key.KeyFault.TheVariants.{VendorOrProduct, DeviceType, Revision}
-use Rattle.cip_epath.specs.Key.{KeyFields, key_fault}
+use Rattle.cip_epath.specs.ElectronicKey.{KeyFields, key_fault}
 use Rattle.cip_epath.specs.Path.{PathFields}
 use Rattle.cip_epath.specs.Reading.{path_reading}
 use Rattle.cip_netparams.specs.declared.ConnectionType.{ConnectionType}
@@ -35,7 +35,7 @@ use Rattle.adapter_table.specs.declared.row.State.{State}
 use Rattle.adapter_table.specs.declared.row.State.TheVariants.{Established, TimedOut}
 use Rattle.adapter_table.specs.declared.table.PointValue.{PointValue}
 use Rattle.adapter_table.specs.declared.table.AdapterTable.{AdapterTable}
-use Rattle.adapter_table.specs.declared.admission.Consumer.{Consumer}
+use Rattle.adapter_table.specs.declared.admission.ConsumedPoint.{ConsumedPoint}
 use Rattle.adapter_table.specs.declared.admission.Admission.{Admission}
 use Rattle.adapter_table.specs.Profiles.{is_at, is_output_at}
 use Rattle.adapter_table.specs.Points.{bytes_at}
@@ -169,8 +169,8 @@ inhibit_of None = 0
 inhibit_of (Some path) = unwrap_or path.inhibit 0
 
 -- changes of state are to be held back for longer than the T->O packet interval
-abbrev pub is_held_back : OpenFields → Option PathFields → Bool
-is_held_back request path = is_change_of_state (trigger_of request.trigger) && nat_lt (interval_ms request.t_o_rpi) (inhibit_of path)
+abbrev pub has_inhibit_fault : OpenFields → Option PathFields → Bool
+has_inhibit_fault request path = is_change_of_state (trigger_of request.trigger) && nat_lt (interval_ms request.t_o_rpi) (inhibit_of path)
 
 -- POINTS
 
@@ -187,16 +187,16 @@ heartbeat_kind false true = Some ListenOnly
 heartbeat_kind false false = None
 
 -- a consumer of no data
-abbrev pub heartbeat_consumer : Kind → Consumer
-heartbeat_consumer kind = record { kind = kind; len = 0 }
+abbrev pub heartbeat_point : Kind → ConsumedPoint
+heartbeat_point kind = record { kind = kind; len = 0 }
 
-abbrev pub consumer_at : Profile → ℕ → Option OutputPoint → Option Consumer
-consumer_at profile point (Some output) = Some (record { kind = ExclusiveOwner; len = output.len })
-consumer_at profile point None = option_map heartbeat_consumer (heartbeat_kind (profile.input_only == point) (profile.listen_only == point))
+abbrev pub consumed_point_at : Profile → ℕ → Option OutputPoint → Option ConsumedPoint
+consumed_point_at profile point (Some output) = Some (record { kind = ExclusiveOwner; len = output.len })
+consumed_point_at profile point None = option_map heartbeat_point (heartbeat_kind (profile.input_only == point) (profile.listen_only == point))
 
 -- what a connection that consumes the point is for
-abbrev pub consumer_of : Profile → ℕ → Option Consumer
-consumer_of profile point = consumer_at profile point (find (is_output_at point) profile.outputs)
+abbrev pub consumed_point_of : Profile → ℕ → Option ConsumedPoint
+consumed_point_of profile point = consumed_point_at profile point (find (is_output_at point) profile.outputs)
 
 abbrev pub input_of : Profile → ℕ → Option InputPoint
 input_of profile point = find (is_at point) profile.inputs
@@ -208,7 +208,7 @@ joined multicast group = if multicast then group else None
 -- what a path names: what consumes, what is produced, and the connection whose producer is joined
 pub record Points : Type 0 where
   pub path : PathFields
-  pub consumer : Consumer
+  pub consumer : ConsumedPoint
   pub input : InputPoint
   pub group : Option Row
 
@@ -221,7 +221,7 @@ path_check profile path =
     )
 
 -- the points of a path, or the first of them that there is not
-abbrev pub named_points : PathFields → Option Row → Check → Option Consumer → Option InputPoint → Result Points Refusal
+abbrev pub named_points : PathFields → Option Row → Check → Option ConsumedPoint → Option InputPoint → Result Points Refusal
 named_points path group (Some why) consumer input = Err why
 named_points path group None None input = Err refusal.ConsumedPath
 named_points path group None (Some consumer) None = Err refusal.ProducedPath
@@ -232,7 +232,7 @@ abbrev pub points_of : View → OpenFields → Option PathFields → Result Poin
 points_of view request None = Err refusal.Path
 points_of view request (Some path) =
     named_points path (joined (is_multicast request.t_o_params.kind) (view.group path.produced)) (path_check view.profile path)
-    (consumer_of view.profile path.consumed) (input_of view.profile path.produced)
+    (consumed_point_of view.profile path.consumed) (input_of view.profile path.produced)
 
 -- where no points are found, that is what fails
 abbrev pub points_check : Result Points Refusal → Check
@@ -278,7 +278,7 @@ changes_config view points = view.established && has_other_bytes (stored points.
 -- SIZES
 
 -- the size of O->T datagrams: a sequence count, and an owner's data behind a run/idle header
-abbrev pub o_t_size : Consumer → ℕ
+abbrev pub o_t_size : ConsumedPoint → ℕ
 o_t_size consumer = if is_owner consumer.kind then consumer.len + 6 else 2
 
 -- the size of T->O datagrams: a sequence count and the input
@@ -338,7 +338,7 @@ joins None test = false
 joins (Some member) test = test member
 
 abbrev pub joins_other_api : OpenFields → Points → Bool
-joins_other_api request points = joins points.group (λ member. not (interval_ms request.t_o_rpi == member.t_o_api))
+joins_other_api request points = joins points.group (λ member. not (interval_ms request.t_o_rpi == member.t_o_api_ms))
 
 abbrev pub joins_other_trigger : OpenFields → Points → Bool
 joins_other_trigger request points = joins points.group (λ member. has_other_trigger (served_trigger (trigger_of request.trigger)) member.state)
@@ -358,8 +358,8 @@ abbrev pub lacks_ids : View → OpenFields → Points → Bool
 lacks_ids view request points = nat_lt 16777216 (view.next_id + drawn_ids (is_multicast request.t_o_params.kind) points.group)
 
 -- there are 64 connections, and none can make room
-abbrev pub lacks_room : View → Bool
-lacks_room view = nat_le most_rows view.count && not view.timed_out
+abbrev pub lacks_capacity : View → Bool
+lacks_capacity view = nat_le most_rows view.count && not view.timed_out
 
 -- THE FIFTEEN CHECKS
 
@@ -381,7 +381,7 @@ checks view request path points =
     ∷ check (is_unserved request) refusal.Parameter
     -- 8: a packet interval is 0 or above 10 seconds (0x0111), changes are held back longer than it (0x011B)
     ∷ check (not (are_intervals request)) refusal.PacketInterval
-    ∷ check (is_held_back request (result_ok path)) refusal.InhibitTime
+    ∷ check (has_inhibit_fault request (result_ok path)) refusal.InhibitTime
     -- 9: the path is none, or not of the assemblies (0x0117); it names another configuration (0x0129), an
     --    unknown consumed (0x012A), an unknown produced point (0x012B)
     ∷ points_check points
@@ -402,7 +402,7 @@ checks view request path points =
     ∷ check (fails_at points (joins_other_inhibit request)) refusal.PacketInterval
     -- 15: the ids are used up, or there are 64 connections and none has timed out (0x0113)
     ∷ check (fails_at points (lacks_ids view request)) refusal.OutOfConnections
-    ∷ check (lacks_room view) refusal.OutOfConnections
+    ∷ check (lacks_capacity view) refusal.OutOfConnections
     ∷ []
 
 -- THE VERDICT
@@ -417,8 +417,8 @@ pub record Admitted : Type 0 where
   pub multicast : Bool
   pub trigger : Trigger
   pub inhibit : ℕ
-  pub o_t_api : ℕ
-  pub t_o_api : ℕ
+  pub o_t_api_ms : ℕ
+  pub t_o_api_ms : ℕ
   pub watchdog : Ms
   pub group : Option Row
   pub segment : Option (List ℕ)
@@ -432,8 +432,8 @@ view_admission a = record {
   multicast = a.multicast;
   trigger = a.trigger;
   inhibit = a.inhibit;
-  o_t_api = a.o_t_api;
-  t_o_api = a.t_o_api;
+  o_t_api_ms = a.o_t_api_ms;
+  t_o_api_ms = a.t_o_api_ms;
   watchdog = a.watchdog;
   group = a.group;
   segment = option_map (λ lent. lent.now) a.segment;
@@ -448,8 +448,8 @@ admitted_at request points = record {
   multicast = is_multicast request.t_o_params.kind;
   trigger = served_trigger (trigger_of request.trigger);
   inhibit = served_inhibit (served_trigger (trigger_of request.trigger)) points.path.inhibit;
-  o_t_api = interval_ms request.o_t_rpi;
-  t_o_api = interval_ms request.t_o_rpi;
+  o_t_api_ms = interval_ms request.o_t_rpi;
+  t_o_api_ms = interval_ms request.t_o_rpi;
   watchdog = record { 0 = timeout request.multiplier (interval_ms request.o_t_rpi) };
   group = points.group;
   segment = stored points.path.config points.path.segment;

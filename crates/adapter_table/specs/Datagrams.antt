@@ -23,7 +23,7 @@ use Rattle.cip_productions.specs.Kinds.{is_owner}
 use Rattle.adapter_table.specs.Rows.{is_established}
 use Rattle.adapter_table.specs.Requests.{Next}
 use Rattle.cip_events.specs.Answers.{plain_answer, is_accepted}
-use Rattle.cip_productions.specs.Acceptance.{is_news, is_repeated}
+use Rattle.cip_productions.specs.Acceptance.{accepts_sequence, is_duplicate}
 
 -- WHOSE IT IS, AND WHETHER IT IS ACCEPTED
 
@@ -50,7 +50,7 @@ moded header = if run_bit header then Applied else Idle
 
 -- what becomes of an owner's accepted datagram
 abbrev pub owned_delivery : Row → DatagramFields → Delivery
-owned_delivery row d = if is_repeated row.last d.count then Duplicate else moded (header_at d.payload)
+owned_delivery row d = if is_duplicate row.last d.count then Duplicate else moded (header_at d.payload)
 
 -- what becomes of an accepted datagram
 abbrev pub accepted_delivery : Row → DatagramFields → Delivery
@@ -58,7 +58,7 @@ accepted_delivery row d = if is_owner row.kind then owned_delivery row d else He
 
 -- what becomes of a datagram that has the connection's size
 abbrev pub sized_delivery : Row → DatagramFields → Delivery
-sized_delivery row d = if is_news row.last d.sequence then accepted_delivery row d else Old
+sized_delivery row d = if accepts_sequence row.last d.sequence then accepted_delivery row d else Old
 
 abbrev pub row_delivery : Profile → Row → DatagramFields → Delivery
 row_delivery profile row d = if length d.payload == expected_len profile row then sized_delivery row d else WrongSize
@@ -66,7 +66,7 @@ row_delivery profile row d = if length d.payload == expected_len profile row the
 -- WHAT IT CHANGES
 
 abbrev pub later_deadline : Ms → Row → Ms
-later_deadline clock row = record { 0 = clock.0 + timeout row.multiplier row.o_t_api }
+later_deadline clock row = record { 0 = clock.0 + timeout row.multiplier row.o_t_api_ms }
 
 -- the datagram is the last that the connection accepted, and its watchdog waits from now on
 abbrev pub accepted_row : Ms → DatagramFields → Row → Row

@@ -21,12 +21,12 @@ use Rattle.cip_events.specs.declared.event.StepFault.TheVariants.{NotAllowedNow}
 use Rattle.cip_events.specs.declared.event.Verdict.TheVariants.{Done, BadFrame}
 use Rattle.adapter_table.specs.declared.table.Stream.{Stream}
 use Rattle.adapter_table.specs.declared.table.AdapterTable.{AdapterTable}
-use Rattle.cip_router.specs.Asking.{asked_reading}
+use Rattle.cip_router.specs.Requests.{router_request_reading}
 use Rattle.adapter_table.specs.Requests.{Next, Served, served}
 use Rattle.cip_events.specs.Answers.{plain_answer}
 use Rattle.cip_router.specs.Commands.{command_of, is_silent}
 use Rattle.adapter_table.specs.Streams.{is_stream, session_of, has_session, without_stream, registered_table}
-use Rattle.cip_router.specs.Frames.{Echo, FrameFields, headless, misfit, whole, frame_reading, FrameReply, services, registered, other_version, router_reply, refused, protocol_text, reply_message}
+use Rattle.cip_router.specs.Frames.{ReplyHeader, FrameFields, headless, misfit, whole, frame_reading, FrameReply, services, registered, other_version, router_reply, refused, protocol_text, reply_message}
 
 -- WHAT BECOMES OF A MESSAGE
 
@@ -41,12 +41,12 @@ abbrev pub unanswered : AdapterTable → Handled
 unanswered t = record { reply = None; notices = []; table = t }
 
 -- a reply, and nothing has changed
-abbrev pub told : AdapterTable → FrameReply → Handled
-told t reply = record { reply = Some reply; notices = []; table = t }
+abbrev pub reply_only : AdapterTable → FrameReply → Handled
+reply_only t reply = record { reply = Some reply; notices = []; table = t }
 
 -- a refusal, and nothing has changed
 abbrev pub refusal : AdapterTable → EncapStatus → Handled
-refusal t why = told t (refused why)
+refusal t why = reply_only t (refused why)
 
 -- a session begins on the stream
 abbrev pub session_begun : AdapterTable → Stream → Handled
@@ -56,7 +56,7 @@ session_begun t stream = record { reply = Some (registered (session_of stream));
 abbrev pub register_session : AdapterTable → Stream → List ℕ → Handled
 register_session t stream body = first_case_or (session_begun t stream) (
     (not (length body == 4), refusal t status.InvalidLength)
-    ∷ (not (bytes_eq body protocol_text), told t other_version)
+    ∷ (not (bytes_eq body protocol_text), reply_only t other_version)
     ∷ (stream.registered, refusal t status.InvalidCommand)
     ∷ [])
 
@@ -76,7 +76,7 @@ request_replied t (Some s) = record { reply = Some (router_reply s.reply s.addre
 -- items with a request of a peer, or other data
 abbrev pub packet_replied : AdapterTable → Node → Result PacketFields ItemFault → Handled
 packet_replied t peer (Err fault) = refusal t status.IncorrectData
-packet_replied t peer (Ok packet) = request_replied t (served t peer (asked_reading packet.payload))
+packet_replied t peer (Ok packet) = request_replied t (served t peer (router_request_reading packet.payload))
 
 -- SendRRData: within its session, a request of the stream's peer to the message router
 abbrev pub send_rr_data : AdapterTable → Stream → ℕ → List ℕ → Handled
@@ -84,26 +84,26 @@ send_rr_data t stream session body =
     if has_session stream session then packet_replied t stream.peer (packet_reading body) else refusal t status.InvalidSession
 
 -- a message by its command
-unfoldable pub handled : AdapterTable → Stream → Echo → List ℕ → Command → Handled
-handled t stream echo body command.Nop = unanswered t
-handled t stream echo body command.ListServices = told t services
-handled t stream echo body command.RegisterSession = register_session t stream body
-handled t stream echo body command.UnregisterSession = unregister_session t stream echo.session
-handled t stream echo body command.SendRrData = send_rr_data t stream echo.session body
-handled t stream echo body command.Other = refusal t status.InvalidCommand
+unfoldable pub handled : AdapterTable → Stream → ReplyHeader → List ℕ → Command → Handled
+handled t stream reply_header body command.Nop = unanswered t
+handled t stream reply_header body command.ListServices = reply_only t services
+handled t stream reply_header body command.RegisterSession = register_session t stream body
+handled t stream reply_header body command.UnregisterSession = unregister_session t stream reply_header.session
+handled t stream reply_header body command.SendRrData = send_rr_data t stream reply_header.session body
+handled t stream reply_header body command.Other = refusal t status.InvalidCommand
 
 -- THE ANSWER
 
 -- the frame of a reply, for the other end of the stream
-abbrev pub reply_frames : ℕ → Echo → Option FrameReply → List Frame
-reply_frames number echo None = []
-reply_frames number echo (Some reply) = record { to = recipient.Stream number; bytes = message_text (reply_message echo reply) } ∷ []
+abbrev pub reply_frames : ℕ → ReplyHeader → Option FrameReply → List Frame
+reply_frames number reply_header None = []
+reply_frames number reply_header (Some reply) = record { to = recipient.Stream number; bytes = message_text (reply_message reply_header reply) } ∷ []
 
 -- what became of a message of the stream of this number, and the table after it
-abbrev pub framed : ℕ → Echo → Handled → Next
-framed number echo done = (
+abbrev pub framed : ℕ → ReplyHeader → Handled → Next
+framed number reply_header done = (
   record {
-    frames = reply_frames number echo done.reply;
+    frames = reply_frames number reply_header done.reply;
     datagrams = [];
     verdict = Done;
     notices = done.notices;
@@ -112,16 +112,16 @@ framed number echo done = (
 )
 
 -- a wrong length field goes before everything else; where no reply is due, the frame is a bad one
-abbrev pub misfit_answer : AdapterTable → ℕ → Echo → Next
-misfit_answer t number echo = first_case_or (framed number echo (refusal t status.InvalidLength)) (
-    (is_silent (command_of echo.command), (plain_answer BadFrame, t))
+abbrev pub misfit_answer : AdapterTable → ℕ → ReplyHeader → Next
+misfit_answer t number reply_header = first_case_or (framed number reply_header (refusal t status.InvalidLength)) (
+    (is_silent (command_of reply_header.command), (plain_answer BadFrame, t))
     ∷ [])
 
 -- what becomes of a frame of an open stream
 abbrev pub frame_answer : AdapterTable → Stream → FrameFields → Next
 frame_answer t stream headless = (plain_answer BadFrame, t)
-frame_answer t stream (misfit echo) = misfit_answer t stream.number echo
-frame_answer t stream (whole echo body) = framed stream.number echo (handled t stream echo body (command_of echo.command))
+frame_answer t stream (misfit reply_header) = misfit_answer t stream.number reply_header
+frame_answer t stream (whole reply_header body) = framed stream.number reply_header (handled t stream reply_header body (command_of reply_header.command))
 
 -- the same of the stream that is found, if one is
 abbrev pub frame_of : AdapterTable → List ℕ → Option Stream → Result Next StepFault

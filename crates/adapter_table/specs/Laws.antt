@@ -68,7 +68,7 @@ pub record EffectsKeep (P : AdapterTable → Type 0) : Type 0 where
   pub closed : (t : AdapterTable) (row : Row) → P t → P (closed_table t row)
   pub written : (t : AdapterTable) (point : ℕ) (bytes : List ℕ) (input : InputPoint) → find (is_at point) t.profile.inputs ≡ Some input → length bytes ≡ input.len → P t → P (changed_table (written_table t point bytes) point)
   pub fed : (t : AdapterTable) (peer : Node) (d : DatagramFields) (row : Row) (delivery : Delivery) → row_delivery t.profile row d ≡ delivery → find (is_for peer d.connection) t.rows ≡ Some row → P t → P (accepted_table t peer d row delivery)
-  pub elapsed : (t : AdapterTable) (ms : ℕ) → t.clock.0 + ms ≤ 2 ^ 48 → P t → P (produced_table (expired_table (clocked_table t ms)))
+  pub advanced : (t : AdapterTable) (ms : ℕ) → t.clock.0 + ms ≤ 2 ^ 48 → P t → P (produced_table (expired_table (clocked_table t ms)))
   pub streamed : (t : AdapterTable) (number : ℕ) (peer : Node) → is_taken t.streams number ≡ false → P t → P (with_stream t number peer)
   pub unstreamed : (t : AdapterTable) (number : ℕ) → P t → P (without_stream t number)
   pub registered : (t : AdapterTable) (number : ℕ) → P t → P (registered_table t number)
@@ -76,8 +76,8 @@ pub record EffectsKeep (P : AdapterTable → Type 0) : Type 0 where
 -- what the times and the id of an admitted request are
 pub record IsTimed (t : AdapterTable) (request : OpenFields) (admitted : Admitted) : Type 0 where
   pub multiplier : request.multiplier ≤ 7
-  pub o_t_api : admitted.o_t_api ≤ 10000
-  pub t_o_api : admitted.t_o_api ≤ 10000
+  pub o_t_api_ms : admitted.o_t_api_ms ≤ 10000
+  pub t_o_api_ms : admitted.t_o_api_ms ≤ 10000
   pub watchdog : admitted.watchdog.0 ≤ 5120000
   pub left : t.next_id + drawn_ids admitted.multicast admitted.group ≤ 16777216
   pub draws : 1 ≤ drawn_ids admitted.multicast admitted.group

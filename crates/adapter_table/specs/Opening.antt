@@ -35,22 +35,22 @@ is_opened_as (Some found) row = row.opening == found.opening
 
 -- Which connection makes room for one of a triad: the one of this triad, which has timed out, where there is one; among
 -- 64 the first timed-out one; where there is room none.
-abbrev pub makes_room_by : Bool → Bool → Option Row → Triad → Row → Bool
-makes_room_by true full first triad row = has_triad triad row
-makes_room_by false true first triad row = is_opened_as first row
-makes_room_by false false first triad row = false
+abbrev pub is_replaced_by : Bool → Bool → Option Row → Triad → Row → Bool
+is_replaced_by true full first triad row = has_triad triad row
+is_replaced_by false true first triad row = is_opened_as first row
+is_replaced_by false false first triad row = false
 
 -- the connection makes room for a new one
-abbrev pub makes_room : List Row → Triad → Row → Bool
-makes_room rows triad row =
-    makes_room_by (list_any (has_triad triad) rows) (nat_le most_rows (length rows)) (find is_timed_out rows) triad row
+abbrev pub is_replaced : List Row → Triad → Row → Bool
+is_replaced rows triad row =
+    is_replaced_by (list_any (has_triad triad) rows) (nat_le most_rows (length rows)) (find is_timed_out rows) triad row
 
 abbrev pub triad_of : Row → Triad
 triad_of row = row.triad
 
 -- the triad of the connection that makes room
 abbrev pub replaced_triad : List Row → Triad → Option Triad
-replaced_triad rows triad = option_map triad_of (find (makes_room rows triad) rows)
+replaced_triad rows triad = option_map triad_of (find (is_replaced rows triad) rows)
 
 -- THE NEW CONNECTION
 
@@ -106,8 +106,8 @@ opened_row t peer request admitted = record {
   produced = admitted.produced;
   o_t_id = connection_id t.profile t.next_id;
   t_o_id = opened_t_o_id t request admitted.multicast admitted.group;
-  o_t_api = admitted.o_t_api;
-  t_o_api = admitted.t_o_api;
+  o_t_api_ms = admitted.o_t_api_ms;
+  t_o_api_ms = admitted.t_o_api_ms;
   multiplier = request.multiplier;
   multicast = admitted.multicast;
   opening = t.next_id;
@@ -127,7 +127,7 @@ configured (Some config) (Some segment) values = put_value config.instance segme
 -- what makes room is gone, the new connection is the last, its data segment is stored, its ids are drawn
 unfoldable pub opened_table : AdapterTable → Row → Admitted → AdapterTable
 opened_table t row admitted = record t {
-  rows = others (makes_room t.rows row.triad) t.rows ++ row ∷ [];
+  rows = others (is_replaced t.rows row.triad) t.rows ++ row ∷ [];
   values = configured t.profile.config admitted.segment t.values;
   next_id = t.next_id + drawn_ids admitted.multicast admitted.group;
 }
@@ -140,8 +140,8 @@ opened_reply row = record {
   o_t_id = row.o_t_id;
   t_o_id = row.t_o_id;
   triad = row.triad;
-  o_t_api = 1000 * row.o_t_api;
-  t_o_api = 1000 * row.t_o_api;
+  o_t_api_us = 1000 * row.o_t_api_ms;
+  t_o_api_us = 1000 * row.t_o_api_ms;
 }
 
 -- where the datagrams of a producer go

@@ -95,7 +95,7 @@ produced_state clock api (Established production) =
 
 -- a connection's producer has produced, where it was due
 abbrev pub produced_row : Ms → Row → Row
-produced_row clock row = record row { state = produced_state clock row.t_o_api row.state }
+produced_row clock row = record row { state = produced_state clock row.t_o_api_ms row.state }
 
 -- CHANGES OF STATE
 
@@ -121,4 +121,4 @@ changed_state clock api (Established production) = Established (changed clock ap
 
 -- a connection's producer has done what a write of its input asks of it
 abbrev pub changed_row : Ms → ℕ → Row → Row
-changed_row clock point row = if row.produced == point then record row { state = changed_state clock row.t_o_api row.state } else row
+changed_row clock point row = if row.produced == point then record row { state = changed_state clock row.t_o_api_ms row.state } else row

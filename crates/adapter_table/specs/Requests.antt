@@ -10,7 +10,7 @@ use Rattle.cip_events.specs.declared.event.Recipient.TheVariants.{Peer}
 use Rattle.cip_events.specs.declared.event.Verdict.TheVariants.{Done, BadFrame}
 use Rattle.cip_events.specs.declared.event.Answer.{Answer}
 use Rattle.adapter_table.specs.declared.table.AdapterTable.{AdapterTable}
-use Rattle.cip_router.specs.Asking.{AskedFields, nothing, refused, closing, assembly, opening, asked_reading}
+use Rattle.cip_router.specs.Requests.{RouterRequestFields, nothing, refused, closing, assembly, opening, router_request_reading}
 use Rattle.cip_fwdopen.specs.Close.{CloseFields}
 use Rattle.adapter_table.specs.declared.row.Row.{Row}
 use Rattle.adapter_table.specs.Rows.{has_triad}
@@ -120,7 +120,7 @@ unfoldable pub served_assembly : AdapterTable → ℕ → ℕ → Option ℕ →
 served_assembly t service instance attribute body = assembly_of t service attribute body (bytes_at t.values instance)
 
 -- what is served of a request, where there is one
-abbrev pub served : AdapterTable → Node → AskedFields → Option Served
+abbrev pub served : AdapterTable → Node → RouterRequestFields → Option Served
 served t peer nothing = None
 served t peer (refused service why) = Some (router_refusal t service why)
 served t peer (closing request) = Some (served_close t request)
@@ -154,4 +154,4 @@ answered t peer (Some s) = replied peer s
 
 -- a request of a peer
 unfoldable pub requested : AdapterTable → Node → List ℕ → Next
-requested t peer bytes = answered t peer (served t peer (asked_reading bytes))
+requested t peer bytes = answered t peer (served t peer (router_request_reading bytes))

@@ -14,7 +14,7 @@ use Rattle.adapter_table.specs.EachLemmas.{each_filter, each_map}
 -- where the state alone is changed
 
 pub fits_stated : (row : Row) (state : State) → due_of state ≤ 2 ^ 48 + 10000 → FitsRow row → FitsRow (record row { state = state })
-fits_stated row state due fits = record { multiplier = fits.multiplier; o_t_api = fits.o_t_api; t_o_api = fits.t_o_api; due = due }
+fits_stated row state due fits = record { multiplier = fits.multiplier; o_t_api_ms = fits.o_t_api_ms; t_o_api_ms = fits.t_o_api_ms; due = due }
 
 pub fits_chosen : (b : Bool) (row : Row) (state : State) → due_of state ≤ 2 ^ 48 + 10000 → FitsRow row → FitsRow (cond b (record row { state = state }) row)
 fits_chosen true row state due fits = fits_stated row state due fits

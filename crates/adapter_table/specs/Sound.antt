@@ -41,7 +41,7 @@ ListenersAreSupported rows = list_any (is_unsupported rows) rows ≡ false
 -- productions, the producer's number among them
 pub record SharesProducer (a b : Row) : Type 0 where
   pub id : a.t_o_id ≡ b.t_o_id
-  pub api : a.t_o_api ≡ b.t_o_api
+  pub api : a.t_o_api_ms ≡ b.t_o_api_ms
   pub state : a.state ≡ b.state
 
 -- where both are established multicast connections of the first one's input

@@ -82,14 +82,14 @@ tick_answer clocked left = record {
   notices = expiry_notices clocked.clock clocked.rows;
 }
 
-abbrev pub elapsed : AdapterTable → Next
-elapsed clocked =
+abbrev pub advanced : AdapterTable → Next
+advanced clocked =
     let left = expired_table clocked in
     (tick_answer clocked left.rows, produced_table left)
 
 -- some milliseconds pass: no more than a tick has, and not past the end of the clock
 unfoldable pub tick : AdapterTable → ℕ → Result Next StepFault
-tick t ms = first_case_or (Ok (elapsed (clocked_table t ms))) (
+tick t ms = first_case_or (Ok (advanced (clocked_table t ms))) (
     (nat_lt longest_tick ms, Err fault.TickTooLong)
     ∷ (nat_lt clock_end (t.clock.0 + ms), Err fault.ClockEnd)
     ∷ [])

@@ -16,8 +16,8 @@ use Rattle.adapter_table.specs.Sound.{IsSound}
 -- multiplier, when its producer is due
 pub record FitsRow (row : Row) : Type 0 where
   pub multiplier : row.multiplier ≤ 7
-  pub o_t_api : row.o_t_api ≤ 10000
-  pub t_o_api : row.t_o_api ≤ 10000
+  pub o_t_api_ms : row.o_t_api_ms ≤ 10000
+  pub t_o_api_ms : row.t_o_api_ms ≤ 10000
   pub due : due_of row.state ≤ 2 ^ 48 + 10000
 
 abbrev pub RowsFit : List Row → Type 0

@@ -12,7 +12,7 @@ use crate::rows::is_established;
 use cip_datagram::{Datagram, read_header};
 use cip_events::Delivery;
 use cip_netparams::timeout_of;
-use cip_productions::{Accepted, Kind, is_news, is_repeated};
+use cip_productions::{Accepted, Kind, accepts_sequence, is_duplicate};
 use cip_types::{ConnId, Ms, Node};
 
 /// The bytes of a run/idle header.
@@ -63,7 +63,7 @@ fn run_bit(datagram: &Datagram<'_>) -> bool
 fn owned_delivery(row: &Row, datagram: &Datagram<'_>) -> Delivery
     ensures { result ≡ owned_delivery row.now (view_datagram datagram.now) }
 {
-    if is_repeated(row.last, datagram.count) {
+    if is_duplicate(row.last, datagram.count) {
         Delivery::Duplicate
     } else if run_bit(datagram) {
         Delivery::Applied
@@ -82,7 +82,7 @@ pub fn row_delivery(profile: &Profile, row: &Row, datagram: &Datagram<'_>) -> De
     if !has_expected_len(profile, row, datagram.data.len() as u64) {
         return Delivery::WrongSize;
     }
-    if !is_news(row.last, datagram.sequence) {
+    if !accepts_sequence(row.last, datagram.sequence) {
         return Delivery::Old;
     }
     if row.kind != Kind::ExclusiveOwner {
@@ -97,11 +97,11 @@ pub fn row_delivery(profile: &Profile, row: &Row, datagram: &Datagram<'_>) -> De
 /// Volume 1, chapter 3, inactivity watchdog.
 pub fn accepted_row(row: Row, clock: Ms, datagram: &Datagram<'_>) -> Row
     requires waits { row.multiplier ≤ 7 }
-    requires interval { row.o_t_api ≤ 10000 }
+    requires interval { row.o_t_api_ms ≤ 10000 }
     requires time { clock.0 ≤ 2 ^ 48 }
     ensures { result ≡ accepted_row clock (view_datagram datagram.now) row }
 {
-    let timeout = timeout_of(row.multiplier, row.o_t_api).unwrap();
+    let timeout = timeout_of(row.multiplier, row.o_t_api_ms).unwrap();
     Row {
         last: Some(Accepted {
             number: datagram.sequence,
@@ -115,7 +115,7 @@ pub fn accepted_row(row: Row, clock: Ms, datagram: &Datagram<'_>) -> Row
 /// The same where the datagram is for the connection; any other connection stays.
 pub fn accepted_if_for(row: Row, clock: Ms, peer: Node, datagram: &Datagram<'_>) -> Row
     requires waits { row.multiplier ≤ 7 }
-    requires interval { row.o_t_api ≤ 10000 }
+    requires interval { row.o_t_api_ms ≤ 10000 }
     requires time { clock.0 ≤ 2 ^ 48 }
     ensures { result ≡ accepted_if_for clock peer (view_datagram datagram.now) row }
 {

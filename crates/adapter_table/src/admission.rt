@@ -8,7 +8,7 @@ use cip_types::Ms;
 /// What consumes the O->T data of a connection: what the connection is for, and how many bytes the
 /// output has (0 where it consumes none).
 #[derive(Clone, Copy)]
-pub struct Consumer {
+pub struct ConsumedPoint {
     pub kind: Kind,
     pub len: u64,
 }
@@ -29,9 +29,9 @@ pub struct Admission<'a> {
     /// The least number of milliseconds between two productions at changes of state.
     pub inhibit: u8,
     /// The actual O->T packet interval, in milliseconds.
-    pub o_t_api: u32,
+    pub o_t_api_ms: u32,
     /// The actual T->O packet interval, in milliseconds.
-    pub t_o_api: u32,
+    pub t_o_api_ms: u32,
     /// How long its consumer waits for a datagram.
     pub watchdog: Ms,
     /// The connection whose producer it joins.

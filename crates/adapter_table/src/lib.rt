@@ -15,7 +15,7 @@ mod rows;
 mod table;
 
 pub use acceptance::{accepted_if_for, accepted_row, is_for, row_delivery};
-pub use admission::{Admission, Consumer};
+pub use admission::{Admission, ConsumedPoint};
 pub use expiry::{by_deadline, expired_row, has_expired};
 pub use producing::{
     changed_row, is_due, is_produced_by, produced_row, producer_in, produces_on_change, written_row,

@@ -70,7 +70,7 @@ pub fn produced_row(row: Row, clock: Ms) -> Row
     ensures { result ≡ produced_row clock row }
 {
     Row {
-        state: produced_state(row.state, clock, row.t_o_api),
+        state: produced_state(row.state, clock, row.t_o_api_ms),
         ..row
     }
 }
@@ -113,7 +113,7 @@ pub fn changed_row(row: Row, clock: Ms, point: u32) -> Row
         return row;
     }
     Row {
-        state: changed_state(row.state, clock, row.t_o_api),
+        state: changed_state(row.state, clock, row.t_o_api_ms),
         ..row
     }
 }

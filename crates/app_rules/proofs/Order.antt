@@ -6,8 +6,8 @@ use Rattle.cip_epath.specs.Path.{PathFields}
 use Rattle.cip_fwdopen.specs.Open.{OpenFields}
 use Rattle.cip_router.specs.declared.refusal.Refusal.{Refusal}
 use Rattle.cip_router.specs.declared.refusal.Refusal.TheVariants as refusal
-use Rattle.adapter_table.specs.Checks.{View, Points, Check, check, first_of, served_inhibit, lacks_ids, lacks_room, checks, points_of, judged, judged_path, admitted_at}
-use Rattle.app_rules.specs.Stages.{after, and_then, path_read, request_checks, points_checks, room_checks, request_check, points_check, room_check, group_check, terms_of, staged_points, staged_path, staged}
+use Rattle.adapter_table.specs.Checks.{View, Points, Check, check, first_of, served_inhibit, lacks_ids, lacks_capacity, checks, points_of, judged, judged_path, admitted_at}
+use Rattle.app_rules.specs.Stages.{after, and_then, path_read, request_checks, points_checks, capacity_checks, request_check, points_check, capacity_check, group_check, timing_of, staged_points, staged_path, staged}
 
 -- the first checks of a list, and then the others
 judged_front : (n : ℕ) (request : OpenFields) (points : Result Points Refusal) (cs : List Check) → judged request points (first_of cs) ≡ after (first_of (take n cs)) (judged request points (first_of (drop n cs)))
@@ -18,10 +18,10 @@ judged_front (suc n) request points (Some why ∷ cs) = refl
 
 -- checks 10 to 15
 points_staged : (view : View) (request : OpenFields) (points : Points) → judged request (Ok points) (first_of (drop 10 (checks view request (path_read None) (Ok points)))) ≡ staged_points view request points
-unfolding points_check room_check
+unfolding points_check capacity_check
 points_staged view request points =
     judged_front 7 request (Ok points) (drop 10 (checks view request (path_read None) (Ok points)))
-    ∙ ap (after (first_of (points_checks view request points))) (last_staged (first_of (room_checks view request points))) where
+    ∙ ap (after (first_of (points_checks view request points))) (last_staged (first_of (capacity_checks view request points))) where
       last_staged : (c : Check) → judged request (Ok points) c ≡ after c (Ok (admitted_at request points))
       last_staged None = refl
       last_staged (Some why) = refl
@@ -57,6 +57,6 @@ first_append [] ys = refl
 first_append (None ∷ xs) ys = first_append xs ys
 first_append (Some why ∷ xs) ys = refl
 
-pub room_is : (view : View) (request : OpenFields) (points : Points) → room_check view request points ≡ else_of (group_check (terms_of request) (served_inhibit (terms_of request).trigger points.path.inhibit) points.group) (check (lacks_ids view request points) refusal.OutOfConnections ∷ check (lacks_room view) refusal.OutOfConnections ∷ [])
-unfolding room_check
-room_is view request points = first_append (take 3 (room_checks view request points)) (drop 3 (room_checks view request points))
+pub capacity_is : (view : View) (request : OpenFields) (points : Points) → capacity_check view request points ≡ else_of (group_check (timing_of request) (served_inhibit (timing_of request).trigger points.path.inhibit) points.group) (check (lacks_ids view request points) refusal.OutOfConnections ∷ check (lacks_capacity view) refusal.OutOfConnections ∷ [])
+unfolding capacity_check
+capacity_is view request points = first_append (take 3 (capacity_checks view request points)) (drop 3 (capacity_checks view request points))

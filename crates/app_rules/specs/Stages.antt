@@ -11,7 +11,7 @@ use Rattle.cip_router.specs.declared.refusal.Refusal.{Refusal}
 use Rattle.cip_router.specs.declared.refusal.Refusal.TheVariants as refusal
 use Rattle.adapter_table.specs.Checks.{View, Points, Check, check, first_of, is_point_to_point, is_produced_type, joins, has_other_trigger, has_other_inhibit, checks, segment_check, points_of, served_trigger, stored, Admitted, admitted_at}
 use Rattle.adapter_table.specs.declared.row.Row.{Row}
-use Rattle.app_rules.specs.declared.request.Terms.{Terms}
+use Rattle.app_rules.specs.declared.request.Timing.{Timing}
 
 -- where no check fails, what comes after it
 abbrev pub after : {A : Type 0} → Check → Result A Refusal → Result A Refusal
@@ -46,18 +46,18 @@ abbrev pub points_checks : View → OpenFields → Points → List Check
 points_checks view request points = take 7 (drop 10 (checks view request (path_read None) (Ok points)))
 
 -- what a joiner of these terms is asked of its group, in check 14
-abbrev pub group_check : Terms → ℕ → Option Row → Check
-group_check terms inhibit group =
+abbrev pub group_check : Timing → ℕ → Option Row → Check
+group_check timing inhibit group =
     first_of (
-    check (joins group (λ member. not (terms.t_o_api == member.t_o_api))) refusal.PacketInterval
-    ∷ check (joins group (λ member. has_other_trigger terms.trigger member.state)) refusal.Trigger
+    check (joins group (λ member. not (timing.t_o_api_ms == member.t_o_api_ms))) refusal.PacketInterval
+    ∷ check (joins group (λ member. has_other_trigger timing.trigger member.state)) refusal.Trigger
     ∷ check (joins group (λ member. has_other_inhibit inhibit member.state)) refusal.PacketInterval
     ∷ []
     )
 
 -- checks 14 and 15
-abbrev pub room_checks : View → OpenFields → Points → List Check
-room_checks view request points = drop 17 (checks view request (path_read None) (Ok points))
+abbrev pub capacity_checks : View → OpenFields → Points → List Check
+capacity_checks view request points = drop 17 (checks view request (path_read None) (Ok points))
 
 unfoldable pub request_check : View → OpenFields → Option PathFields → Check
 request_check view request path = first_of (request_checks view request path)
@@ -65,39 +65,39 @@ request_check view request path = first_of (request_checks view request path)
 unfoldable pub points_check : View → OpenFields → Points → Check
 points_check view request points = first_of (points_checks view request points)
 
-unfoldable pub room_check : View → OpenFields → Points → Check
-room_check view request points = first_of (room_checks view request points)
+unfoldable pub capacity_check : View → OpenFields → Points → Check
+capacity_check view request points = first_of (capacity_checks view request points)
 
 -- the path, where its segments read; there is none where they are misarranged
 abbrev pub readable : Result PathFields PathFault → Result (Option PathFields) Refusal
 readable path = after (segment_check path) (Ok (result_ok path))
 
 -- what is decided of a request before its points are looked up
-abbrev pub terms_of : OpenFields → Terms
-terms_of request = record {
+abbrev pub timing_of : OpenFields → Timing
+timing_of request = record {
   trigger = served_trigger (trigger_of request.trigger);
-  o_t_api = interval_ms request.o_t_rpi;
-  t_o_api = interval_ms request.t_o_rpi;
+  o_t_api_ms = interval_ms request.o_t_rpi;
+  t_o_api_ms = interval_ms request.t_o_rpi;
   watchdog = record { 0 = timeout request.multiplier (interval_ms request.o_t_rpi) };
 }
 
 -- what is returned of the checks: these terms where none fails, or the answer of the first that does
-abbrev pub IsJudged : Check → Terms → Result Terms Refusal → Type 0
-IsJudged checked terms (Ok found) = (checked ≡ None) × (found ≡ terms)
-IsJudged checked terms (Err why) = checked ≡ Some why
+abbrev pub IsJudged : Check → Timing → Result Timing Refusal → Type 0
+IsJudged checked timing (Ok found) = (checked ≡ None) × (found ≡ timing)
+IsJudged checked timing (Err why) = checked ≡ Some why
 
 -- what points are admitted as on these terms
-abbrev pub admission_at : Points → Terms → Bool → ℕ → Admitted
-admission_at points terms multicast inhibit = record {
+abbrev pub admission_at : Points → Timing → Bool → ℕ → Admitted
+admission_at points timing multicast inhibit = record {
   kind = points.consumer.kind;
   consumed = points.path.consumed;
   produced = points.path.produced;
   multicast = multicast;
-  trigger = terms.trigger;
+  trigger = timing.trigger;
   inhibit = inhibit;
-  o_t_api = terms.o_t_api;
-  t_o_api = terms.t_o_api;
-  watchdog = terms.watchdog;
+  o_t_api_ms = timing.o_t_api_ms;
+  t_o_api_ms = timing.t_o_api_ms;
+  watchdog = timing.watchdog;
   group = points.group;
   segment = stored points.path.config points.path.segment;
 }
@@ -105,7 +105,7 @@ admission_at points terms multicast inhibit = record {
 -- what points are admitted as, where their checks pass
 abbrev pub staged_points : View → OpenFields → Points → Result Admitted Refusal
 staged_points view request points =
-    after (points_check view request points) (after (room_check view request points) (Ok (admitted_at request points)))
+    after (points_check view request points) (after (capacity_check view request points) (Ok (admitted_at request points)))
 
 abbrev pub staged_path : View → OpenFields → Option PathFields → Result Admitted Refusal
 staged_path view request path =

@@ -15,11 +15,11 @@ use cip_types::Triad;
 
 /// The connections of an adapter, as the checks ask of them; contracts see their list in opening order.
 /// No question takes memory.
-pub trait Connections {
+pub trait ConnectionsView {
     ghost rows: { Self → List Row };
 
     /// Whether the triad is that of an established connection.
-    fn is_held(&self, triad: Triad) -> bool
+    fn is_open(&self, triad: Triad) -> bool
         ensures { result ≡ list_any (holds_triad triad) (rows self.now) };
 
     /// Whether some connection is established.
@@ -49,12 +49,12 @@ pub trait Connections {
 
 /// Connections that stand in a slice, in opening order.
 #[derive(Clone, Copy)]
-pub struct Listed<'a>(pub &'a [Row]);
+pub struct ListView<'a>(pub &'a [Row]);
 
-impl Connections for Listed<'_> {
+impl ConnectionsView for ListView<'_> {
     ghost rows = { λ l. l.0.now };
 
-    fn is_held(&self, triad: Triad) -> bool {
+    fn is_open(&self, triad: Triad) -> bool {
         self.0.iter().any(|row| holds_triad(row, triad))
     }
 

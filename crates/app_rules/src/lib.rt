@@ -12,7 +12,7 @@ mod verdict;
 mod view;
 
 pub use adapter_table::Admission;
-pub use connections::{Connections, Listed};
+pub use connections::{ConnectionsView, ListView};
 pub use owner_counts::Rules;
 pub use stages::drawn_ids;
 pub use verdict::admit;

@@ -5,13 +5,13 @@ ghost use Rattle.std.specs.Option.{option_map};
 ghost use Rattle.cip_epath.specs.Path.{view_path};
 ghost use Rattle.cip_fwdopen.specs.Open.{view_open};
 ghost use Rattle.adapter_table.specs.Profiles.{is_at, is_output_at};
-ghost use Rattle.adapter_table.specs.Checks.{Gives, is_known_config, consumer_of, input_of, path_check, group_of, joined, points_of};
+ghost use Rattle.adapter_table.specs.Checks.{Gives, is_known_config, consumed_point_of, input_of, path_check, group_of, joined, points_of};
 ghost use Rattle.app_rules.specs.Views.{seen, view_points};
 
-use crate::connections::Connections;
+use crate::connections::ConnectionsView;
 use crate::request::is_multicast;
 use crate::view::View;
-use adapter_table::{Consumer, InputPoint, OutputPoint, Profile, Row};
+use adapter_table::{ConsumedPoint, InputPoint, OutputPoint, Profile, Row};
 use cip_epath::ConnPath;
 use cip_fwdopen::OpenRequest;
 use cip_productions::Kind;
@@ -21,7 +21,7 @@ use cip_router::Refusal;
 #[derive(Clone, Copy)]
 pub struct Points<'a> {
     pub path: ConnPath<'a>,
-    pub consumer: Consumer,
+    pub consumer: ConsumedPoint,
     pub input: InputPoint,
     pub group: Option<Row>,
 }
@@ -55,12 +55,12 @@ fn input_of(profile: &Profile, point: u32) -> Option<InputPoint>
 }
 
 /// What a connection that consumes the point is for.
-fn consumer_of(profile: &Profile, point: u32) -> Option<Consumer>
-    ensures { result ≡ consumer_of profile.now point }
+fn consumed_point_of(profile: &Profile, point: u32) -> Option<ConsumedPoint>
+    ensures { result ≡ consumed_point_of profile.now point }
 {
     if let Some(output) = output_of(profile, point) {
         let kind = Kind::ExclusiveOwner;
-        return Some(Consumer {
+        return Some(ConsumedPoint {
             kind,
             len: output.len,
         });
@@ -72,7 +72,7 @@ fn consumer_of(profile: &Profile, point: u32) -> Option<Consumer>
     } else {
         return None;
     };
-    Some(Consumer { kind, len: 0 })
+    Some(ConsumedPoint { kind, len: 0 })
 }
 
 /// Why a path is none of the adapter's.
@@ -89,7 +89,7 @@ fn path_check(profile: &Profile, path: &ConnPath<'_>) -> Option<Refusal>
 }
 
 /// The first connection of the group that is joined, where the connection is multicast.
-fn joined<C: Connections>(connections: &C, multicast: bool, point: u32) -> Option<Row>
+fn joined<C: ConnectionsView>(connections: &C, multicast: bool, point: u32) -> Option<Row>
     ensures { result ≡ joined multicast (group_of (C.rows connections.now) point) }
 {
     if multicast {
@@ -100,7 +100,7 @@ fn joined<C: Connections>(connections: &C, multicast: bool, point: u32) -> Optio
 }
 
 /// The points that a request names, or why there are none.
-pub fn points_of<'a, C: Connections>(
+pub fn points_of<'a, C: ConnectionsView>(
     view: &View<'_, C>,
     request: &OpenRequest<'a>,
     path: Option<ConnPath<'a>>,
@@ -113,7 +113,7 @@ pub fn points_of<'a, C: Connections>(
     if let Some(why) = path_check(view.profile, &path) {
         return Err(why);
     }
-    let Some(consumer) = consumer_of(view.profile, path.consumed) else {
+    let Some(consumer) = consumed_point_of(view.profile, path.consumed) else {
         return Err(Refusal::ConsumedPath);
     };
     let Some(input) = input_of(view.profile, path.produced) else {

@@ -7,9 +7,9 @@ ghost use Rattle.cip_fwdopen.specs.Open.{view_open};
 ghost use Rattle.cip_epath.specs.Reading.{path_reading};
 ghost use Rattle.adapter_table.specs.Checks.{Gives, key_of, key_check, inhibit_of, is_point_to_point, is_produced_type, is_multicast, is_unserved, is_change_of_state, served_inhibit};
 ghost use Rattle.app_rules.specs.Views.{seen};
-ghost use Rattle.app_rules.specs.Stages.{readable, type_check, request_check, terms_of, IsJudged};
+ghost use Rattle.app_rules.specs.Stages.{readable, type_check, request_check, timing_of, IsJudged};
 
-use crate::connections::Connections;
+use crate::connections::ConnectionsView;
 use crate::view::View;
 use cip_epath::{ConnPath, KeyFault, PathFault, check_key, read_path};
 use cip_fwdopen::OpenRequest;
@@ -20,10 +20,10 @@ use cip_types::{Identity, Ms};
 /// What is decided of a request before its points are looked up: when it produces, its actual packet
 /// intervals in milliseconds, and how long its consumer waits.
 #[derive(Clone, Copy)]
-pub struct Terms {
+pub struct Timing {
     pub trigger: Trigger,
-    pub o_t_api: u32,
-    pub t_o_api: u32,
+    pub o_t_api_ms: u32,
+    pub t_o_api_ms: u32,
     pub watchdog: Ms,
 }
 
@@ -105,7 +105,7 @@ fn inhibit_of(path: &Option<ConnPath<'_>>) -> u8
 }
 
 /// Whether changes of state are to be held back for longer than the packet interval.
-fn is_held_back(trigger: Trigger, api: u32, inhibit: u8) -> bool
+fn has_inhibit_fault(trigger: Trigger, api: u32, inhibit: u8) -> bool
     ensures { result ≡ (is_change_of_state (Some trigger) && nat_lt api inhibit) }
 {
     match trigger {
@@ -127,14 +127,14 @@ pub fn served_inhibit(trigger: Trigger, inhibit: Option<u8>) -> u8
 /// What is decided of a request before its points are looked up, or the first check that it fails until
 /// then.
 #[tactic(auto, unfolding(crate::specs::Stages::request_check))]
-pub fn terms_of<C: Connections>(
+pub fn timing_of<C: ConnectionsView>(
     view: &View<'_, C>,
     request: &OpenRequest<'_>,
     path: &Option<ConnPath<'_>>,
-) -> Result<Terms, Refusal>
-    ensures { IsJudged (request_check (seen C.rows view.now request.now.triad) (view_open request.now) (option_map view_path path.now)) (terms_of (view_open request.now)) result }
+) -> Result<Timing, Refusal>
+    ensures { IsJudged (request_check (seen C.rows view.now request.now.triad) (view_open request.now) (option_map view_path path.now)) (timing_of (view_open request.now)) result }
 {
-    if view.connections.is_held(request.triad) {
+    if view.connections.is_open(request.triad) {
         return Err(Refusal::InUse);
     }
     if let Some(why) = key_check(&view.profile.identity, path) {
@@ -149,17 +149,18 @@ pub fn terms_of<C: Connections>(
     if is_unserved(request) {
         return Err(Refusal::Parameter);
     }
-    let (Some(o_t_api), Some(t_o_api)) = (api_of(request.o_t_rpi), api_of(request.t_o_rpi)) else {
+    let (Some(o_t_api_ms), Some(t_o_api_ms)) = (api_of(request.o_t_rpi), api_of(request.t_o_rpi))
+    else {
         return Err(Refusal::PacketInterval);
     };
-    if is_held_back(trigger, t_o_api, inhibit_of(path)) {
+    if has_inhibit_fault(trigger, t_o_api_ms, inhibit_of(path)) {
         return Err(Refusal::InhibitTime);
     }
-    let watchdog = timeout_of(request.multiplier, o_t_api).unwrap();
-    Ok(Terms {
+    let watchdog = timeout_of(request.multiplier, o_t_api_ms).unwrap();
+    Ok(Timing {
         trigger,
-        o_t_api,
-        t_o_api,
+        o_t_api_ms,
+        t_o_api_ms,
         watchdog,
     })
 }

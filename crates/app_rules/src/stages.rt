@@ -6,13 +6,13 @@ ghost use Rattle.cip_epath.specs.Path.{view_path};
 ghost use Rattle.cip_fwdopen.specs.Open.{view_open};
 ghost use Rattle.adapter_table.specs.Checks.{named_len, has_other_length, stored, has_other_bytes, o_t_size, t_o_size, has_other_trigger, has_other_inhibit, drawn_ids, served_inhibit};
 ghost use Rattle.app_rules.specs.Views.{seen, view_points};
-ghost use Rattle.app_rules.specs.Stages.{points_check, group_check, room_check, terms_of};
+ghost use Rattle.app_rules.specs.Stages.{points_check, group_check, capacity_check, timing_of};
 
-use crate::connections::Connections;
+use crate::connections::ConnectionsView;
 use crate::points::Points;
-use crate::request::{Terms, is_multicast};
+use crate::request::{Timing, is_multicast};
 use crate::view::View;
-use adapter_table::{Consumer, InputPoint, Profile, Row, State};
+use adapter_table::{ConsumedPoint, InputPoint, Profile, Row, State};
 use cip_epath::ConnPath;
 use cip_fwdopen::OpenRequest;
 use cip_netparams::Trigger;
@@ -64,7 +64,7 @@ fn has_other_bytes(segment: Option<&[u8]>, present: Option<&[u8]>) -> bool
 
 /// Whether an O->T size is that of the consumed point: a sequence count, and an owner's data behind a
 /// run/idle header.
-fn has_o_t_size(size: u16, consumer: &Consumer) -> bool
+fn has_o_t_size(size: u16, consumer: &ConsumedPoint) -> bool
     ensures { result ≡ (size == o_t_size consumer.now) }
 {
     match consumer.kind {
@@ -89,7 +89,7 @@ fn misfits_config(profile: &Profile, path: &ConnPath<'_>) -> bool
 
 /// The first of the checks of data segment, sizes, owner and support that a request fails.
 #[tactic(auto, unfolding(crate::specs::Stages::points_check))]
-pub fn points_check<C: Connections>(
+pub fn points_check<C: ConnectionsView>(
     view: &View<'_, C>,
     request: &OpenRequest<'_>,
     points: &Points<'_>,
@@ -143,14 +143,14 @@ fn has_other_inhibit(inhibit: u8, state: &State) -> bool
 }
 
 /// The first check that a joiner fails against its group.
-fn group_check(terms: &Terms, inhibit: u8, group: Option<Row>) -> Option<Refusal>
-    ensures { result ≡ group_check terms.now inhibit group }
+fn group_check(timing: &Timing, inhibit: u8, group: Option<Row>) -> Option<Refusal>
+    ensures { result ≡ group_check timing.now inhibit group }
 {
     let member = group?;
-    if terms.t_o_api != member.t_o_api {
+    if timing.t_o_api_ms != member.t_o_api_ms {
         return Some(Refusal::PacketInterval);
     }
-    if has_other_trigger(terms.trigger, &member.state) {
+    if has_other_trigger(timing.trigger, &member.state) {
         return Some(Refusal::Trigger);
     }
     if has_other_inhibit(inhibit, &member.state) {
@@ -182,19 +182,19 @@ fn lacks_ids(next_id: u32, drawn: u32) -> bool
 }
 
 /// The first of the checks of the group, the ids and the room that a request fails.
-#[tactic(auto, using(crate::proofs::Order::room_is))]
-pub fn room_check<C: Connections>(
+#[tactic(auto, using(crate::proofs::Order::capacity_is))]
+pub fn capacity_check<C: ConnectionsView>(
     view: &View<'_, C>,
     request: &OpenRequest<'_>,
     points: &Points<'_>,
-    terms: &Terms,
+    timing: &Timing,
     inhibit: u8,
 ) -> Option<Refusal>
-    requires terms { terms.now ≡ terms_of (view_open request.now) }
-    requires inhibit { inhibit ≡ served_inhibit terms.now.trigger points.now.path.inhibit }
-    ensures { result ≡ room_check (seen C.rows view.now request.now.triad) (view_open request.now) (view_points points.now) }
+    requires timing { timing.now ≡ timing_of (view_open request.now) }
+    requires inhibit { inhibit ≡ served_inhibit timing.now.trigger points.now.path.inhibit }
+    ensures { result ≡ capacity_check (seen C.rows view.now request.now.triad) (view_open request.now) (view_points points.now) }
 {
-    if let Some(why) = group_check(terms, inhibit, points.group) {
+    if let Some(why) = group_check(timing, inhibit, points.group) {
         return Some(why);
     }
     let drawn = drawn_ids(is_multicast(request.t_o_params.kind), points.group);

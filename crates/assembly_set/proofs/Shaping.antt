@@ -2,7 +2,7 @@
 use Rattle.std.proofs.Common.{◌≡◌, ◌<◌, ◌≤◌, ℕ, zero, suc, true, List, [], ◌∷◌, ◌++◌, length, map, find, take, drop, get_or, Option, Some, None, Bor, refl, sym, ◌∙◌, ap, arith}
 use Rattle.std.specs.Prelude.{Result, IfOk, IfSome}
 use Rattle.std.specs.Option.{option_map, ok_or}
-use Rattle.cip_types.specs.Places.{written_back}
+use Rattle.cip_types.specs.Indices.{written_back}
 use Rattle.adapter_table.specs.Profiles.{profile_fault}
 use Rattle.assembly_set.specs.declared.fault.PointFault.{PointFault}
 use Rattle.adapter_table.specs.declared.profile.Profile.{Profile}

@@ -16,7 +16,7 @@ pub enum PointFault {
 impl From<PointFault> for StepFault {
     ghost use Rattle.assembly_set.specs.Assemblies.{step_fault};
 
-    ghost from_gives = { λ fault told. told ≡ step_fault fault };
+    ghost from_gives = { λ fault given. given ≡ step_fault fault };
 
     fn from(fault: PointFault) -> StepFault {
         match fault {

@@ -23,7 +23,7 @@ pub fn find_value(values: &[PointValue], point: u32) -> Option<&[u8]>
     None
 }
 
-fn place_of(values: &[PointValue], point: u32) -> Option<usize>
+fn index_of(values: &[PointValue], point: u32) -> Option<usize>
     ensures { result ≡ position (is_value_of point) values.now }
 {
     values.iter().position(|value| value.point == point)
@@ -36,7 +36,7 @@ pub fn put_value(values: &mut [PointValue], point: u32, bytes: &[u8])
     ensures values { values.new ≡ put_value point bytes.now values.old }
     ensures shapes { map shape_of values.new ≡ map shape_of values.old }
 {
-    let Some(at) = place_of(values, point) else {
+    let Some(at) = index_of(values, point) else {
         return;
     };
     values[at].bytes.overwrite(bytes);

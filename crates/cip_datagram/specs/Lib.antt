@@ -1,5 +1,5 @@
 pub mod Datagram
 pub mod Reading
 pub mod Header
-pub mod Fixed
+pub mod DatagramFront
 pub mod ReadsBack

@@ -7,7 +7,7 @@ use cip_types::fields::{u16_in, u32_in};
 
 /// The numbers in front of the data, as they are.
 #[derive(Clone, Copy)]
-pub struct Fixed {
+pub struct DatagramFront {
     pub items: u16,
     pub address: u16,
     pub address_len: u16,
@@ -18,19 +18,19 @@ pub struct Fixed {
     pub count: u16,
 }
 
-impl Fixed {
+impl DatagramFront {
     ghost use Rattle.cip_datagram.specs.Datagram.{datagram_widths};
     ghost use Rattle.cip_datagram.specs.Reading.{are_items};
-    ghost use Rattle.cip_datagram.specs.Fixed.{numbers_of};
+    ghost use Rattle.cip_datagram.specs.DatagramFront.{numbers_of};
 
     /// The fixed part at the front, and the bytes after it.
-    pub fn at(bytes: &[u8]) -> Option<(Fixed, &[u8])>
+    pub fn at(bytes: &[u8]) -> Option<(DatagramFront, &[u8])>
         ensures { Finds (λ x. (numbers_of x.0, x.1.now)) result (fields_at datagram_widths bytes.now) }
     {
         if bytes.len() < 20 {
             return None;
         }
-        let fixed = Fixed {
+        let fixed = DatagramFront {
             items: u16_in(bytes, 0),
             address: u16_in(bytes, 2),
             address_len: u16_in(bytes, 4),

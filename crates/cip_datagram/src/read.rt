@@ -6,7 +6,7 @@ ghost use Rattle.cip_datagram.specs.Datagram.{DatagramFields, view_datagram, IsD
 ghost use Rattle.cip_datagram.specs.Reading.{seen, datagram_reading};
 
 use crate::datagram::{Datagram, DatagramFault};
-use crate::fixed::Fixed;
+use crate::fixed::DatagramFront;
 use cip_types::ConnId;
 
 /// The datagram of the fixed part and the bytes behind it.
@@ -14,7 +14,7 @@ use cip_types::ConnId;
 fn parsed(bytes: &[u8]) -> Result<Datagram<'_>, DatagramFault>
     ensures { seen view_datagram result ≡ datagram_reading bytes.now }
 {
-    let Some((fixed, data)) = Fixed::at(bytes) else {
+    let Some((fixed, data)) = DatagramFront::at(bytes) else {
         return Err(DatagramFault::Truncated);
     };
     if !fixed.has_items() {

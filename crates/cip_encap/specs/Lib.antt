@@ -1,6 +1,6 @@
 pub mod Message
 pub mod Reading
-pub mod Head
+pub mod PacketHeader
 pub mod Stream
 pub mod Packet
 pub mod PacketReading

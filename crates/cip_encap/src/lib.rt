@@ -4,11 +4,11 @@
 //! Volume 2, chapter 2, encapsulation messages and common packet format.
 #![tactic(auto)]
 
-mod head;
 mod header;
 mod laws;
 mod message;
 mod packet;
+mod packet_header;
 mod read;
 mod splitter;
 mod write;

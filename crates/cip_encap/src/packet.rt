@@ -7,7 +7,7 @@ ghost use Rattle.cip_encap.specs.Packet.{PacketFields, view_packet, IsPacketText
 ghost use Rattle.cip_encap.specs.Reading.{seen};
 ghost use Rattle.cip_encap.specs.PacketReading.{behind_socket, are_sockets as sockets_test, packet_reading};
 
-use crate::head::Head;
+use crate::packet_header::PacketHeader;
 use cip_types::fields::{put_bytes, put_u16, u16_at};
 use cip_types::{Node, OutOfMemory};
 use std::alloc::Global;
@@ -75,19 +75,19 @@ fn are_sockets(count: u16, bytes: &[u8]) -> bool
 fn parsed(bytes: &[u8]) -> Result<CommonPacket<'_>, ItemFault>
     ensures { seen view_packet result ≡ packet_reading bytes.now }
 {
-    let Some((head, rest)) = Head::at(bytes) else {
+    let Some((packet_header, rest)) = PacketHeader::at(bytes) else {
         return Err(ItemFault::Bad);
     };
-    let len = head.len as usize;
-    if !head.is_right() || rest.len() < len {
+    let len = packet_header.len as usize;
+    if !packet_header.is_right() || rest.len() < len {
         return Err(ItemFault::Bad);
     }
     let (data, sockets) = rest.split_at(len);
-    if !are_sockets(head.count - 2, sockets) {
+    if !are_sockets(packet_header.count - 2, sockets) {
         return Err(ItemFault::Bad);
     }
     Ok(CommonPacket {
-        timeout: head.timeout,
+        timeout: packet_header.timeout,
         data,
     })
 }

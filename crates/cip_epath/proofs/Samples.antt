@@ -4,7 +4,7 @@ use Rattle.cip_types.specs.declared.names.Identity.{Identity}
 use Rattle.cip_epath.specs.declared.fault.PathFault.TheVariants as fault
 use Rattle.cip_epath.specs.declared.key.KeyFault.TheVariants as differs
 use Rattle.cip_epath.specs.declared.path.Target.{Target}
-use Rattle.cip_epath.specs.Key.{key_fault}
+use Rattle.cip_epath.specs.ElectronicKey.{key_fault}
 use Rattle.cip_epath.specs.Path.{PathFields}
 use Rattle.cip_epath.specs.Reading.{data_at, key_fields_at, key_at, value_at, logical_at, segment_at, segments_at, path_reading, target_reading}
 use Rattle.cip_epath.specs.Written.{path_text, target_text}

@@ -7,15 +7,15 @@ use Rattle.cip_types.specs.FieldLaws.{IsBytes}
 use Rattle.cip_epath.specs.declared.fault.PathFault.{PathFault}
 use Rattle.cip_epath.specs.declared.fault.PathFault.TheVariants as fault
 use Rattle.cip_epath.specs.declared.path.Target.{Target}
-use Rattle.cip_epath.specs.declared.draft.Inhibits.{Inhibits}
-use Rattle.cip_epath.specs.declared.draft.Inhibits.TheVariants as count
-use Rattle.cip_epath.specs.declared.draft.TargetDraft.{TargetDraft}
-use Rattle.cip_epath.specs.declared.draft.TargetDraft.TheVariants as target
+use Rattle.cip_epath.specs.declared.builder.Inhibits.{Inhibits}
+use Rattle.cip_epath.specs.declared.builder.Inhibits.TheVariants as count
+use Rattle.cip_epath.specs.declared.builder.TargetBuilder.{TargetBuilder}
+use Rattle.cip_epath.specs.declared.builder.TargetBuilder.TheVariants as target
 use Rattle.cip_epath.specs.declared.segment.LogicalType.TheVariants.{Class, Instance, Attribute}
 use Rattle.cip_epath.specs.Segment.{SegmentValue, logical}
 use Rattle.cip_epath.specs.Path.{PathFields, Role, key_role, class_role, point_role, data_role, role_of, inhibit_of, roles, inhibits}
 use Rattle.cip_epath.specs.Reading.{◌>>=◌, Gives, seen, segment_at, segments_at, reading_by, with_points, with_key, with_inhibits, arranged_path, arranged_target, path_reading, target_reading}
-use Rattle.cip_epath.specs.Draft.{DraftValue, start, keyed, classed, one, two, three, whole, misplaced, next, next_if, next_count, path_with, path_of, next_target, target_of}
+use Rattle.cip_epath.specs.PathBuilder.{PathBuilderValue, start, keyed, classed, one, two, three, whole, misplaced, next, next_if, next_count, path_with, path_of, next_target, target_of}
 use Rattle.cip_epath.specs.Laws.Taken.{segment_taken}
 use Rattle.cip_epath.specs.Laws.Cuts.{behind, at_end, at_segment, at_fault, segment_shrinks, enough}
 
@@ -63,12 +63,12 @@ gives_seen view (Err f) reading h = h
 -- ---- connection paths
 
 -- what a draft and the segments ahead make
-abbrev pub folded : Inhibits → DraftValue → List SegmentValue → Result PathFields PathFault
+abbrev pub folded : Inhibits → PathBuilderValue → List SegmentValue → Result PathFields PathFault
 folded n d [] = path_of n d
 folded n d (s ∷ segments) = folded (next_count (inhibit_of s) n) (next_if (role_of s) d) segments
 
 -- what a draft and the roles ahead make
-abbrev made : Option ℕ → DraftValue → List Role → Result PathFields PathFault
+abbrev made : Option ℕ → PathBuilderValue → List Role → Result PathFields PathFault
 made ms start rest = with_key ms rest
 made ms (keyed k) rest = with_key ms (key_role k ∷ rest)
 made ms (classed h) rest = with_points ms h.key h.class rest
@@ -79,7 +79,7 @@ made ms (whole h None a b d) rest = with_points ms h.key h.class (point_role a �
 made ms (whole h (Some x) a b d) rest = with_points ms h.key h.class (point_role x ∷ point_role a ∷ point_role b ∷ data_role d ∷ rest)
 made ms misplaced rest = Err fault.Shape
 
-role_step : (ms : Option ℕ) (d : DraftValue) (r : Role) (rest : List Role) → made ms d (r ∷ rest) ≡ made ms (next r d) rest
+role_step : (ms : Option ℕ) (d : PathBuilderValue) (r : Role) (rest : List Role) → made ms d (r ∷ rest) ≡ made ms (next r d) rest
 role_step ms start (key_role k) rest = refl
 role_step ms start (class_role c) rest = refl
 role_step ms start _ rest = refl
@@ -101,7 +101,7 @@ role_step ms (whole h (Some x) a b d) _ rest = refl
 role_step ms misplaced (key_role k) rest = refl
 role_step ms misplaced _ rest = refl
 
-nothing_ahead : (ms : Option ℕ) (d : DraftValue) → path_with ms d ≡ made ms d []
+nothing_ahead : (ms : Option ℕ) (d : PathBuilderValue) → path_with ms d ≡ made ms d []
 nothing_ahead ms start = refl
 nothing_ahead ms (keyed k) = refl
 nothing_ahead ms (classed h) = refl
@@ -119,7 +119,7 @@ times (count.One ms) = ms ∷ []
 times count.Several = 0 ∷ 0 ∷ []
 
 -- what the times of the inhibit segments, a draft and the roles ahead make
-abbrev total : List ℕ → DraftValue → List Role → Result PathFields PathFault
+abbrev total : List ℕ → PathBuilderValue → List Role → Result PathFields PathFault
 total [] d rest = made None d rest
 total (ms ∷ []) d rest = made (Some ms) d rest
 total (ms ∷ other ∷ more) d rest = Err fault.Shape
@@ -129,27 +129,27 @@ total_start [] rest = refl
 total_start (ms ∷ []) rest = refl
 total_start (ms ∷ other ∷ more) rest = refl
 
-total_ends : (n : Inhibits) (d : DraftValue) → path_of n d ≡ total (times n ++ []) d []
+total_ends : (n : Inhibits) (d : PathBuilderValue) → path_of n d ≡ total (times n ++ []) d []
 total_ends count.Nothing d = nothing_ahead None d
 total_ends (count.One ms) d = nothing_ahead (Some ms) d
 total_ends count.Several d = refl
 
-total_role : (l : List ℕ) (d : DraftValue) (r : Role) (rest : List Role) → total l d (r ∷ rest) ≡ total l (next r d) rest
+total_role : (l : List ℕ) (d : PathBuilderValue) (r : Role) (rest : List Role) → total l d (r ∷ rest) ≡ total l (next r d) rest
 total_role [] d r rest = role_step None d r rest
 total_role (ms ∷ []) d r rest = role_step (Some ms) d r rest
 total_role (ms ∷ other ∷ more) d r rest = refl
 
-total_roles : (l : List ℕ) (d : DraftValue) (o : Option Role) (rest : List Role) → total l d (option_to_list o ++ rest) ≡ total l (next_if o d) rest
+total_roles : (l : List ℕ) (d : PathBuilderValue) (o : Option Role) (rest : List Role) → total l d (option_to_list o ++ rest) ≡ total l (next_if o d) rest
 total_roles l d None rest = refl
 total_roles l d (Some r) rest = total_role l d r rest
 
-total_times : (n : Inhibits) (o : Option ℕ) (l : List ℕ) (d : DraftValue) (rest : List Role) → total (times n ++ (option_to_list o ++ l)) d rest ≡ total (times (next_count o n) ++ l) d rest
+total_times : (n : Inhibits) (o : Option ℕ) (l : List ℕ) (d : PathBuilderValue) (rest : List Role) → total (times n ++ (option_to_list o ++ l)) d rest ≡ total (times (next_count o n) ++ l) d rest
 total_times n None l d rest = refl
 total_times count.Nothing (Some ms) l d rest = refl
 total_times (count.One other) (Some ms) l d rest = refl
 total_times count.Several (Some ms) l d rest = refl
 
-folded_is : (n : Inhibits) (d : DraftValue) (segments : List SegmentValue) → folded n d segments ≡ total (times n ++ inhibits segments) d (roles segments)
+folded_is : (n : Inhibits) (d : PathBuilderValue) (segments : List SegmentValue) → folded n d segments ≡ total (times n ++ inhibits segments) d (roles segments)
 folded_is n d [] = total_ends n d
 folded_is n d (s ∷ segments) =
     folded_is (next_count (inhibit_of s) n) (next_if (role_of s) d) segments
@@ -157,7 +157,7 @@ folded_is n d (s ∷ segments) =
     ∙ sym (total_roles (times n ++ (option_to_list (inhibit_of s) ++ inhibits segments)) d (role_of s) (roles segments))
 
 -- the text reads as the draft and the bytes ahead do
-pub record IsPathWalk (text rest : List ℕ) (n : Inhibits) (d : DraftValue) : Type 0 where
+pub record IsPathWalk (text rest : List ℕ) (n : Inhibits) (d : PathBuilderValue) : Type 0 where
   pub fits : IsBytes rest
   pub same : path_reading text ≡ reading_by (folded n d) rest
 
@@ -168,34 +168,34 @@ path_starts text fits = record {
   same = same_bind (segments_at (length text) text) arranged_path (folded count.Nothing start) (λ segments. sym (folded_is count.Nothing start segments ∙ total_start (inhibits segments) (roles segments)));
 }
 
-pub path_then : (text rest : List ℕ) (n : Inhibits) (d : DraftValue) (s : SegmentValue) (after : List ℕ) → IsPathWalk text rest n d → segment_at rest ≡ Ok (s, after) → IsPathWalk text after (next_count (inhibit_of s) n) (next_if (role_of s) d)
+pub path_then : (text rest : List ℕ) (n : Inhibits) (d : PathBuilderValue) (s : SegmentValue) (after : List ℕ) → IsPathWalk text rest n d → segment_at rest ≡ Ok (s, after) → IsPathWalk text after (next_count (inhibit_of s) n) (next_if (role_of s) d)
 path_then text rest n d s after w e = record {
   fits = (segment_taken rest s after w.fits e).taken.rest_fits;
   same = w.same ∙ reading_then (folded n d) rest s after w.fits e;
 }
 
-pub path_ends : (text rest : List ℕ) (n : Inhibits) (d : DraftValue) → IsPathWalk text rest n d → rest ≡ [] → path_reading text ≡ path_of n d
+pub path_ends : (text rest : List ℕ) (n : Inhibits) (d : PathBuilderValue) → IsPathWalk text rest n d → rest ≡ [] → path_reading text ≡ path_of n d
 path_ends text rest n d w empty = w.same ∙ reading_ends (folded n d) rest empty
 
-pub path_stops : (text rest : List ℕ) (n : Inhibits) (d : DraftValue) (f : PathFault) → IsPathWalk text rest n d → 0 < length rest → segment_at rest ≡ Err f → path_reading text ≡ Err f
+pub path_stops : (text rest : List ℕ) (n : Inhibits) (d : PathBuilderValue) (f : PathFault) → IsPathWalk text rest n d → 0 < length rest → segment_at rest ≡ Err f → path_reading text ≡ Err f
 path_stops text rest n d f w some e = w.same ∙ reading_stops (folded n d) rest f w.fits some e
 
 -- ---- targets
 
 -- what a draft and the segments ahead make
-abbrev pub target_folded : TargetDraft → List SegmentValue → Result Target PathFault
+abbrev pub target_folded : TargetBuilder → List SegmentValue → Result Target PathFault
 target_folded d [] = target_of d
 target_folded d (s ∷ segments) = target_folded (next_target s d) segments
 
 -- the same by the arrangement
-abbrev target_total : TargetDraft → List SegmentValue → Result Target PathFault
+abbrev target_total : TargetBuilder → List SegmentValue → Result Target PathFault
 target_total target.Start rest = arranged_target rest
 target_total (target.Classed c) rest = arranged_target (logical Class c ∷ rest)
 target_total (target.Instanced c i) rest = arranged_target (logical Class c ∷ logical Instance i ∷ rest)
 target_total (target.Whole c i a) rest = arranged_target (logical Class c ∷ logical Instance i ∷ logical Attribute a ∷ rest)
 target_total target.Misplaced rest = Err fault.Shape
 
-target_step : (d : TargetDraft) (s : SegmentValue) (rest : List SegmentValue) → target_total d (s ∷ rest) ≡ target_total (next_target s d) rest
+target_step : (d : TargetBuilder) (s : SegmentValue) (rest : List SegmentValue) → target_total d (s ∷ rest) ≡ target_total (next_target s d) rest
 target_step target.Start (logical Class c) rest = refl
 target_step target.Start _ rest = refl
 target_step (target.Classed c) (logical Instance i) rest = refl
@@ -207,19 +207,19 @@ target_step (target.Whole c i a) _ rest = refl
 target_step target.Misplaced (logical Class x) rest = refl
 target_step target.Misplaced _ rest = refl
 
-target_ahead : (d : TargetDraft) → target_of d ≡ target_total d []
+target_ahead : (d : TargetBuilder) → target_of d ≡ target_total d []
 target_ahead target.Start = refl
 target_ahead (target.Classed c) = refl
 target_ahead (target.Instanced c i) = refl
 target_ahead (target.Whole c i a) = refl
 target_ahead target.Misplaced = refl
 
-target_folded_is : (d : TargetDraft) (segments : List SegmentValue) → target_folded d segments ≡ target_total d segments
+target_folded_is : (d : TargetBuilder) (segments : List SegmentValue) → target_folded d segments ≡ target_total d segments
 target_folded_is d [] = target_ahead d
 target_folded_is d (s ∷ segments) = target_folded_is (next_target s d) segments ∙ sym (target_step d s segments)
 
 -- the text reads as the draft and the bytes ahead do
-pub record IsTargetWalk (text rest : List ℕ) (d : TargetDraft) : Type 0 where
+pub record IsTargetWalk (text rest : List ℕ) (d : TargetBuilder) : Type 0 where
   pub fits : IsBytes rest
   pub same : target_reading text ≡ reading_by (target_folded d) rest
 
@@ -230,14 +230,14 @@ target_starts text fits = record {
   same = same_bind (segments_at (length text) text) arranged_target (target_folded target.Start) (λ segments. sym (target_folded_is target.Start segments));
 }
 
-pub target_then : (text rest : List ℕ) (d : TargetDraft) (s : SegmentValue) (after : List ℕ) → IsTargetWalk text rest d → segment_at rest ≡ Ok (s, after) → IsTargetWalk text after (next_target s d)
+pub target_then : (text rest : List ℕ) (d : TargetBuilder) (s : SegmentValue) (after : List ℕ) → IsTargetWalk text rest d → segment_at rest ≡ Ok (s, after) → IsTargetWalk text after (next_target s d)
 target_then text rest d s after w e = record {
   fits = (segment_taken rest s after w.fits e).taken.rest_fits;
   same = w.same ∙ reading_then (target_folded d) rest s after w.fits e;
 }
 
-pub target_ends : (text rest : List ℕ) (d : TargetDraft) → IsTargetWalk text rest d → rest ≡ [] → target_reading text ≡ target_of d
+pub target_ends : (text rest : List ℕ) (d : TargetBuilder) → IsTargetWalk text rest d → rest ≡ [] → target_reading text ≡ target_of d
 target_ends text rest d w empty = w.same ∙ reading_ends (target_folded d) rest empty
 
-pub target_stops : (text rest : List ℕ) (d : TargetDraft) (f : PathFault) → IsTargetWalk text rest d → 0 < length rest → segment_at rest ≡ Err f → target_reading text ≡ Err f
+pub target_stops : (text rest : List ℕ) (d : TargetBuilder) (f : PathFault) → IsTargetWalk text rest d → 0 < length rest → segment_at rest ≡ Err f → target_reading text ≡ Err f
 target_stops text rest d f w some e = w.same ∙ reading_stops (target_folded d) rest f w.fits some e

@@ -1,8 +1,8 @@
-pub mod Key
+pub mod ElectronicKey
 pub mod Segment
 pub mod Path
 pub mod Reading
-pub mod Draft
+pub mod PathBuilder
 pub mod Written
 pub mod ReadsBack
 pub mod Laws

@@ -7,7 +7,7 @@ use Rattle.cip_epath.specs.declared.fault.PathFault.TheVariants as fault
 use Rattle.cip_epath.specs.declared.path.ConnPath.{ConnPath}
 use Rattle.cip_epath.specs.declared.path.Target.{Target}
 use Rattle.cip_epath.specs.declared.segment.LogicalType.TheVariants.{Class, Instance, Member, ConnectionPoint, Attribute}
-use Rattle.cip_epath.specs.Key.{KeyFields, view_key}
+use Rattle.cip_epath.specs.ElectronicKey.{KeyFields, view_key}
 use Rattle.cip_epath.specs.Segment.{SegmentValue, logical, key, bytes, inhibit, IsSegmentText}
 
 -- a connection path, wherever its data segment lies in memory

@@ -9,7 +9,7 @@ use Rattle.cip_epath.specs.declared.fault.PathFault.TheVariants as fault
 use Rattle.cip_epath.specs.declared.path.Target.{Target}
 use Rattle.cip_epath.specs.declared.segment.LogicalType.{LogicalType}
 use Rattle.cip_epath.specs.declared.segment.LogicalType.TheVariants.{Class, Instance, Member, ConnectionPoint, Attribute}
-use Rattle.cip_epath.specs.Key.{KeyFields}
+use Rattle.cip_epath.specs.ElectronicKey.{KeyFields}
 use Rattle.cip_epath.specs.Segment.{SegmentValue, logical, key, bytes, inhibit}
 use Rattle.cip_epath.specs.Path.{PathFields, Role, key_role, class_role, point_role, data_role, roles, inhibits}
 

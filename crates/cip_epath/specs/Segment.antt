@@ -13,7 +13,7 @@ use Rattle.cip_epath.specs.declared.segment.LogicalType.{LogicalType}
 use Rattle.cip_epath.specs.declared.segment.LogicalType.TheVariants.{Class, Instance, Member, ConnectionPoint, Attribute}
 use Rattle.cip_epath.specs.declared.segment.Segment.{Segment}
 use Rattle.cip_epath.specs.declared.segment.Segment.TheVariants as read
-use Rattle.cip_epath.specs.Key.{KeyFields, view_key}
+use Rattle.cip_epath.specs.ElectronicKey.{KeyFields, view_key}
 
 -- a segment, whichever way it is written and wherever it lies in memory
 pub data SegmentValue : Type 0 where
@@ -25,7 +25,7 @@ pub data SegmentValue : Type 0 where
 -- the value of a segment of the program
 abbrev pub view_segment : Segment → SegmentValue
 view_segment (read.Logical kind value) = logical kind value
-view_segment (read.Key k) = key (view_key k)
+view_segment (read.ElectronicKey k) = key (view_key k)
 view_segment (read.Data lent) = bytes lent.now
 view_segment (read.Inhibit ms) = inhibit ms
 

@@ -1,9 +1,9 @@
 //! Whether a device is the one that a key wants.
 
 ghost use Rattle.std.specs.Prelude.{◌≡◌, ◌↔◌, IsOk, IfErr, Some, None};
-ghost use Rattle.cip_epath.specs.Key.{view_key, is_match, is_revision_match, key_fault};
+ghost use Rattle.cip_epath.specs.ElectronicKey.{view_key, is_match, is_revision_match, key_fault};
 
-use crate::key::{Key, KeyFault};
+use crate::key::{ElectronicKey, KeyFault};
 use cip_types::Identity;
 
 /// Whether a field of a key matches the device's own.
@@ -14,7 +14,7 @@ fn matches(field: u16, own: u16) -> bool
 }
 
 /// Whether the revision of a key matches the device's.
-fn matches_revision(key: &Key, device: &Identity) -> bool
+fn matches_revision(key: &ElectronicKey, device: &Identity) -> bool
     ensures { result ≡ is_revision_match (view_key key.now) device.now }
 {
     if !matches(u16::from(key.major), u16::from(device.major)) {
@@ -31,7 +31,7 @@ fn matches_revision(key: &Key, device: &Identity) -> bool
 /// product code, then the device type, then the revision.
 ///
 /// Volume 1, appendix C, electronic key segment.
-pub fn check_key(key: &Key, device: &Identity) -> Result<(), KeyFault>
+pub fn check_key(key: &ElectronicKey, device: &Identity) -> Result<(), KeyFault>
     ensures met { IsOk result ↔ (key_fault (view_key key.now) device.now ≡ None) }
     ensures fault { IfErr result (λ f. key_fault (view_key key.now) device.now ≡ Some f) }
 {

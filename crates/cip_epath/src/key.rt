@@ -7,7 +7,7 @@ ghost use Rattle.std.specs.Prelude.{◌<◌};
 ///
 /// Volume 1, appendix C, electronic key segment.
 #[derive(Clone, Copy, PartialEq, Eq)]
-pub struct Key {
+pub struct ElectronicKey {
     pub vendor: u16,
     pub device_type: u16,
     pub product: u16,

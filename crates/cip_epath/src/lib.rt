@@ -3,8 +3,8 @@
 //! Volume 1, appendix C, data management: segment types.
 #![tactic(auto)]
 
+mod builder;
 mod check;
-mod draft;
 mod fault;
 mod key;
 mod laws;
@@ -16,7 +16,7 @@ mod write;
 
 pub use check::check_key;
 pub use fault::PathFault;
-pub use key::{Key, KeyFault};
+pub use key::{ElectronicKey, KeyFault};
 pub use laws::reads_back;
 pub use path::{ConnPath, Target};
 pub use read::{read_path, read_target};

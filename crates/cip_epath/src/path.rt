@@ -1,6 +1,6 @@
 //! What paths say.
 
-use crate::key::Key;
+use crate::key::ElectronicKey;
 
 /// The path of a connection. The fields have the order in which `write_path` writes the segments.
 ///
@@ -8,7 +8,7 @@ use crate::key::Key;
 #[derive(Clone, Copy)]
 pub struct ConnPath<'a> {
     /// The device that the originator wants to meet.
-    pub key: Option<Key>,
+    pub key: Option<ElectronicKey>,
     /// The production inhibit time, in milliseconds.
     pub inhibit: Option<u8>,
     pub class: u32,

@@ -5,28 +5,28 @@ ghost use Rattle.cip_epath.specs.declared.fault.PathFault.{PathFault};
 ghost use Rattle.cip_epath.specs.declared.path.Target.{Target};
 ghost use Rattle.cip_epath.specs.Path.{PathFields, view_path, IsPath, IsTarget, IsReading};
 ghost use Rattle.cip_epath.specs.Reading.{Gives, seen, path_reading, target_reading};
-ghost use Rattle.cip_epath.specs.Draft.{view_draft, path_of, target_of};
+ghost use Rattle.cip_epath.specs.PathBuilder.{view_path_builder, path_of, target_of};
 
-use crate::draft::{Draft, Inhibits, TargetDraft};
+use crate::builder::{Inhibits, PathBuilder, TargetBuilder};
 use crate::fault::PathFault;
 use crate::path::{ConnPath, Target};
 use crate::reading::segment_of;
 
 /// The path that a whole text makes.
-fn finished<'a>(draft: Draft<'a>, inhibits: Inhibits) -> Result<ConnPath<'a>, PathFault>
-    ensures { Gives view_path result (path_of inhibits (view_draft draft.entry)) }
+fn finished<'a>(builder: PathBuilder<'a>, inhibits: Inhibits) -> Result<ConnPath<'a>, PathFault>
+    ensures { Gives view_path result (path_of inhibits (view_path_builder builder.entry)) }
 {
     let inhibit = match inhibits {
         Inhibits::Nothing => None,
         Inhibits::One(ms) => Some(ms),
         Inhibits::Several => return Err(PathFault::Shape),
     };
-    let (head, config, consumed, produced, segment) = match draft {
-        Draft::Two(head, consumed, produced) => (head, None, consumed, produced, None),
-        Draft::Three(head, config, consumed, produced) => {
+    let (head, config, consumed, produced, segment) = match builder {
+        PathBuilder::Two(head, consumed, produced) => (head, None, consumed, produced, None),
+        PathBuilder::Three(head, config, consumed, produced) => {
             (head, Some(config), consumed, produced, None)
         }
-        Draft::Whole(head, config, consumed, produced, data) => {
+        PathBuilder::Whole(head, config, consumed, produced, data) => {
             (head, config, consumed, produced, Some(data))
         }
         _ => return Err(PathFault::Shape),
@@ -47,15 +47,15 @@ fn walked_path(bytes: &[u8]) -> Result<ConnPath<'_>, PathFault>
     ensures { seen view_path result ≡ path_reading bytes.now }
 {
     let mut rest = bytes;
-    let mut draft = Draft::Start;
+    let mut builder = PathBuilder::Start;
     let mut inhibits = Inhibits::Nothing;
     while !rest.is_empty() {
         let (segment, after) = segment_of(rest)?;
-        draft = draft.then(segment);
+        builder = builder.then(segment);
         inhibits = inhibits.then(segment);
         rest = after;
     }
-    finished(draft, inhibits)
+    finished(builder, inhibits)
 }
 
 /// The connection path that the bytes are a text of. Its data segment lies in the bytes.
@@ -77,16 +77,16 @@ pub fn read_path(bytes: &[u8]) -> Result<ConnPath<'_>, PathFault>
 }
 
 /// The target that a whole text makes.
-fn finished_target(draft: TargetDraft) -> Result<Target, PathFault>
-    ensures { result ≡ target_of draft }
+fn finished_target(builder: TargetBuilder) -> Result<Target, PathFault>
+    ensures { result ≡ target_of builder }
 {
-    match draft {
-        TargetDraft::Instanced(class, instance) => Ok(Target {
+    match builder {
+        TargetBuilder::Instanced(class, instance) => Ok(Target {
             class,
             instance,
             attribute: None,
         }),
-        TargetDraft::Whole(class, instance, attribute) => Ok(Target {
+        TargetBuilder::Whole(class, instance, attribute) => Ok(Target {
             class,
             instance,
             attribute: Some(attribute),
@@ -100,13 +100,13 @@ fn walked_target(bytes: &[u8]) -> Result<Target, PathFault>
     ensures { result ≡ target_reading bytes.now }
 {
     let mut rest = bytes;
-    let mut draft = TargetDraft::Start;
+    let mut builder = TargetBuilder::Start;
     while !rest.is_empty() {
         let (segment, after) = segment_of(rest)?;
-        draft = draft.then(segment);
+        builder = builder.then(segment);
         rest = after;
     }
-    finished_target(draft)
+    finished_target(builder)
 }
 
 /// The target that the bytes of a request path are a text of. The faults are those of `read_path`.

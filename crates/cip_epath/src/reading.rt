@@ -2,12 +2,12 @@
 
 ghost use Rattle.std.specs.Prelude.{◌≡◌};
 ghost use Rattle.std.specs.Option.{ok_or};
-ghost use Rattle.cip_epath.specs.Key.{view_key};
+ghost use Rattle.cip_epath.specs.ElectronicKey.{view_key};
 ghost use Rattle.cip_epath.specs.Segment.{view_segment};
 ghost use Rattle.cip_epath.specs.Reading.{Gives, data_at, key_fields_at, key_at, value_at, logical_at, type_of, segment_at};
 
 use crate::fault::PathFault;
-use crate::key::Key;
+use crate::key::ElectronicKey;
 use crate::segment::{LogicalType, Segment};
 use cip_types::fields::{u8_at, u16_at, u32_at};
 
@@ -28,7 +28,7 @@ fn data_of(bytes: &[u8]) -> Result<(&[u8], &[u8]), PathFault>
 
 /// The fields of a key. None where there are fewer bytes.
 #[tactic(auto, unfolding(crate::specs::Reading::key_fields_at))]
-fn key_fields(bytes: &[u8]) -> Option<(Key, &[u8])>
+fn key_fields(bytes: &[u8]) -> Option<(ElectronicKey, &[u8])>
     ensures { Gives (λ x. (view_key x.0, x.1.now)) (ok_or result PathFault.Truncated) (key_fields_at bytes.now) }
 {
     let (vendor, rest) = u16_at(bytes)?;
@@ -36,7 +36,7 @@ fn key_fields(bytes: &[u8]) -> Option<(Key, &[u8])>
     let (product, rest) = u16_at(rest)?;
     let (revision, rest) = u8_at(rest)?;
     let (minor, rest) = u8_at(rest)?;
-    let key = Key {
+    let key = ElectronicKey {
         vendor,
         device_type,
         product,
@@ -49,7 +49,7 @@ fn key_fields(bytes: &[u8]) -> Option<(Key, &[u8])>
 
 /// The key behind the first byte of its segment.
 #[tactic(auto, unfolding(crate::specs::Reading::key_at))]
-fn key_of(bytes: &[u8]) -> Result<(Key, &[u8]), PathFault>
+fn key_of(bytes: &[u8]) -> Result<(ElectronicKey, &[u8]), PathFault>
     ensures { Gives (λ x. (view_key x.0, x.1.now)) result (key_at bytes.now) }
 {
     let Some((format, rest)) = u8_at(bytes) else {
@@ -141,7 +141,7 @@ pub fn segment_of(bytes: &[u8]) -> Result<(Segment<'_>, &[u8]), PathFault>
     match first {
         0x34 => {
             let (key, rest) = key_of(rest)?;
-            Ok((Segment::Key(key), rest))
+            Ok((Segment::ElectronicKey(key), rest))
         }
         0x43 => {
             let Some((ms, rest)) = u8_at(rest) else {

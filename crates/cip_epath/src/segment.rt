@@ -1,6 +1,6 @@
 //! The segments of paths.
 
-use crate::key::Key;
+use crate::key::ElectronicKey;
 
 /// What the value of a logical segment names.
 #[derive(Clone, Copy)]
@@ -16,7 +16,7 @@ pub enum LogicalType {
 #[derive(Clone, Copy)]
 pub enum Segment<'a> {
     Logical(LogicalType, u32),
-    Key(Key),
+    ElectronicKey(ElectronicKey),
     Data(&'a [u8]),
     /// A production inhibit time, in milliseconds.
     Inhibit(u8),

@@ -1,13 +1,13 @@
 //! Writing paths.
 
 ghost use Rattle.std.specs.Prelude.{◌≡◌, ◌/◌, ◌%◌, ◌≤◌, ◌++◌, ◌∷◌, [], length, Ok, OnOk, IfOk, IfSome};
-ghost use Rattle.cip_epath.specs.Key.{view_key};
+ghost use Rattle.cip_epath.specs.ElectronicKey.{view_key};
 ghost use Rattle.cip_epath.specs.Segment.{type_code, key_text, KeyFits};
 ghost use Rattle.cip_epath.specs.Path.{view_path, IsPath, IsTarget, IsTextOf};
 ghost use Rattle.cip_epath.specs.Reading.{path_reading, target_reading};
 ghost use Rattle.cip_epath.specs.Written.{logical_text, path_text, target_text, AreWords, PathFits};
 
-use crate::key::Key;
+use crate::key::ElectronicKey;
 use crate::path::{ConnPath, Target};
 use crate::segment::LogicalType;
 use cip_types::OutOfMemory;
@@ -45,7 +45,7 @@ fn put_logical(out: &mut Vec<u8>, kind: LogicalType, value: u32) -> Result<(), O
 }
 
 /// Appends a key segment, whose numbers are within their fields by their types.
-fn put_key(out: &mut Vec<u8>, key: &Key) -> Result<(), OutOfMemory>
+fn put_key(out: &mut Vec<u8>, key: &ElectronicKey) -> Result<(), OutOfMemory>
     ensures text { OnOk result (out.new.items ≡ out.old.items ++ key_text (view_key key.now)) }
     ensures fits { KeyFits (view_key key.now) }
 {

@@ -11,14 +11,14 @@ use Rattle.cip_types.specs.contracts.names.ConnIdPartialEq.TheImpl as id
 use Rattle.cip_types.specs.contracts.names.TriadPartialEq.TheImpl as triad
 use Rattle.cip_events.specs.declared.event.Recipient.{Recipient}
 use Rattle.cip_events.specs.declared.event.Frame.{Frame}
-use Rattle.cip_events.specs.declared.event.Sending.{Sending}
+use Rattle.cip_events.specs.declared.event.OutgoingDatagram.{OutgoingDatagram}
 use Rattle.cip_events.specs.declared.event.Delivery.{Delivery}
 use Rattle.cip_events.specs.declared.event.Verdict.{Verdict}
 use Rattle.cip_events.specs.declared.event.Notice.{Notice}
 use Rattle.cip_events.specs.declared.event.Answer.{Answer}
 use Rattle.cip_events.specs.contracts.event.RecipientPartialEq.TheImpl as recipient
 use Rattle.cip_events.specs.contracts.event.FramePartialEq.TheImpl as frame
-use Rattle.cip_events.specs.contracts.event.SendingPartialEq.TheImpl as sending
+use Rattle.cip_events.specs.contracts.event.OutgoingDatagramPartialEq.TheImpl as outgoing
 use Rattle.cip_events.specs.contracts.event.DeliveryPartialEq.TheImpl as delivery
 use Rattle.cip_events.specs.contracts.event.VerdictPartialEq.TheImpl as verdict
 use Rattle.cip_events.specs.contracts.event.NoticePartialEq.TheImpl as notice
@@ -39,9 +39,9 @@ recipient_decides a b = search rules
 frame_decides : (a b : Frame) → Decides ((frame.ghosts).eq a b) (a ≡ b)
 frame_decides a b = search (rules, recipient_decides)
 
-sending_decides : (a b : Sending) → Decides ((sending.ghosts).eq a b) (a ≡ b)
-sending_decides a b =
-    Decides-like ((sending.ghosts).eq a b) (λ p. search rules) (λ e. search rules)
+outgoing_decides : (a b : OutgoingDatagram) → Decides ((outgoing.ghosts).eq a b) (a ≡ b)
+outgoing_decides a b =
+    Decides-like ((outgoing.ghosts).eq a b) (λ p. search rules) (λ e. search rules)
     (Decides-and _ _ (node_decides a.address b.address)
     (Decides-and _ _ (pointwise_decides node_decides a.nodes b.nodes)
     (pointwise_decides Decides-eqb a.bytes b.bytes)))
@@ -59,6 +59,6 @@ pub answer_decides : (a b : Answer) → Decides ((answer.ghosts).eq a b) (a ≡ 
 answer_decides a b =
     Decides-like ((answer.ghosts).eq a b) (λ p. search rules) (λ e. search rules)
     (Decides-and _ _ (pointwise_decides frame_decides a.frames b.frames)
-    (Decides-and _ _ (pointwise_decides sending_decides a.datagrams b.datagrams)
+    (Decides-and _ _ (pointwise_decides outgoing_decides a.datagrams b.datagrams)
     (Decides-and _ _ (verdict_decides a.verdict b.verdict)
     (pointwise_decides notice_decides a.notices b.notices))))

@@ -1,23 +1,23 @@
 -- Nodes and bytes of what is sent, of which few stand in the value itself. No public clause cites this module.
 use Rattle.std.specs.Prelude.{ℕ, ◌≡◌, ◌≤◌, List, length, take}
 use Rattle.cip_types.specs.declared.names.Node.{Node}
-use Rattle.cip_events.specs.declared.nodes.KeptNodes.{KeptNodes}
-use Rattle.cip_events.specs.declared.nodes.KeptNodes.TheVariants as nodes
-use Rattle.cip_events.specs.declared.octets.KeptOctets.{KeptOctets}
-use Rattle.cip_events.specs.declared.octets.KeptOctets.TheVariants as octets
+use Rattle.cip_events.specs.declared.consumers.KeptConsumers.{KeptConsumers}
+use Rattle.cip_events.specs.declared.consumers.KeptConsumers.TheVariants as nodes
+use Rattle.cip_events.specs.declared.small_bytes.KeptBytes.{KeptBytes}
+use Rattle.cip_events.specs.declared.small_bytes.KeptBytes.TheVariants as octets
 
-abbrev pub kept_nodes : KeptNodes → List Node
-kept_nodes (nodes.Few count places) = take count places
-kept_nodes (nodes.Many vec) = vec.items
+abbrev pub kept_consumers : KeptConsumers → List Node
+kept_consumers (nodes.Few count places) = take count places
+kept_consumers (nodes.Many vec) = vec.items
 
-abbrev pub FitNodes : KeptNodes → Type 0
-FitNodes (nodes.Few count places) = (count ≤ 8) × (length places ≡ 8)
-FitNodes (nodes.Many vec) = Unit {0}
+abbrev pub FitConsumers : KeptConsumers → Type 0
+FitConsumers (nodes.Few count places) = (count ≤ 8) × (length places ≡ 8)
+FitConsumers (nodes.Many vec) = Unit {0}
 
-abbrev pub kept_octets : KeptOctets → List ℕ
-kept_octets (octets.Few count places) = take count places
-kept_octets (octets.Many vec) = vec.items
+abbrev pub kept_bytes : KeptBytes → List ℕ
+kept_bytes (octets.Few count places) = take count places
+kept_bytes (octets.Many vec) = vec.items
 
-abbrev pub FitOctets : KeptOctets → Type 0
-FitOctets (octets.Few count places) = (count ≤ 56) × (length places ≡ 56)
-FitOctets (octets.Many vec) = Unit {0}
+abbrev pub FitBytes : KeptBytes → Type 0
+FitBytes (octets.Few count places) = (count ≤ 56) × (length places ≡ 56)
+FitBytes (octets.Many vec) = Unit {0}

@@ -2,9 +2,9 @@
 
 ghost use Rattle.std.specs.Prelude.{◌≡◌};
 
-use crate::nodes::Nodes;
-use crate::octets::Octets;
+use crate::consumers::Consumers;
 use crate::profile_fault::ProfileFault;
+use crate::small_bytes::SmallBytes;
 use cip_types::{ConnId, Fault, Items, Mismatch, Node, OutOfMemory, Triad};
 use thiserror::Error;
 
@@ -53,10 +53,10 @@ pub struct Frame {
 
 /// A datagram that goes out: the address that it is sent to, the nodes that consume it, and its bytes.
 #[derive(PartialEq, Drop)]
-pub struct Sending {
+pub struct OutgoingDatagram {
     pub address: Node,
-    pub nodes: Nodes,
-    pub bytes: Octets,
+    pub nodes: Consumers,
+    pub bytes: SmallBytes,
 }
 
 /// What became of a datagram. The first that holds, from the last of these to the first: it is
@@ -139,7 +139,7 @@ pub enum Notice {
 #[derive(PartialEq, Drop)]
 pub struct Answer {
     pub frames: Items<Frame>,
-    pub datagrams: Items<Sending>,
+    pub datagrams: Items<OutgoingDatagram>,
     pub verdict: Verdict,
     pub notices: Items<Notice>,
 }

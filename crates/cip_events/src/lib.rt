@@ -2,17 +2,17 @@
 //! inboxes, books and printers speak of these, whatever the device is.
 #![tactic(auto)]
 
+mod consumers;
 mod copy;
 mod event;
-mod nodes;
-mod octets;
 mod profile_fault;
 mod same;
+mod small_bytes;
 
+pub use consumers::Consumers;
 pub use event::{
-    Answer, Delivery, Event, Frame, NewFault, Notice, Outcome, Reason, Recipient, Sending,
+    Answer, Delivery, Event, Frame, NewFault, Notice, Outcome, OutgoingDatagram, Reason, Recipient,
     StepFault, Verdict,
 };
-pub use nodes::Nodes;
-pub use octets::Octets;
 pub use profile_fault::ProfileFault;
+pub use small_bytes::SmallBytes;

@@ -113,4 +113,4 @@ closed_text_reads t fits = reply_reads (closed_text t) (closed_reply t) (closed_
 pub refused_close_reads : (service : ℕ) (fault : Fault) (triad : Option Triad) → RefusedFits fault triad → close_reply_reading (refused_text service fault triad) ≡ Ok (refused_close service fault triad)
 refused_close_reads service fault triad fits =
     reply_reads (refused_text service fault triad) (refused_close service fault triad)
-    (refused_among IsCloseAnswerText (unclosed_by fault triad) service fault.general fault.extra triad (λ f text refuses same is. (refuses, same, is)) fits)
+    (refused_among IsCloseAnswerText (unclosed_by fault triad) service fault.general fault.extended triad (λ f text refuses same is. (refuses, same, is)) fits)

@@ -100,7 +100,7 @@ got_text_reads bytes = reply_reads (got_text bytes) (got_reply bytes) (got_text_
 pub refused_get_reads : (service : ℕ) (fault : Fault) (triad : Option Triad) → RefusedFits fault triad → get_reply_reading (refused_text service fault triad) ≡ Ok (refused_get service fault)
 refused_get_reads service fault triad fits =
     reply_reads (refused_text service fault triad) (refused_get service fault)
-    (refused_among IsGottenText (refusal fault) service fault.general fault.extra triad (λ f text refuses same is. (refuses, same, (triad, is))) fits)
+    (refused_among IsGottenText (refusal fault) service fault.general fault.extended triad (λ f text refuses same is. (refuses, same, (triad, is))) fits)
 
 -- ---- the request
 

@@ -13,7 +13,7 @@ use Rattle.cip_fwdopen.specs.declared.fault.ReadFault.{ReadFault}
 use Rattle.cip_fwdopen.specs.declared.fault.ReadFault.TheVariants.{NotEnough, TooMuch, Path}
 use Rattle.cip_fwdopen.specs.Readings.{seen, number, IsReadingAmong}
 use Rattle.cip_fwdopen.specs.Front.{Begins, front_at}
-use Rattle.cip_fwdopen.specs.Reply.{reply_widths, extras_len, IsReplyFront, fault_of, Unread, unread, unread_reading, reply_of}
+use Rattle.cip_fwdopen.specs.Reply.{reply_widths, extended_len, IsReplyFront, fault_of, Unread, unread, unread_reading, reply_of}
 use Rattle.cip_fwdopen.proofs.FrontLaws.{front_taken, front_lacks, front_again}
 use Rattle.cip_fwdopen.proofs.AmongLaws.{IsAnswered, answered_is_reading, one_among}
 
@@ -47,7 +47,7 @@ wide : AllByRecursion IsWide reply_widths
 wide = (wide8, (wide8, (wide8, (wide8, tt))))
 
 abbrev cut : List ℕ → Option (Tailed × List ℕ)
-cut bytes = front_at reply_widths extras_len bytes
+cut bytes = front_at reply_widths extended_len bytes
 
 begins_more : (bytes : List ℕ) (front : Tailed) (rest more : List ℕ) → Begins IsReplyFront bytes front rest → Begins IsReplyFront (bytes ++ more) front (rest ++ more)
 begins_more bytes front rest more is = (is.0, is.1, ap (λ (x : List ℕ). x ++ more) is.2 ∙ append_assoc is.0 rest more)
@@ -55,7 +55,7 @@ begins_more bytes front rest more is = (is.0, is.1, ap (λ (x : List ℕ). x ++ 
 -- what is read where a front stands there
 unread_begun : (bytes : List ℕ) (front : Tailed) (rest : List ℕ) → Begins IsReplyFront bytes front rest → unread_reading bytes ≡ Some (unread (front, rest))
 unfolding unread_reading
-unread_begun bytes front rest is = ap (option_map unread) (front_again reply_widths wide extras_len bytes front rest is)
+unread_begun bytes front rest is = ap (option_map unread) (front_again reply_widths wide extended_len bytes front rest is)
 
 module _ (A R : Type 0) (IsAnswer : Fault → List ℕ → A → Type 0) (read : Fault → List ℕ → Result A ReadFault) (make : ℕ → A → R) (IsText : List ℕ → R → Type 0) (content : IsRead IsAnswer read) (format : IsReplyFormat IsAnswer make IsText) where
   abbrev reading : List ℕ → Result R ReadFault
@@ -101,9 +101,9 @@ module _ (A R : Type 0) (IsAnswer : Fault → List ℕ → A → Type 0) (read :
       (l.0 ++ a.text, omega (arith, length-append l.0 a.text, l.1), (make (number l.2.0 0) a.answer, format.made (bytes ++ (l.0 ++ a.text)) l.2.0 a.text a.answer (bytes ++ l.0, l.2.1, parts) a.is))
 
   front_read : (bytes : List ℕ) (found : Option (Tailed × List ℕ)) → IsBytes bytes → cut bytes ≡ found → IsAnswered IsText reading bytes (reply_of make read (option_map unread found))
-  front_read bytes None fits e = front_missing bytes (front_lacks reply_widths wide extras_len bytes fits e)
+  front_read bytes None fits e = front_missing bytes (front_lacks reply_widths wide extended_len bytes fits e)
   front_read bytes (Some x) fits e =
-      let c = front_taken reply_widths wide extras_len bytes x fits e in
+      let c = front_taken reply_widths wide extended_len bytes x fits e in
       data_read bytes x.0 x.1 (read (fault_of x.0) x.1) c.begins (content.answered (fault_of x.0) x.1 c.rest_fits)
 
   reply_is_answered : (bytes : List ℕ) → IsBytes bytes → IsAnswered IsText reading bytes (reading bytes)
@@ -126,26 +126,26 @@ unfolding unread_reading
 lacks_fixed bytes e = rw e refl
 
 -- too few bytes for the additional words
-pub lacks_extras : (bytes ns rest : List ℕ) → fields_at reply_widths bytes ≡ Some (ns, rest) → length rest < extras_len ns → unread_reading bytes ≡ None
+pub lacks_extended : (bytes ns rest : List ℕ) → fields_at reply_widths bytes ≡ Some (ns, rest) → length rest < extended_len ns → unread_reading bytes ≡ None
 unfolding unread_reading
-lacks_extras bytes ns rest e less = rw (e, lt-ltb _ _ less) refl
+lacks_extended bytes ns rest e less = rw (e, lt-ltb _ _ less) refl
 
-extras_stand : (bytes ns rest : List ℕ) → fields_at reply_widths bytes ≡ Some (ns, rest) → extras_len ns ≤ length rest
-    → unread_reading bytes ≡ Some (unread ((ns, take (extras_len ns) rest), drop (extras_len ns) rest))
+extended_stands : (bytes ns rest : List ℕ) → fields_at reply_widths bytes ≡ Some (ns, rest) → extended_len ns ≤ length rest
+    → unread_reading bytes ≡ Some (unread ((ns, take (extended_len ns) rest), drop (extended_len ns) rest))
 unfolding unread_reading
-extras_stand bytes ns rest e enough = rw (e, le-ltb (length rest) (extras_len ns) enough) refl
+extended_stands bytes ns rest e enough = rw (e, le-ltb (length rest) (extended_len ns) enough) refl
 
 abbrev unread_with : ℕ → ℕ → Option ℕ → List ℕ → Option Unread
-unread_with service general extra content = Some (service, record { general = general; extra = extra }, content)
+unread_with service general extended content = Some (service, record { general = general; extended = extended }, content)
 
 -- a whole front
-pub ends_front : (bytes ns rest extras content : List ℕ) (n : ℕ) (extra : Option ℕ) → fields_at reply_widths bytes ≡ Some (ns, rest) → n ≡ extras_len ns → n ≤ length rest → extras ≡ take n rest → content ≡ drop n rest
-    → extra ≡ option_map (λ x. x.0) (field_at w16 extras)
-    → unread_reading bytes ≡ Some (slice_index ns 0, record { general = slice_index ns 2; extra = extra }, content)
-ends_front bytes ns rest extras content n extra e same enough front back first =
-    extras_stand bytes ns rest e (rw same at enough)
-    ∙ ap (λ (x : List ℕ). Some (unread ((ns, x), drop (extras_len ns) rest))) (ap (λ (k : ℕ). take k rest) (sym same) ∙ sym front)
-    ∙ ap (λ (x : List ℕ). Some (unread ((ns, extras), x))) (ap (λ (k : ℕ). drop k rest) (sym same) ∙ sym back)
+pub ends_front : (bytes ns rest extended_words content : List ℕ) (n : ℕ) (extended : Option ℕ) → fields_at reply_widths bytes ≡ Some (ns, rest) → n ≡ extended_len ns → n ≤ length rest → extended_words ≡ take n rest → content ≡ drop n rest
+    → extended ≡ option_map (λ x. x.0) (field_at w16 extended_words)
+    → unread_reading bytes ≡ Some (slice_index ns 0, record { general = slice_index ns 2; extended = extended }, content)
+ends_front bytes ns rest extended_words content n extended e same enough front back first =
+    extended_stands bytes ns rest e (rw same at enough)
+    ∙ ap (λ (x : List ℕ). Some (unread ((ns, x), drop (extended_len ns) rest))) (ap (λ (k : ℕ). take k rest) (sym same) ∙ sym front)
+    ∙ ap (λ (x : List ℕ). Some (unread ((ns, extended_words), x))) (ap (λ (k : ℕ). drop k rest) (sym same) ∙ sym back)
     ∙ ap (λ (x : Option ℕ). unread_with (slice_index ns 0) (slice_index ns 2) x content) (sym first)
 
 -- ---- the ends of the reading of a reply

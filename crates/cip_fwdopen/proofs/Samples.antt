@@ -140,7 +140,7 @@ get_written = refl
 -- ---- replies to a request to open
 
 abbrev opened : Opened
-opened = record { o_t_id = record { 0 = 0x1000_0001 }; t_o_id = record { 0 = 0x2000_0001 }; triad = first; o_t_api = 10000; t_o_api = 10000 }
+opened = record { o_t_id = record { 0 = 0x1000_0001 }; t_o_id = record { 0 = 0x2000_0001 }; triad = first; o_t_api_us = 10000; t_o_api_us = 10000 }
 
 -- what follows the service byte of a success
 abbrev opened_bytes : List ℕ
@@ -148,7 +148,7 @@ opened_bytes = 0 ∷ 0 ∷ 0 ∷ 0x01 ∷ 0 ∷ 0 ∷ 0x10 ∷ 0x01 ∷ 0 ∷ 0 
 
 -- the connection is in use
 abbrev in_use : Fault
-in_use = record { general = 1; extra = Some 0x0100 }
+in_use = record { general = 1; extended = Some 0x0100 }
 
 -- the refusal of a Forward_Open
 abbrev refused_bytes : List ℕ
@@ -183,7 +183,7 @@ pub refused_written : refused_text 0x54 in_use (Some first) ≡ refused_bytes
 unfolding refused_text
 refused_written = refl
 
-pub refused_bare_written : refused_text 0x54 (record { general = 0x13; extra = None }) None ≡ 0xD4 ∷ 0 ∷ 0x13 ∷ 0 ∷ []
+pub refused_bare_written : refused_text 0x54 (record { general = 0x13; extended = None }) None ≡ 0xD4 ∷ 0 ∷ 0x13 ∷ 0 ∷ []
 unfolding refused_text
 refused_bare_written = refl
 
@@ -228,7 +228,7 @@ closed_bytes = 0xCE ∷ 0 ∷ 0 ∷ 0 ∷ 0x05 ∷ 0 ∷ 0x34 ∷ 0x12 ∷ 0x78 
 
 -- no such connection
 abbrev missing : Fault
-missing = record { general = 1; extra = Some 0x0107 }
+missing = record { general = 1; extended = Some 0x0107 }
 
 abbrev unclosed_bytes : List ℕ
 unclosed_bytes = 0xCE ∷ 0 ∷ 0x01 ∷ 0x01 ∷ 0x07 ∷ 0x01 ∷ 0x01 ∷ 0 ∷ 0x34 ∷ 0x12 ∷ 0x78 ∷ 0x56 ∷ 0x34 ∷ 0x12 ∷ 0 ∷ 0 ∷ []
@@ -289,7 +289,7 @@ pub got_cut : get_reply_reading (0x8E ∷ 0 ∷ 0 ∷ []) ≡ Err NotEnough
 unfolding get_reply_reading unread_reading
 got_cut = refl
 
-pub ungot_read : get_reply_reading no_attribute ≡ Ok (refused_get 0x0E (record { general = 0x14; extra = None }))
+pub ungot_read : get_reply_reading no_attribute ≡ Ok (refused_get 0x0E (record { general = 0x14; extended = None }))
 unfolding get_reply_reading unread_reading
 ungot_read = refl
 
@@ -302,7 +302,7 @@ unfolding get_reply_reading unread_reading
 ungot_with_7 = refl
 
 -- the connection that a failure names is not kept
-pub ungot_with_8 : get_reply_reading (no_attribute ++ take 8 ten) ≡ Ok (refused_get 0x0E (record { general = 0x14; extra = None }))
+pub ungot_with_8 : get_reply_reading (no_attribute ++ take 8 ten) ≡ Ok (refused_get 0x0E (record { general = 0x14; extended = None }))
 unfolding get_reply_reading unread_reading
 ungot_with_8 = refl
 
@@ -310,7 +310,7 @@ pub ungot_with_9 : get_reply_reading (no_attribute ++ take 9 ten) ≡ Err NotEno
 unfolding get_reply_reading unread_reading
 ungot_with_9 = refl
 
-pub ungot_with_10 : get_reply_reading (no_attribute ++ ten) ≡ Ok (refused_get 0x0E (record { general = 0x14; extra = None }))
+pub ungot_with_10 : get_reply_reading (no_attribute ++ ten) ≡ Ok (refused_get 0x0E (record { general = 0x14; extended = None }))
 unfolding get_reply_reading unread_reading
 ungot_with_10 = refl
 

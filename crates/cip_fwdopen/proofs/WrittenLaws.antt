@@ -22,9 +22,9 @@ head_text service general words sl gl wl =
     let c : words % 256 ≡ words = omega arith in
     rw (a, b, c) refl
 
-pub front_stands : (service general words : ℕ) (extras rest : List ℕ) → service < 256 → general < 256 → words < 256 → length extras ≡ 2 * words → Begins IsReplyFront (service ∷ 0 ∷ general ∷ words ∷ (extras ++ rest)) (service ∷ 0 ∷ general ∷ words ∷ [], extras) rest
-front_stands service general words extras rest sl gl wl len =
-    (service ∷ 0 ∷ general ∷ words ∷ extras, ((omega arith, (omega arith, (omega arith, (omega arith, tt)))), len, ap (λ (x : List ℕ). x ++ extras) (sym (head_text service general words sl gl wl))), refl)
+pub front_stands : (service general words : ℕ) (extended_words rest : List ℕ) → service < 256 → general < 256 → words < 256 → length extended_words ≡ 2 * words → Begins IsReplyFront (service ∷ 0 ∷ general ∷ words ∷ (extended_words ++ rest)) (service ∷ 0 ∷ general ∷ words ∷ [], extended_words) rest
+front_stands service general words extended_words rest sl gl wl len =
+    (service ∷ 0 ∷ general ∷ words ∷ extended_words, ((omega arith, (omega arith, (omega arith, (omega arith, tt)))), len, ap (λ (x : List ℕ). x ++ extended_words) (sym (head_text service general words sl gl wl))), refl)
 
 -- ---- a success
 
@@ -55,15 +55,15 @@ failure_data None fits = refl
 failure_data (Some t) fits = (fits, (0 ∷ 0 ∷ [], inr refl, refl))
 
 abbrev fault_with : ℕ → Option ℕ → Fault
-fault_with general extra = record { general = general; extra = extra }
+fault_with general extended = record { general = general; extended = extended }
 
 word_back : (code : ℕ) → code < 2 ^ 16 → option_map (λ (x : ℕ × List ℕ). x.0) (field_at w16 (to_le_bytes w16 code)) ≡ Some code
 word_back code small = ap (option_map (λ (x : ℕ × List ℕ). x.0)) (field_again w16 wide16 code [] small)
 
 -- a refusal is a text of each kind of reply that says by a fault and a failure's data what it does
-pub refused_among : {A : Type 0} (IsAnswer : Fault → List ℕ → A → Type 0) (answer : A) (service general : ℕ) (extra : Option ℕ) (triad : Option Triad)
-    → ((f : Fault) (text : List ℕ) → f.general ≢ 0 → fault_with general extra ≡ f → IsFailureText text triad → IsAnswer f text answer)
-    → RefusedFits (fault_with general extra) triad → IsReplyText IsAnswer (refused_text service (fault_with general extra) triad) (reply_service service) answer
+pub refused_among : {A : Type 0} (IsAnswer : Fault → List ℕ → A → Type 0) (answer : A) (service general : ℕ) (extended : Option ℕ) (triad : Option Triad)
+    → ((f : Fault) (text : List ℕ) → f.general ≢ 0 → fault_with general extended ≡ f → IsFailureText text triad → IsAnswer f text answer)
+    → RefusedFits (fault_with general extended) triad → IsReplyText IsAnswer (refused_text service (fault_with general extended) triad) (reply_service service) answer
 unfolding refused_text
 refused_among IsAnswer answer service general None triad kept fits =
     ((reply_service service ∷ 0 ∷ general ∷ 0 ∷ [], []), failure_text triad, front_stands (reply_service service) general 0 [] (failure_text triad) (omega arith) fits.general (omega arith) refl, refl, kept (fault_with general None) (failure_text triad) fits.refuses refl (failure_data triad fits.triad))
@@ -72,12 +72,12 @@ refused_among IsAnswer answer service general (Some code) triad kept fits = (
   failure_text triad,
   front_stands (reply_service service) general 1 (to_le_bytes w16 code) (failure_text triad) (omega arith) fits.general (omega arith) refl,
   refl,
-  kept (fault_with general (option_map (λ (x : ℕ × List ℕ). x.0) (field_at w16 (to_le_bytes w16 code)))) (failure_text triad) fits.refuses (ap (fault_with general) (sym (word_back code fits.extra))) (failure_data triad fits.triad),
+  kept (fault_with general (option_map (λ (x : ℕ × List ℕ). x.0) (field_at w16 (to_le_bytes w16 code)))) (failure_text triad) fits.refuses (ap (fault_with general) (sym (word_back code fits.extended))) (failure_data triad fits.triad),
 )
 
 -- what is written of a refusal is a text of it
 pub refused_text_is : (service : ℕ) (fault : Fault) (triad : Option Triad) → RefusedFits fault triad → IsOpenReplyText (refused_text service fault triad) (refused_reply service fault triad)
-refused_text_is service fault triad fits = refused_among IsAnswerText (refused_by fault triad) service fault.general fault.extra triad (λ f text refuses same is. (refuses, same, is)) fits
+refused_text_is service fault triad fits = refused_among IsAnswerText (refused_by fault triad) service fault.general fault.extended triad (λ f text refuses same is. (refuses, same, is)) fits
 
 -- what is written of a refusal reads as it
 pub refused_text_reads : (service : ℕ) (fault : Fault) (triad : Option Triad) → RefusedFits fault triad → open_reply_reading (refused_text service fault triad) ≡ Ok (refused_reply service fault triad)

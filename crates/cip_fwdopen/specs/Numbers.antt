@@ -1,8 +1,8 @@
 -- The numbers of fixed parts that were read, in their order (Volume 1, chapter 3, Forward_Open and
 -- Forward_Close services).
 use Rattle.std.specs.Prelude.{ℕ, List, [], ◌∷◌}
-use Rattle.cip_fwdopen.specs.declared.fixed.Fixed.{Fixed}
-use Rattle.cip_fwdopen.specs.declared.front.Head.{Head}
+use Rattle.cip_fwdopen.specs.declared.fixed.OpenFront.{OpenFront}
+use Rattle.cip_fwdopen.specs.declared.front.ReplyFront.{ReplyFront}
 use Rattle.cip_fwdopen.specs.declared.front.Success.{Success}
 use Rattle.cip_fwdopen.specs.declared.front.CloseFront.{CloseFront}
 use Rattle.cip_fwdopen.specs.declared.front.ClosedFront.{ClosedFront}
@@ -10,15 +10,15 @@ use Rattle.cip_fwdopen.specs.Reply.{opened_numbers}
 use Rattle.cip_fwdopen.specs.Close.{closed_numbers}
 
 -- the numbers in front of the path of a request to open
-abbrev pub numbers_of : Fixed → List ℕ
+abbrev pub numbers_of : OpenFront → List ℕ
 numbers_of f =
     f.priority_tick ∷ f.ticks ∷ f.o_t_id ∷ f.t_o_id ∷ f.serial ∷ f.vendor ∷ f.originator ∷ f.multiplier
     ∷ f.reserved.0 ∷ f.reserved.1 ∷ f.reserved.2
     ∷ f.o_t_rpi ∷ f.o_t_word ∷ f.t_o_rpi ∷ f.t_o_word ∷ f.trigger ∷ f.path_words ∷ []
 
 -- the numbers in front of the additional words of a reply
-abbrev pub head_numbers : Head → List ℕ
-head_numbers h = h.service ∷ h.reserved ∷ h.general ∷ h.words ∷ []
+abbrev pub reply_front_numbers : ReplyFront → List ℕ
+reply_front_numbers h = h.service ∷ h.reserved ∷ h.general ∷ h.words ∷ []
 
 -- the numbers in front of the application reply of a success
 abbrev pub success_numbers : Success → List ℕ

@@ -40,7 +40,7 @@ opened_widths = w32 ∷ w32 ∷ w16 ∷ w16 ∷ w32 ∷ w32 ∷ w32 ∷ w8 ∷ w
 
 -- the numbers of a success's data, by words of the application reply and the reserved byte
 abbrev pub opened_numbers : made.Opened → ℕ → ℕ → List ℕ
-opened_numbers o words reserved = o.o_t_id.0 ∷ o.t_o_id.0 ∷ o.triad.serial ∷ o.triad.vendor ∷ o.triad.originator ∷ o.o_t_api ∷ o.t_o_api ∷ words ∷ reserved ∷ []
+opened_numbers o words reserved = o.o_t_id.0 ∷ o.t_o_id.0 ∷ o.triad.serial ∷ o.triad.vendor ∷ o.triad.originator ∷ o.o_t_api_us ∷ o.t_o_api_us ∷ words ∷ reserved ∷ []
 
 -- the service byte of a reply to a Large_Forward_Open or to a Forward_Open
 abbrev pub opened_service : Bool → ℕ
@@ -55,9 +55,9 @@ abbrev pub opened_reply : Bool → made.Opened → OpenReply
 opened_reply large o = record { service = opened_service large; answer = Opened o }
 
 -- the number of additional words, and these
-abbrev pub extra_text : Option ℕ → List ℕ
-extra_text None = 0 ∷ []
-extra_text (Some code) = 1 ∷ to_le_bytes w16 code
+abbrev pub extended_text : Option ℕ → List ℕ
+extended_text None = 0 ∷ []
+extended_text (Some code) = 1 ∷ to_le_bytes w16 code
 
 -- the widths of the numbers that name a connection
 abbrev pub triad_widths : List Width
@@ -74,7 +74,7 @@ failure_text (Some t) = fields_text triad_widths (triad_numbers t) ++ 0 ∷ 0 �
 
 -- the reply that refuses a request of the service
 unfoldable pub refused_text : ℕ → Fault → Option Triad → List ℕ
-refused_text service fault triad = reply_service service ∷ 0 ∷ fault.general ∷ extra_text fault.extra ++ failure_text triad
+refused_text service fault triad = reply_service service ∷ 0 ∷ fault.general ∷ extended_text fault.extended ++ failure_text triad
 
 -- what the reply that refuses a request of the service says
 abbrev pub refused_reply : ℕ → Fault → Option Triad → OpenReply
@@ -87,16 +87,16 @@ abbrev pub reply_widths : List Width
 reply_widths = w8 ∷ w8 ∷ w8 ∷ w8 ∷ []
 
 -- bytes of the additional words
-abbrev pub extras_len : List ℕ → ℕ
-extras_len numbers = 2 * slice_index numbers 3
+abbrev pub extended_len : List ℕ → ℕ
+extended_len numbers = 2 * slice_index numbers 3
 
 -- the text is all of a reply but its data
 abbrev pub IsReplyFront : List ℕ → Tailed → Type 0
-IsReplyFront = IsTailedText reply_widths extras_len
+IsReplyFront = IsTailedText reply_widths extended_len
 
 -- the fault that a reply names: of the additional words the first alone is kept
 abbrev pub fault_of : Tailed → Fault
-fault_of front = record { general = number front 2; extra = option_map (λ x. x.0) (field_at w16 front.1) }
+fault_of front = record { general = number front 2; extended = option_map (λ x. x.0) (field_at w16 front.1) }
 
 -- bytes of the application reply
 abbrev pub application_len : List ℕ → ℕ
@@ -108,8 +108,8 @@ opened_of text = record {
   o_t_id = record { 0 = number text 0 };
   t_o_id = record { 0 = number text 1 };
   triad = record { serial = number text 2; vendor = number text 3; originator = number text 4 };
-  o_t_api = number text 5;
-  t_o_api = number text 6;
+  o_t_api_us = number text 5;
+  t_o_api_us = number text 6;
 }
 
 -- the text is the data of a success, its application reply left aside
@@ -187,7 +187,7 @@ unread x = (number x.0 0, fault_of x.0, x.1)
 
 -- what bytes that are a reply say before their data is read; None where they end before it
 unfoldable pub unread_reading : List ℕ → Option Unread
-unread_reading bytes = option_map unread (front_at reply_widths extras_len bytes)
+unread_reading bytes = option_map unread (front_at reply_widths extended_len bytes)
 
 -- the reply that make makes of the service and of what read answers to the data
 abbrev pub reply_of : {A R : Type 0} → (ℕ → A → R) → (Fault → List ℕ → Result A ReadFault) → Option Unread → Result R ReadFault
@@ -212,5 +212,5 @@ TriadFits t = AreFields triad_widths (triad_numbers t)
 pub record RefusedFits (fault : Fault) (named : Option Triad) : Type 0 where
   pub refuses : fault.general ≢ 0
   pub general : fault.general < 2 ^ 8
-  pub extra : IfSome fault.extra (λ code. code < 2 ^ 16)
+  pub extended : IfSome fault.extended (λ code. code < 2 ^ 16)
   pub triad : IfSome named TriadFits

@@ -6,7 +6,7 @@ use cip_types::fields::{u16_in, u32_in};
 
 /// What stands before the path. The connection parameters are words that are not read yet.
 #[derive(Clone, Copy)]
-pub struct Fixed {
+pub struct OpenFront {
     pub priority_tick: u8,
     pub ticks: u8,
     pub o_t_id: u32,
@@ -24,19 +24,19 @@ pub struct Fixed {
     pub path_words: u8,
 }
 
-impl Fixed {
+impl OpenFront {
     ghost use Rattle.std.specs.Prelude.{true, false};
     ghost use Rattle.cip_fwdopen.specs.Numbers.{numbers_of};
     ghost use Rattle.cip_fwdopen.specs.Open.{open_widths};
 
     /// The fixed part of a Forward_Open's data at the front, and the bytes after it.
-    fn short_at(bytes: &[u8]) -> Option<(Fixed, &[u8])>
+    fn short_at(bytes: &[u8]) -> Option<(OpenFront, &[u8])>
         ensures { Finds (λ x. (numbers_of x.0, x.1.now)) result (fields_at (open_widths false) bytes.now) }
     {
         if bytes.len() < 36 {
             return None;
         }
-        let fixed = Fixed {
+        let fixed = OpenFront {
             priority_tick: bytes[0],
             ticks: bytes[1],
             o_t_id: u32_in(bytes, 2),
@@ -57,13 +57,13 @@ impl Fixed {
     }
 
     /// The fixed part of a Large_Forward_Open's data at the front, and the bytes after it.
-    fn large_at(bytes: &[u8]) -> Option<(Fixed, &[u8])>
+    fn large_at(bytes: &[u8]) -> Option<(OpenFront, &[u8])>
         ensures { Finds (λ x. (numbers_of x.0, x.1.now)) result (fields_at (open_widths true) bytes.now) }
     {
         if bytes.len() < 40 {
             return None;
         }
-        let fixed = Fixed {
+        let fixed = OpenFront {
             priority_tick: bytes[0],
             ticks: bytes[1],
             o_t_id: u32_in(bytes, 2),
@@ -84,13 +84,13 @@ impl Fixed {
     }
 
     /// The fixed part at the front, and the bytes after it.
-    pub fn at(large: bool, bytes: &[u8]) -> Option<(Fixed, &[u8])>
+    pub fn at(large: bool, bytes: &[u8]) -> Option<(OpenFront, &[u8])>
         ensures { Finds (λ x. (numbers_of x.0, x.1.now)) result (fields_at (open_widths large) bytes.now) }
     {
         if large {
-            Fixed::large_at(bytes)
+            OpenFront::large_at(bytes)
         } else {
-            Fixed::short_at(bytes)
+            OpenFront::short_at(bytes)
         }
     }
 }

@@ -12,31 +12,31 @@ use cip_types::{ConnId, Fault, Triad};
 
 /// What stands before the additional words of a reply.
 #[derive(Clone, Copy)]
-pub struct Head {
+pub struct ReplyFront {
     pub service: u8,
     pub reserved: u8,
     pub general: u8,
     pub words: u8,
 }
 
-impl Head {
-    ghost use Rattle.cip_fwdopen.specs.Numbers.{head_numbers};
+impl ReplyFront {
+    ghost use Rattle.cip_fwdopen.specs.Numbers.{reply_front_numbers};
     ghost use Rattle.cip_fwdopen.specs.Reply.{reply_widths};
 
     /// The fixed part of a reply at the front, and the bytes after it.
-    pub fn at(bytes: &[u8]) -> Option<(Head, &[u8])>
-        ensures { Finds (λ x. (head_numbers x.0, x.1.now)) result (fields_at reply_widths bytes.now) }
+    pub fn at(bytes: &[u8]) -> Option<(ReplyFront, &[u8])>
+        ensures { Finds (λ x. (reply_front_numbers x.0, x.1.now)) result (fields_at reply_widths bytes.now) }
     {
         let [service, reserved, general, words, rest @ ..] = bytes else {
             return None;
         };
-        let head = Head {
+        let front = ReplyFront {
             service: *service,
             reserved: *reserved,
             general: *general,
             words: *words,
         };
-        Some((head, rest))
+        Some((front, rest))
     }
 }
 
@@ -60,18 +60,18 @@ fn first_word(words: &[u8]) -> Option<u16>
 pub fn unread_at(bytes: &[u8]) -> Option<Unread<'_>>
     ensures { Finds (λ x. (x.service, x.fault, x.content.now)) result (unread_reading bytes.now) }
 {
-    let (head, rest) = Head::at(bytes)?;
-    let len = 2 * usize::from(head.words);
+    let (front, rest) = ReplyFront::at(bytes)?;
+    let len = 2 * usize::from(front.words);
     if rest.len() < len {
         return None;
     }
     let (words, content) = rest.split_at(len);
     let fault = Fault {
-        general: head.general,
-        extra: first_word(words),
+        general: front.general,
+        extended: first_word(words),
     };
     Some(Unread {
-        service: head.service,
+        service: front.service,
         fault,
         content,
     })
@@ -100,8 +100,8 @@ impl Success {
             o_t_id: ConnId(u32_in(bytes, 0)),
             t_o_id: ConnId(u32_in(bytes, 4)),
             triad: triad_in(bytes, 8),
-            o_t_api: u32_in(bytes, 16),
-            t_o_api: u32_in(bytes, 20),
+            o_t_api_us: u32_in(bytes, 16),
+            t_o_api_us: u32_in(bytes, 20),
         };
         let success = Success {
             opened,

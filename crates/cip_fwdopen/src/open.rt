@@ -7,7 +7,7 @@ ghost use Rattle.cip_fwdopen.specs.Open.{OpenFields, view_open, open_of, params_
 ghost use Rattle.cip_fwdopen.specs.Numbers.{numbers_of};
 
 use crate::fault::ReadFault;
-use crate::fixed::Fixed;
+use crate::fixed::OpenFront;
 use cip_netparams::{NetParams, read16, read32};
 use cip_types::{ConnId, Triad};
 
@@ -45,7 +45,7 @@ fn params_of(large: bool, word: u32) -> NetParams
     }
 }
 
-fn request_of<'a>(large: bool, fixed: Fixed, path: &'a [u8]) -> OpenRequest<'a>
+fn request_of<'a>(large: bool, fixed: OpenFront, path: &'a [u8]) -> OpenRequest<'a>
     ensures { view_open result ≡ open_of large (numbers_of fixed, path.now) }
 {
     OpenRequest {
@@ -71,7 +71,7 @@ fn request_of<'a>(large: bool, fixed: Fixed, path: &'a [u8]) -> OpenRequest<'a>
 fn whole_open(large: bool, bytes: &[u8]) -> Result<OpenRequest<'_>, ReadFault>
     ensures { seen view_open result ≡ open_reading large bytes.now }
 {
-    let Some((fixed, rest)) = Fixed::at(large, bytes) else {
+    let Some((fixed, rest)) = OpenFront::at(large, bytes) else {
         return Err(ReadFault::NotEnough);
     };
     let len = 2 * usize::from(fixed.path_words);

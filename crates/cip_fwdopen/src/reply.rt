@@ -21,8 +21,8 @@ pub struct Opened {
     pub o_t_id: ConnId,
     pub t_o_id: ConnId,
     pub triad: Triad,
-    pub o_t_api: u32,
-    pub t_o_api: u32,
+    pub o_t_api_us: u32,
+    pub t_o_api_us: u32,
 }
 
 /// What a target says of a connection that it did not open.

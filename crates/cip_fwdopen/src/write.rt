@@ -4,7 +4,7 @@ ghost use Rattle.std.specs.Prelude.{◌≡◌, ◌≢◌, ◌%◌, ◌≤◌, �
 ghost use Rattle.std.specs.Int.{w32, to_le_bytes};
 ghost use Rattle.cip_types.specs.Fields.{fields_text};
 ghost use Rattle.cip_fwdopen.specs.Open.{view_open, params_width, params_word, greatest_size, open_text, OpenFits, IsOpenText, open_reading};
-ghost use Rattle.cip_fwdopen.specs.Reply.{opened_service, opened_text, opened_reply, refused_text, refused_reply, IsOpenReplyText, open_reply_reading, extra_text, failure_text, triad_widths, triad_numbers, OpenedFits, TriadFits};
+ghost use Rattle.cip_fwdopen.specs.Reply.{opened_service, opened_text, opened_reply, refused_text, refused_reply, IsOpenReplyText, open_reply_reading, extended_text, failure_text, triad_widths, triad_numbers, OpenedFits, TriadFits};
 
 use crate::open::OpenRequest;
 use crate::reply::Opened;
@@ -109,8 +109,8 @@ fn put_opened(out: &mut Vec<u8>, large: bool, opened: &Opened) -> Result<(), Out
     put_u32(out, opened.o_t_id.0)?;
     put_u32(out, opened.t_o_id.0)?;
     put_triad(out, opened.triad)?;
-    put_u32(out, opened.o_t_api)?;
-    put_u32(out, opened.t_o_api)?;
+    put_u32(out, opened.o_t_api_us)?;
+    put_u32(out, opened.t_o_api_us)?;
     put_bytes(out, &[0, 0])?;
     Ok(())
 }
@@ -129,10 +129,10 @@ pub fn write_opened(alloc: Global, large: bool, opened: &Opened) -> Result<Vec<u
     Ok(out)
 }
 
-fn put_extra(out: &mut Vec<u8>, extra: Option<u16>) -> Result<(), OutOfMemory>
-    ensures { OnOk result (out.new.items ≡ out.old.items ++ extra_text extra) }
+fn put_extended(out: &mut Vec<u8>, extended: Option<u16>) -> Result<(), OutOfMemory>
+    ensures { OnOk result (out.new.items ≡ out.old.items ++ extended_text extended) }
 {
-    let Some(code) = extra else {
+    let Some(code) = extended else {
         return put_u8(out, 0);
     };
     put_u8(out, 1)?;
@@ -160,7 +160,7 @@ fn refused_bytes(
 {
     let mut out = Vec::new(alloc);
     put_bytes(&mut out, &[service | 0x80, 0, fault.general])?;
-    put_extra(&mut out, fault.extra)?;
+    put_extended(&mut out, fault.extended)?;
     put_failure(&mut out, triad)?;
     Ok(out)
 }

@@ -5,11 +5,11 @@ use Rattle.cip_types.specs.Circle.{is_newer}
 use Rattle.cip_productions.specs.declared.acceptance.Accepted.{Accepted}
 
 -- the first number is always accepted, a later one where it is newer than the last accepted one
-abbrev pub is_news : Option Accepted → ℕ → Bool
-is_news None sequence = true
-is_news (Some last) sequence = is_newer sequence last.number
+abbrev pub accepts_sequence : Option Accepted → ℕ → Bool
+accepts_sequence None sequence = true
+accepts_sequence (Some last) sequence = is_newer sequence last.number
 
 -- the count of the last accepted datagram again: there are no new data
-abbrev pub is_repeated : Option Accepted → ℕ → Bool
-is_repeated None count = false
-is_repeated (Some last) count = count == last.count
+abbrev pub is_duplicate : Option Accepted → ℕ → Bool
+is_duplicate None count = false
+is_duplicate (Some last) count = count == last.count

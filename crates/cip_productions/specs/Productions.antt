@@ -8,7 +8,7 @@ use Rattle.cip_types.specs.declared.names.Ms.{Ms}
 use Rattle.cip_netparams.specs.declared.Trigger.{Trigger}
 use Rattle.cip_netparams.specs.declared.Trigger.TheVariants.{Cyclic, ChangeOfState}
 use Rattle.cip_datagram.specs.Datagram.{DatagramFields, datagram_text}
-use Rattle.cip_events.specs.declared.event.Sending.{Sending}
+use Rattle.cip_events.specs.declared.event.OutgoingDatagram.{OutgoingDatagram}
 use Rattle.cip_productions.specs.declared.production.Production.{Production}
 use Rattle.cip_productions.specs.declared.production.Producer.{Producer}
 
@@ -39,7 +39,7 @@ is_production_due clock production = nat_le production.due.0 clock.0
 
 -- CHANGES OF STATE
 
--- when a producer was last held back to
+-- the production inhibit time is over
 abbrev pub is_over : Option Ms → ℕ → Ms → Bool
 is_over None inhibit clock = true
 is_over (Some last) inhibit clock = nat_le (last.0 + inhibit) clock.0
@@ -59,21 +59,21 @@ sooner_due None inhibit due = due
 sooner_due (Some last) inhibit due = record { 0 = min due.0 (last.0 + inhibit) }
 
 -- a producer that may not produce yet is due when it may
-abbrev pub held : Production → Production
-held production = record production { due = sooner_due production.last production.inhibit production.due }
+abbrev pub deferred : Production → Production
+deferred production = record production { due = sooner_due production.last production.inhibit production.due }
 
 -- a change of state makes the producer produce at once
 abbrev pub is_produced_on_change : Ms → Production → Bool
 is_produced_on_change clock production = is_on_change production.trigger && is_free clock production
 
 -- what a change of state makes of a change-of-state producer: it produces, or is due when it may
-abbrev pub produced_or_held : Ms → ℕ → Production → Production
-produced_or_held clock api production = if is_free clock production then produced clock api production else held production
+abbrev pub produced_or_deferred : Ms → ℕ → Production → Production
+produced_or_deferred clock api production = if is_free clock production then produced clock api production else deferred production
 
 -- the same by its trigger: a cyclic producer goes on as before
 abbrev pub changed_by : Trigger → Ms → ℕ → Production → Production
 changed_by Cyclic clock api production = production
-changed_by ChangeOfState clock api production = produced_or_held clock api production
+changed_by ChangeOfState clock api production = produced_or_deferred clock api production
 
 -- the producer after a change of state, which a write of its point is
 abbrev pub changed : Ms → ℕ → Production → Production
@@ -110,7 +110,7 @@ produced_by nodes input producer = record {
 }
 
 -- the bytes of a production
-abbrev pub sent : Produced → Sending
+abbrev pub sent : Produced → OutgoingDatagram
 sent production = record { address = production.address; nodes = production.nodes; bytes = datagram_text production.datagram }
 
 -- SEVERAL PRODUCERS

@@ -1,7 +1,7 @@
 //! What a connection remembers of the datagrams that it accepted, and which it accepts.
 
 ghost use Rattle.std.specs.Prelude.{◌≡◌};
-ghost use Rattle.cip_productions.specs.Acceptance.{is_news, is_repeated};
+ghost use Rattle.cip_productions.specs.Acceptance.{accepts_sequence, is_duplicate};
 
 use cip_types::{newer32, same16};
 
@@ -16,8 +16,8 @@ pub struct Accepted {
 /// the last accepted one. Takes no memory.
 ///
 /// Volume 2, chapter 2, sequenced address item.
-pub fn is_news(last: Option<Accepted>, sequence: u32) -> bool
-    ensures { result ≡ is_news last sequence }
+pub fn accepts_sequence(last: Option<Accepted>, sequence: u32) -> bool
+    ensures { result ≡ accepts_sequence last sequence }
 {
     match last {
         Some(last) => newer32(sequence, last.number),
@@ -28,8 +28,8 @@ pub fn is_news(last: Option<Accepted>, sequence: u32) -> bool
 /// Whether a datagram of this count has no new data. Takes no memory.
 ///
 /// Volume 1, chapter 3, class 1 transport.
-pub fn is_repeated(last: Option<Accepted>, count: u16) -> bool
-    ensures { result ≡ is_repeated last count }
+pub fn is_duplicate(last: Option<Accepted>, count: u16) -> bool
+    ensures { result ≡ is_duplicate last count }
 {
     match last {
         Some(last) => same16(count, last.count),

@@ -4,15 +4,15 @@
 
 mod acceptance;
 mod kind;
+mod outgoing;
 mod producing;
 mod production;
-mod sending;
 
-pub use acceptance::{Accepted, is_news, is_repeated};
+pub use acceptance::{Accepted, accepts_sequence, is_duplicate};
 pub use kind::Kind;
+pub use outgoing::{by_due, by_number, same_producer, sent_by};
 pub use producing::{
-    changed, due_again, held, is_free, is_produced_on_change, is_production_due, next_count,
+    changed, deferred, due_again, is_free, is_produced_on_change, is_production_due, next_count,
     produced,
 };
 pub use production::{Producer, Production};
-pub use sending::{by_due, by_number, same_producer, sent_by};

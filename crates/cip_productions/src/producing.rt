@@ -1,7 +1,7 @@
 //! How a producer goes on.
 
 ghost use Rattle.std.specs.Prelude.{◌≡◌, ◌≤◌, ◌+◌, ◌^◌};
-ghost use Rattle.cip_productions.specs.Productions.{next_count, due_again, produced, is_production_due, is_over, is_free, is_on_change, is_produced_on_change, sooner_due, held, produced_or_held, changed};
+ghost use Rattle.cip_productions.specs.Productions.{next_count, due_again, produced, is_production_due, is_over, is_free, is_on_change, is_produced_on_change, sooner_due, deferred, produced_or_deferred, changed};
 
 use crate::production::Production;
 use cip_netparams::Trigger;
@@ -106,9 +106,9 @@ fn sooner_due(last: Option<Ms>, inhibit: u8, due: Ms) -> Ms
 /// A producer that may not produce yet is due when it may, and no later than before.
 ///
 /// Volume 1, chapter 3, production inhibit time.
-pub fn held(production: Production) -> Production
+pub fn deferred(production: Production) -> Production
     requires { production.due.0 ≤ 2 ^ 48 + 10000 }
-    ensures { result ≡ held production }
+    ensures { result ≡ deferred production }
 {
     Production {
         due: sooner_due(production.last, production.inhibit, production.due),
@@ -117,15 +117,15 @@ pub fn held(production: Production) -> Production
 }
 
 /// What a change of state makes of a change-of-state producer: it produces, or is due when it may.
-fn produced_or_held(production: Production, clock: Ms, api: u32) -> Production
+fn produced_or_deferred(production: Production, clock: Ms, api: u32) -> Production
     requires time { clock.0 ≤ 2 ^ 48 }
     requires due { production.due.0 ≤ 2 ^ 48 + 10000 }
-    ensures { result ≡ produced_or_held clock api production }
+    ensures { result ≡ produced_or_deferred clock api production }
 {
     if is_free(&production, clock) {
         produced(production, clock, api)
     } else {
-        held(production)
+        deferred(production)
     }
 }
 
@@ -140,6 +140,6 @@ pub fn changed(production: Production, clock: Ms, api: u32) -> Production
 {
     match production.trigger {
         Trigger::Cyclic => production,
-        Trigger::ChangeOfState => produced_or_held(production, clock, api),
+        Trigger::ChangeOfState => produced_or_deferred(production, clock, api),
     }
 }

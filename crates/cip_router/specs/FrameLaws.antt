@@ -5,10 +5,10 @@ use Rattle.cip_encap.specs.declared.header.MessageHeader.{MessageHeader}
 use Rattle.cip_encap.specs.declared.message.EncapFault.{EncapFault}
 use Rattle.cip_encap.specs.Message.{MessageFields, header_widths, headed}
 use Rattle.cip_encap.specs.Reading.{message_reading}
-use Rattle.cip_router.specs.Frames.{whole, misfit, headless, echo_of, frame_fields, frame_reading}
+use Rattle.cip_router.specs.Frames.{whole, misfit, headless, reply_header_of, frame_fields, frame_reading}
 
 -- a whole message
-pub whole_reads : (bytes : List ℕ) (m : MessageFields) → message_reading bytes ≡ Ok m → frame_reading bytes ≡ whole (echo_of m) m.payload
+pub whole_reads : (bytes : List ℕ) (m : MessageFields) → message_reading bytes ≡ Ok m → frame_reading bytes ≡ whole (reply_header_of m) m.payload
 unfolding frame_reading
 whole_reads bytes m is = ap (frame_fields (fields_at header_widths bytes)) is
 

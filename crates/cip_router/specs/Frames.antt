@@ -17,7 +17,7 @@ use Rattle.cip_router.specs.Replies.{ReplyFields, reply_text}
 use Rattle.cip_router.specs.Commands.{encap_code}
 
 -- what a reply sends back of its request: the command, the session handle and the sender context
-pub record Echo : Type 0 where
+pub record ReplyHeader : Type 0 where
   pub command : ℕ
   pub session : ℕ
   pub context : ℕ
@@ -26,25 +26,25 @@ pub record Echo : Type 0 where
 -- whole message with its data; status and options of a request are not looked at
 pub data FrameFields : Type 0 where
   headless : FrameFields
-  misfit : Echo → FrameFields
-  whole : Echo → List ℕ → FrameFields
+  misfit : ReplyHeader → FrameFields
+  whole : ReplyHeader → List ℕ → FrameFields
 
 -- what goes back to a whole message
-abbrev pub echo_of : MessageFields → Echo
-echo_of m = record { command = m.command; session = m.session; context = m.context }
+abbrev pub reply_header_of : MessageFields → ReplyHeader
+reply_header_of m = record { command = m.command; session = m.session; context = m.context }
 
 -- and to a header: its numbers are command, length, session handle, status, sender context and options
-abbrev pub header_echo : List ℕ → Echo
-header_echo numbers = record { command = get_or numbers 0 0; session = get_or numbers 2 0; context = get_or numbers 4 0 }
+abbrev pub reply_header_in : List ℕ → ReplyHeader
+reply_header_in numbers = record { command = get_or numbers 0 0; session = get_or numbers 2 0; context = get_or numbers 4 0 }
 
 -- bytes that are no message, by the header in front of them
 abbrev pub misfit_of : Option Tailed → FrameFields
 misfit_of None = headless
-misfit_of (Some header) = misfit (header_echo header.0)
+misfit_of (Some header) = misfit (reply_header_in header.0)
 
 -- a frame by the header in front of it, and by its reading as a message
 abbrev pub frame_fields : Option Tailed → Result MessageFields EncapFault → FrameFields
-frame_fields header (Ok m) = whole (echo_of m) m.payload
+frame_fields header (Ok m) = whole (reply_header_of m) m.payload
 frame_fields header (Err fault) = misfit_of header
 
 -- what the bytes of a frame say
@@ -79,21 +79,21 @@ abbrev pub socket_of : Node → SocketAddress
 socket_of address = record { port = datagram_port; address = address }
 
 -- a message that sends back the command and the sender context of its request
-abbrev pub echoed : Echo → ℕ → ℕ → List ℕ → MessageFields
-echoed echo session status payload = record {
-  command = echo.command;
+abbrev pub headed_reply : ReplyHeader → ℕ → ℕ → List ℕ → MessageFields
+headed_reply reply_header session status payload = record {
+  command = reply_header.command;
   session = session;
   status = status;
-  context = echo.context;
+  context = reply_header.context;
   options = 0;
   payload = payload;
 }
 
 -- The message of a reply. A refusal has no data, but that of another version, which has no session handle
 -- either; a session that begins has its own handle; all others have that of the request.
-abbrev pub reply_message : Echo → FrameReply → MessageFields
-reply_message echo services = echoed echo echo.session 0 services_text
-reply_message echo (registered session) = echoed echo session 0 protocol_text
-reply_message echo other_version = echoed echo 0 (encap_code status.UnsupportedVersion) protocol_text
-reply_message echo (router_reply reply address) = echoed echo echo.session 0 (packet_text (reply_text reply) (option_map socket_of address))
-reply_message echo (refused why) = echoed echo echo.session (encap_code why) []
+abbrev pub reply_message : ReplyHeader → FrameReply → MessageFields
+reply_message reply_header services = headed_reply reply_header reply_header.session 0 services_text
+reply_message reply_header (registered session) = headed_reply reply_header session 0 protocol_text
+reply_message reply_header other_version = headed_reply reply_header 0 (encap_code status.UnsupportedVersion) protocol_text
+reply_message reply_header (router_reply reply address) = headed_reply reply_header reply_header.session 0 (packet_text (reply_text reply) (option_map socket_of address))
+reply_message reply_header (refused why) = headed_reply reply_header reply_header.session (encap_code why) []

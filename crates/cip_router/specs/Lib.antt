@@ -1,4 +1,4 @@
-pub mod Asking
+pub mod Requests
 pub mod Refusals
 pub mod Replies
 pub mod Commands

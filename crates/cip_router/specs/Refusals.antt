@@ -17,7 +17,7 @@ status_code status.TooMuchData = 0x15
 
 -- the message router's refusal
 abbrev pub status_fault : Status → Fault
-status_fault why = record { general = status_code why; extra = None }
+status_fault why = record { general = status_code why; extended = None }
 
 abbrev pub refusal_code : Refusal → ℕ
 refusal_code refusal.InUse = 0x0100
@@ -45,4 +45,4 @@ refusal_code refusal.Segment = 0x0315
 
 -- the Connection Manager's refusal: general status 1, connection failure, with an additional status
 abbrev pub refusal_fault : Refusal → Fault
-refusal_fault why = record { general = 1; extra = Some (refusal_code why) }
+refusal_fault why = record { general = 1; extended = Some (refusal_code why) }

@@ -6,7 +6,7 @@ use Rattle.cip_types.specs.Fields.{fields_text}
 use Rattle.cip_fwdopen.specs.Close.{closed_text}
 use Rattle.cip_fwdopen.specs.Get.{got_text}
 use Rattle.cip_fwdopen.specs.declared.reply.Opened.{Opened}
-use Rattle.cip_fwdopen.specs.Reply.{reply_service, extra_text, failure_text, opened_text, refused_text}
+use Rattle.cip_fwdopen.specs.Reply.{reply_service, extended_text, failure_text, opened_text, refused_text}
 use Rattle.cip_encap.specs.declared.packet.SocketAddress.{SocketAddress}
 use Rattle.cip_encap.specs.Packet.{packet_widths, packet_numbers, socket_count, socket_items, packet_text}
 use Rattle.cip_router.specs.Replies.{ReplyFields, opened, closed, got, refused, reply_text, GetsFew}
@@ -30,7 +30,7 @@ short_got : (value : List ℕ) → length value ≤ 1400 → IsShort (got_text v
 unfolding got_text
 short_got value few = record { some = omega arith; few = omega (arith, few) }
 
-refusal_short : (service general : ℕ) (extra : Option ℕ) (triad : Option Triad) → IsShort (reply_service service ∷ 0 ∷ general ∷ extra_text extra ++ failure_text triad)
+refusal_short : (service general : ℕ) (extended : Option ℕ) (triad : Option Triad) → IsShort (reply_service service ∷ 0 ∷ general ∷ extended_text extended ++ failure_text triad)
 refusal_short service general None None = record { some = omega arith; few = omega arith }
 refusal_short service general None (Some triad) = record { some = omega arith; few = omega arith }
 refusal_short service general (Some code) None = record { some = omega arith; few = omega arith }
@@ -38,7 +38,7 @@ refusal_short service general (Some code) (Some triad) = record { some = omega a
 
 short_refused : (service : ℕ) (fault : Fault) (triad : Option Triad) → IsShort (refused_text service fault triad)
 unfolding refused_text
-short_refused service fault triad = refusal_short service fault.general fault.extra triad
+short_refused service fault triad = refusal_short service fault.general fault.extended triad
 
 pub reply_is_short : (reply : ReplyFields) → GetsFew reply → IsShort (reply_text reply)
 reply_is_short (opened large o) few = short_opened large o

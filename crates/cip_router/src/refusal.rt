@@ -19,7 +19,7 @@ pub enum Refusal {
     Ownership,
     /// No connection has this triad.
     NotFound,
-    /// The multiplier is none, or a redundant owner is asked for.
+    /// The multiplier is none, or a redundant owner is requested.
     Parameter,
     /// A requested packet interval is out of range.
     PacketInterval,
@@ -95,7 +95,7 @@ impl Refusal {
     {
         Fault {
             general: 1,
-            extra: Some(self.code()),
+            extended: Some(self.code()),
         }
     }
 }
@@ -141,7 +141,7 @@ impl Status {
     {
         Fault {
             general: self.code(),
-            extra: None,
+            extended: None,
         }
     }
 }

@@ -2,5 +2,5 @@ pub mod RunKeeps
 pub mod RunLemmas
 pub mod ScratchLemmas
 mod NewestLemmas
-mod PlaceLemmas
+mod SlotLemmas
 mod ScannerRunLemmas

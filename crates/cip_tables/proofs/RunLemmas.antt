@@ -31,22 +31,22 @@ counted_err said old fault new is stays = record { same = rw is refl; moved = rw
 
 -- what a run is, as a fold
 pub record IsFold (old : DeviceTable) (events : List Event) (outcomes : List Outcome) (new : DeviceTable) : Type 0 where
-  pub told : filter found_memory outcomes ≡ outcomes_of old (performed events outcomes)
+  pub reported : filter found_memory outcomes ≡ outcomes_of old (performed events outcomes)
   pub table : new ≡ table_after old (performed events outcomes)
 
 fold_more : (old mid new : DeviceTable) (event : Event) (events : List Event) (outcome : Outcome) (outcomes : List Outcome) → found_memory outcome ≡ true → Counted old (step old event) outcome mid → IsFold mid events outcomes new → IsFold old (event ∷ events) (outcome ∷ outcomes) new
 fold_more old mid new event events outcome outcomes found counted rest =
     let same = counted.same in
     let moved = counted.moved in
-    let told = rest.told in
+    let reported = rest.reported in
     let table = rest.table in
-    record { told = rw found cc; table = rw found cc }
+    record { reported = rw found cc; table = rw found cc }
 
 fold_refused : (old mid new : DeviceTable) (event : Event) (events : List Event) (outcome : Outcome) (outcomes : List Outcome) → found_memory outcome ≡ false → mid ≡ old → IsFold mid events outcomes new → IsFold old (event ∷ events) (outcome ∷ outcomes) new
 fold_refused old mid new event events outcome outcomes found stays rest =
-    let told = rest.told in
+    let reported = rest.reported in
     let table = rest.table in
-    record { told = rw found cc; table = rw found cc }
+    record { reported = rw found cc; table = rw found cc }
 
 fold_fault : (old mid new : DeviceTable) (event : Event) (events : List Event) (fault : StepFault) (outcomes : List Outcome) → found_memory (Err fault) ≡ true → (step old event ≡ Err fault) × (mid ≡ old) → IsFold mid events outcomes new → IsFold old (event ∷ events) (Err fault ∷ outcomes) new
 fold_fault old mid new event events fault outcomes found follows rest = fold_more old mid new event events (Err fault) outcomes found (counted_err _ old fault mid follows.0 follows.1) rest
@@ -62,7 +62,7 @@ fold_step old mid new event events (Err NoSuchSlot) outcomes follows rest = fold
 fold_step old mid new event events (Err NotAllowedNow) outcomes follows rest = fold_fault old mid new event events NotAllowedNow outcomes refl follows rest
 
 pub run_folds : (old : DeviceTable) (events : List Event) (outcomes : List Outcome) (new : DeviceTable) → Runs old events outcomes new → IsFold old events outcomes new
-run_folds old [] [] new ran = record { told = refl; table = ran }
+run_folds old [] [] new ran = record { reported = refl; table = ran }
 run_folds old [] (outcome ∷ outcomes) new ran = absurd ran
 run_folds old (event ∷ events) [] new ran = absurd ran
 run_folds old (event ∷ events) (outcome ∷ outcomes) new ran = fold_step old ran.0 new event events outcome outcomes ran.1 (run_folds ran.0 events outcomes new ran.2)

@@ -5,10 +5,10 @@ use Rattle.cip_events.specs.declared.event.Event.{Event}
 use Rattle.cip_events.specs.Outcomes.{Outcome}
 use Rattle.cip_productions.specs.declared.acceptance.Accepted.{Accepted}
 use Rattle.scanner_table.specs.declared.profile.ScannerProfile.{ScannerProfile}
-use Rattle.scanner_table.specs.declared.slot.Opening as asked
+use Rattle.scanner_table.specs.declared.slot.PendingOpen as pending
 use Rattle.scanner_table.specs.declared.slot.SlotState.TheVariants.{Opening}
 use Rattle.scanner_table.specs.declared.table.ScannerTable.{ScannerTable}
-use Rattle.scanner_table.specs.Slots.{Place, place_at}
+use Rattle.scanner_table.specs.Slots.{IndexedSlot, slot_at}
 use Rattle.scanner_table.specs.Step.{scanner_table}
 use Rattle.scanner_laws.specs.Runs.{table_after}
 use Rattle.scanner_laws.specs.Drawn.{IsDrawn}
@@ -52,25 +52,25 @@ pub record OverScannerRuns (Holds : ScannerTable → List Event → ScannerTable
 -- each image holds what the last event that touched it left, or else what it held before
 abbrev pub HoldsLastImages : ScannerTable → List Event → ScannerTable → Type 0
 HoldsLastImages old events new =
-    (number : ℕ) (was now : Place) → place_at old number ≡ Some was → place_at new number ≡ Some now →
+    (number : ℕ) (was now : IndexedSlot) → slot_at old number ≡ Some was → slot_at new number ≡ Some now →
     now.slot.image ≡ unwrap_or (last_image number old events) was.slot.image
 
 -- the same at a scanner that was fresh, or else zeros
 abbrev pub HoldsLastImagesOrZeros : ScannerProfile → List Event → ScannerTable → Type 0
 HoldsLastImagesOrZeros profile events new =
-    (number : ℕ) (now : Place) → place_at new number ≡ Some now →
+    (number : ℕ) (now : IndexedSlot) → slot_at new number ≡ Some now →
     now.slot.image ≡ unwrap_or (last_image number (scanner_table profile) events) (replicate now.config.in_len 0)
 
 -- each output holds what was last written there, or else what it held before
 abbrev pub HoldsLastOutputs : ScannerTable → List Event → ScannerTable → Type 0
 HoldsLastOutputs old events new =
-    (number : ℕ) (was now : Place) → place_at old number ≡ Some was → place_at new number ≡ Some now →
+    (number : ℕ) (was now : IndexedSlot) → slot_at old number ≡ Some was → slot_at new number ≡ Some now →
     now.slot.output ≡ unwrap_or (last_output number old events) was.slot.output
 
 -- the same at a scanner that was fresh, or else zeros
 abbrev pub HoldsLastOutputsOrZeros : ScannerProfile → List Event → ScannerTable → Type 0
 HoldsLastOutputsOrZeros profile events new =
-    (number : ℕ) (now : Place) → place_at new number ≡ Some now →
+    (number : ℕ) (now : IndexedSlot) → slot_at new number ≡ Some now →
     now.slot.output ≡ unwrap_or (last_output number (scanner_table profile) events) (replicate now.config.out_len 0)
 
 -- WHAT IS ACCEPTED
@@ -88,14 +88,14 @@ AcceptsAfter R old events new =
 abbrev pub OpensAbove : ScannerTable → List Event → ScannerTable → Type 0
 OpensAbove old events new =
     (request : ℕ) → request < old.next_request →
-    (was now : Place) (opening : asked.Opening) →
-    place_at old was.number ≡ Some was → place_at new was.number ≡ Some now →
+    (was now : IndexedSlot) (opening : pending.PendingOpen) →
+    slot_at old was.number ≡ Some was → slot_at new was.number ≡ Some now →
     now.slot.state ≡ Opening opening → (was.slot.state ≡ Opening opening) ⊎ (request < opening.request)
 
 -- a slot that opens after the events waited for the same opening before them, or asks for no id that was drawn by then
 abbrev pub OpensWithNewId : ScannerTable → List Event → ScannerTable → Type 0
 OpensWithNewId old events new =
     (id : ConnId) → IsDrawn old.profile 0 old.next_id id →
-    (was now : Place) (opening : asked.Opening) →
-    place_at old was.number ≡ Some was → place_at new was.number ≡ Some now →
-    now.slot.state ≡ Opening opening → (was.slot.state ≡ Opening opening) ⊎ (opening.wanted.t_o_id ≢ Some id)
+    (was now : IndexedSlot) (opening : pending.PendingOpen) →
+    slot_at old was.number ≡ Some was → slot_at new was.number ≡ Some now →
+    now.slot.state ≡ Opening opening → (was.slot.state ≡ Opening opening) ⊎ (opening.requested.t_o_id ≢ Some id)

@@ -5,7 +5,7 @@ use Rattle.cip_events.specs.Outcomes.{Outcome}
 use Rattle.scanner_table.specs.declared.slot.SlotState.{SlotState}
 use Rattle.scanner_table.specs.declared.slot.SlotState.TheVariants.{Idle, Opening, Established, TimedOut, Closing}
 use Rattle.scanner_table.specs.declared.table.ScannerTable.{ScannerTable}
-use Rattle.scanner_table.specs.Slots.{Place}
+use Rattle.scanner_table.specs.Slots.{IndexedSlot}
 use Rattle.cip_tables.specs.declared.table.Config.{Config}
 use Rattle.cip_tables.specs.declared.table.DeviceTable.{DeviceTable}
 use Rattle.cip_tables.specs.declared.table.DeviceTable.TheVariants.{Scanner}
@@ -20,25 +20,25 @@ pub record OverEveryScanner (Holds : ScannerTable → Type 0) : Type 0 where
   pub fresh : (made : Config) (events : List Event) (outcomes : List Outcome) (t : ScannerTable) → config_fault made ≡ None → Runs (opening_table made) events outcomes (Scanner t) → Holds t
 
 -- it holds of each slot in its place
-abbrev pub EachPlace : (Place → Type 0) → List Place → Type 0
-EachPlace P [] = Unit {0}
-EachPlace P (place ∷ places) = P place × EachPlace P places
+abbrev pub EachSlot : (IndexedSlot → Type 0) → List IndexedSlot → Type 0
+EachSlot P [] = Unit {0}
+EachSlot P (indexed ∷ indexed_slots) = P indexed × EachSlot P indexed_slots
 
 -- the bytes that a slot sends and those that it gathered are as many as its points have
-abbrev pub HasLengths : Place → Type 0
-HasLengths place = (length place.slot.output ≡ place.config.out_len) × (length place.slot.image ≡ place.config.in_len)
+abbrev pub HasLengths : IndexedSlot → Type 0
+HasLengths indexed = (length indexed.slot.output ≡ indexed.config.out_len) × (length indexed.slot.image ≡ indexed.config.in_len)
 
 -- a connection is open or asked for, or fell silent and is to be tried again
-abbrev pub is_held_open : SlotState → Bool
-is_held_open Idle = false
-is_held_open (Opening o) = true
-is_held_open (Established c) = true
-is_held_open (TimedOut link) = true
-is_held_open (Closing c) = false
+abbrev pub is_kept_up : SlotState → Bool
+is_kept_up Idle = false
+is_kept_up (Opening o) = true
+is_kept_up (Established c) = true
+is_kept_up (TimedOut link) = true
+is_kept_up (Closing c) = false
 
 -- only a slot that is to be open is held open
-abbrev pub IsOpenAsWanted : Place → Type 0
-IsOpenAsWanted place = is_held_open place.slot.state ≡ true → place.slot.wanted ≡ true
+abbrev pub IsOpenAsDesired : IndexedSlot → Type 0
+IsOpenAsDesired indexed = is_kept_up indexed.slot.state ≡ true → indexed.slot.desired_up ≡ true
 
 abbrev pub is_closing : SlotState → Bool
 is_closing Idle = false
@@ -48,8 +48,8 @@ is_closing (TimedOut link) = false
 is_closing (Closing c) = true
 
 -- only a slot that is not to be open closes
-abbrev pub ClosesAsWanted : Place → Type 0
-ClosesAsWanted place = is_closing place.slot.state ≡ true → place.slot.wanted ≡ false
+abbrev pub ClosesAsDesired : IndexedSlot → Type 0
+ClosesAsDesired indexed = is_closing indexed.slot.state ≡ true → indexed.slot.desired_up ≡ false
 
 -- the request that a slot waits for, and the one that its connection was opened by, have numbers below this
 abbrev pub IsNumberedBelow : ℕ → SlotState → Type 0

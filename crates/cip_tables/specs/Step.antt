@@ -14,7 +14,7 @@ use Rattle.adapter_table.specs.Requests.{Next}
 use Rattle.adapter_table.specs.Productions.{produces_on_change}
 use Rattle.adapter_table.specs.Step.{adapter_step, adapter_table}
 use Rattle.scanner_table.specs.Profiles.{profile_fault as scanner_profile_fault}
-use Rattle.scanner_table.specs.Slots.{Place, place_at}
+use Rattle.scanner_table.specs.Slots.{IndexedSlot, slot_at}
 use Rattle.scanner_table.specs.Effects.{Next as ScannerNext}
 use Rattle.scanner_table.specs.Step.{scanner_step, scanner_table}
 use Rattle.cip_tables.specs.declared.table.Config.{Config}
@@ -77,14 +77,14 @@ same_kind false other = not other
 
 -- POINTS
 
-abbrev pub image_of : Option Place → Option (List ℕ)
+abbrev pub image_of : Option IndexedSlot → Option (List ℕ)
 image_of None = None
-image_of (Some place) = Some place.slot.image
+image_of (Some indexed) = Some indexed.slot.image
 
 -- what a point of an adapter holds, or what the slot of that number of a scanner gathered
 abbrev pub bytes_in : DeviceTable → ℕ → Option (List ℕ)
 bytes_in (Adapter t) point = bytes_at t.values point
-bytes_in (Scanner t) number = image_of (place_at t number)
+bytes_in (Scanner t) number = image_of (slot_at t number)
 
 -- the fault where there is no such point, or no such slot
 abbrev pub no_such : DeviceTable → StepFault

@@ -8,19 +8,21 @@ pub mod laws;
 mod table;
 
 pub use adapter_table::{
-    Action, AdapterTable, Admission, Consumer, InputPoint, OutputPoint, PointValue, Profile, Row,
-    State, Stream,
+    Action, AdapterTable, Admission, ConsumedPoint, InputPoint, OutputPoint, PointValue, Profile,
+    Row, State, Stream,
 };
 pub use cip_events::{
-    Answer, Delivery, Event, Frame, NewFault, Nodes, Notice, Octets, Outcome, ProfileFault, Reason,
-    Recipient, Sending, StepFault, Verdict,
+    Answer, Consumers, Delivery, Event, Frame, NewFault, Notice, Outcome, OutgoingDatagram,
+    ProfileFault, Reason, Recipient, SmallBytes, StepFault, Verdict,
 };
 pub use cip_productions::{Accepted, Kind, Production};
-pub use cip_router::{Asked, Command, EncapStatus, Refusal, Reply, Status, read_asked};
+pub use cip_router::{
+    Command, EncapStatus, Refusal, Reply, RouterRequest, Status, read_router_request,
+};
 pub use copy::TableCopy;
 pub use device::{Device, run};
 pub use scanner_table::{
-    Closing, Connection, Opening, ScannerProfile, ScannerTable, Session, Slot, SlotConfig,
+    Connection, PendingClose, PendingOpen, ScannerProfile, ScannerTable, Session, Slot, SlotConfig,
     SlotState, Stage, TargetStream,
 };
 pub use table::{Config, DeviceTable};

@@ -7,5 +7,5 @@ pub mod FieldLaws
 pub mod Parts
 pub mod PartLaws
 pub mod TextLaws
-pub mod Places
+pub mod Indices
 pub mod Firsts

@@ -1,9 +1,11 @@
 //! Want of memory.
 
 use std::alloc::{AllocError, AllocFailed};
+use thiserror::Error;
 
 /// A growth of memory was refused. Whoever answers this has changed nothing.
-#[derive(Clone, Copy, Debug, PartialEq, Eq)]
+#[derive(Clone, Copy, Debug, PartialEq, Eq, Error)]
+#[error("no memory")]
 pub struct OutOfMemory;
 
 impl From<AllocError> for OutOfMemory {

@@ -29,7 +29,7 @@ pub struct Ms(pub u64);
 #[derive(Clone, Copy, PartialEq, Eq)]
 pub struct Fault {
     pub general: u8,
-    pub extra: Option<u16>,
+    pub extended: Option<u16>,
 }
 
 /// Why a reply does not open the connection that it is to open.

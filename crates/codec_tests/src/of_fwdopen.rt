@@ -43,7 +43,7 @@ fn is_got(reply: &GetReply<'_>) -> bool {
 fn is_ungot(reply: &GetReply<'_>) -> bool {
     let fault = Fault {
         general: 0x14,
-        extra: None,
+        extended: None,
     };
     reply.answer == GetAnswer::Refused(fault)
 }

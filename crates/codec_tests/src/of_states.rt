@@ -10,15 +10,15 @@ fn triad() -> Triad {
     }
 }
 
-fn reply(o_t_api: u32) -> OpenReply {
+fn reply(o_t_api_us: u32) -> OpenReply {
     OpenReply {
         service: 0xD4,
         answer: OpenAnswer::Opened(Opened {
             o_t_id: ConnId(0x1000_0001),
             t_o_id: ConnId(0x2000_0001),
             triad: triad(),
-            o_t_api,
-            t_o_api: 10_000,
+            o_t_api_us,
+            t_o_api_us: 10_000,
         }),
     }
 }

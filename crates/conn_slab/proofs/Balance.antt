@@ -229,7 +229,7 @@ member_of x point lives shared is = rw (lives, shared, is) (itself point)
 module _ (row : Row) (p : Production) (pool : List Group) (rs : List Record) (each : AreGroups pool) (balanced : IsBalanced pool rs) (is : row.state ≡ Established p)
     (agree : Each (λ x. Agree x row) (map (row_of pool) rs)) (share : Each (λ x. ShareInGroup x row) (map (row_of pool) rs)) where
   abbrev new : Group
-  new = begun (record { point = row.produced; id = row.t_o_id; production = p }) row.multicast row.t_o_api
+  new = begun (record { point = row.produced; id = row.t_o_id; production = p }) row.multicast row.t_o_api_ms
 
   abbrev opened : Record
   opened = record (record_of row) { producer = Some p.producer }
@@ -272,8 +272,8 @@ module _ (row : Row) (p : Production) (pool : List Group) (rs : List Record) (ea
     where
       counts : (n : ℕ) (b : Bool) → p.producer == n ≡ b → count_in (or_else (numbered n pool) (if p.producer == n then Some new else None)) ≡ count_in (numbered n pool) + (if p.producer == n then 1 else 0)
       counts n true same =
-          let gone : numbered n pool ≡ None = ap (λ m. numbered m pool) (sym (same_of p.producer n same)) ∙ unused none in
-          rw (same, gone) refl
+          let removed : numbered n pool ≡ None = ap (λ m. numbered m pool) (sym (same_of p.producer n same)) ∙ unused none in
+          rw (same, removed) refl
       counts n false same = rw same (stay (numbered n pool))
         where
           stay : (o : Option Group) → count_in (or_else o None) ≡ count_in o + 0
@@ -317,10 +317,10 @@ module _ (row : Row) (p : Production) (pool : List Group) (rs : List Record) (ea
       same_production : {q r : Production} → Established q ≡ Established r → q ≡ r
       same_production e = cc
 
-  opens : FitsRow row → MayJoin (record { point = row.produced; id = row.t_o_id; production = p }) row.multicast row.t_o_api pool × Joins row (Established p) pool (joined new pool) rs
+  opens : FitsRow row → MayJoin (record { point = row.produced; id = row.t_o_id; production = p }) row.multicast row.t_o_api_ms pool × Joins row (Established p) pool (joined new pool) rs
   opens fits =
       let due : p.due.0 ≤ 2 ^ 48 + 10000 = subst (λ (n : ℕ). n ≤ 2 ^ 48 + 10000) (ap due_of is) fits.due in (
-        record { fits = record { api = fits.t_o_api; due = due }; unused = unused },
+        record { fits = record { api = fits.t_o_api_ms; due = due }; unused = unused },
         joins row p pool (joined new pool) rs balanced (split (joined_group row.multicast row.produced pool) refl),
       )
     where

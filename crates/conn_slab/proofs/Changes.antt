@@ -6,7 +6,7 @@ use Rattle.cip_types.specs.declared.names.Ms.{Ms}
 use Rattle.cip_netparams.specs.declared.Trigger.{Trigger}
 use Rattle.cip_netparams.specs.declared.Trigger.TheVariants.{Cyclic, ChangeOfState}
 use Rattle.cip_productions.specs.declared.production.Production.{Production}
-use Rattle.cip_productions.specs.Productions.{produced, changed, changed_by, is_free, held}
+use Rattle.cip_productions.specs.Productions.{produced, changed, changed_by, is_free, deferred}
 use Rattle.adapter_table.specs.declared.row.Row.{Row}
 use Rattle.adapter_table.specs.declared.row.State.{State}
 use Rattle.adapter_table.specs.declared.row.State.TheVariants.{Established, TimedOut}
@@ -100,16 +100,16 @@ keeps_due clock = record {
   subscribers = λ g. of_either (λ h. h.subscribers) (is_due clock g) g (produced_group clock g) refl;
 }
 
-due_follows : (clock : Ms) → Follow (produced_if_due clock) (λ r s. produced_state clock r.t_o_api s)
+due_follows : (clock : Ms) → Follow (produced_if_due clock) (λ r s. produced_state clock r.t_o_api_ms s)
 due_follows clock r g shares = split (is_due clock g)
   where
-    split : (b : Bool) → Established (cond b (produced_group clock g) g).producer.production ≡ (if b then Established (produced clock r.t_o_api g.producer.production) else Established g.producer.production)
+    split : (b : Bool) → Established (cond b (produced_group clock g) g).producer.production ≡ (if b then Established (produced clock r.t_o_api_ms g.producer.production) else Established g.producer.production)
     split true = ap (λ (api : ℕ). Established (produced clock api g.producer.production)) shares.api
     split false = refl
 
 pub rows_produced : (clock : Ms) (pool : List Group) (rs : List Record) → AllByRecursion (IsServed pool) rs → map (row_of (map (produced_if_due clock) pool)) rs ≡ map (produced_row clock) (map (row_of pool) rs)
 rows_produced clock pool rs served =
-    rows_map (produced_if_due clock) (λ r s. produced_state clock r.t_o_api s) (produced_row clock) (keeps_due clock) (λ r. refl) (due_follows clock) (λ p r. refl) pool rs served
+    rows_map (produced_if_due clock) (λ r s. produced_state clock r.t_o_api_ms s) (produced_row clock) (keeps_due clock) (λ r. refl) (due_follows clock) (λ p r. refl) pool rs served
 
 -- ---- producers that are written
 
@@ -117,7 +117,7 @@ changed_number : (trigger : Trigger) (clock : Ms) (api : ℕ) (production : Prod
 changed_number Cyclic clock api production = refl
 changed_number ChangeOfState clock api production = split (is_free clock production)
   where
-    split : (b : Bool) → (cond b (produced clock api production) (held production)).producer ≡ production.producer
+    split : (b : Bool) → (cond b (produced clock api production) (deferred production)).producer ≡ production.producer
     split true = refl
     split false = refl
 
@@ -136,13 +136,13 @@ keeps_written clock point = record {
 }
 
 abbrev written_then_changed : Ms → ℕ → Record → State → State
-written_then_changed clock point r s = if r.produced == point then changed_state clock r.t_o_api (written_state s) else s
+written_then_changed clock point r s = if r.produced == point then changed_state clock r.t_o_api_ms (written_state s) else s
 
 write_follows : (clock : Ms) (point : ℕ) → Follow (written_and_changed clock point) (written_then_changed clock point)
 write_follows clock point r g shares =
     ap (λ (n : ℕ). Established (cond (n == point) (with_production g (changed clock g.api (written g.producer.production))) g).producer.production) shares.point ∙ split (r.produced == point)
   where
-    split : (b : Bool) → Established (cond b (with_production g (changed clock g.api (written g.producer.production))) g).producer.production ≡ (if b then changed_state clock r.t_o_api (written_state (Established g.producer.production)) else Established g.producer.production)
+    split : (b : Bool) → Established (cond b (with_production g (changed clock g.api (written g.producer.production))) g).producer.production ≡ (if b then changed_state clock r.t_o_api_ms (written_state (Established g.producer.production)) else Established g.producer.production)
     split true = ap (λ (api : ℕ). Established (changed clock api (written g.producer.production))) shares.api
     split false = refl
 
@@ -150,10 +150,10 @@ out_written : (b : Bool) (clock : Ms) (api : ℕ) → TimedOut ≡ (if b then ch
 out_written true clock api = refl
 out_written false clock api = refl
 
-written_is : (clock : Ms) (point : ℕ) (row : Row) → record row { state = if row.produced == point then changed_state clock row.t_o_api (written_state row.state) else row.state } ≡ changed_row clock point (written_row point row)
+written_is : (clock : Ms) (point : ℕ) (row : Row) → record row { state = if row.produced == point then changed_state clock row.t_o_api_ms (written_state row.state) else row.state } ≡ changed_row clock point (written_row point row)
 written_is clock point row = split (row.produced == point) refl
   where
-    split : (b : Bool) → row.produced == point ≡ b → record row { state = if row.produced == point then changed_state clock row.t_o_api (written_state row.state) else row.state } ≡ changed_row clock point (written_row point row)
+    split : (b : Bool) → row.produced == point ≡ b → record row { state = if row.produced == point then changed_state clock row.t_o_api_ms (written_state row.state) else row.state } ≡ changed_row clock point (written_row point row)
     split true is = rw is (rw is refl)
     split false is = rw is (rw is refl)
 
@@ -163,5 +163,5 @@ map_map f g h (r ∷ rs) = ap (λ rows. h (g (f r)) ∷ rows) (map_map f g h rs)
 
 pub rows_written : (clock : Ms) (point : ℕ) (pool : List Group) (rs : List Record) → AllByRecursion (IsServed pool) rs → map (row_of (map (written_and_changed clock point) pool)) rs ≡ map (changed_row clock point) (map (written_row point) (map (row_of pool) rs))
 rows_written clock point pool rs served =
-    rows_map (written_and_changed clock point) (written_then_changed clock point) (λ row. changed_row clock point (written_row point row)) (keeps_written clock point) (λ r. out_written (r.produced == point) clock r.t_o_api) (write_follows clock point) (λ p r. written_is clock point (row_of p r)) pool rs served
+    rows_map (written_and_changed clock point) (written_then_changed clock point) (λ row. changed_row clock point (written_row point row)) (keeps_written clock point) (λ r. out_written (r.produced == point) clock r.t_o_api_ms) (write_follows clock point) (λ p r. written_is clock point (row_of p r)) pool rs served
     ∙ map_map (row_of pool) (written_row point) (changed_row clock point) rs

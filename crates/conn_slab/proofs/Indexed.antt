@@ -110,36 +110,36 @@ both : {X : Type 0} (P Q : X → Type 0) (xs : List X) → AllByRecursion P xs �
 both P Q [] h k = tt
 both P Q (x ∷ xs) h k = ((h.0, k.0), both P Q xs h.1 k.1)
 
-module _ {Item Name Place : Type 0} (name_of : Item → Name) (same_name : Name → Name → Bool) (place_of : Item → Place) (same_place : Place → Place → Bool)
-    (exact_names : IsExact same_name) (exact_places : IsExact same_place)
-    (slab : Slab Item) (names : List (Name × ℕ)) (places : List (Place × ℕ)) (indexed : IsIndexed name_of same_name place_of same_place slab names places) where
+module _ {Item Name Source : Type 0} (name_of : Item → Name) (same_name : Name → Name → Bool) (source_of : Item → Source) (same_source : Source → Source → Bool)
+    (exact_names : IsExact same_name) (exact_sources : IsExact same_source)
+    (slab : Slab Item) (names : List (Name × ℕ)) (sources : List (Source × ℕ)) (indexed : IsIndexed name_of same_name source_of same_source slab names sources) where
   -- the item of a place
-  pub find_place : (place : Place) (key : ℕ) (item : Item) → lookup (same_place place) places ≡ Some key → get slab key ≡ Some item → find (λ r. same_place place (place_of r)) (items_of slab names) ≡ Some item
-  find_place place key item found stored =
-      let way = indexed.by_place place key found in
+  pub find_source : (place : Source) (key : ℕ) (item : Item) → lookup (same_source place) sources ≡ Some key → get slab key ≡ Some item → find (λ r. same_source place (source_of r)) (items_of slab names) ≡ Some item
+  find_source place key item found stored =
+      let way = indexed.by_source place key found in
       let item_is : way.item ≡ item = some_is (sym way.stored ∙ stored) in
-      let passes : same_place place (place_of item) ≡ true = ap (same_place place) (ap place_of (sym item_is) ∙ way.placed) ∙ exact_places.all place in
-      find_one slab (λ r. same_place place (place_of r)) key item stored passes names
-      (each _ _ (λ e n. (n.item, n.stored, λ here. some_is (sym n.placed ∙ ap (λ p. lookup (same_place p) places) (sym (exact_places.only place (place_of n.item) here)) ∙ found))) names indexed.by_name)
+      let passes : same_source place (source_of item) ≡ true = ap (same_source place) (ap source_of (sym item_is) ∙ way.placed) ∙ exact_sources.all place in
+      find_one slab (λ r. same_source place (source_of r)) key item stored passes names
+      (each _ _ (λ e n. (n.item, n.stored, λ here. some_is (sym n.placed ∙ ap (λ p. lookup (same_source p) sources) (sym (exact_sources.only place (source_of n.item) here)) ∙ found))) names indexed.by_name)
       (same_name (name_of way.item)) way.named
 
-  pub find_place_none : (place : Place) → lookup (same_place place) places ≡ None → find (λ r. same_place place (place_of r)) (items_of slab names) ≡ None
-  find_place_none place absent =
-      find_none slab (λ r. same_place place (place_of r)) names
-      (each _ _ (λ e n. (n.item, n.stored, split n (same_place place (place_of n.item)) refl)) names indexed.by_name)
+  pub find_source_none : (place : Source) → lookup (same_source place) sources ≡ None → find (λ r. same_source place (source_of r)) (items_of slab names) ≡ None
+  find_source_none place absent =
+      find_none slab (λ r. same_source place (source_of r)) names
+      (each _ _ (λ e n. (n.item, n.stored, split n (same_source place (source_of n.item)) refl)) names indexed.by_name)
     where
-      split : {e : Name × ℕ} (n : IsNamed name_of same_name place_of same_place slab places e) (b : Bool) → same_place place (place_of n.item) ≡ b → same_place place (place_of n.item) ≡ false
-      split {e} n true here = let p = exact_places.only place (place_of n.item) here in let some : lookup (same_place place) places ≡ Some e.1 = ap (λ p. lookup (same_place p) places) p ∙ n.placed in absurd (cc)
+      split : {e : Name × ℕ} (n : IsNamed name_of same_name source_of same_source slab sources e) (b : Bool) → same_source place (source_of n.item) ≡ b → same_source place (source_of n.item) ≡ false
+      split {e} n true here = let p = exact_sources.only place (source_of n.item) here in let some : lookup (same_source place) sources ≡ Some e.1 = ap (λ p. lookup (same_source p) sources) p ∙ n.placed in absurd (cc)
       split n false here = here
 
   -- the key of an entry is the one that its name leads to
-  pub key_of_name : (e : Name × ℕ) (n : IsNamed name_of same_name place_of same_place slab places e) → lookup (same_name (name_of n.item)) names ≡ Some e.1
+  pub key_of_name : (e : Name × ℕ) (n : IsNamed name_of same_name source_of same_source slab sources e) → lookup (same_name (name_of n.item)) names ≡ Some e.1
   key_of_name e n =
-      let way = indexed.by_place (place_of n.item) e.1 n.placed in
+      let way = indexed.by_source (source_of n.item) e.1 n.placed in
       ap (λ r. lookup (same_name (name_of r)) names) (some_is (sym n.stored ∙ way.stored)) ∙ way.named
 
   -- the item that a name leads to, under its name
-  pub item_named : (name : Name) (key : ℕ) → lookup (same_name name) names ≡ Some key → (item : Item) × (get slab key ≡ Some item) × (name_of item ≡ name) × (lookup (same_place (place_of item)) places ≡ Some key)
+  pub item_named : (name : Name) (key : ℕ) → lookup (same_name name) names ≡ Some key → (item : Item) × (get slab key ≡ Some item) × (name_of item ≡ name) × (lookup (same_source (source_of item)) sources ≡ Some key)
   item_named name key found =
       let e = entry_found _ (same_name name) key names found indexed.by_name in
       let n = e.3 in
@@ -158,17 +158,17 @@ module _ {Item Name Place : Type 0} (name_of : Item → Name) (same_name : Name 
       find_none slab (λ r. same_name name (name_of r)) names
       (each _ _ (λ e n. (n.item, n.stored, split e n (same_name name (name_of n.item)) refl)) names indexed.by_name)
     where
-      split : (e : Name × ℕ) (n : IsNamed name_of same_name place_of same_place slab places e) (b : Bool) → same_name name (name_of n.item) ≡ b → same_name name (name_of n.item) ≡ false
+      split : (e : Name × ℕ) (n : IsNamed name_of same_name source_of same_source slab sources e) (b : Bool) → same_name name (name_of n.item) ≡ b → same_name name (name_of n.item) ≡ false
       split e n true here = let some : lookup (same_name name) names ≡ Some e.1 = ap (λ m. lookup (same_name m) names) (exact_names.only name (name_of n.item) here) ∙ key_of_name e n in absurd (cc)
       split e n false here = here
 
   -- ---- items that stay under their keys
   module _ (next : Slab Item) (same : (key : ℕ) → get next key ≡ get slab key) where
-    pub indexed_kept : IsIndexed name_of same_name place_of same_place next names places
+    pub indexed_kept : IsIndexed name_of same_name source_of same_source next names sources
     indexed_kept = record {
       distinct = indexed.distinct;
       by_name = each _ _ (λ e n. record { item = n.item; stored = same e.1 ∙ n.stored; named = n.named; placed = n.placed }) names indexed.by_name;
-      by_place = λ place key here. let way = indexed.by_place place key here in record { item = way.item; stored = same key ∙ way.stored; placed = way.placed; named = way.named };
+      by_source = λ place key here. let way = indexed.by_source place key here in record { item = way.item; stored = same key ∙ way.stored; placed = way.placed; named = way.named };
     }
 
     pub items_same : items_of next names ≡ items_of slab names
@@ -177,7 +177,7 @@ module _ {Item Name Place : Type 0} (name_of : Item → Name) (same_name : Name 
   -- ---- a item taken out
   module _ (next : Slab Item) (key : ℕ) (name : Name) (item : Item) (found : lookup (same_name name) names ≡ Some key) (stored : get slab key ≡ Some item) (updates : Updates slab next key None) where
     -- an entry of another name keeps its item
-    kept_named : (e : Name × ℕ) (n : IsNamed name_of same_name place_of same_place slab places e) → same_name name e.0 ≡ false → e.1 ≢ key
+    kept_named : (e : Name × ℕ) (n : IsNamed name_of same_name source_of same_source slab sources e) → same_name name e.0 ≡ false → e.1 ≢ key
     kept_named e n apart same =
         let item_is : n.item ≡ item = some_is (sym n.stored ∙ ap (get slab) same ∙ stored) in
         let way = item_named name key found in
@@ -191,14 +191,14 @@ module _ {Item Name Place : Type 0} (name_of : Item → Name) (same_name : Name 
         (items_filtered slab next (λ r. same_name name (name_of r)) (same_name name) names
         (each _ _ (λ e n. (n.item, n.stored, (ap (same_name name) n.named, λ apart. updates.others e.1 (kept_named e n apart) ∙ n.stored))) names indexed.by_name))
 
-    pub indexed_taken : IsDistinct same_name (keys_of (remove_entry (same_name name) names)) → (rest : List (Place × ℕ))
-        → ((place : Place) → lookup (same_place place) rest ≡ (if same_place (place_of item) place then None else lookup (same_place place) places))
+    pub indexed_taken : IsDistinct same_name (keys_of (remove_entry (same_name name) names)) → (rest : List (Source × ℕ))
+        → ((place : Source) → lookup (same_source place) rest ≡ (if same_source (source_of item) place then None else lookup (same_source place) sources))
         → ((other : Name) → lookup (same_name other) (remove_entry (same_name name) names) ≡ (if same_name name other then None else lookup (same_name other) names))
-        → IsIndexed name_of same_name place_of same_place next (remove_entry (same_name name) names) rest
-    indexed_taken distinct rest at_place at_name = record {
+        → IsIndexed name_of same_name source_of same_source next (remove_entry (same_name name) names) rest
+    indexed_taken distinct rest at_source at_name = record {
       distinct = distinct;
       by_name = rw (entry_removed same_name exact_names name names indexed.distinct) (each_filter _ _ _ keep names indexed.by_name);
-      by_place = λ place other here. moved place other here (same_place (place_of item) place) refl;
+      by_source = λ place other here. moved place other here (same_source (source_of item) place) refl;
     }
       where
         apart_from : (e : Name × ℕ) → not (same_name name e.0) ≡ true → same_name name e.0 ≡ false
@@ -208,33 +208,33 @@ module _ {Item Name Place : Type 0} (name_of : Item → Name) (same_name : Name 
             split true is = absurd (true≢false (sym p ∙ ap not is))
             split false is = is
 
-        keep : (e : Name × ℕ) → not (same_name name e.0) ≡ true → IsNamed name_of same_name place_of same_place slab places e → IsNamed name_of same_name place_of same_place next rest e
+        keep : (e : Name × ℕ) → not (same_name name e.0) ≡ true → IsNamed name_of same_name source_of same_source slab sources e → IsNamed name_of same_name source_of same_source next rest e
         keep e p n =
             let differs = kept_named e n (apart_from e p) in
-            record { item = n.item; stored = updates.others e.1 differs ∙ n.stored; named = n.named; placed = at_place (place_of n.item) ∙ placed e n differs (same_place (place_of item) (place_of n.item)) refl }
+            record { item = n.item; stored = updates.others e.1 differs ∙ n.stored; named = n.named; placed = at_source (source_of n.item) ∙ placed e n differs (same_source (source_of item) (source_of n.item)) refl }
           where
-            placed : (e : Name × ℕ) (n : IsNamed name_of same_name place_of same_place slab places e) → e.1 ≢ key → (b : Bool) → same_place (place_of item) (place_of n.item) ≡ b → (if same_place (place_of item) (place_of n.item) then None else lookup (same_place (place_of n.item)) places) ≡ Some e.1
+            placed : (e : Name × ℕ) (n : IsNamed name_of same_name source_of same_source slab sources e) → e.1 ≢ key → (b : Bool) → same_source (source_of item) (source_of n.item) ≡ b → (if same_source (source_of item) (source_of n.item) then None else lookup (same_source (source_of n.item)) sources) ≡ Some e.1
             placed e n differs true is =
                 let way = item_named name key found in
                 let also : way.0 ≡ item = some_is (sym way.1 ∙ stored) in
-                absurd (differs (some_is (sym n.placed ∙ ap (λ p. lookup (same_place p) places) (sym (exact_places.only _ _ is)) ∙ ap (λ r. lookup (same_place (place_of r)) places) (sym also) ∙ way.3)))
+                absurd (differs (some_is (sym n.placed ∙ ap (λ p. lookup (same_source p) sources) (sym (exact_sources.only _ _ is)) ∙ ap (λ r. lookup (same_source (source_of r)) sources) (sym also) ∙ way.3)))
             placed e n differs false is = rw is n.placed
 
-        moved : (place : Place) (other : ℕ) → lookup (same_place place) rest ≡ Some other → (b : Bool) → same_place (place_of item) place ≡ b → IsPlaced name_of same_name place_of same_place next (remove_entry (same_name name) names) place other
-        moved place other here true is = let none : lookup (same_place place) rest ≡ None = at_place place ∙ ap (λ b. if b then None else lookup (same_place place) places) is in absurd (cc)
+        moved : (place : Source) (other : ℕ) → lookup (same_source place) rest ≡ Some other → (b : Bool) → same_source (source_of item) place ≡ b → IsPlaced name_of same_name source_of same_source next (remove_entry (same_name name) names) place other
+        moved place other here true is = let none : lookup (same_source place) rest ≡ None = at_source place ∙ ap (λ b. if b then None else lookup (same_source place) sources) is in absurd (cc)
         moved place other here false is =
-            let before : lookup (same_place place) places ≡ Some other = sym (at_place place ∙ ap (λ b. if b then None else lookup (same_place place) places) is) ∙ here in
-            let way = indexed.by_place place other before in
-            let differs : other ≢ key = λ same. true≢false (sym (exact_places.all place) ∙ ap (λ p. same_place p place) (sym way.placed ∙ ap place_of (some_is (sym way.stored ∙ ap (get slab) same ∙ stored))) ∙ is) in
+            let before : lookup (same_source place) sources ≡ Some other = sym (at_source place ∙ ap (λ b. if b then None else lookup (same_source place) sources) is) ∙ here in
+            let way = indexed.by_source place other before in
+            let differs : other ≢ key = λ same. true≢false (sym (exact_sources.all place) ∙ ap (λ p. same_source p place) (sym way.placed ∙ ap source_of (some_is (sym way.stored ∙ ap (get slab) same ∙ stored))) ∙ is) in
             record { item = way.item; stored = updates.others other differs ∙ way.stored; placed = way.placed; named = at_name (name_of way.item) ∙ named way differs (same_name name (name_of way.item)) refl }
           where
-            named : (way : IsPlaced name_of same_name place_of same_place slab names place other) → other ≢ key → (b : Bool) → same_name name (name_of way.item) ≡ b → (if same_name name (name_of way.item) then None else lookup (same_name (name_of way.item)) names) ≡ Some other
+            named : (way : IsPlaced name_of same_name source_of same_source slab names place other) → other ≢ key → (b : Bool) → same_name name (name_of way.item) ≡ b → (if same_name name (name_of way.item) then None else lookup (same_name (name_of way.item)) names) ≡ Some other
             named way differs true is = absurd (differs (some_is (sym way.named ∙ ap (λ m. lookup (same_name m) names) (sym (exact_names.only _ _ is)) ∙ found)))
             named way differs false is = rw is way.named
 
   -- ---- a item put last
   module _ (next : Slab Item) (key : ℕ) (item : Item) (vacant : get slab key ≡ None) (updates : Updates slab next key (Some item)) where
-    kept_old : (e : Name × ℕ) (n : IsNamed name_of same_name place_of same_place slab places e) → e.1 ≢ key
+    kept_old : (e : Name × ℕ) (n : IsNamed name_of same_name source_of same_source slab sources e) → e.1 ≢ key
     kept_old e n same = let some : get slab key ≡ Some n.item = ap (get slab) (sym same) ∙ n.stored in cc
 
     pub items_added : items_of next (names ++ (name_of item, key) ∷ []) ≡ items_of slab names ++ item ∷ []
@@ -242,67 +242,67 @@ module _ {Item Name Place : Type 0} (name_of : Item → Name) (same_name : Name 
         let old = items_kept slab next names (each _ _ (λ e n. (n.item, n.stored, updates.others e.1 (kept_old e n) ∙ n.stored)) names indexed.by_name) in
         filter_map-append (λ e. get next e.1) names ((name_of item, key) ∷ []) ∙ rw (updates.changed) (ap (λ rs. rs ++ item ∷ []) old)
 
-    pub indexed_added : (more : List (Place × ℕ))
-        → ((place : Place) → lookup (same_place place) more ≡ (if same_place (place_of item) place then Some key else lookup (same_place place) places))
+    pub indexed_added : (more : List (Source × ℕ))
+        → ((place : Source) → lookup (same_source place) more ≡ (if same_source (source_of item) place then Some key else lookup (same_source place) sources))
         → ((other : Name) → lookup (same_name other) (names ++ (name_of item, key) ∷ []) ≡ (if same_name (name_of item) other then Some key else lookup (same_name other) names))
-        → lookup (same_name (name_of item)) names ≡ None → lookup (same_place (place_of item)) places ≡ None
+        → lookup (same_name (name_of item)) names ≡ None → lookup (same_source (source_of item)) sources ≡ None
         → IsDistinct same_name (keys_of (names ++ (name_of item, key) ∷ []))
-        → IsIndexed name_of same_name place_of same_place next (names ++ (name_of item, key) ∷ []) more
-    indexed_added more at_place at_name no_name no_place distinct = record {
+        → IsIndexed name_of same_name source_of same_source next (names ++ (name_of item, key) ∷ []) more
+    indexed_added more at_source at_name no_name no_source distinct = record {
       distinct = distinct;
-      by_name = each_append _ names ((name_of item, key) ∷ []) (each _ _ keep names indexed.by_name) (record { item = item; stored = updates.changed; named = refl; placed = at_place (place_of item) ∙ ap (λ b. if b then Some key else lookup (same_place (place_of item)) places) (exact_places.all _) }, tt);
-      by_place = λ place other here. moved place other here (same_place (place_of item) place) refl;
+      by_name = each_append _ names ((name_of item, key) ∷ []) (each _ _ keep names indexed.by_name) (record { item = item; stored = updates.changed; named = refl; placed = at_source (source_of item) ∙ ap (λ b. if b then Some key else lookup (same_source (source_of item)) sources) (exact_sources.all _) }, tt);
+      by_source = λ place other here. moved place other here (same_source (source_of item) place) refl;
     }
       where
-        keep : (e : Name × ℕ) → IsNamed name_of same_name place_of same_place slab places e → IsNamed name_of same_name place_of same_place next more e
-        keep e n = record { item = n.item; stored = updates.others e.1 (kept_old e n) ∙ n.stored; named = n.named; placed = at_place (place_of n.item) ∙ placed (same_place (place_of item) (place_of n.item)) refl }
+        keep : (e : Name × ℕ) → IsNamed name_of same_name source_of same_source slab sources e → IsNamed name_of same_name source_of same_source next more e
+        keep e n = record { item = n.item; stored = updates.others e.1 (kept_old e n) ∙ n.stored; named = n.named; placed = at_source (source_of n.item) ∙ placed (same_source (source_of item) (source_of n.item)) refl }
           where
-            placed : (b : Bool) → same_place (place_of item) (place_of n.item) ≡ b → (if same_place (place_of item) (place_of n.item) then Some key else lookup (same_place (place_of n.item)) places) ≡ Some e.1
-            placed true is = let some : lookup (same_place (place_of item)) places ≡ Some e.1 = ap (λ p. lookup (same_place p) places) (exact_places.only _ _ is) ∙ n.placed in absurd (cc)
+            placed : (b : Bool) → same_source (source_of item) (source_of n.item) ≡ b → (if same_source (source_of item) (source_of n.item) then Some key else lookup (same_source (source_of n.item)) sources) ≡ Some e.1
+            placed true is = let some : lookup (same_source (source_of item)) sources ≡ Some e.1 = ap (λ p. lookup (same_source p) sources) (exact_sources.only _ _ is) ∙ n.placed in absurd (cc)
             placed false is = rw is n.placed
 
-        moved : (place : Place) (other : ℕ) → lookup (same_place place) more ≡ Some other → (b : Bool) → same_place (place_of item) place ≡ b → IsPlaced name_of same_name place_of same_place next (names ++ (name_of item, key) ∷ []) place other
+        moved : (place : Source) (other : ℕ) → lookup (same_source place) more ≡ Some other → (b : Bool) → same_source (source_of item) place ≡ b → IsPlaced name_of same_name source_of same_source next (names ++ (name_of item, key) ∷ []) place other
         moved place other here true is =
-            let same : key ≡ other = some_is (sym (at_place place ∙ ap (λ b. if b then Some key else lookup (same_place place) places) is) ∙ here) in
-            record { item = item; stored = ap (get next) (sym same) ∙ updates.changed; placed = exact_places.only _ _ is; named = at_name (name_of item) ∙ ap (λ b. if b then Some key else lookup (same_name (name_of item)) names) (exact_names.all _) ∙ ap Some same }
+            let same : key ≡ other = some_is (sym (at_source place ∙ ap (λ b. if b then Some key else lookup (same_source place) sources) is) ∙ here) in
+            record { item = item; stored = ap (get next) (sym same) ∙ updates.changed; placed = exact_sources.only _ _ is; named = at_name (name_of item) ∙ ap (λ b. if b then Some key else lookup (same_name (name_of item)) names) (exact_names.all _) ∙ ap Some same }
         moved place other here false is =
-            let before : lookup (same_place place) places ≡ Some other = sym (at_place place ∙ ap (λ b. if b then Some key else lookup (same_place place) places) is) ∙ here in
-            let way = indexed.by_place place other before in
+            let before : lookup (same_source place) sources ≡ Some other = sym (at_source place ∙ ap (λ b. if b then Some key else lookup (same_source place) sources) is) ∙ here in
+            let way = indexed.by_source place other before in
             let differs : other ≢ key = λ same. let some : get slab key ≡ Some way.item = ap (get slab) (sym same) ∙ way.stored in cc in
             record { item = way.item; stored = updates.others other differs ∙ way.stored; placed = way.placed; named = at_name (name_of way.item) ∙ named way (same_name (name_of item) (name_of way.item)) refl }
           where
-            named : (way : IsPlaced name_of same_name place_of same_place slab names place other) → (b : Bool) → same_name (name_of item) (name_of way.item) ≡ b → (if same_name (name_of item) (name_of way.item) then Some key else lookup (same_name (name_of way.item)) names) ≡ Some other
+            named : (way : IsPlaced name_of same_name source_of same_source slab names place other) → (b : Bool) → same_name (name_of item) (name_of way.item) ≡ b → (if same_name (name_of item) (name_of way.item) then Some key else lookup (same_name (name_of way.item)) names) ≡ Some other
             named way true is = let some : lookup (same_name (name_of item)) names ≡ Some other = ap (λ m. lookup (same_name m) names) (exact_names.only _ _ is) ∙ way.named in absurd (cc)
             named way false is = rw is way.named
 
   -- ---- a item changed where it stands
-  module _ (next : Slab Item) (key : ℕ) (item changed : Item) (stored : get slab key ≡ Some item) (updates : Updates slab next key (Some changed)) (same_name_of : name_of changed ≡ name_of item) (same_place_of : place_of changed ≡ place_of item) where
-    pub indexed_changed : IsIndexed name_of same_name place_of same_place next names places
+  module _ (next : Slab Item) (key : ℕ) (item changed : Item) (stored : get slab key ≡ Some item) (updates : Updates slab next key (Some changed)) (same_name_of : name_of changed ≡ name_of item) (same_source_of : source_of changed ≡ source_of item) where
+    pub indexed_changed : IsIndexed name_of same_name source_of same_source next names sources
     indexed_changed = record {
       distinct = indexed.distinct;
       by_name = each _ _ (λ e n. keep e n (cases_eq e.1 key)) names indexed.by_name;
-      by_place = λ place other here. moved place other (indexed.by_place place other here) (cases_eq other key);
+      by_source = λ place other here. moved place other (indexed.by_source place other here) (cases_eq other key);
     }
       where
-        keep : (e : Name × ℕ) → IsNamed name_of same_name place_of same_place slab places e → (e.1 ≡ key) ⊎ (e.1 ≢ key) → IsNamed name_of same_name place_of same_place next places e
+        keep : (e : Name × ℕ) → IsNamed name_of same_name source_of same_source slab sources e → (e.1 ≡ key) ⊎ (e.1 ≢ key) → IsNamed name_of same_name source_of same_source next sources e
         keep e n (inl same) =
             let item_is : n.item ≡ item = some_is (sym n.stored ∙ ap (get slab) same ∙ stored) in
-            record { item = changed; stored = ap (get next) same ∙ updates.changed; named = same_name_of ∙ ap name_of (sym item_is) ∙ n.named; placed = ap (λ p. lookup (same_place p) places) (same_place_of ∙ ap place_of (sym item_is)) ∙ n.placed }
+            record { item = changed; stored = ap (get next) same ∙ updates.changed; named = same_name_of ∙ ap name_of (sym item_is) ∙ n.named; placed = ap (λ p. lookup (same_source p) sources) (same_source_of ∙ ap source_of (sym item_is)) ∙ n.placed }
         keep e n (inr differs) = record { item = n.item; stored = updates.others e.1 differs ∙ n.stored; named = n.named; placed = n.placed }
 
-        moved : (place : Place) (other : ℕ) → IsPlaced name_of same_name place_of same_place slab names place other → (other ≡ key) ⊎ (other ≢ key) → IsPlaced name_of same_name place_of same_place next names place other
+        moved : (place : Source) (other : ℕ) → IsPlaced name_of same_name source_of same_source slab names place other → (other ≡ key) ⊎ (other ≢ key) → IsPlaced name_of same_name source_of same_source next names place other
         moved place other way (inl same) =
             let item_is : way.item ≡ item = some_is (sym way.stored ∙ ap (get slab) same ∙ stored) in
-            record { item = changed; stored = ap (get next) same ∙ updates.changed; placed = same_place_of ∙ ap place_of (sym item_is) ∙ way.placed; named = ap (λ m. lookup (same_name m) names) (same_name_of ∙ ap name_of (sym item_is)) ∙ way.named }
+            record { item = changed; stored = ap (get next) same ∙ updates.changed; placed = same_source_of ∙ ap source_of (sym item_is) ∙ way.placed; named = ap (λ m. lookup (same_name m) names) (same_name_of ∙ ap name_of (sym item_is)) ∙ way.named }
         moved place other way (inr differs) = record { item = way.item; stored = updates.others other differs ∙ way.stored; placed = way.placed; named = way.named }
 
     -- the items that pass are those of this key, and they are changed
     pub items_changed_at : (test : Item → Bool) (change : Item → Item) → test item ≡ true → change item ≡ changed
-        → ((e : Name × ℕ) (n : IsNamed name_of same_name place_of same_place slab places e) → test n.item ≡ true → e.1 ≡ key)
+        → ((e : Name × ℕ) (n : IsNamed name_of same_name source_of same_source slab sources e) → test n.item ≡ true → e.1 ≡ key)
         → items_of next names ≡ map (λ r. if test r then change r else r) (items_of slab names)
     items_changed_at test change passes gives only = items_changed slab next test change names (each _ _ (λ e n. (n.item, n.stored, split e n (test n.item) refl (cases_eq e.1 key))) names indexed.by_name)
       where
-        split : (e : Name × ℕ) (n : IsNamed name_of same_name place_of same_place slab places e) (b : Bool) → test n.item ≡ b → (e.1 ≡ key) ⊎ (e.1 ≢ key) → get next e.1 ≡ Some (if test n.item then change n.item else n.item)
+        split : (e : Name × ℕ) (n : IsNamed name_of same_name source_of same_source slab sources e) (b : Bool) → test n.item ≡ b → (e.1 ≡ key) ⊎ (e.1 ≢ key) → get next e.1 ≡ Some (if test n.item then change n.item else n.item)
         split e n b is (inl same) =
             let item_is : n.item ≡ item = some_is (sym n.stored ∙ ap (get slab) same ∙ stored) in
             ap (get next) same ∙ updates.changed ∙ ap Some (sym gives ∙ ap change (sym item_is)) ∙ ap (λ c. Some (if c then change n.item else n.item)) (sym (ap test item_is ∙ passes))
@@ -310,11 +310,11 @@ module _ {Item Name Place : Type 0} (name_of : Item → Name) (same_name : Name 
         split e n false is (inr differs) = updates.others e.1 differs ∙ n.stored ∙ ap (λ c. Some (if c then change n.item else n.item)) (sym is)
 
   -- ---- the items that pass a test, of which a look-up finds the one that may also be running
-  module _ (test running : Item → Bool) (found : Option ℕ) (leads : (e : Name × ℕ) (n : IsNamed name_of same_name place_of same_place slab places e) → test n.item ≡ true → found ≡ Some e.1) where
+  module _ (test running : Item → Bool) (found : Option ℕ) (leads : (e : Name × ℕ) (n : IsNamed name_of same_name source_of same_source slab sources e) → test n.item ≡ true → found ≡ Some e.1) where
     pub find_nobody : ((key : ℕ) (item : Item) → found ≡ Some key → get slab key ≡ Some item → running item ≡ false) → find (λ r. test r && running r) (items_of slab names) ≡ None
     find_nobody none = find_none slab (λ r. test r && running r) names (each _ _ (λ e n. (n.item, n.stored, split e n (test n.item) refl)) names indexed.by_name)
       where
-        split : (e : Name × ℕ) (n : IsNamed name_of same_name place_of same_place slab places e) (b : Bool) → test n.item ≡ b → test n.item && running n.item ≡ false
+        split : (e : Name × ℕ) (n : IsNamed name_of same_name source_of same_source slab sources e) (b : Bool) → test n.item ≡ b → test n.item && running n.item ≡ false
         split e n true is = rw is (none e.1 n.item (leads e n is) n.stored)
         split e n false is = rw is refl
 
@@ -325,7 +325,7 @@ module _ {Item Name Place : Type 0} (name_of : Item → Name) (same_name : Name 
         split true is = is
         split false is = absurd (true≢false (sym both ∙ ap (λ b. b && running item) is))
 
-    pub only_one : (key : ℕ) → found ≡ Some key → (e : Name × ℕ) (n : IsNamed name_of same_name place_of same_place slab places e) → test n.item && running n.item ≡ true → e.1 ≡ key
+    pub only_one : (key : ℕ) → found ≡ Some key → (e : Name × ℕ) (n : IsNamed name_of same_name source_of same_source slab sources e) → test n.item && running n.item ≡ true → e.1 ≡ key
     only_one key at e n both = some_is (sym (leads e n (passes n.item both)) ∙ at)
 
     pub find_running : (key : ℕ) (item : Item) → found ≡ Some key → get slab key ≡ Some item → test item ≡ true → running item ≡ true → (by : Name → Bool) → lookup by names ≡ Some key → find (λ r. test r && running r) (items_of slab names) ≡ Some item

@@ -2,13 +2,13 @@ mod Indexed
 mod Lookups
 mod Numbers
 mod Balance
-mod Listed
+mod RowLemmas
 mod Walk
 mod Running
 mod Effects
 mod Changes
-mod Hears
-mod Resting
+mod ReceptionLemmas
+mod DueBounds
 mod Ends
 mod Listening
 mod Producing

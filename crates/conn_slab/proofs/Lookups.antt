@@ -7,11 +7,11 @@ use Rattle.slab.specs.Slab.{Slab, get, ContainsKey, Updates}
 use Rattle.indexmap.specs.IndexMap.{insert_entry}
 use Rattle.conn_slab.specs.declared.record.Record.{Record}
 use Rattle.conn_slab.specs.declared.record.TriadKey.{TriadKey}
-use Rattle.conn_slab.specs.declared.record.Place.{Place}
+use Rattle.conn_slab.specs.declared.record.Source.{Source}
 use Rattle.conn_slab.specs.Index.{IsExact, IsNamed, items_of}
-use Rattle.conn_slab.specs.Records.{key_of, same_key, is_of, place_of, same_place}
+use Rattle.conn_slab.specs.Records.{key_of, same_key, is_of, source_of, same_source}
 use Rattle.conn_slab.specs.Layout.{AreFiled}
-use Rattle.conn_slab.proofs.Indexed.{find_place, find_name, find_name_none, item_named, indexed_kept, items_taken, indexed_taken, items_added, indexed_added}
+use Rattle.conn_slab.proofs.Indexed.{find_source, find_name, find_name_none, item_named, indexed_kept, items_taken, indexed_taken, items_added, indexed_added}
 
 both_true : (a b : Bool) → a && b ≡ true → (a ≡ true) × (b ≡ true)
 both_true true b h = (refl, h)
@@ -29,8 +29,8 @@ exact_keys = record {
   all = λ a. grind arith;
 }
 
-pub exact_places : IsExact same_place
-exact_places = record {
+pub exact_sources : IsExact same_source
+exact_sources = record {
   only = λ a b h.
       let s = both_true _ _ h in
       let peer : a.peer ≡ b.peer = (Decides-eqb a.peer b.peer).0 s.0 in
@@ -58,23 +58,23 @@ filter_none test (x ∷ xs) h = split (test x) refl (filter_none test xs)
     split true is rest = let some : find test (x ∷ xs) ≡ Some x = ap (λ b. cond b (Some x) (find test xs)) is in absurd (cc)
     split false is rest = rw is (ap (λ ys. x ∷ ys) (rest (sym (ap (λ b. cond b (Some x) (find test xs)) is) ∙ h)))
 
-pub items_len : (slab : Slab Record) (places : List (Place × ℕ)) (names : List (TriadKey × ℕ)) → AllByRecursion (IsNamed key_of same_key place_of same_place slab places) names → length (items_of slab names) ≡ length names
-items_len slab places [] h = refl
-items_len slab places (e ∷ es) h = rw h.0.stored (ap suc (items_len slab places es h.1))
+pub items_len : (slab : Slab Record) (sources : List (Source × ℕ)) (names : List (TriadKey × ℕ)) → AllByRecursion (IsNamed key_of same_key source_of same_source slab sources) names → length (items_of slab names) ≡ length names
+items_len slab sources [] h = refl
+items_len slab sources (e ∷ es) h = rw h.0.stored (ap suc (items_len slab sources es h.1))
 
 -- the triads of the records are the names
-pub items_keys : (slab : Slab Record) (places : List (Place × ℕ)) (names : List (TriadKey × ℕ)) → AllByRecursion (IsNamed key_of same_key place_of same_place slab places) names → map key_of (items_of slab names) ≡ keys_of names
-items_keys slab places [] h = refl
-items_keys slab places (e ∷ es) h = rw h.0.stored (λ i. h.0.named i ∷ items_keys slab places es h.1 i)
+pub items_keys : (slab : Slab Record) (sources : List (Source × ℕ)) (names : List (TriadKey × ℕ)) → AllByRecursion (IsNamed key_of same_key source_of same_source slab sources) names → map key_of (items_of slab names) ≡ keys_of names
+items_keys slab sources [] h = refl
+items_keys slab sources (e ∷ es) h = rw h.0.stored (λ i. h.0.named i ∷ items_keys slab sources es h.1 i)
 
-module _ (slab : Slab Record) (triads : List (TriadKey × ℕ)) (places : List (Place × ℕ)) (filed : AreFiled slab triads places) where
+module _ (slab : Slab Record) (triads : List (TriadKey × ℕ)) (sources : List (Source × ℕ)) (filed : AreFiled slab triads sources) where
   pub at_name : (name : TriadKey) (key : ℕ) → lookup (same_key name) triads ≡ Some key → (r : Record) × (get slab key ≡ Some r) × (is_of name r ≡ true) × (find (is_of name) (items_of slab triads) ≡ Some r)
   at_name name key found =
-      let way = item_named key_of same_key place_of same_place exact_keys exact_places slab triads places filed name key found in
-      (way.0, way.1, ap (same_key name) way.2 ∙ exact_keys.all name, find_name key_of same_key place_of same_place exact_keys exact_places slab triads places filed name key way.0 found way.1)
+      let way = item_named key_of same_key source_of same_source exact_keys exact_sources slab triads sources filed name key found in
+      (way.0, way.1, ap (same_key name) way.2 ∙ exact_keys.all name, find_name key_of same_key source_of same_source exact_keys exact_sources slab triads sources filed name key way.0 found way.1)
 
   pub no_name : (name : TriadKey) → lookup (same_key name) triads ≡ None → find (is_of name) (items_of slab triads) ≡ None
-  no_name name absent = find_name_none key_of same_key place_of same_place exact_keys exact_places slab triads places filed name absent
+  no_name name absent = find_name_none key_of same_key source_of same_source exact_keys exact_sources slab triads sources filed name absent
 
   pub name_held : (name : TriadKey) (key : ℕ) → lookup (same_key name) triads ≡ Some key → ContainsKey slab key
   name_held name key found = ap is_some (at_name name key found).1
@@ -87,50 +87,50 @@ module _ (slab : Slab Record) (triads : List (TriadKey × ℕ)) (places : List (
       split None is = is
       split (Some key) is = let way = at_name name key is in let some = way.3 in absurd (cc)
 
-  pub absent_place : (place : Place) → find (λ r. same_place place (place_of r)) (items_of slab triads) ≡ None → lookup (same_place place) places ≡ None
-  absent_place place absent = split (lookup (same_place place) places) refl
+  pub absent_source : (place : Source) → find (λ r. same_source place (source_of r)) (items_of slab triads) ≡ None → lookup (same_source place) sources ≡ None
+  absent_source place absent = split (lookup (same_source place) sources) refl
     where
-      split : (found : Option ℕ) → lookup (same_place place) places ≡ found → lookup (same_place place) places ≡ None
+      split : (found : Option ℕ) → lookup (same_source place) sources ≡ found → lookup (same_source place) sources ≡ None
       split None is = is
       split (Some key) is =
-          let way = filed.by_place place key is in
-          let some = find_place key_of same_key place_of same_place exact_keys exact_places slab triads places filed place key way.item is way.stored in
+          let way = filed.by_source place key is in
+          let some = find_source key_of same_key source_of same_source exact_keys exact_sources slab triads sources filed place key way.item is way.stored in
           absurd (cc)
 
   -- room is made
-  pub kept : (next : Slab Record) (more : List (TriadKey × ℕ)) (others : List (Place × ℕ)) → next ≡ record slab { capacity = next.capacity } → more ≡ triads → others ≡ places → AreFiled next more others
-  kept next more others same same_triads same_places =
+  pub kept : (next : Slab Record) (more : List (TriadKey × ℕ)) (others : List (Source × ℕ)) → next ≡ record slab { capacity = next.capacity } → more ≡ triads → others ≡ sources → AreFiled next more others
+  kept next more others same same_triads same_sources =
       let at : (key : ℕ) → get next key ≡ get slab key = λ key. ap (λ s. get s key) same in
-      rw (same_triads, same_places) (indexed_kept key_of same_key place_of same_place exact_keys exact_places slab triads places filed next at)
+      rw (same_triads, same_sources) (indexed_kept key_of same_key source_of same_source exact_keys exact_sources slab triads sources filed next at)
 
   -- a record is taken out
-  pub taken : (next : Slab Record) (rest : List (TriadKey × ℕ)) (others : List (Place × ℕ)) (name : TriadKey) (key : ℕ) (r : Record) (place : Place)
+  pub taken : (next : Slab Record) (rest : List (TriadKey × ℕ)) (others : List (Source × ℕ)) (name : TriadKey) (key : ℕ) (r : Record) (place : Source)
       → lookup (same_key name) triads ≡ Some key → get slab key ≡ Some r → Updates slab next key None
       → rest ≡ remove_entry (same_key name) triads
       → ((other : TriadKey) → lookup (same_key other) rest ≡ (if same_key name other then None else lookup (same_key other) triads))
-      → IsDistinct same_key (keys_of rest) → place ≡ place_of r
-      → ((other : Place) → lookup (same_place other) others ≡ (if same_place place other then None else lookup (same_place other) places))
+      → IsDistinct same_key (keys_of rest) → place ≡ source_of r
+      → ((other : Source) → lookup (same_source other) others ≡ (if same_source place other then None else lookup (same_source other) sources))
       → AreFiled next rest others × (items_of next rest ≡ filter (λ x. not (is_of name x)) (items_of slab triads))
-  taken next rest others name key r place found stored updates entries at_names distinct place_is at_places = (
-    rw entries (indexed_taken key_of same_key place_of same_place exact_keys exact_places slab triads places filed next key name r found stored updates (rw entries at distinct) others
-        (λ other. at_places other ∙ ap (λ p. if same_place p other then None else lookup (same_place other) places) place_is) (λ other. ap (lookup (same_key other)) (sym entries) ∙ at_names other)),
-    rw entries (items_taken key_of same_key place_of same_place exact_keys exact_places slab triads places filed next key name r found stored updates),
+  taken next rest others name key r place found stored updates entries at_names distinct source_is at_sources = (
+    rw entries (indexed_taken key_of same_key source_of same_source exact_keys exact_sources slab triads sources filed next key name r found stored updates (rw entries at distinct) others
+        (λ other. at_sources other ∙ ap (λ p. if same_source p other then None else lookup (same_source other) sources) source_is) (λ other. ap (lookup (same_key other)) (sym entries) ∙ at_names other)),
+    rw entries (items_taken key_of same_key source_of same_source exact_keys exact_sources slab triads sources filed next key name r found stored updates),
   )
 
   -- a record is put last
-  pub added : (next : Slab Record) (more : List (TriadKey × ℕ)) (others : List (Place × ℕ)) (key : ℕ) (r : Record) (name : TriadKey) (place : Place)
-      → name ≡ key_of r → place ≡ place_of r → get slab key ≡ None → Updates slab next key (Some r)
-      → lookup (same_key (key_of r)) triads ≡ None → lookup (same_place (place_of r)) places ≡ None
+  pub added : (next : Slab Record) (more : List (TriadKey × ℕ)) (others : List (Source × ℕ)) (key : ℕ) (r : Record) (name : TriadKey) (place : Source)
+      → name ≡ key_of r → place ≡ source_of r → get slab key ≡ None → Updates slab next key (Some r)
+      → lookup (same_key (key_of r)) triads ≡ None → lookup (same_source (source_of r)) sources ≡ None
       → more ≡ insert_entry same_key triads name key
       → ((other : TriadKey) → lookup (same_key other) more ≡ (if same_key name other then Some key else lookup (same_key other) triads))
       → IsDistinct same_key (keys_of more)
-      → ((other : Place) → lookup (same_place other) others ≡ (if same_place place other then Some key else lookup (same_place other) places))
+      → ((other : Source) → lookup (same_source other) others ≡ (if same_source place other then Some key else lookup (same_source other) sources))
       → AreFiled next more others × (items_of next more ≡ items_of slab triads ++ r ∷ [])
-  added next more others key r name place name_is place_is vacant updates no_name no_place entries at_names distinct at_places =
+  added next more others key r name place name_is source_is vacant updates no_name no_source entries at_names distinct at_sources =
       let last : more ≡ triads ++ (key_of r, key) ∷ [] = entries ∙ ap (λ n. insert_entry same_key triads n key) name_is ∙ insert_last same_key (key_of r) key triads no_name in (
-        rw last (indexed_added key_of same_key place_of same_place exact_keys exact_places slab triads places filed next key r vacant updates others
-            (λ other. at_places other ∙ ap (λ p. if same_place p other then Some key else lookup (same_place other) places) place_is)
+        rw last (indexed_added key_of same_key source_of same_source exact_keys exact_sources slab triads sources filed next key r vacant updates others
+            (λ other. at_sources other ∙ ap (λ p. if same_source p other then Some key else lookup (same_source other) sources) source_is)
             (λ other. ap (lookup (same_key other)) (sym last) ∙ at_names other ∙ ap (λ n. if same_key n other then Some key else lookup (same_key other) triads) name_is)
-            no_name no_place (rw last at distinct)),
-        ap (items_of next) last ∙ items_added key_of same_key place_of same_place exact_keys exact_places slab triads places filed next key r vacant updates,
+            no_name no_source (rw last at distinct)),
+        ap (items_of next) last ∙ items_added key_of same_key source_of same_source exact_keys exact_sources slab triads sources filed next key r vacant updates,
       )

@@ -10,14 +10,14 @@ use Rattle.adapter_table.specs.Datagrams.{is_for}
 use Rattle.mcast_pool.specs.declared.group.Group.{Group}
 use Rattle.conn_slab.specs.declared.record.Record.{Record}
 use Rattle.conn_slab.specs.declared.record.TriadKey.{TriadKey}
-use Rattle.conn_slab.specs.declared.record.Place.{Place}
+use Rattle.conn_slab.specs.declared.record.Source.{Source}
 use Rattle.conn_slab.specs.Index.{IsNamed, items_of}
-use Rattle.conn_slab.specs.Records.{row_of, key_of, key_for, same_key, is_of, place_of, same_place}
+use Rattle.conn_slab.specs.Records.{row_of, key_of, key_for, same_key, is_of, source_of, same_source}
 use Rattle.conn_slab.specs.Layout.{AreFiled, running_key, running_in, running_of}
 use Rattle.conn_slab.proofs.Indexed.{find_nobody, find_running, only_one, indexed_changed, items_changed_at}
-use Rattle.conn_slab.proofs.Lookups.{exact_keys, exact_places, at_name}
+use Rattle.conn_slab.proofs.Lookups.{exact_keys, exact_sources, at_name}
 use Rattle.conn_slab.proofs.Indexed.{key_of_name}
-use Rattle.conn_slab.proofs.Listed.{triad_is, lives_is, back}
+use Rattle.conn_slab.proofs.RowLemmas.{triad_is, lives_is, back}
 
 abbrev pub runs : Record → Bool
 runs r = is_some r.producer
@@ -32,31 +32,31 @@ and_back false true = refl
 and_back false false = refl
 
 -- what leads to the records that pass a test
-pub record LeadsBy (slab : Slab Record) (triads : List (TriadKey × ℕ)) (places : List (Place × ℕ)) (test : Record → Bool) (found : Option ℕ) : Type 0 where
-  pub leads : (e : TriadKey × ℕ) (n : IsNamed key_of same_key place_of same_place slab places e) → test n.item ≡ true → found ≡ Some e.1
+pub record LeadsBy (slab : Slab Record) (triads : List (TriadKey × ℕ)) (sources : List (Source × ℕ)) (test : Record → Bool) (found : Option ℕ) : Type 0 where
+  pub leads : (e : TriadKey × ℕ) (n : IsNamed key_of same_key source_of same_source slab sources e) → test n.item ≡ true → found ≡ Some e.1
   pub passes : (key : ℕ) (r : Record) → found ≡ Some key → get slab key ≡ Some r → test r ≡ true
   pub held : (key : ℕ) → found ≡ Some key → (name : TriadKey) × (lookup (same_key name) triads ≡ Some key)
 
-module _ (slab : Slab Record) (triads : List (TriadKey × ℕ)) (places : List (Place × ℕ)) (filed : AreFiled slab triads places) where
-  pub by_name : (name : TriadKey) → LeadsBy slab triads places (is_of name) (lookup (same_key name) triads)
+module _ (slab : Slab Record) (triads : List (TriadKey × ℕ)) (sources : List (Source × ℕ)) (filed : AreFiled slab triads sources) where
+  pub by_name : (name : TriadKey) → LeadsBy slab triads sources (is_of name) (lookup (same_key name) triads)
   by_name name = record {
-    leads = λ e n here. ap (λ m. lookup (same_key m) triads) (exact_keys.only name (key_of n.item) here) ∙ key_of_name key_of same_key place_of same_place exact_keys exact_places slab triads places filed e n;
-    passes = λ key r at stored. let way = at_name slab triads places filed name key at in ap (is_of name) (some_is (sym stored ∙ way.1)) ∙ way.2;
+    leads = λ e n here. ap (λ m. lookup (same_key m) triads) (exact_keys.only name (key_of n.item) here) ∙ key_of_name key_of same_key source_of same_source exact_keys exact_sources slab triads sources filed e n;
+    passes = λ key r at stored. let way = at_name slab triads sources filed name key at in ap (is_of name) (some_is (sym stored ∙ way.1)) ∙ way.2;
     held = λ key at. (name, at);
   }
 
-  pub by_place : (place : Place) → LeadsBy slab triads places (λ r. same_place place (place_of r)) (lookup (same_place place) places)
-  by_place place = record {
-    leads = λ e n here. ap (λ p. lookup (same_place p) places) (exact_places.only place (place_of n.item) here) ∙ n.placed;
+  pub by_source : (place : Source) → LeadsBy slab triads sources (λ r. same_source place (source_of r)) (lookup (same_source place) sources)
+  by_source place = record {
+    leads = λ e n here. ap (λ p. lookup (same_source p) sources) (exact_sources.only place (source_of n.item) here) ∙ n.placed;
     passes = λ key r at stored.
-        let way = filed.by_place place key at in
-        ap (λ x. same_place place (place_of x)) (some_is (sym stored ∙ way.stored)) ∙ ap (same_place place) way.placed ∙ exact_places.all place;
-    held = λ key at. let way = filed.by_place place key at in (key_of way.item, way.named);
+        let way = filed.by_source place key at in
+        ap (λ x. same_source place (source_of x)) (some_is (sym stored ∙ way.stored)) ∙ ap (same_source place) way.placed ∙ exact_sources.all place;
+    held = λ key at. let way = filed.by_source place key at in (key_of way.item, way.named);
   }
 
-  module _ (test : Record → Bool) (found : Option ℕ) (by : LeadsBy slab triads places test found) where
+  module _ (test : Record → Bool) (found : Option ℕ) (by : LeadsBy slab triads sources test found) where
     pub nobody : running_key slab found ≡ None → find (λ r. test r && runs r) (items_of slab triads) ≡ None
-    nobody none = find_nobody key_of same_key place_of same_place exact_keys exact_places slab triads places filed test runs found by.leads (λ key r at stored. still key r at stored none)
+    nobody none = find_nobody key_of same_key source_of same_source exact_keys exact_sources slab triads sources filed test runs found by.leads (λ key r at stored. still key r at stored none)
       where
         stopped : (key : ℕ) (o : Option ℕ) → running_of key o ≡ None → is_some o ≡ false
         stopped key None is = refl
@@ -95,7 +95,7 @@ module _ (slab : Slab Record) (triads : List (TriadKey × ℕ)) (places : List (
               stored = stored_key;
               number_is = pair.1;
               tested = tested;
-              found_is = find_running key_of same_key place_of same_place exact_keys exact_places slab triads places filed test runs found by.leads key r at_key stored_key tested (ap is_some pair.1) (same_key name.0) name.1;
+              found_is = find_running key_of same_key source_of same_source exact_keys exact_sources slab triads sources filed test runs found by.leads key r at_key stored_key tested (ap is_some pair.1) (same_key name.0) name.1;
             }
 
         by_found : (o : Option ℕ) → found ≡ o → running_key slab o ≡ Some (key, number) → Runs key number
@@ -104,17 +104,17 @@ module _ (slab : Slab Record) (triads : List (TriadKey × ℕ)) (places : List (
 
     -- it is changed where it stands
     module _ (key number : ℕ) (is : running_key slab found ≡ Some (key, number)) (next : Slab Record) (r : Record) (change : Record → Record) (stored : get slab key ≡ Some r) (updates : Updates slab next key (Some (change r)))
-        (same_name : key_of (change r) ≡ key_of r) (place_same : place_of (change r) ≡ place_of r) where
-      pub filed_changed : AreFiled next triads places
-      filed_changed = indexed_changed key_of same_key place_of same_place exact_keys exact_places slab triads places filed next key r (change r) stored updates same_name place_same
+        (same_name : key_of (change r) ≡ key_of r) (source_same : source_of (change r) ≡ source_of r) where
+      pub filed_changed : AreFiled next triads sources
+      filed_changed = indexed_changed key_of same_key source_of same_source exact_keys exact_sources slab triads sources filed next key r (change r) stored updates same_name source_same
 
       pub items_changed : items_of next triads ≡ map (λ x. if test x && runs x then change x else x) (items_of slab triads)
       items_changed =
           let way = somebody key number is in
           let one : way.r ≡ r = some_is (sym way.stored ∙ stored) in
-          items_changed_at key_of same_key place_of same_place exact_keys exact_places slab triads places filed next key r (change r) stored updates same_name place_same
+          items_changed_at key_of same_key source_of same_source exact_keys exact_sources slab triads sources filed next key r (change r) stored updates same_name source_same
           (λ x. test x && runs x) change (ap (λ x. test x && runs x) (sym one) ∙ ap (λ b. b && runs way.r) way.tested ∙ ap is_some way.number_is) refl
-          (λ e n here. only_one key_of same_key place_of same_place exact_keys exact_places slab triads places filed test runs found by.leads key way.at e n here)
+          (λ e n here. only_one key_of same_key source_of same_source exact_keys exact_sources slab triads sources filed test runs found by.leads key way.at e n here)
 
 -- ---- what the connections are then
 
@@ -130,5 +130,5 @@ rows_changed f p q change changed same follows (r ∷ rs) = rw (same r, rows_cha
 pub held_is : (pool : List Group) (triad : Triad) (r : Record) → holds_triad triad (row_of pool r) ≡ is_of (key_for triad) r && runs r
 held_is pool triad r = rw (lives_is pool r.producer, triad_is pool triad r) (and_back (is_some r.producer) (is_of (key_for triad) r))
 
-pub target_is : (pool : List Group) (peer : Node) (id : ℕ) (r : Record) → is_for peer id (row_of pool r) ≡ same_place (record { peer = peer.0; id = id }) (place_of r) && runs r
+pub target_is : (pool : List Group) (peer : Node) (id : ℕ) (r : Record) → is_for peer id (row_of pool r) ≡ same_source (record { peer = peer.0; id = id }) (source_of r) && runs r
 target_is pool peer id r = rw (lives_is pool r.producer, back r.peer.0 peer.0, back r.o_t_id.0 id) (and_back (is_some r.producer) (peer.0 == r.peer.0 && id == r.o_t_id.0))

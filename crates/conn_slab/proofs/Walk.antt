@@ -6,21 +6,21 @@ use Rattle.slab.specs.Slab.{Slab, get}
 use Rattle.mcast_pool.specs.declared.group.Group.{Group}
 use Rattle.conn_slab.specs.declared.record.Record.{Record}
 use Rattle.conn_slab.specs.declared.record.TriadKey.{TriadKey}
-use Rattle.conn_slab.specs.declared.record.Place.{Place}
+use Rattle.conn_slab.specs.declared.record.Source.{Source}
 use Rattle.conn_slab.specs.Index.{IsNamed, items_of}
-use Rattle.conn_slab.specs.Records.{key_of, same_key, place_of, same_place}
-use Rattle.conn_slab.specs.Layout.{IsTied, IsServed, Leads, LeadsTo}
-use Rattle.conn_slab.proofs.Listed.{live}
+use Rattle.conn_slab.specs.Records.{key_of, same_key, source_of, same_source}
+use Rattle.conn_slab.specs.Layout.{IsConsistent, IsServed, Leads, LeadsTo}
+use Rattle.conn_slab.proofs.RowLemmas.{live}
 
 pub values_items : (slab : Slab Record) (triads : List (TriadKey × ℕ)) → filter_map (get slab) (values_of triads) ≡ items_of slab triads
 values_items slab [] = refl
 values_items slab (e ∷ es) = ap (cons_option (get slab e.1)) (values_items slab es)
 
-leads : (slab : Slab Record) (places : List (Place × ℕ)) (pool : List Group) (triads : List (TriadKey × ℕ)) → AllByRecursion (IsNamed key_of same_key place_of same_place slab places) triads → AllByRecursion (IsServed pool) (items_of slab triads) → AllByRecursion (Leads slab pool) (values_of triads)
-leads slab places pool [] named served = tt
-leads slab places pool (e ∷ es) named served =
+leads : (slab : Slab Record) (sources : List (Source × ℕ)) (pool : List Group) (triads : List (TriadKey × ℕ)) → AllByRecursion (IsNamed key_of same_key source_of same_source slab sources) triads → AllByRecursion (IsServed pool) (items_of slab triads) → AllByRecursion (Leads slab pool) (values_of triads)
+leads slab sources pool [] named served = tt
+leads slab sources pool (e ∷ es) named served =
     let here : AllByRecursion (IsServed pool) (named.0.item ∷ items_of slab es) = rw named.0.stored at served in
-    (subst (LeadsTo pool) (sym named.0.stored) (live pool named.0.item named.0.item.producer here.0), leads slab places pool es named.1 here.1)
+    (subst (LeadsTo pool) (sym named.0.stored) (live pool named.0.item named.0.item.producer here.0), leads slab sources pool es named.1 here.1)
 
-pub all_lead : (slab : Slab Record) (triads : List (TriadKey × ℕ)) (places : List (Place × ℕ)) (pool : List Group) → IsTied slab triads places pool → AllByRecursion (Leads slab pool) (values_of triads)
-all_lead slab triads places pool tied = leads slab places pool triads tied.filed.by_name tied.balanced.served
+pub all_lead : (slab : Slab Record) (triads : List (TriadKey × ℕ)) (sources : List (Source × ℕ)) (pool : List Group) → IsConsistent slab triads sources pool → AllByRecursion (Leads slab pool) (values_of triads)
+all_lead slab triads sources pool consistent = leads slab sources pool triads consistent.filed.by_name consistent.balanced.served

@@ -19,14 +19,14 @@ abbrev pub first_end : List Row → ℕ
 first_end [] = never
 first_end (row ∷ rows) = min (end_of row.deadline.0 row.state) (first_end rows)
 
-abbrev pub StateRests : ℕ → State → Type 0
-StateRests bound (Established production) = bound ≤ production.due.0
-StateRests bound TimedOut = Unit {0}
+abbrev pub StateNotDueBefore : ℕ → State → Type 0
+StateNotDueBefore bound (Established production) = bound ≤ production.due.0
+StateNotDueBefore bound TimedOut = Unit {0}
 
 -- the producer of a connection is not due before this
-abbrev pub Rests : ℕ → Row → Type 0
-Rests bound row = StateRests bound row.state
+abbrev pub NotDueBefore : ℕ → Row → Type 0
+NotDueBefore bound row = StateNotDueBefore bound row.state
 
 -- no producer is
-abbrev pub AllRest : ℕ → List Row → Type 0
-AllRest bound rows = Each (Rests bound) rows
+abbrev pub AllNotDueBefore : ℕ → List Row → Type 0
+AllNotDueBefore bound rows = Each (NotDueBefore bound) rows

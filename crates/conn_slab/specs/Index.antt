@@ -5,25 +5,25 @@ use Rattle.std.specs.List.{AllByRecursion, IsDistinct, filter_map}
 use Rattle.std.specs.Map.{lookup, keys_of}
 use Rattle.slab.specs.Slab.{Slab, get}
 
-module _ {Item Name Place : Type 0} (name_of : Item → Name) (same_name : Name → Name → Bool) (place_of : Item → Place) (same_place : Place → Place → Bool) where
+module _ {Item Name Source : Type 0} (name_of : Item → Name) (same_name : Name → Name → Bool) (source_of : Item → Source) (same_source : Source → Source → Bool) where
   -- an entry of the names leads to an item of this name, whose place leads to the same key
-  pub record IsNamed (slab : Slab Item) (places : List (Place × ℕ)) (entry : Name × ℕ) : Type 0 where
+  pub record IsNamed (slab : Slab Item) (sources : List (Source × ℕ)) (entry : Name × ℕ) : Type 0 where
     pub item : Item
     pub stored : get slab entry.1 ≡ Some item
     pub named : name_of item ≡ entry.0
-    pub placed : lookup (same_place (place_of item)) places ≡ Some entry.1
+    pub placed : lookup (same_source (source_of item)) sources ≡ Some entry.1
 
   -- a key under a place leads to an item of this place, whose name leads to the same key
-  pub record IsPlaced (slab : Slab Item) (names : List (Name × ℕ)) (place : Place) (key : ℕ) : Type 0 where
+  pub record IsPlaced (slab : Slab Item) (names : List (Name × ℕ)) (place : Source) (key : ℕ) : Type 0 where
     pub item : Item
     pub stored : get slab key ≡ Some item
-    pub placed : place_of item ≡ place
+    pub placed : source_of item ≡ place
     pub named : lookup (same_name (name_of item)) names ≡ Some key
 
-  pub record IsIndexed (slab : Slab Item) (names : List (Name × ℕ)) (places : List (Place × ℕ)) : Type 0 where
+  pub record IsIndexed (slab : Slab Item) (names : List (Name × ℕ)) (sources : List (Source × ℕ)) : Type 0 where
     pub distinct : IsDistinct same_name (keys_of names)
-    pub by_name : AllByRecursion (IsNamed slab places) names
-    pub by_place : (place : Place) (key : ℕ) → lookup (same_place place) places ≡ Some key → IsPlaced slab names place key
+    pub by_name : AllByRecursion (IsNamed slab sources) names
+    pub by_source : (place : Source) (key : ℕ) → lookup (same_source place) sources ≡ Some key → IsPlaced slab names place key
 
 -- the items, in the order of their names
 abbrev pub items_of : {Item Name : Type 0} → Slab Item → List (Name × ℕ) → List Item

@@ -9,19 +9,19 @@ use Rattle.mcast_pool.specs.declared.group.Group.{Group}
 use Rattle.mcast_pool.specs.Groups.{numbered, IsInUse, subscribers, joined_group, begun, FitsGroup}
 use Rattle.conn_slab.specs.declared.record.Record.{Record}
 use Rattle.conn_slab.specs.declared.record.TriadKey.{TriadKey}
-use Rattle.conn_slab.specs.declared.record.Place.{Place}
+use Rattle.conn_slab.specs.declared.record.Source.{Source}
 use Rattle.conn_slab.specs.Index.{IsIndexed, items_of}
-use Rattle.conn_slab.specs.Records.{key_of, same_key, place_of, same_place}
+use Rattle.conn_slab.specs.Records.{key_of, same_key, source_of, same_source}
 
 -- the records under their keys, the keys by triad in opening order, and the keys by place
-abbrev pub AreFiled : Slab Record → List (TriadKey × ℕ) → List (Place × ℕ) → Type 0
-AreFiled records triads places = IsIndexed key_of same_key place_of same_place records triads places
+abbrev pub AreFiled : Slab Record → List (TriadKey × ℕ) → List (Source × ℕ) → Type 0
+AreFiled records triads sources = IsIndexed key_of same_key source_of same_source records triads sources
 
 -- ---- records and the pool
 
 -- the producer is that of the record's input, id and interval
 pub record Shares (r : Record) (group : Group) : Type 0 where
-  pub api : group.api ≡ r.t_o_api
+  pub api : group.api ≡ r.t_o_api_ms
   pub point : group.producer.point ≡ r.produced
   pub id : group.producer.id ≡ r.t_o_id
   pub shared : group.shared ≡ r.multicast
@@ -61,8 +61,8 @@ pub record IsBalanced (pool : List Group) (rs : List Record) : Type 0 where
   pub counted : (number : ℕ) → count_in (numbered number pool) ≡ members number rs
   pub sum : subscribers pool ≡ established rs
 
-pub record IsTied (records : Slab Record) (triads : List (TriadKey × ℕ)) (places : List (Place × ℕ)) (pool : List Group) : Type 0 where
-  pub filed : AreFiled records triads places
+pub record IsConsistent (records : Slab Record) (triads : List (TriadKey × ℕ)) (sources : List (Source × ℕ)) (pool : List Group) : Type 0 where
+  pub filed : AreFiled records triads sources
   pub balanced : IsBalanced pool (items_of records triads)
   pub few : length (items_of records triads) ≤ 64
 
@@ -88,7 +88,7 @@ pub record MayJoin (producer : Producer) (shared : Bool) (api : ℕ) (pool : Lis
 
 abbrev pub MayEnterWith : Row → Option Producer → List Group → Type 0
 MayEnterWith row None pool = Unit {0}
-MayEnterWith row (Some producer) pool = MayJoin producer row.multicast row.t_o_api pool
+MayEnterWith row (Some producer) pool = MayJoin producer row.multicast row.t_o_api_ms pool
 
 abbrev pub MayEnter : Row → List Group → Type 0
 MayEnter row pool = MayEnterWith row (producer_in row) pool

@@ -2,6 +2,6 @@ pub mod Index
 pub mod Records
 pub mod Layout
 pub mod Connections
-pub mod Hearing
+pub mod Reception
 pub mod Bounds
 pub mod Producing

@@ -13,7 +13,7 @@ use Rattle.mcast_pool.specs.declared.group.Group.{Group}
 use Rattle.mcast_pool.specs.Groups.{numbered, joined, left, begun}
 use Rattle.conn_slab.specs.declared.record.Record.{Record}
 use Rattle.conn_slab.specs.declared.record.TriadKey.{TriadKey}
-use Rattle.conn_slab.specs.declared.record.Place.{Place}
+use Rattle.conn_slab.specs.declared.record.Source.{Source}
 
 -- THE CONNECTION OF A RECORD
 
@@ -39,8 +39,8 @@ row_of pool r = record {
   produced = r.produced;
   o_t_id = r.o_t_id;
   t_o_id = r.t_o_id;
-  o_t_api = r.o_t_api;
-  t_o_api = r.t_o_api;
+  o_t_api_ms = r.o_t_api_ms;
+  t_o_api_ms = r.t_o_api_ms;
   multiplier = r.multiplier;
   multicast = r.multicast;
   opening = r.opening;
@@ -69,8 +69,8 @@ record_of row = record {
   produced = row.produced;
   o_t_id = row.o_t_id;
   t_o_id = row.t_o_id;
-  o_t_api = row.o_t_api;
-  t_o_api = row.t_o_api;
+  o_t_api_ms = row.o_t_api_ms;
+  t_o_api_ms = row.t_o_api_ms;
   multiplier = row.multiplier;
   multicast = row.multicast;
   opening = row.opening;
@@ -94,11 +94,11 @@ same_key a b = a.serial == b.serial && (a.vendor == b.vendor && a.originator == 
 abbrev pub is_of : TriadKey → Record → Bool
 is_of name r = same_key name (key_of r)
 
-abbrev pub place_of : Record → Place
-place_of r = record { peer = r.peer.0; id = r.o_t_id.0 }
+abbrev pub source_of : Record → Source
+source_of r = record { peer = r.peer.0; id = r.o_t_id.0 }
 
-abbrev pub same_place : Place → Place → Bool
-same_place a b = a.peer == b.peer && a.id == b.id
+abbrev pub same_source : Source → Source → Bool
+same_source a b = a.peer == b.peer && a.id == b.id
 
 -- LISTENERS
 
@@ -114,7 +114,7 @@ listens_in (Some r) = listens r
 
 abbrev pub entered_with : Row → Option Producer → List Group → List Group
 entered_with row None pool = pool
-entered_with row (Some producer) pool = joined (begun producer row.multicast row.t_o_api) pool
+entered_with row (Some producer) pool = joined (begun producer row.multicast row.t_o_api_ms) pool
 
 -- the pool once a connection has joined its producer, if it has one
 abbrev pub entered : Row → List Group → List Group

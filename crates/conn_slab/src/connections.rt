@@ -13,20 +13,20 @@ ghost use Rattle.cip_datagram.specs.Datagram.{view_datagram};
 ghost use Rattle.std.specs.Option.{option_map};
 ghost use Rattle.conn_slab.specs.Index.{items_of};
 ghost use Rattle.conn_slab.specs.Records.{row_of};
-ghost use Rattle.conn_slab.specs.Layout.{IsTied};
-ghost use Rattle.conn_slab.specs.Hearing.{heard_by, hearing};
-ghost use Rattle.conn_slab.specs.Bounds.{first_end, AllRest};
+ghost use Rattle.conn_slab.specs.Layout.{IsConsistent};
+ghost use Rattle.conn_slab.specs.Reception.{received_of, reception};
+ghost use Rattle.conn_slab.specs.Bounds.{first_end, AllNotDueBefore};
 ghost use Rattle.conn_slab.specs.Producing.{producer_by};
 ghost use Rattle.conn_slab.specs.Connections.{without, AreConnections, timed_out_if, accepting_if, is_opened_at, is_listening};
 
 use crate::bounds::first_end;
-use crate::hearing::{Heard, hear};
 use crate::index::{
-    Places, Triads, find_near, has_listeners, make_room, place_among, put_last, running,
-    take_record,
+    Sources, Triads, find_at_position, has_listeners, hint_among, put_last, reserve_record,
+    running, take_record,
 };
 use crate::producers::{enter, leave, row_of};
-use crate::record::{Place, Record, key_for, record_of};
+use crate::reception::{Received, receive_record};
+use crate::record::{Record, Source, key_for, record_of};
 use crate::rows::Rows;
 use adapter_table::{MOST_ROWS, Profile, Row};
 use cip_datagram::Datagram;
@@ -38,7 +38,7 @@ use std::alloc::Global;
 use std::marker::Model;
 
 /// So many positions in the index of places are kept, each for the O->T ids that leave the same remainder.
-const NEAR: usize = 64;
+const POSITIONS: usize = 64;
 
 /// The connections of an adapter, which contracts see as their list in opening order.
 ///
@@ -47,9 +47,9 @@ const NEAR: usize = 64;
 pub struct Connections {
     records: Slab<Record>,
     by_triad: Triads,
-    by_place: Places,
+    by_source: Sources,
     pool: Pool,
-    near: [usize; NEAR],
+    last_positions: [usize; POSITIONS],
 }
 
 impl Model for Connections {
@@ -57,34 +57,34 @@ impl Model for Connections {
     ghost use Rattle.adapter_table.specs.declared.row.Row.{Row};
     ghost use Rattle.conn_slab.specs.Index.{items_of};
     ghost use Rattle.conn_slab.specs.Records.{row_of};
-    ghost use Rattle.conn_slab.specs.Layout.{IsTied};
+    ghost use Rattle.conn_slab.specs.Layout.{IsConsistent};
 
     ghost Value = { List Row };
 
     ghost view = { λ c. map (row_of c.pool) (items_of c.records c.by_triad.entries) };
 
-    ghost invariant = { λ c. IsTied c.records c.by_triad.entries c.by_place.entries c.pool };
+    ghost invariant = { λ c. IsConsistent c.records c.by_triad.entries c.by_source.entries c.pool };
 }
 
 /// Takes the connection of a triad out. Takes no memory.
 fn take_out(
     records: &mut Slab<Record>,
     by_triad: &mut Triads,
-    by_place: &mut Places,
+    by_source: &mut Sources,
     pool: &mut Pool,
     triad: Triad,
 ) -> Option<Row>
-    requires { IsTied records.old by_triad.old.entries by_place.old.entries pool.old }
-    ensures tied { IsTied records.new by_triad.new.entries by_place.new.entries pool.new }
+    requires { IsConsistent records.old by_triad.old.entries by_source.old.entries pool.old }
+    ensures consistent { IsConsistent records.new by_triad.new.entries by_source.new.entries pool.new }
     ensures taken { result ≡ find (has_triad triad) (map (row_of pool.old) (items_of records.old by_triad.old.entries)) }
     ensures rest { map (row_of pool.new) (items_of records.new by_triad.new.entries) ≡ without_triad triad (map (row_of pool.old) (items_of records.old by_triad.old.entries)) }
-    ensures records_room { HasRoomFor records.old 1 → HasRoomFor records.new 1 }
-    ensures triad_room { spare by_triad.old ≤ spare by_triad.new }
-    ensures place_room { spare by_place.old ≤ spare by_place.new }
+    ensures records_space { HasRoomFor records.old 1 → HasRoomFor records.new 1 }
+    ensures triad_space { spare by_triad.old ≤ spare by_triad.new }
+    ensures source_space { spare by_source.old ≤ spare by_source.new }
 {
     let _groups = pool.len();
-    let place = place_among(by_triad, triad);
-    let record = take_record(records, by_triad, by_place, key_for(triad))?;
+    let place = hint_among(by_triad, triad);
+    let record = take_record(records, by_triad, by_source, key_for(triad))?;
     let row = row_of(pool, &record, place);
     leave(pool, record.producer, place);
     Some(row)
@@ -94,21 +94,21 @@ fn take_out(
 fn append(
     records: &mut Slab<Record>,
     by_triad: &mut Triads,
-    by_place: &mut Places,
+    by_source: &mut Sources,
     pool: &mut Pool,
     row: &Row,
 )
-    requires tied { IsTied records.old by_triad.old.entries by_place.old.entries pool.old }
+    requires consistent { IsConsistent records.old by_triad.old.entries by_source.old.entries pool.old }
     requires fits { AreConnections (map (row_of pool.old) (items_of records.old by_triad.old.entries) ++ row.now ∷ []) }
-    requires records_room { HasRoomFor records.old 1 }
-    requires triad_room { 0 < spare by_triad.old }
-    requires place_room { 0 < spare by_place.old }
-    ensures tied { IsTied records.new by_triad.new.entries by_place.new.entries pool.new }
+    requires records_space { HasRoomFor records.old 1 }
+    requires triad_space { 0 < spare by_triad.old }
+    requires source_space { 0 < spare by_source.old }
+    ensures consistent { IsConsistent records.new by_triad.new.entries by_source.new.entries pool.new }
     ensures rows { map (row_of pool.new) (items_of records.new by_triad.new.entries) ≡ map (row_of pool.old) (items_of records.old by_triad.old.entries) ++ row.now ∷ [] }
 {
     let _groups = pool.len();
     enter(pool, row);
-    put_last(records, by_triad, by_place, record_of(row));
+    put_last(records, by_triad, by_source, record_of(row));
 }
 
 impl Connections {
@@ -119,9 +119,9 @@ impl Connections {
         Ok(Connections {
             records: Slab::with_capacity(alloc, MOST_ROWS)?,
             by_triad: Triads::with_capacity(alloc, MOST_ROWS)?,
-            by_place: Places::with_capacity(alloc, MOST_ROWS)?,
+            by_source: Sources::with_capacity(alloc, MOST_ROWS)?,
             pool: Pool::new(alloc)?,
-            near: [0; NEAR],
+            last_positions: [0; POSITIONS],
         })
     }
 
@@ -172,7 +172,7 @@ impl Connections {
     /// Whether the triad is that of an established connection. Takes no memory.
     ///
     /// Volume 1, chapter 3, connection triad.
-    pub fn is_held(&self, triad: Triad) -> bool
+    pub fn is_open(&self, triad: Triad) -> bool
         ensures { result ≡ list_any (holds_triad triad) self.now }
     {
         running(&self.records, self.by_triad.get(&key_for(triad))).is_some()
@@ -193,11 +193,11 @@ impl Connections {
     pub fn find(&self, peer: Node, id: ConnId) -> Option<Row>
         ensures { result ≡ find (is_for peer id.0) self.now }
     {
-        let place = Place {
+        let place = Source {
             peer: peer.0,
             id: id.0,
         };
-        let (key, _) = running(&self.records, self.by_place.get(&place))?;
+        let (key, _) = running(&self.records, self.by_source.get(&place))?;
         let record = self.records.get(key)?;
         Some(row_of(&self.pool, record, 0))
     }
@@ -218,17 +218,17 @@ impl Connections {
     /// is the only fault, and then nothing is changed.
     ///
     /// Volume 1, chapter 3, Forward_Open.
-    pub fn open(&mut self, gone: Option<Triad>, row: Row) -> Result<(), OutOfMemory>
-        requires { AreConnections (without gone self.old ++ row ∷ []) }
-        ensures rows { OnOk result (self.new ≡ without gone self.old ++ row ∷ []) }
+    pub fn open(&mut self, removed: Option<Triad>, row: Row) -> Result<(), OutOfMemory>
+        requires { AreConnections (without removed self.old ++ row ∷ []) }
+        ensures rows { OnOk result (self.new ≡ without removed self.old ++ row ∷ []) }
         ensures unchanged { OnErr result (self.new ≡ self.old) }
     {
-        make_room(&mut self.records, &mut self.by_triad, &mut self.by_place)?;
-        if let Some(triad) = gone {
+        reserve_record(&mut self.records, &mut self.by_triad, &mut self.by_source)?;
+        if let Some(triad) = removed {
             take_out(
                 &mut self.records,
                 &mut self.by_triad,
-                &mut self.by_place,
+                &mut self.by_source,
                 &mut self.pool,
                 triad,
             );
@@ -236,7 +236,7 @@ impl Connections {
         append(
             &mut self.records,
             &mut self.by_triad,
-            &mut self.by_place,
+            &mut self.by_source,
             &mut self.pool,
             &row,
         );
@@ -253,7 +253,7 @@ impl Connections {
         take_out(
             &mut self.records,
             &mut self.by_triad,
-            &mut self.by_place,
+            &mut self.by_source,
             &mut self.pool,
             triad,
         )
@@ -285,11 +285,11 @@ impl Connections {
         ensures found { result ≡ list_any (is_for peer id.0) self.old }
         ensures rows { self.new ≡ map (accepting_if peer id.0 accepted.number accepted.count deadline) self.old }
     {
-        let place = Place {
+        let place = Source {
             peer: peer.0,
             id: id.0,
         };
-        let Some((key, _)) = running(&self.records, self.by_place.get(&place)) else {
+        let Some((key, _)) = running(&self.records, self.by_source.get(&place)) else {
             return false;
         };
         let record = &mut self.records[key];
@@ -308,22 +308,26 @@ impl Connections {
         clock: Ms,
         peer: Node,
         datagram: &Datagram<'_>,
-    ) -> Option<Heard>
+    ) -> Option<Received>
         requires fit { RowsFit self.old }
         requires time { clock.0 ≤ 2 ^ 48 }
-        ensures heard { result ≡ option_map (heard_by profile.now clock (view_datagram datagram.now)) (find (is_for peer datagram.now.connection.0) self.old) }
-        ensures rows { self.new ≡ hearing profile.now clock peer (view_datagram datagram.now) (find (is_for peer datagram.now.connection.0) self.old) self.old }
+        ensures received { result ≡ option_map (received_of profile.now clock (view_datagram datagram.now)) (find (is_for peer datagram.now.connection.0) self.old) }
+        ensures rows { self.new ≡ reception profile.now clock peer (view_datagram datagram.now) (find (is_for peer datagram.now.connection.0) self.old) self.old }
     {
-        let place = Place {
+        let place = Source {
             peer: peer.0,
             id: datagram.connection.0,
         };
-        let near = place.id as usize % NEAR;
-        let (position, filed) = find_near(&self.by_place, self.near[near], place)?;
-        self.near[near] = position;
+        let slot = place.id as usize % POSITIONS;
+        let (position, filed) = find_at_position(
+            &self.by_source,
+            self.last_positions[slot],
+            place,
+        )?;
+        self.last_positions[slot] = position;
         let (key, _) = running(&self.records, Some(&filed))?;
         let record = &mut self.records[key];
-        Some(hear(record, profile, clock, datagram))
+        Some(receive_record(record, profile, clock, datagram))
     }
 
     /// When the first watchdog of an established connection runs out, and where there is none, the time that never
@@ -340,7 +344,7 @@ impl Connections {
     ///
     /// Volume 1, chapter 3, production triggers.
     pub fn first_due(&self) -> u64
-        ensures { AllRest result self.now }
+        ensures { AllNotDueBefore result self.now }
     {
         self.pool.first_due()
     }
@@ -349,11 +353,11 @@ impl Connections {
     ///
     /// Volume 1, chapter 3, class 1 transport; Volume 2, chapter 3, multicast connections.
     #[inline(always)]
-    pub fn producer_near(&self, number: u32, place: usize) -> Producer
+    pub fn producer_with_hint(&self, number: u32, place: usize) -> Producer
         requires { list_any (is_produced_by number) self.now ≡ true }
         ensures { Some result ≡ producer_by number self.now }
     {
-        self.pool.producer_near(number, place)
+        self.pool.producer_with_hint(number, place)
     }
 
     /// The producers that are due have produced. Takes no memory.

@@ -7,10 +7,10 @@ ghost use Rattle.std.specs.Option.{option_copied, option_map};
 ghost use Rattle.slab.specs.Slab.{HasRoomFor, get};
 ghost use Rattle.indexmap.specs.IndexMap.{spare};
 ghost use Rattle.conn_slab.specs.Index.{items_of};
-ghost use Rattle.conn_slab.specs.Records.{key_of, same_key, place_of, same_place, is_of, listens, listens_in};
+ghost use Rattle.conn_slab.specs.Records.{key_of, same_key, source_of, same_source, is_of, listens, listens_in};
 ghost use Rattle.conn_slab.specs.Layout.{AreFiled, running_key};
 
-use crate::record::{Place, Record, TriadKey, key_for, place_of};
+use crate::record::{Record, Source, TriadKey, key_for, source_of};
 use cip_productions::Kind;
 use cip_types::{OutOfMemory, Triad};
 use indexmap::IndexMap;
@@ -18,29 +18,29 @@ use slab::Slab;
 
 pub(crate) type Triads = IndexMap<TriadKey, usize>;
 
-pub(crate) type Places = IndexMap<Place, usize>;
+pub(crate) type Sources = IndexMap<Source, usize>;
 
 /// Makes room for one more record.
-pub(crate) fn make_room(
+pub(crate) fn reserve_record(
     records: &mut Slab<Record>,
     by_triad: &mut Triads,
-    by_place: &mut Places,
+    by_source: &mut Sources,
 ) -> Result<(), OutOfMemory>
-    requires { AreFiled records.old by_triad.old.entries by_place.old.entries }
-    ensures filed { AreFiled records.new by_triad.new.entries by_place.new.entries }
+    requires { AreFiled records.old by_triad.old.entries by_source.old.entries }
+    ensures filed { AreFiled records.new by_triad.new.entries by_source.new.entries }
     ensures items { items_of records.new by_triad.new.entries ≡ items_of records.old by_triad.old.entries }
-    ensures records_room { OnOk result (HasRoomFor records.new 1) }
-    ensures triad_room { OnOk result (0 < spare by_triad.new) }
-    ensures place_room { OnOk result (0 < spare by_place.new) }
+    ensures records_space { OnOk result (HasRoomFor records.new 1) }
+    ensures triad_space { OnOk result (0 < spare by_triad.new) }
+    ensures source_space { OnOk result (0 < spare by_source.new) }
 {
     records.reserve(1)?;
     by_triad.reserve(1)?;
-    by_place.reserve(1)?;
+    by_source.reserve(1)?;
     Ok(())
 }
 
 /// Where to look first for the producer of a triad's connection: its own place among the connections.
-pub(crate) fn place_among(by_triad: &Triads, triad: Triad) -> usize {
+pub(crate) fn hint_among(by_triad: &Triads, triad: Triad) -> usize {
     by_triad.get_index_of(&key_for(triad)).unwrap_or(0)
 }
 
@@ -48,20 +48,20 @@ pub(crate) fn place_among(by_triad: &Triads, triad: Triad) -> usize {
 pub(crate) fn take_record(
     records: &mut Slab<Record>,
     by_triad: &mut Triads,
-    by_place: &mut Places,
+    by_source: &mut Sources,
     name: TriadKey,
 ) -> Option<Record>
-    requires { AreFiled records.old by_triad.old.entries by_place.old.entries }
-    ensures filed { AreFiled records.new by_triad.new.entries by_place.new.entries }
+    requires { AreFiled records.old by_triad.old.entries by_source.old.entries }
+    ensures filed { AreFiled records.new by_triad.new.entries by_source.new.entries }
     ensures taken { result ≡ find (is_of name) (items_of records.old by_triad.old.entries) }
     ensures rest { items_of records.new by_triad.new.entries ≡ filter (λ r. not (is_of name r)) (items_of records.old by_triad.old.entries) }
-    ensures records_room { HasRoomFor records.old 1 → HasRoomFor records.new 1 }
-    ensures triad_room { spare by_triad.old ≤ spare by_triad.new }
-    ensures place_room { spare by_place.old ≤ spare by_place.new }
+    ensures records_space { HasRoomFor records.old 1 → HasRoomFor records.new 1 }
+    ensures triad_space { spare by_triad.old ≤ spare by_triad.new }
+    ensures source_space { spare by_source.old ≤ spare by_source.new }
 {
     let key = by_triad.shift_remove(&name)?;
     let record = records.remove(key);
-    by_place.swap_remove(&place_of(&record));
+    by_source.swap_remove(&source_of(&record));
     Some(record)
 }
 
@@ -69,44 +69,48 @@ pub(crate) fn take_record(
 pub(crate) fn put_last(
     records: &mut Slab<Record>,
     by_triad: &mut Triads,
-    by_place: &mut Places,
+    by_source: &mut Sources,
     opened: Record,
 )
-    requires filed { AreFiled records.old by_triad.old.entries by_place.old.entries }
+    requires filed { AreFiled records.old by_triad.old.entries by_source.old.entries }
     requires new_triad { lookup (same_key (key_of opened)) by_triad.old.entries ≡ None }
-    requires new_place { lookup (same_place (place_of opened)) by_place.old.entries ≡ None }
-    requires records_room { HasRoomFor records.old 1 }
-    requires triad_room { 0 < spare by_triad.old }
-    requires place_room { 0 < spare by_place.old }
-    ensures filed { AreFiled records.new by_triad.new.entries by_place.new.entries }
+    requires new_source { lookup (same_source (source_of opened)) by_source.old.entries ≡ None }
+    requires records_space { HasRoomFor records.old 1 }
+    requires triad_space { 0 < spare by_triad.old }
+    requires source_space { 0 < spare by_source.old }
+    ensures filed { AreFiled records.new by_triad.new.entries by_source.new.entries }
     ensures items { items_of records.new by_triad.new.entries ≡ items_of records.old by_triad.old.entries ++ opened ∷ [] }
 {
     let name = key_for(opened.triad);
-    let place = place_of(&opened);
+    let place = source_of(&opened);
     let key = records.insert_reserved(opened);
     by_triad.insert(name, key).unwrap();
-    by_place.insert(place, key).unwrap();
+    by_source.insert(place, key).unwrap();
 }
 
 /// Where a place stands in its index, and the key under it. It is first looked for at one position.
 #[inline(always)]
-pub(crate) fn find_near(by_place: &Places, first: usize, place: Place) -> Option<(usize, usize)>
-    ensures { option_map (λ found. found.1) result ≡ lookup (same_place place) by_place.now.entries }
+pub(crate) fn find_at_position(
+    by_source: &Sources,
+    first: usize,
+    place: Source,
+) -> Option<(usize, usize)>
+    ensures { option_map (λ found. found.1) result ≡ lookup (same_source place) by_source.now.entries }
 {
-    if let Some((known, key)) = by_place.get_index(first) {
+    if let Some((known, key)) = by_source.get_index(first) {
         if *known == place {
             return Some((first, *key));
         }
     }
-    find_anew(by_place, place)
+    find_anew(by_source, place)
 }
 
 /// Where a place stands in its index, and the key under it.
 #[inline(never)]
-fn find_anew(by_place: &Places, place: Place) -> Option<(usize, usize)>
-    ensures { option_map (λ found. found.1) result ≡ lookup (same_place place) by_place.now.entries }
+fn find_anew(by_source: &Sources, place: Source) -> Option<(usize, usize)>
+    ensures { option_map (λ found. found.1) result ≡ lookup (same_source place) by_source.now.entries }
 {
-    let (position, _, key) = by_place.get_full(&place)?;
+    let (position, _, key) = by_source.get_full(&place)?;
     Some((position, *key))
 }
 

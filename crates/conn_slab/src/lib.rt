@@ -7,12 +7,12 @@
 
 mod bounds;
 mod connections;
-mod hearing;
 mod index;
 mod producers;
+mod reception;
 mod record;
 mod rows;
 
 pub use connections::Connections;
-pub use hearing::Heard;
+pub use reception::Received;
 pub use rows::Rows;

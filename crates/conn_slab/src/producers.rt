@@ -16,7 +16,7 @@ fn state_of(pool: &Pool, producer: Option<u32>, place: usize) -> State
     ensures { result ≡ state_of pool.now producer }
 {
     match producer {
-        Some(number) => State::Established(pool.production_near(number, place)),
+        Some(number) => State::Established(pool.production_with_hint(number, place)),
         None => State::TimedOut,
     }
 }
@@ -35,8 +35,8 @@ pub(crate) fn row_of(pool: &Pool, record: &Record, place: usize) -> Row
         produced: record.produced,
         o_t_id: record.o_t_id,
         t_o_id: record.t_o_id,
-        o_t_api: record.o_t_api,
-        t_o_api: record.t_o_api,
+        o_t_api_ms: record.o_t_api_ms,
+        t_o_api_ms: record.t_o_api_ms,
         multiplier: record.multiplier,
         multicast: record.multicast,
         opening: record.opening,
@@ -48,11 +48,11 @@ pub(crate) fn row_of(pool: &Pool, record: &Record, place: usize) -> Row
 
 /// Where to look first for the producer of the connection after this one.
 #[inline(always)]
-pub(crate) fn place_after(pool: &Pool, record: &Record, place: usize) -> usize
+pub(crate) fn hint_after(pool: &Pool, record: &Record, place: usize) -> usize
     ensures { result ≤ place + 1 }
 {
     match record.producer {
-        Some(number) => pool.place_after(number, place),
+        Some(number) => pool.hint_after(number, place),
         None => place,
     }
 }
@@ -64,7 +64,7 @@ pub(crate) fn enter(pool: &mut Pool, row: &Row)
     ensures { pool.new ≡ entered row.now pool.old }
 {
     if let Some(producer) = producer_in(row) {
-        pool.join(producer, row.multicast, row.t_o_api);
+        pool.join(producer, row.multicast, row.t_o_api_ms);
     }
 }
 
@@ -74,6 +74,6 @@ pub(crate) fn leave(pool: &mut Pool, producer: Option<u32>, place: usize)
     ensures { pool.new ≡ left_by producer pool.old }
 {
     if let Some(number) = producer {
-        pool.leave_near(number, place);
+        pool.leave_with_hint(number, place);
     }
 }

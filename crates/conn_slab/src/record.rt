@@ -1,7 +1,7 @@
 //! A connection without its production.
 
 ghost use Rattle.std.specs.Prelude.{◌≡◌};
-ghost use Rattle.conn_slab.specs.Records.{number_in, record_of, key_of, key_for, place_of};
+ghost use Rattle.conn_slab.specs.Records.{number_in, record_of, key_of, key_for, source_of};
 
 use adapter_table::{Row, State};
 use cip_productions::{Accepted, Kind};
@@ -17,7 +17,7 @@ pub(crate) struct TriadKey {
 
 /// Where the datagrams of a connection come from: its peer, and the O->T id that they carry.
 #[derive(Clone, Copy, PartialEq, Eq, Hash)]
-pub(crate) struct Place {
+pub(crate) struct Source {
     pub(crate) peer: u32,
     pub(crate) id: u32,
 }
@@ -32,8 +32,8 @@ pub(crate) struct Record {
     pub(crate) produced: u32,
     pub(crate) o_t_id: ConnId,
     pub(crate) t_o_id: ConnId,
-    pub(crate) o_t_api: u32,
-    pub(crate) t_o_api: u32,
+    pub(crate) o_t_api_ms: u32,
+    pub(crate) t_o_api_ms: u32,
     pub(crate) multiplier: u8,
     pub(crate) multicast: bool,
     pub(crate) opening: u32,
@@ -63,8 +63,8 @@ pub(crate) fn record_of(row: &Row) -> Record
         produced: row.produced,
         o_t_id: row.o_t_id,
         t_o_id: row.t_o_id,
-        o_t_api: row.o_t_api,
-        t_o_api: row.t_o_api,
+        o_t_api_ms: row.o_t_api_ms,
+        t_o_api_ms: row.t_o_api_ms,
         multiplier: row.multiplier,
         multicast: row.multicast,
         opening: row.opening,
@@ -84,10 +84,10 @@ pub(crate) fn key_for(triad: Triad) -> TriadKey
     }
 }
 
-pub(crate) fn place_of(record: &Record) -> Place
-    ensures { result ≡ place_of record.now }
+pub(crate) fn source_of(record: &Record) -> Source
+    ensures { result ≡ source_of record.now }
 {
-    Place {
+    Source {
         peer: record.peer.0,
         id: record.o_t_id.0,
     }

@@ -2,7 +2,7 @@
 
 ghost use Rattle.std.specs.Iterator.{YieldsFirst, item_count};
 
-use crate::producers::{place_after, row_of};
+use crate::producers::{hint_after, row_of};
 use crate::record::{Record, TriadKey};
 use adapter_table::Row;
 use indexmap::map::Values;
@@ -48,7 +48,7 @@ impl<'a> Iterator for Rows<'a> {
         let key = self.keys.next()?;
         let record = self.records.get(*key)?;
         let row = row_of(self.pool, record, self.place);
-        self.place = place_after(self.pool, record, self.place);
+        self.place = hint_after(self.pool, record, self.place);
         Some(row)
     }
 }

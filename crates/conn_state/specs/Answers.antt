@@ -11,40 +11,40 @@ use Rattle.cip_fwdopen.specs.declared.reply.Opened as made
 use Rattle.cip_fwdopen.specs.declared.reply.OpenAnswer.{OpenAnswer}
 use Rattle.cip_fwdopen.specs.declared.reply.OpenAnswer.TheVariants.{Opened, Refused}
 use Rattle.conn_state.specs.declared.names.Link.{Link}
-use Rattle.conn_state.specs.declared.names.Wanted.{Wanted}
+use Rattle.conn_state.specs.declared.names.Requested.{Requested}
 
 -- the same serial number, vendor and originator
 abbrev pub same_triad : Triad → Triad → Bool
 same_triad a b = a.serial == b.serial && (a.vendor == b.vendor && a.originator == b.originator)
 
 -- the id is the one that was asked for, where one was
-abbrev pub is_wanted_id : Option ConnId → ConnId → Bool
-is_wanted_id None id = true
-is_wanted_id (Some asked) id = asked.0 == id.0
+abbrev pub is_requested_id : Option ConnId → ConnId → Bool
+is_requested_id None id = true
+is_requested_id (Some asked) id = asked.0 == id.0
 
 -- both actual packet intervals are ones that an originator may ask for
 abbrev pub has_intervals : made.Opened → Bool
-has_intervals opened = is_interval opened.o_t_api && is_interval opened.t_o_api
+has_intervals opened = is_interval opened.o_t_api_us && is_interval opened.t_o_api_us
 
 -- what may be amiss in a success: that it is of another connection than the one that waits, that its id may not
 -- be used, and that it has no packet intervals; the first that holds is told
-abbrev pub answer_tests : Wanted → made.Opened → Bool → List (Case Mismatch)
-answer_tests wanted opened id_free =
-    (not (same_triad opened.triad wanted.triad), mismatch.Triad)
-    ∷ (not (is_wanted_id wanted.t_o_id opened.t_o_id && id_free), mismatch.Id)
+abbrev pub answer_tests : Requested → made.Opened → Bool → List (Case Mismatch)
+answer_tests requested opened id_free =
+    (not (same_triad opened.triad requested.triad), mismatch.Triad)
+    ∷ (not (is_requested_id requested.t_o_id opened.t_o_id && id_free), mismatch.Id)
     ∷ (not (has_intervals opened), mismatch.Api)
     ∷ []
 
 -- the triad of what was asked for, and the ids of the reply
-abbrev pub link_of : Wanted → made.Opened → Link
-link_of wanted opened = record { triad = wanted.triad; o_t_id = opened.o_t_id; t_o_id = opened.t_o_id }
+abbrev pub link_of : Requested → made.Opened → Link
+link_of requested opened = record { triad = requested.triad; o_t_id = opened.o_t_id; t_o_id = opened.t_o_id }
 
 -- a success opens the connection where nothing is amiss; else what was asked for comes back
-abbrev pub linked : Wanted → made.Opened → Option Mismatch → Result Link (Wanted × Mismatch)
-linked wanted opened None = Ok (link_of wanted opened)
-linked wanted opened (Some why) = Err (wanted, why)
+abbrev pub linked : Requested → made.Opened → Option Mismatch → Result Link (Requested × Mismatch)
+linked requested opened None = Ok (link_of requested opened)
+linked requested opened (Some why) = Err (requested, why)
 
 -- what an answer makes of the opening that waits for it
-abbrev pub accepted : Wanted → OpenAnswer → Bool → Result Link (Wanted × Mismatch)
-accepted wanted (Refused refused) id_free = Err (wanted, mismatch.Refused refused.fault)
-accepted wanted (Opened opened) id_free = linked wanted opened (first_case (answer_tests wanted opened id_free))
+abbrev pub accepted : Requested → OpenAnswer → Bool → Result Link (Requested × Mismatch)
+accepted requested (Refused refused) id_free = Err (requested, mismatch.Refused refused.fault)
+accepted requested (Opened opened) id_free = linked requested opened (first_case (answer_tests requested opened id_free))

@@ -5,5 +5,5 @@
 mod names;
 mod states;
 
-pub use names::{Link, Wanted};
+pub use names::{Link, Requested};
 pub use states::{Closing, Established, Idle, Opening, TimedOut};

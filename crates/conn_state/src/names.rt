@@ -7,7 +7,7 @@ use cip_types::{ConnId, Triad};
 ///
 /// Volume 1, chapter 3, Forward_Open service.
 #[derive(Clone, Copy, PartialEq, Eq)]
-pub struct Wanted {
+pub struct Requested {
     pub triad: Triad,
     pub t_o_id: Option<ConnId>,
 }

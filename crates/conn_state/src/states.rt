@@ -2,9 +2,9 @@
 
 ghost use Rattle.std.specs.Prelude.{◌≡◌};
 ghost use Rattle.cip_types.specs.Cases.{first_case};
-ghost use Rattle.conn_state.specs.Answers.{answer_tests, is_wanted_id, accepted};
+ghost use Rattle.conn_state.specs.Answers.{answer_tests, is_requested_id, accepted};
 
-use crate::names::{Link, Wanted};
+use crate::names::{Link, Requested};
 use cip_fwdopen::{OpenAnswer, OpenReply, Opened};
 use cip_netparams::api_of;
 use cip_types::{ConnId, Mismatch, Triad};
@@ -17,7 +17,7 @@ pub struct Idle;
 /// A Forward_Open was sent, and is not answered.
 #[derive(Drop)]
 pub struct Opening {
-    wanted: Wanted,
+    requested: Requested,
 }
 
 /// The connection is open.
@@ -40,11 +40,11 @@ pub struct Closing {
 
 /// An opening is what was asked for.
 impl Model for Opening {
-    ghost use Rattle.conn_state.specs.declared.names.Wanted.{Wanted};
+    ghost use Rattle.conn_state.specs.declared.names.Requested.{Requested};
 
-    ghost Value = { Wanted };
+    ghost Value = { Requested };
 
-    ghost view = { λ s. s.wanted };
+    ghost view = { λ s. s.requested };
 }
 
 /// An open connection is what names it.
@@ -80,7 +80,7 @@ impl Idle {
         ensures { result ≡ record { triad = triad; t_o_id = t_o_id } }
     {
         Opening {
-            wanted: Wanted { triad, t_o_id },
+            requested: Requested { triad, t_o_id },
         }
     }
 
@@ -106,26 +106,26 @@ impl Idle {
 }
 
 /// Whether the id is the one that was asked for, where one was.
-fn is_wanted_id(wanted: Option<ConnId>, id: ConnId) -> bool
-    ensures { result ≡ is_wanted_id wanted id }
+fn is_requested_id(requested: Option<ConnId>, id: ConnId) -> bool
+    ensures { result ≡ is_requested_id requested id }
 {
-    match wanted {
+    match requested {
         Some(asked) => asked == id,
         None => true,
     }
 }
 
 /// What is amiss with a success first.
-fn mismatch_of(wanted: &Wanted, opened: &Opened, id_free: bool) -> Option<Mismatch>
-    ensures { result ≡ first_case (answer_tests wanted.now opened.now id_free) }
+fn mismatch_of(requested: &Requested, opened: &Opened, id_free: bool) -> Option<Mismatch>
+    ensures { result ≡ first_case (answer_tests requested.now opened.now id_free) }
 {
-    if opened.triad != wanted.triad {
+    if opened.triad != requested.triad {
         return Some(Mismatch::Triad);
     }
-    if !is_wanted_id(wanted.t_o_id, opened.t_o_id) || !id_free {
+    if !is_requested_id(requested.t_o_id, opened.t_o_id) || !id_free {
         return Some(Mismatch::Id);
     }
-    if api_of(opened.o_t_api).is_none() || api_of(opened.t_o_api).is_none() {
+    if api_of(opened.o_t_api_us).is_none() || api_of(opened.t_o_api_us).is_none() {
         return Some(Mismatch::Api);
     }
     None
@@ -152,11 +152,11 @@ impl Opening {
             }
             OpenAnswer::Opened(opened) => opened,
         };
-        match mismatch_of(&self.wanted, &opened, id_free) {
+        match mismatch_of(&self.requested, &opened, id_free) {
             Some(why) => Err((self, why)),
             None => Ok(Established {
                 link: Link {
-                    triad: self.wanted.triad,
+                    triad: self.requested.triad,
                     o_t_id: opened.o_t_id,
                     t_o_id: opened.t_o_id,
                 },
@@ -170,10 +170,10 @@ impl Opening {
     }
 
     /// What was asked for.
-    pub fn wanted(&self) -> Wanted
+    pub fn requested(&self) -> Requested
         ensures { result ≡ self.now }
     {
-        self.wanted
+        self.requested
     }
 
     /// The standard's number of the state: waiting for a connection id.

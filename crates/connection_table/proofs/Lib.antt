@@ -1,1 +1,1 @@
-pub mod Elapsing
+pub mod Advancing

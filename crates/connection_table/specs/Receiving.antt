@@ -7,10 +7,10 @@ use Rattle.cip_events.specs.Answers.{is_accepted}
 use Rattle.adapter_table.specs.declared.profile.Profile.{Profile}
 use Rattle.adapter_table.specs.declared.row.Row.{Row}
 use Rattle.adapter_table.specs.Datagrams.{row_delivery, accepted_if_for}
-use Rattle.connection_table.specs.declared.table.Received.{Received}
+use Rattle.connection_table.specs.declared.table.ReceivedDatagram.{ReceivedDatagram}
 
 -- what becomes of a datagram that is for a connection
-abbrev pub received_by : Profile → DatagramFields → Row → Received
+abbrev pub received_by : Profile → DatagramFields → Row → ReceivedDatagram
 received_by profile d row = record { delivery = row_delivery profile row d; consumed = row.consumed }
 
 -- the connections after a datagram that is for the found one of them: it has accepted it, where its delivery

@@ -16,5 +16,5 @@ pub record AreWhole (rows : List Row) : Type 0 where
 
 -- those whose deadline has come have timed out, the listeners that this leaves without support are gone, and
 -- the producers that are due have produced
-abbrev pub elapsed_rows : Ms → List Row → List Row
-elapsed_rows clock rows = map (produced_row clock) (staying (expired_rows clock rows))
+abbrev pub advanced_rows : Ms → List Row → List Row
+advanced_rows clock rows = map (produced_row clock) (staying (expired_rows clock rows))

@@ -8,5 +8,5 @@
 mod plain;
 mod table;
 
-pub use plain::PlainRows;
-pub use table::{ConnectionTable, Received};
+pub use plain::ConnectionList;
+pub use table::{ConnectionTable, ReceivedDatagram};

@@ -3,53 +3,53 @@
 ghost use Rattle.std.specs.Prelude.{◌≡◌};
 ghost use Rattle.cip_events.specs.Answers.{is_accepted};
 
-use crate::table::{ConnectionTable, Received};
+use crate::table::{ConnectionTable, ReceivedDatagram};
 use adapter_table::{Profile, Row, has_expired, is_due, row_delivery};
-use app_rules::{Connections, Listed};
+use app_rules::{ConnectionsView, ListView};
 use assembly_set::AssemblySet;
 use cip_datagram::Datagram;
-use cip_events::{Delivery, Notice, Sending};
+use cip_events::{Delivery, Notice, OutgoingDatagram};
 use cip_types::{Ms, Node, OutOfMemory, Triad};
-use connection_rows::{
-    accept_rows, append_row, copied, drop_unsupported, expire_rows, find_row, find_target,
-    make_room, produce_rows, produces_at_once, remove_triad, replaced, sent_on_change,
-    sent_when_due, told_of_close, write_and_change_rows, written_rows,
+use connection_list::{
+    accept_rows, append_row, close_notices, copied, drop_unsupported, expire_rows, find_row,
+    find_target, produce_rows, produces_at_once, remove_triad, replaced, reserve_row,
+    sent_on_change, sent_when_due, write_and_change_rows, written_rows,
 };
 use std::alloc::Global;
 
 /// Connections in a list, in opening order, which is gone through at each question.
 #[derive(Drop)]
-pub struct PlainRows(Vec<Row>);
+pub struct ConnectionList(Vec<Row>);
 
-impl Connections for PlainRows {
+impl ConnectionsView for ConnectionList {
     ghost rows = { λ t. t.0.items };
 
-    fn is_held(&self, triad: Triad) -> bool {
-        Listed(&self.0).is_held(triad)
+    fn is_open(&self, triad: Triad) -> bool {
+        ListView(&self.0).is_open(triad)
     }
 
     fn has_established(&self) -> bool {
-        Listed(&self.0).has_established()
+        ListView(&self.0).has_established()
     }
 
     fn is_driven(&self, point: u32) -> bool {
-        Listed(&self.0).is_driven(point)
+        ListView(&self.0).is_driven(point)
     }
 
     fn group_of(&self, point: u32) -> Option<Row> {
-        Listed(&self.0).group_of(point)
+        ListView(&self.0).group_of(point)
     }
 
     fn is_supported(&self, point: u32) -> bool {
-        Listed(&self.0).is_supported(point)
+        ListView(&self.0).is_supported(point)
     }
 
     fn is_full(&self) -> bool {
-        Listed(&self.0).is_full()
+        ListView(&self.0).is_full()
     }
 
     fn has_timed_out(&self) -> bool {
-        Listed(&self.0).has_timed_out()
+        ListView(&self.0).has_timed_out()
     }
 }
 
@@ -63,13 +63,13 @@ fn is_accepted(delivery: Delivery) -> bool
     }
 }
 
-impl ConnectionTable for PlainRows {
+impl ConnectionTable for ConnectionList {
     fn new(alloc: Global) -> Result<Self, OutOfMemory> {
-        Ok(PlainRows(Vec::new(alloc)))
+        Ok(ConnectionList(Vec::new(alloc)))
     }
 
     fn holding(alloc: Global, rows: &[Row]) -> Result<Self, OutOfMemory> {
-        Ok(PlainRows(copied(alloc, rows)?))
+        Ok(ConnectionList(copied(alloc, rows)?))
     }
 
     fn to_vec(&self, alloc: Global) -> Result<Vec<Row>, OutOfMemory> {
@@ -85,13 +85,13 @@ impl ConnectionTable for PlainRows {
     }
 
     fn open(&mut self, row: Row) -> Result<(), OutOfMemory> {
-        make_room(&mut self.0)?;
+        reserve_row(&mut self.0)?;
         append_row(&mut self.0, row);
         Ok(())
     }
 
     fn closed_notices(&self, alloc: Global, triad: Triad) -> Result<Vec<Notice>, OutOfMemory> {
-        told_of_close(alloc, &self.0, triad)
+        close_notices(alloc, &self.0, triad)
     }
 
     fn close(&mut self, triad: Triad) {
@@ -105,14 +105,14 @@ impl ConnectionTable for PlainRows {
         clock: Ms,
         peer: Node,
         datagram: &Datagram<'_>,
-    ) -> Option<Received> {
+    ) -> Option<ReceivedDatagram> {
         let row = find_target(&self.0, peer, datagram.connection)?;
         let delivery = row_delivery(profile, &row, datagram);
         if is_accepted(delivery) {
             accept_rows(&mut self.0, clock, peer, datagram);
         }
         let consumed = row.consumed;
-        Some(Received { delivery, consumed })
+        Some(ReceivedDatagram { delivery, consumed })
     }
 
     fn has_expired(&mut self, clock: Ms) -> bool {
@@ -128,7 +128,7 @@ impl ConnectionTable for PlainRows {
         alloc: Global,
         assemblies: &AssemblySet,
         clock: Ms,
-    ) -> Result<Vec<Sending>, OutOfMemory> {
+    ) -> Result<Vec<OutgoingDatagram>, OutOfMemory> {
         sent_when_due(alloc, &self.0, assemblies, clock)
     }
 
@@ -136,7 +136,7 @@ impl ConnectionTable for PlainRows {
         produce_rows(&mut self.0, clock);
     }
 
-    fn elapse(&mut self, clock: Ms) {
+    fn advance(&mut self, clock: Ms) {
         expire_rows(&mut self.0, clock);
         drop_unsupported(&mut self.0);
         produce_rows(&mut self.0, clock);
@@ -152,7 +152,7 @@ impl ConnectionTable for PlainRows {
         clock: Ms,
         point: u32,
         input: &[u8],
-    ) -> Result<Vec<Sending>, OutOfMemory> {
+    ) -> Result<Vec<OutgoingDatagram>, OutOfMemory> {
         let written = written_rows(alloc, &self.0, point)?;
         sent_on_change(alloc, &written, clock, point, input)
     }

@@ -7,25 +7,25 @@ ghost use Rattle.cip_datagram.specs.Datagram.{view_datagram};
 ghost use Rattle.cip_productions.specs.Productions.{sent};
 ghost use Rattle.cip_events.specs.declared.event.Notice.{Notice};
 ghost use Rattle.adapter_table.specs.Rows.{has_triad, written_row, others};
-ghost use Rattle.adapter_table.specs.Opening.{makes_room, replaced_triad};
+ghost use Rattle.adapter_table.specs.Opening.{is_replaced, replaced_triad};
 ghost use Rattle.adapter_table.specs.Closing.{without_triad, staying, unsupported, dropped_notice};
 ghost use Rattle.adapter_table.specs.Datagrams.{is_for};
 ghost use Rattle.adapter_table.specs.Productions.{is_due, due_productions, produced_row, produces_on_change, productions_on_change, changed_row};
 ghost use Rattle.adapter_table.specs.Ticks.{has_expired};
-ghost use Rattle.connection_table.specs.Tables.{AreWhole, elapsed_rows};
+ghost use Rattle.connection_table.specs.Tables.{AreWhole, advanced_rows};
 ghost use Rattle.connection_table.specs.Receiving.{received_by, receiving};
 
 use adapter_table::{Profile, Row};
-use app_rules::Connections;
+use app_rules::ConnectionsView;
 use assembly_set::AssemblySet;
 use cip_datagram::Datagram;
-use cip_events::{Delivery, Notice, Sending};
+use cip_events::{Delivery, Notice, OutgoingDatagram};
 use cip_types::{Ms, Node, OutOfMemory, Triad};
 use std::alloc::Global;
 
 /// What became of a datagram that was for a connection, and the point that the connection consumes.
 #[derive(Clone, Copy, PartialEq, Eq)]
-pub struct Received {
+pub struct ReceivedDatagram {
     pub delivery: Delivery,
     pub consumed: u32,
 }
@@ -35,7 +35,7 @@ pub struct Received {
 /// What is asked at each datagram and at each tick may be answered by indexes and bounds; each answer is that of
 /// the list. A call that is refused leaves the connections as they were. Calls that change connections expect
 /// those of a whole table of an adapter, and opening, closing and the passing of time lead to such connections.
-pub trait ConnectionTable: Connections + Drop {
+pub trait ConnectionTable: ConnectionsView + Drop {
     /// No connections. Want of memory is the only fault.
     fn new(alloc: Global) -> Result<Self, OutOfMemory>
         ensures { IfOk result (λ table. Self.rows table ≡ []) };
@@ -62,8 +62,8 @@ pub trait ConnectionTable: Connections + Drop {
     /// Puts a connection last, and takes out the one that makes room for it. Want of memory is the only fault.
     fn open(&mut self, row: Row) -> Result<(), OutOfMemory>
         requires whole { AreWhole (Self.rows self.old) }
-        requires next { AreWhole (others (makes_room (Self.rows self.old) row.triad) (Self.rows self.old) ++ row ∷ []) }
-        ensures ok { OnOk result (Self.rows self.new ≡ others (makes_room (Self.rows self.old) row.triad) (Self.rows self.old) ++ row ∷ []) }
+        requires next { AreWhole (others (is_replaced (Self.rows self.old) row.triad) (Self.rows self.old) ++ row ∷ []) }
+        ensures ok { OnOk result (Self.rows self.new ≡ others (is_replaced (Self.rows self.old) row.triad) (Self.rows self.old) ++ row ∷ []) }
         ensures err { OnErr result (Self.rows self.new ≡ Self.rows self.old) };
 
     /// What is told where the connection of a triad is closed: that it is, and the listen-only ones that are
@@ -88,7 +88,7 @@ pub trait ConnectionTable: Connections + Drop {
         clock: Ms,
         peer: Node,
         datagram: &Datagram<'_>,
-    ) -> Option<Received>
+    ) -> Option<ReceivedDatagram>
         requires whole { AreWhole (Self.rows self.old) }
         requires time { clock.0 ≤ 2 ^ 48 }
         ensures received { result ≡ option_map (received_by profile.now (view_datagram datagram.now)) (find (is_for peer datagram.now.connection.0) (Self.rows self.old)) }
@@ -115,9 +115,9 @@ pub trait ConnectionTable: Connections + Drop {
         alloc: Global,
         assemblies: &AssemblySet,
         clock: Ms,
-    ) -> Result<Vec<Sending>, OutOfMemory>
+    ) -> Result<Vec<OutgoingDatagram>, OutOfMemory>
         requires { AreWhole (Self.rows self.now) }
-        ensures { IfOk result (λ sendings. sendings.items ≡ map sent (due_productions clock (Self.rows self.now) assemblies.now.values)) };
+        ensures { IfOk result (λ datagrams. datagrams.items ≡ map sent (due_productions clock (Self.rows self.now) assemblies.now.values)) };
 
     /// The producers that are due have produced. Takes no memory.
     ///
@@ -129,11 +129,11 @@ pub trait ConnectionTable: Connections + Drop {
 
     /// The connections whose deadline has come have timed out, the listen-only ones that this leaves without
     /// support are gone, and the producers that are due have produced. Takes no memory.
-    fn elapse(&mut self, clock: Ms)
+    fn advance(&mut self, clock: Ms)
         requires whole { AreWhole (Self.rows self.old) }
-        requires next { AreWhole (elapsed_rows clock (Self.rows self.old)) }
+        requires next { AreWhole (advanced_rows clock (Self.rows self.old)) }
         requires time { clock.0 ≤ 2 ^ 48 }
-        ensures { Self.rows self.new ≡ elapsed_rows clock (Self.rows self.old) };
+        ensures { Self.rows self.new ≡ advanced_rows clock (Self.rows self.old) };
 
     // WRITES
 
@@ -152,11 +152,11 @@ pub trait ConnectionTable: Connections + Drop {
         clock: Ms,
         point: u32,
         input: &[u8],
-    ) -> Result<Vec<Sending>, OutOfMemory>
+    ) -> Result<Vec<OutgoingDatagram>, OutOfMemory>
         requires whole { AreWhole (Self.rows self.now) }
         requires time { clock.0 ≤ 2 ^ 48 }
         requires short { length input.now ≤ 65533 }
-        ensures { IfOk result (λ sendings. sendings.items ≡ map sent (productions_on_change clock point input.now (map (written_row point) (Self.rows self.now)))) };
+        ensures { IfOk result (λ datagrams. datagrams.items ≡ map sent (productions_on_change clock point input.now (map (written_row point) (Self.rows self.now)))) };
 
     /// The producers of an input have new data, and its change-of-state producers have done what a write asks
     /// of them. Takes no memory.

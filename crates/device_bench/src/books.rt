@@ -1,8 +1,8 @@
 //! What a book adds to the step of a plain adapter, beside a copy of the event.
 
 use crate::clock::{ROUNDS, cpu_nanos};
+use crate::event_sinks::{self, Copies, EventSink, Making, book, stepped};
 use crate::fault::BenchFault;
-use crate::works::{self, Copies, Making, Work, book, stepped};
 use std::alloc::Global;
 use std::rt::CpuClock;
 
@@ -10,9 +10,9 @@ use std::rt::CpuClock;
 const EVENTS: u32 = 200_000;
 
 /// The time of a run, in nanoseconds.
-fn nanos<W: Work>(rt: &impl CpuClock, alloc: Global, work: &mut W) -> Result<u64, BenchFault> {
+fn nanos<W: EventSink>(rt: &impl CpuClock, alloc: Global, sink: &mut W) -> Result<u64, BenchFault> {
     let start = cpu_nanos(rt)?;
-    if !works::all(alloc, work, EVENTS) {
+    if !event_sinks::all(alloc, sink, EVENTS) {
         return Err(BenchFault::Differs);
     }
     Ok(cpu_nanos(rt)?.wrapping_sub(start))
@@ -82,26 +82,26 @@ fn best_of_rounds(rt: &impl CpuClock, alloc: Global) -> Result<Best, BenchFault>
 }
 
 /// A line with the nanoseconds of one event.
-fn tell(rt: &impl Print, name: &str, nanos: u64) -> Result<(), BenchFault> {
+fn print_nanos(rt: &impl Print, name: &str, nanos: u64) -> Result<(), BenchFault> {
     Ok(println!(rt; "{name} {} ns", nanos / u64::from(EVENTS))?)
 }
 
-fn tell_all(rt: &impl Print, best: Best) -> Result<(), BenchFault> {
-    tell(rt, "a step at a datagram", best.step())?;
-    tell(rt, "in a book", best.step().saturating_add(best.added()))?;
-    tell(rt, "what the book adds", best.added())?;
-    tell(rt, "a copy of the event", best.copy())
+fn print_best(rt: &impl Print, best: Best) -> Result<(), BenchFault> {
+    print_nanos(rt, "a step at a datagram", best.step())?;
+    print_nanos(rt, "in a book", best.step().saturating_add(best.added()))?;
+    print_nanos(rt, "what the book adds", best.added())?;
+    print_nanos(rt, "a copy of the event", best.copy())
 }
 
 /// The events of a short run.
 const FEW: u32 = 1_000;
 
 fn steps(alloc: Global) -> Result<bool, BenchFault> {
-    Ok(works::all(alloc, &mut stepped(alloc)?, FEW))
+    Ok(event_sinks::all(alloc, &mut stepped(alloc)?, FEW))
 }
 
 fn stores(alloc: Global) -> Result<bool, BenchFault> {
-    Ok(works::all(alloc, &mut book(alloc)?, FEW))
+    Ok(event_sinks::all(alloc, &mut book(alloc)?, FEW))
 }
 
 /// Short runs of each kind.
@@ -113,5 +113,5 @@ pub fn check(rt: &impl Print, alloc: Global) -> Result<(), BenchFault> {
 /// Prints the nanoseconds of a step at a datagram without a book and with one, and of a copy of such an event, each the
 /// best of some rounds.
 pub fn print_times(rt: &(impl Print + CpuClock), alloc: Global) -> Result<(), BenchFault> {
-    tell_all(rt, best_of_rounds(rt, alloc)?)
+    print_best(rt, best_of_rounds(rt, alloc)?)
 }

@@ -20,7 +20,7 @@ pub const ROUND: u64 = 30;
 
 /// The segment, and how many acts have happened in it.
 #[derive(Drop)]
-pub struct Line {
+pub struct BenchLine {
     alloc: Global,
     pub world: World<PlainAdapter, PlainScanner>,
     pub acts: u64,
@@ -37,7 +37,7 @@ fn delivery_of(answer: Option<Answer>) -> Result<Delivery, WorkFault> {
     }
 }
 
-impl Line {
+impl BenchLine {
     fn act(&mut self, act: &Act) -> Result<Option<Answer>, WorkFault> {
         self.acts = self.acts.wrapping_add(1);
         match self.world.act(act) {
@@ -66,10 +66,10 @@ impl Line {
         &mut self,
         index: usize,
         device: u32,
-        wanted: Delivery,
+        expected: Delivery,
     ) -> Result<(), WorkFault> {
         let answer = self.act(&Act::Deliver { index, device })?;
-        if delivery_of(answer)? != wanted {
+        if delivery_of(answer)? != expected {
             return Err(WorkFault::Differs);
         }
         Ok(())
@@ -127,11 +127,11 @@ impl Line {
 }
 
 /// The segment with all connections open.
-pub fn fresh_line(alloc: Global) -> Result<Line, WorkFault> {
+pub fn fresh_line(alloc: Global) -> Result<BenchLine, WorkFault> {
     let Ok(world) = World::new(alloc, configs(alloc)?) else {
         return Err(WorkFault::Differs);
     };
-    let mut line = Line {
+    let mut line = BenchLine {
         alloc,
         world,
         acts: 0,

@@ -8,11 +8,11 @@
 mod adapter;
 mod books;
 mod clock;
+mod event_sinks;
 mod fault;
 mod line;
 mod profiles;
 mod scanner;
-mod works;
 mod world;
 
 use fault::BenchFault;

@@ -26,7 +26,7 @@ const REGISTERED: [u8; 28] = [
 ];
 
 /// The reply to the first request, which opens the first slot.
-const OPENED: [u8; 70] = [
+const OPEN_REPLY: [u8; 70] = [
     0x6F, 0, 0x2E, 0, 1, 0, 0, 0, 0, 0, 0, 0, 1, 0, 0, 0, 0, 0, 0, 0, 0, 0, 0, 0, 0, 0, 0, 0, 0, 0,
     2, 0, 0, 0, 0, 0, 0xB2, 0, 0x1E, 0, 0xD4, 0, 0, 0, 1, 0, 0, 0x10, 1, 0, 0, 0x20, 1, 0, 0x34,
     0x12, 0x78, 0x56, 0x34, 0x12, 0x10, 0x27, 0, 0, 0x10, 0x27, 0, 0, 0, 0,
@@ -89,7 +89,7 @@ fn register(alloc: Global, device: &mut PlainScanner) -> Result<(), BenchFault> 
 
 /// The reply to the request of this number, which opens a slot.
 fn opened(number: u8) -> [u8; 70] {
-    let mut bytes = OPENED;
+    let mut bytes = OPEN_REPLY;
     (bytes[12], bytes[44], bytes[48], bytes[52]) = (number, number, number, number);
     bytes
 }

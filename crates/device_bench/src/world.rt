@@ -3,7 +3,7 @@
 
 use crate::clock::cpu_nanos;
 use crate::fault::{BenchFault, WorkFault};
-use crate::line::{ADAPTERS, DEVICES, Line, ROUND, bytes_sent, fresh_line};
+use crate::line::{ADAPTERS, BenchLine, DEVICES, ROUND, bytes_sent, fresh_line};
 use cip_tables::Delivery;
 use std::alloc::Global;
 use std::fs::{self, Files};
@@ -13,7 +13,7 @@ use std::rt::CpuClock;
 const ROUNDS: u64 = 3_334;
 
 /// So many rounds.
-fn rounds(line: &mut Line, count: u64) -> Result<(), WorkFault> {
+fn rounds(line: &mut BenchLine, count: u64) -> Result<(), WorkFault> {
     for _ in 0..count {
         line.round()?;
     }
@@ -21,7 +21,7 @@ fn rounds(line: &mut Line, count: u64) -> Result<(), WorkFault> {
 }
 
 /// As many acts that send nothing: the first datagram of all comes again.
-fn repeats(line: &mut Line, count: u64) -> Result<(), WorkFault> {
+fn repeats(line: &mut BenchLine, count: u64) -> Result<(), WorkFault> {
     for _ in 0..count {
         line.deliver(0, ADAPTERS, Delivery::Old)?;
     }
@@ -29,7 +29,7 @@ fn repeats(line: &mut Line, count: u64) -> Result<(), WorkFault> {
 }
 
 /// A hundred rounds of a segment.
-fn play(rt: &impl Print, line: &mut Line) -> Result<(), BenchFault> {
+fn play(rt: &impl Print, line: &mut BenchLine) -> Result<(), BenchFault> {
     rounds(line, 100)?;
     let acts = line.acts;
     let count = line.world.sent_count();
@@ -57,7 +57,7 @@ fn resident_kib<R: Files + AllocGlobal>(rt: &R) -> Result<u64, BenchFault> {
 }
 
 /// The acts a second of about 100,000 acts in which all connections send.
-fn print_speed(rt: &(impl Print + CpuClock), line: &mut Line) -> Result<(), BenchFault> {
+fn print_speed(rt: &(impl Print + CpuClock), line: &mut BenchLine) -> Result<(), BenchFault> {
     let start = cpu_nanos(rt)?;
     rounds(line, ROUNDS)?;
     let taken = cpu_nanos(rt)?.wrapping_sub(start) / 1_000;
@@ -69,7 +69,7 @@ fn print_speed(rt: &(impl Print + CpuClock), line: &mut Line) -> Result<(), Benc
 /// By how much the process has grown since it had so much, and what was sent.
 fn print_growth<R: Print + Files + AllocGlobal>(
     rt: &R,
-    line: &Line,
+    line: &BenchLine,
     before: u64,
 ) -> Result<(), BenchFault> {
     let grown = resident_kib(rt)?.wrapping_sub(before);
@@ -81,7 +81,7 @@ fn print_growth<R: Print + Files + AllocGlobal>(
 /// The speed, the growth in those acts, and the growth in as many acts that send nothing.
 fn measure<R: Print + CpuClock + Files + AllocGlobal>(
     rt: &R,
-    line: &mut Line,
+    line: &mut BenchLine,
 ) -> Result<(), BenchFault> {
     let before = resident_kib(rt)?;
     print_speed(rt, line)?;

@@ -25,8 +25,8 @@ const OWNER: Row = Row {
     produced: 100,
     o_t_id: ConnId(0x1000_0001),
     t_o_id: ConnId(0x2000_0001),
-    o_t_api: 10,
-    t_o_api: 10,
+    o_t_api_ms: 10,
+    t_o_api_ms: 10,
     multiplier: 2,
     multicast: false,
     opening: 1,
@@ -62,7 +62,7 @@ fn lives(connections: Connections) -> bool {
     connections.find(PEER, ConnId(0x1000_0001)).is_some()
         && connections.accept(PEER, ConnId(0x1000_0001), accepted, Ms(160))
         && connections.numbered(1).is_some()
-        && connections.is_held(TRIAD)
+        && connections.is_open(TRIAD)
         && connections.first_end() == 160
         && connections.first_due() == 10
         && connections.expire(TRIAD)

@@ -35,7 +35,7 @@ const FIRST: [u8; 28] = [
 ];
 
 /// What it puts at the output.
-const HELD: [u8; 4] = [0x11, 0x22, 0x33, 0x44];
+const OUTPUT_DATA: [u8; 4] = [0x11, 0x22, 0x33, 0x44];
 
 /// What the application puts at the input.
 const DATA: [u8; 4] = [5, 6, 7, 8];
@@ -109,8 +109,8 @@ fn is_reply(outcome: &Outcome, bytes: &[u8]) -> bool {
 }
 
 /// Whether a request is answered by these bytes.
-fn replies<D: Device>(alloc: Global, device: &mut D, asked: &[u8], bytes: &[u8]) -> bool {
-    match request(alloc, asked) {
+fn replies<D: Device>(alloc: Global, device: &mut D, message: &[u8], bytes: &[u8]) -> bool {
+    match request(alloc, message) {
         Ok(event) => is_reply(&device.step(&event), bytes),
         Err(_) => false,
     }
@@ -119,8 +119,8 @@ fn replies<D: Device>(alloc: Global, device: &mut D, asked: &[u8], bytes: &[u8])
 // CALLS
 
 /// Whether a point holds these bytes.
-fn holds(device: &PlainAdapter, point: u32, wanted: &[u8]) -> bool {
-    device.read_point(point) == Ok(wanted)
+fn holds(device: &PlainAdapter, point: u32, expected: &[u8]) -> bool {
+    device.read_point(point) == Ok(expected)
 }
 
 fn runs(alloc: Global, device: &mut PlainAdapter, events: &[Event]) -> bool {
@@ -142,7 +142,7 @@ fn a_run_has_an_outcome_for_each_event(rt: HostRuntime) -> Result<(), Fail> {
 }
 
 fn takes_data(device: &mut PlainAdapter) -> bool {
-    device.deliver(PEER, &FIRST) == Delivery::Applied && holds(device, 150, &HELD)
+    device.deliver(PEER, &FIRST) == Delivery::Applied && holds(device, 150, &OUTPUT_DATA)
 }
 
 #[test]

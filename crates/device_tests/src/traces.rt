@@ -28,7 +28,7 @@ fn what_is_read_is_written_again(rt: HostRuntime) -> Result<(), Fail> {
 }
 
 #[test]
-fn what_is_told_of_slots_is_written_again(rt: HostRuntime) -> Result<(), Fail> {
+fn what_is_read_of_slots_is_written_again(rt: HostRuntime) -> Result<(), Fail> {
     let trace = read_trace(rt.alloc(), SLOTS.as_bytes())?;
     assert!(rt; is_written_as(&trace, rt.alloc(), SLOTS));
     Ok(())
@@ -36,7 +36,7 @@ fn what_is_told_of_slots_is_written_again(rt: HostRuntime) -> Result<(), Fail> {
 
 fn is_written_so(outcome: &Outcome, alloc: Global, text: &str) -> bool {
     match write_outcome(alloc, 1, outcome) {
-        Ok(told) => told.as_str() == text,
+        Ok(written) => written.as_str() == text,
         Err(_) => false,
     }
 }
@@ -48,7 +48,7 @@ fn is_recorded_as(recorded: &Recorded, alloc: Global, text: &str) -> bool {
     }
 }
 
-fn is_told_as(trace: &Trace, alloc: Global, text: &str) -> bool {
+fn is_written_as_text(trace: &Trace, alloc: Global, text: &str) -> bool {
     match trace.events.as_slice() {
         [(_, recorded), ..] => is_recorded_as(recorded, alloc, text),
         [] => false,
@@ -56,8 +56,8 @@ fn is_told_as(trace: &Trace, alloc: Global, text: &str) -> bool {
 }
 
 #[test]
-fn an_outcome_is_told_by_itself(rt: HostRuntime) -> Result<(), Fail> {
+fn an_outcome_is_written_by_itself(rt: HostRuntime) -> Result<(), Fail> {
     let trace = read_trace(rt.alloc(), OLD.as_bytes())?;
-    assert!(rt; is_told_as(&trace, rt.alloc(), "1 value 00000000\n"));
+    assert!(rt; is_written_as_text(&trace, rt.alloc(), "1 value 00000000\n"));
     Ok(())
 }

@@ -5,11 +5,11 @@ use Rattle.std.specs.Io.KnownBytes.{Appends, Keeps}
 use Rattle.std.proofs.lemmas.List.{append-nil}
 use Rattle.cip_events.specs.Outcomes.{Outcome}
 use Rattle.trace_text.specs.declared.trace.Trace.{Trace}
-use Rattle.trace_outcomes.specs.Told.{outcome_text, outcomes_text}
+use Rattle.trace_outcomes.specs.Written.{outcome_text, outcomes_text}
 use Rattle.trace_stepper.specs.declared.player.PlayFault.{PlayFault}
 use Rattle.trace_stepper.specs.declared.player.PlayFault.TheVariants as play
 use Rattle.trace_stepper.specs.Playing.{IsPlayed, WritesFirst}
-use Rattle.trace_stepper.specs.Stepping.{outcomes_told}
+use Rattle.trace_stepper.specs.Stepping.{outcomes_of_trace}
 use Rattle.trace_stepper.specs.Written.{BeginsToWrite, IsTaken}
 use Rattle.eip_line.specs.declared.console.ProgramFault.{ProgramFault}
 use Rattle.eip_line.specs.declared.console.ProgramFault.TheVariants as program
@@ -96,22 +96,22 @@ nothing (Some xs) None is = absurd (cc)
 nothing (Some xs) (Some ys) is = let same : ys ≡ xs = cc in same ∙ sym (append-nil xs)
 
 first_kept : (old mid new : Option (List ℕ)) (trace : Trace) → WritesFirst trace old mid → Keeps mid new → WritesFirst trace old new
-first_kept old mid new trace (first, (rest, (told, written))) same = (first, (rest, (told, kept old mid new _ written (stayed mid new same))))
+first_kept old mid new trace (first, (rest, (reported, written))) same = (first, (rest, (reported, kept old mid new _ written (stayed mid new same))))
 
-none_told : (old mid : Option (List ℕ)) (trace : Trace) → mid ≡ old → WritesFirst trace old mid
-none_told old mid trace same = ([], (outcomes_told trace, (refl, nothing old mid same)))
+none_reported : (old mid : Option (List ℕ)) (trace : Trace) → mid ≡ old → WritesFirst trace old mid
+none_reported old mid trace same = ([], (outcomes_of_trace trace, (refl, nothing old mid same)))
 
-first_begun : (old new : Option (List ℕ)) (trace : Trace) → WritesFirst trace old new → BeginsToWrite old (outcomes_text 1 (outcomes_told trace)) new
-first_begun old new trace (first, (rest, (told, written))) = (outcomes_text 1 first, (outcomes_text (1 + length first) rest, (ap (outcomes_text 1) told ∙ text_apart 1 first rest, written)))
+first_begun : (old new : Option (List ℕ)) (trace : Trace) → WritesFirst trace old new → BeginsToWrite old (outcomes_text 1 (outcomes_of_trace trace)) new
+first_begun old new trace (first, (rest, (reported, written))) = (outcomes_text 1 first, (outcomes_text (1 + length first) rest, (ap (outcomes_text 1) reported ∙ text_apart 1 first rest, written)))
 
 -- the run ended before the last event
-pub run_stopped : (input old mid new : Option (List ℕ)) (same_kind : Bool) (trace : Trace) (fault : PlayFault) (told : ProgramFault) → Reads input trace → IsPlayed same_kind trace old mid (Err fault) → Keeps mid new → IsStop fault told → IsStepped input old new (Err told)
+pub run_stopped : (input old mid new : Option (List ℕ)) (same_kind : Bool) (trace : Trace) (fault : PlayFault) (reported : ProgramFault) → Reads input trace → IsPlayed same_kind trace old mid (Err fault) → Keeps mid new → IsStop fault reported → IsStepped input old new (Err reported)
 run_stopped input old mid new same_kind trace play.OutOfMemory program.OutOfMemory read played same is = inr (trace, (read, first_kept old mid new trace played same))
-run_stopped input old mid new same_kind trace play.Profile program.OutOfMemory read played same is = inr (trace, (read, first_kept old mid new trace (none_told old mid trace played.1) same))
-run_stopped input old mid new same_kind trace play.WrongKind program.OutOfMemory read played same is = inr (trace, (read, first_kept old mid new trace (none_told old mid trace played.1) same))
+run_stopped input old mid new same_kind trace play.Profile program.OutOfMemory read played same is = inr (trace, (read, first_kept old mid new trace (none_reported old mid trace played.1) same))
+run_stopped input old mid new same_kind trace play.WrongKind program.OutOfMemory read played same is = inr (trace, (read, first_kept old mid new trace (none_reported old mid trace played.1) same))
 run_stopped input old mid new same_kind trace play.OutOfMemory program.Write read played same is = (trace, (read, inl (first_begun old new trace (first_kept old mid new trace played same))))
-run_stopped input old mid new same_kind trace play.Profile program.Write read played same is = (trace, (read, inl (first_begun old new trace (first_kept old mid new trace (none_told old mid trace played.1) same))))
-run_stopped input old mid new same_kind trace play.WrongKind program.Write read played same is = (trace, (read, inl (first_begun old new trace (first_kept old mid new trace (none_told old mid trace played.1) same))))
+run_stopped input old mid new same_kind trace play.Profile program.Write read played same is = (trace, (read, inl (first_begun old new trace (first_kept old mid new trace (none_reported old mid trace played.1) same))))
+run_stopped input old mid new same_kind trace play.WrongKind program.Write read played same is = (trace, (read, inl (first_begun old new trace (first_kept old mid new trace (none_reported old mid trace played.1) same))))
 run_stopped input old mid new same_kind trace play.Write program.Write read played same is = (trace, (read, inl (begun_kept old mid new _ played same)))
 run_stopped input old mid new same_kind trace play.Profile program.TooLong read played same is = absurd is
 run_stopped input old mid new same_kind trace play.Profile (program.BadLine _) read played same is = absurd is

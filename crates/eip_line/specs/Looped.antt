@@ -27,4 +27,4 @@ IsLooped turns old (Err ending.Write) new = BeginsToWrite old (turns_line turns)
 
 -- A loop of so many turns failed, and the line that tells why is written, as far as the stream took it.
 abbrev pub FailsLoop : ℕ → Option (List ℕ) → Option (List ℕ) → Option (List ℕ) → Option (List ℕ) → Type 0
-FailsLoop turns old new silent told = (end : LoopEnd) × (IsLooped turns old (Err end) new × BeginsToWrite silent (end_line end) told)
+FailsLoop turns old new silent reported = (end : LoopEnd) × (IsLooped turns old (Err end) new × BeginsToWrite silent (end_line end) reported)

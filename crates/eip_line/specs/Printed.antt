@@ -4,10 +4,10 @@ use Rattle.std.specs.Io.KnownBytes.{Appends}
 use Rattle.trace_text.specs.declared.trace.Trace.{Trace}
 use Rattle.trace_text.specs.declared.trace.TraceFault.TheVariants as trace
 use Rattle.trace_text.specs.Reading.{trace_reading}
-use Rattle.trace_outcomes.specs.Told.{outcomes_text}
+use Rattle.trace_outcomes.specs.Written.{outcomes_text}
 use Rattle.trace_stepper.specs.Compared.{IsJudged}
 use Rattle.trace_stepper.specs.Playing.{WritesFirst}
-use Rattle.trace_stepper.specs.Stepping.{outcomes_told}
+use Rattle.trace_stepper.specs.Stepping.{outcomes_of_trace}
 use Rattle.trace_stepper.specs.Written.{BeginsToWrite}
 use Rattle.trace_stepper.specs.declared.player.PlayFault.{PlayFault}
 use Rattle.trace_stepper.specs.declared.player.PlayFault.TheVariants as play
@@ -29,11 +29,11 @@ differs_line number = numbered_line (codes "differs ") number
 
 -- all outcomes of the trace are written, and all are as recorded
 abbrev pub PrintsRun : Option (List ℕ) → Option (List ℕ) → Option (List ℕ) → Type 0
-PrintsRun input old new = (trace : Trace) × (Reads input trace × Appends old new (outcomes_text 1 (outcomes_told trace)) × IsJudged trace.events (outcomes_told trace) (length trace.events) None)
+PrintsRun input old new = (trace : Trace) × (Reads input trace × Appends old new (outcomes_text 1 (outcomes_of_trace trace)) × IsJudged trace.events (outcomes_of_trace trace) (length trace.events) None)
 
 -- all outcomes are written, and a last line that tells the first that is not as recorded
 abbrev pub PrintsDifference : Option (List ℕ) → Option (List ℕ) → Option (List ℕ) → Type 0
-PrintsDifference input old new = (trace : Trace) × ((number : ℕ) × (Reads input trace × Appends old new (outcomes_text 1 (outcomes_told trace) ++ differs_line number) × IsJudged trace.events (outcomes_told trace) (length trace.events) (Some number)))
+PrintsDifference input old new = (trace : Trace) × ((number : ℕ) × (Reads input trace × Appends old new (outcomes_text 1 (outcomes_of_trace trace) ++ differs_line number) × IsJudged trace.events (outcomes_of_trace trace) (length trace.events) (Some number)))
 
 -- the first outcomes of the trace are written, each whole
 abbrev pub PrintsFirst : Option (List ℕ) → Option (List ℕ) → Option (List ℕ) → Type 0
@@ -41,7 +41,7 @@ PrintsFirst input old new = (trace : Trace) × (Reads input trace × WritesFirst
 
 -- a beginning of the outcomes' text is written; or all of it, and a beginning of the last line
 abbrev pub BeginsToPrint : Option (List ℕ) → Option (List ℕ) → Option (List ℕ) → Type 0
-BeginsToPrint input old new = (trace : Trace) × (Reads input trace × (BeginsToWrite old (outcomes_text 1 (outcomes_told trace)) new ⊎ ((number : ℕ) × (IsJudged trace.events (outcomes_told trace) (length trace.events) (Some number) × BeginsToWrite old (outcomes_text 1 (outcomes_told trace) ++ differs_line number) new))))
+BeginsToPrint input old new = (trace : Trace) × (Reads input trace × (BeginsToWrite old (outcomes_text 1 (outcomes_of_trace trace)) new ⊎ ((number : ℕ) × (IsJudged trace.events (outcomes_of_trace trace) (length trace.events) (Some number) × BeginsToWrite old (outcomes_text 1 (outcomes_of_trace trace) ++ differs_line number) new))))
 
 -- What was printed when a run ends so: a trace that is refused prints nothing.
 abbrev pub IsStepped : Option (List ℕ) → Option (List ℕ) → Option (List ℕ) → Result Bool ProgramFault → Type 0
@@ -57,7 +57,7 @@ IsStepped input old new (Err program.Write) = BeginsToPrint input old new
 -- A run with status 1: a recorded outcome was not given, and nothing is told; or the run failed, and the line of
 -- the fault is written, as far as the stream took it.
 abbrev pub Fails : Option (List ℕ) → Option (List ℕ) → Option (List ℕ) → Option (List ℕ) → Option (List ℕ) → Type 0
-Fails input old new silent told = (PrintsDifference input old new × (told ≡ silent)) ⊎ ((fault : ProgramFault) × (IsStepped input old new (Err fault) × BeginsToWrite silent (fault_line fault) told))
+Fails input old new silent reported = (PrintsDifference input old new × (reported ≡ silent)) ⊎ ((fault : ProgramFault) × (IsStepped input old new (Err fault) × BeginsToWrite silent (fault_line fault) reported))
 
 -- what ends the reading of the text
 abbrev pub IsTextFault : ProgramFault → Type 0

@@ -8,9 +8,9 @@ use Rattle.eip_line.specs.declared.commands.Task.{Task}
 use Rattle.eip_line.specs.declared.commands.Task.TheVariants as task
 
 -- the word behind the program's name is the command's
-abbrev pub Asks : List (List ℕ) → Task → Type 0
-Asks words task.Step = slice_get words 1 ≡ Some (codes "step")
-Asks words (task.Loop given) = slice_get words 1 ≡ Some (codes "loop")
+abbrev pub Requests : List (List ℕ) → Task → Type 0
+Requests words task.Step = slice_get words 1 ≡ Some (codes "step")
+Requests words (task.Loop given) = slice_get words 1 ≡ Some (codes "loop")
 
 -- all that a task has to print is printed: all outcomes of a trace, or the turns of a loop
 abbrev pub Prints : Task → Option (List ℕ) → Option (List ℕ) → Option (List ℕ) → Type 0
@@ -19,13 +19,13 @@ Prints (task.Loop given) input old new = Appends old new (turns_line given.turns
 
 -- a task ended with status 1
 abbrev pub FailsTask : Task → Option (List ℕ) → Option (List ℕ) → Option (List ℕ) → Option (List ℕ) → Option (List ℕ) → Type 0
-FailsTask task.Step input old new silent told = Fails input old new silent told
-FailsTask (task.Loop given) input old new silent told = FailsLoop given.turns old new silent told
+FailsTask task.Step input old new silent reported = Fails input old new silent reported
+FailsTask (task.Loop given) input old new silent reported = FailsLoop given.turns old new silent reported
 
 -- what the words ask for is printed
 abbrev pub IsDone : List (List ℕ) → Option (List ℕ) → Option (List ℕ) → Option (List ℕ) → Type 0
-IsDone words input old new = (asked : Task) × (Asks words asked × Prints asked input old new)
+IsDone words input old new = (requested : Task) × (Requests words requested × Prints requested input old new)
 
 -- There was no memory to read the words, which is told; or what they ask for failed.
 abbrev pub HasFailed : List (List ℕ) → Option (List ℕ) → Option (List ℕ) → Option (List ℕ) → Option (List ℕ) → Option (List ℕ) → Type 0
-HasFailed words input old new silent told = ((new ≡ old) × BeginsToWrite silent (codes "no memory\n") told) ⊎ ((asked : Task) × (Asks words asked × FailsTask asked input old new silent told))
+HasFailed words input old new silent reported = ((new ≡ old) × BeginsToWrite silent (codes "no memory\n") reported) ⊎ ((requested : Task) × (Requests words requested × FailsTask requested input old new silent reported))

@@ -1,7 +1,7 @@
 //! The command line.
 
 ghost use Rattle.std.specs.Prelude.{◌≡◌, map, true, IfOk};
-ghost use Rattle.eip_line.specs.Tasks.{Asks};
+ghost use Rattle.eip_line.specs.Tasks.{Requests};
 
 use clap::error::ErrorKind;
 use clap::{Arg, ArgAction, ArgMatches, Command, value_parser};
@@ -63,7 +63,7 @@ impl From<clap::Error> for Misuse {
 
 /// What the words ask for. The first of them is the program's own name, and the next one the command's.
 pub fn read_task<S: AsStr>(alloc: Global, words: &[S]) -> Result<Task, Misuse>
-    ensures { IfOk result (Asks (map S.text words.now)) }
+    ensures { IfOk result (Requests (map S.text words.now)) }
 {
     match parse(alloc, words) {
         Ok(task) if is_named(words, task) => Ok(task),
@@ -74,7 +74,7 @@ pub fn read_task<S: AsStr>(alloc: Global, words: &[S]) -> Result<Task, Misuse>
 
 /// Whether the command's word is that of the task.
 fn is_named<S: AsStr>(words: &[S], task: Task) -> bool
-    ensures { result ≡ true → Asks (map S.text words.now) task }
+    ensures { result ≡ true → Requests (map S.text words.now) task }
 {
     let Some(name) = words.get(1) else {
         return false;

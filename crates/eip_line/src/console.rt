@@ -134,14 +134,14 @@ where
 /// Tells a fault, as far as the stream takes it.
 fn failed<E: Write>(err: &mut E, fault: ProgramFault) -> u8
     ensures status { result ≡ 1 }
-    ensures told { BeginsToWrite (E.contents err.old) (fault_line fault) (E.contents err.new) }
+    ensures reported { BeginsToWrite (E.contents err.old) (fault_line fault) (E.contents err.new) }
 {
-    let _ = tell(err, fault);
+    let _ = write_fault(err, fault);
     FAILED
 }
 
 /// Writes the line of a fault.
-fn tell<E: Write>(err: &mut E, fault: ProgramFault) -> Result<(), NotTaken>
+fn write_fault<E: Write>(err: &mut E, fault: ProgramFault) -> Result<(), NotTaken>
     ensures { IsTaken (E.contents err.old) (fault_line fault) result (E.contents err.new) }
 {
     match fault {

@@ -57,7 +57,7 @@ where
     match print_turns(rt, task, out) {
         Ok(()) => 0,
         Err(end) => {
-            let _ = tell(err, end);
+            let _ = write_fault(err, end);
             1
         }
     }
@@ -87,7 +87,7 @@ fn flush<O: Write>(out: &mut O) -> Result<(), LoopEnd>
 }
 
 /// Writes the line of a fault.
-fn tell<E: Write>(err: &mut E, end: LoopEnd) -> Result<(), NotTaken>
+fn write_fault<E: Write>(err: &mut E, end: LoopEnd) -> Result<(), NotTaken>
     ensures { IsTaken (E.contents err.old) (end_line end) result (E.contents err.new) }
 {
     match end {

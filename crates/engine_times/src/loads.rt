@@ -42,7 +42,7 @@ const CLOSE: [u8; 24] = [
 
 /// Which connections an adapter has.
 #[derive(Clone, Copy)]
-pub enum Load {
+pub enum ConnectionLoad {
     /// Point to point ones, due in the order of their openings.
     Singles,
     /// Point to point ones, due in another order than that of their openings.
@@ -109,7 +109,7 @@ fn request(alloc: Global, place: u8, bytes: &[u8]) -> Result<Event, OutOfMemory>
 }
 
 /// What an adapter tells of a request.
-fn asked<D: Device>(device: &mut D, request: &Event) -> Result<Option<Notice>, StepFault> {
+fn notice_of<D: Device>(device: &mut D, request: &Event) -> Result<Option<Notice>, StepFault> {
     let answer = device.step(request)?;
     Ok(answer.notices.as_slice().first().copied())
 }
@@ -123,7 +123,7 @@ fn opened(notice: Option<Notice>) -> Result<ConnId, TimesFault> {
 
 /// Opens the owner's connection, and gives its O->T id.
 pub fn own<D: Device>(alloc: Global, device: &mut D) -> Result<ConnId, TimesFault> {
-    opened(asked(device, &request(alloc, 0, &OWN)?)?)
+    opened(notice_of(device, &request(alloc, 0, &OWN)?)?)
 }
 
 /// A request to open an input-only connection of the peer at this place.
@@ -148,16 +148,16 @@ pub fn last_closing(alloc: Global) -> Result<Event, OutOfMemory> {
 }
 
 /// Whether the connection at a place is multicast.
-fn is_grouped(load: Load, place: u8) -> bool {
+fn is_grouped(load: ConnectionLoad, place: u8) -> bool {
     match load {
-        Load::Singles | Load::Scattered => false,
-        Load::Groups => true,
-        Load::Halves => place % 2 == 1,
+        ConnectionLoad::Singles | ConnectionLoad::Scattered => false,
+        ConnectionLoad::Groups => true,
+        ConnectionLoad::Halves => place % 2 == 1,
     }
 }
 
 /// The size word of the connection at a place, and its input.
-fn asked_for(load: Load, place: u8) -> (u8, u8) {
+fn words_of(load: ConnectionLoad, place: u8) -> (u8, u8) {
     if is_grouped(load, place) {
         return (GROUP, INPUT + place / 2 % INPUTS);
     }
@@ -168,13 +168,13 @@ fn asked_for(load: Load, place: u8) -> (u8, u8) {
 pub fn fill<D: Device>(
     alloc: Global,
     device: &mut D,
-    load: Load,
+    load: ConnectionLoad,
     count: u8,
 ) -> Result<(), TimesFault> {
     for place in 0..count {
-        let (size, input) = asked_for(load, place);
-        let _id = opened(asked(device, &opening(alloc, place, size, input)?)?)?;
-        if matches!(load, Load::Scattered) {
+        let (size, input) = words_of(load, place);
+        let _id = opened(notice_of(device, &opening(alloc, place, size, input)?)?)?;
+        if matches!(load, ConnectionLoad::Scattered) {
             let _sent = tick(device, 9)?;
         }
     }
@@ -187,8 +187,8 @@ pub fn open_and_close<D: Device>(
     open: &Event,
     close: &Event,
 ) -> Result<(), TimesFault> {
-    let _id = opened(asked(device, open)?)?;
-    match asked(device, close)? {
+    let _id = opened(notice_of(device, open)?)?;
+    match notice_of(device, close)? {
         Some(Notice::Closed(_)) => Ok(()),
         _ => Err(TimesFault::Differs),
     }

@@ -7,10 +7,10 @@
 #![tactic(auto)]
 
 mod clock;
-mod ends;
 mod fault;
 mod loads;
 mod peer;
+mod servers;
 mod sockets;
 mod speed;
 mod times;
@@ -18,27 +18,43 @@ mod times;
 use adapter_engine::FastAdapter;
 use cip_tables::Device;
 use fault::TimesFault;
-use loads::{Load, MOST, adapter, fill};
+use loads::{ConnectionLoad, MOST, adapter, fill};
 use plain_engine::PlainAdapter;
 use std::alloc::Global;
 use std::env;
 use std::rt::CpuClock;
-use times::{Work, print_count, print_time};
+use times::{TimedWork, print_count, print_time};
 
 /// What is timed, how it is named, and how often it is done.
-const WORKS: [(&str, Work, u32); 8] = [
-    ("a datagram at 1 connection", Work::Deliveries(0), 200_000),
-    ("a datagram at 64", Work::Deliveries(63), 200_000),
-    ("an idle tick", Work::Waits, 200_000),
-    ("a sending of 64", Work::Ticks(Load::Singles), 2_000),
+const WORKS: [(&str, TimedWork, u32); 8] = [
     (
-        "a sending out of order",
-        Work::Ticks(Load::Scattered),
+        "a datagram at 1 connection",
+        TimedWork::Deliveries(0),
+        200_000,
+    ),
+    ("a datagram at 64", TimedWork::Deliveries(63), 200_000),
+    ("an idle tick", TimedWork::Waits, 200_000),
+    (
+        "a sending of 64",
+        TimedWork::Ticks(ConnectionLoad::Singles),
         2_000,
     ),
-    ("a sending to a group", Work::Ticks(Load::Groups), 2_000),
-    ("a sending of halves", Work::Ticks(Load::Halves), 2_000),
-    ("open and close", Work::Openings, 20_000),
+    (
+        "a sending out of order",
+        TimedWork::Ticks(ConnectionLoad::Scattered),
+        2_000,
+    ),
+    (
+        "a sending to a group",
+        TimedWork::Ticks(ConnectionLoad::Groups),
+        2_000,
+    ),
+    (
+        "a sending of halves",
+        TimedWork::Ticks(ConnectionLoad::Halves),
+        2_000,
+    ),
+    ("open and close", TimedWork::Openings, 20_000),
 ];
 
 fn check<D: Device + Drop>(rt: &(impl Print + CpuClock), alloc: Global) -> Result<(), TimesFault> {
@@ -63,7 +79,7 @@ fn print_times<D: Device + Drop>(
 /// A fast adapter with all its connections.
 fn hold(alloc: Global) -> Result<(), TimesFault> {
     let mut device = adapter::<FastAdapter>(alloc)?;
-    fill(alloc, &mut device, Load::Singles, MOST)
+    fill(alloc, &mut device, ConnectionLoad::Singles, MOST)
 }
 
 /// The short runs of both engines.
@@ -87,7 +103,7 @@ fn main(rt: HostRuntime) -> Result<(), TimesFault> {
     };
     match word.as_str() {
         "times" => print_both(&rt, rt.alloc()),
-        "sockets" => sockets::tell(rt),
+        "sockets" => sockets::print_rates(rt),
         "hold" => hold(rt.alloc()),
         _ => Err(TimesFault::Usage),
     }

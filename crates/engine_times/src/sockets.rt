@@ -90,7 +90,7 @@ where
 }
 
 /// Datagrams a second of processor time, the best of all rounds.
-pub fn tell<R>(rt: R) -> Result<(), TimesFault>
+pub fn print_rates<R>(rt: R) -> Result<(), TimesFault>
 where
     R: AllocGlobal + Clock + CpuClock + Net<Listener = TcpListener, Stream = TcpStream>,
     R: Copy + Drop + Print,

@@ -1,15 +1,15 @@
 //! How many datagrams a second go through an end.
 
 use crate::clock::cpu_nanos;
-use crate::ends::{Bare, Driven, End};
 use crate::fault::TimesFault;
 use crate::peer::{BATCH, Peer, listener, socket};
+use crate::servers::{Bare, BatchServer, Driven};
 use cip_tables::Device;
 use std::net::{Net, TcpListener, TcpStream};
 use std::rt::{Clock, CpuClock};
 
 /// The nanoseconds that an end needs for a datagram in and one out, over so many batches.
-fn time<E: End>(
+fn time<E: BatchServer>(
     rt: &impl CpuClock,
     peer: &mut Peer,
     end: &mut E,

@@ -3,8 +3,8 @@
 use crate::clock::cpu_nanos;
 use crate::fault::TimesFault;
 use crate::loads::{
-    Load, MOST, adapter, datagrams, fill, last_closing, last_opening, open_and_close, own,
-    send_all, tick,
+    ConnectionLoad, MOST, adapter, datagrams, fill, last_closing, last_opening, open_and_close,
+    own, send_all, tick,
 };
 use cip_tables::{Device, Event};
 use cip_types::ConnId;
@@ -19,11 +19,11 @@ const BATCH: u32 = 1_000;
 
 /// What is timed.
 #[derive(Clone, Copy)]
-pub enum Work {
+pub enum TimedWork {
     /// Datagrams of an owner that was opened after so many other connections.
     Deliveries(u8),
     /// Ticks of 10 ms with as many connections as there can be.
-    Ticks(Load),
+    Ticks(ConnectionLoad),
     /// Ticks of no time, in which nothing is due.
     Waits,
     /// The last connection is opened and closed.
@@ -35,14 +35,14 @@ pub enum Work {
 fn done<D: Device + Drop>(
     rt: &impl CpuClock,
     alloc: Global,
-    work: Work,
+    work: TimedWork,
     count: u32,
 ) -> Result<(u64, u64), TimesFault> {
     match work {
-        Work::Deliveries(others) => deliveries::<D>(rt, alloc, others, count),
-        Work::Ticks(load) => ticks::<D>(rt, alloc, load, 10, count),
-        Work::Waits => waits::<D>(rt, alloc, count),
-        Work::Openings => openings::<D>(rt, alloc, count),
+        TimedWork::Deliveries(others) => deliveries::<D>(rt, alloc, others, count),
+        TimedWork::Ticks(load) => ticks::<D>(rt, alloc, load, 10, count),
+        TimedWork::Waits => waits::<D>(rt, alloc, count),
+        TimedWork::Openings => openings::<D>(rt, alloc, count),
     }
 }
 
@@ -81,7 +81,7 @@ fn deliveries<D: Device + Drop>(
     count: u32,
 ) -> Result<(u64, u64), TimesFault> {
     let mut device = adapter::<D>(alloc)?;
-    fill(alloc, &mut device, Load::Singles, others)?;
+    fill(alloc, &mut device, ConnectionLoad::Singles, others)?;
     let owner = own(alloc, &mut device)?;
     let size = count.min(BATCH);
     let number = count.checked_div(size).unwrap_or(0);
@@ -101,7 +101,7 @@ fn tick_all<D: Device>(device: &mut D, ms: u32, count: u32) -> Result<u64, Times
 fn ticks<D: Device + Drop>(
     rt: &impl CpuClock,
     alloc: Global,
-    load: Load,
+    load: ConnectionLoad,
     ms: u32,
     count: u32,
 ) -> Result<(u64, u64), TimesFault> {
@@ -118,7 +118,7 @@ fn waits<D: Device + Drop>(
     alloc: Global,
     count: u32,
 ) -> Result<(u64, u64), TimesFault> {
-    let (nanos, _sent) = ticks::<D>(rt, alloc, Load::Singles, 0, count)?;
+    let (nanos, _sent) = ticks::<D>(rt, alloc, ConnectionLoad::Singles, 0, count)?;
     Ok((nanos, u64::from(count)))
 }
 
@@ -154,7 +154,12 @@ fn openings<D: Device + Drop>(
     count: u32,
 ) -> Result<(u64, u64), TimesFault> {
     let mut device = adapter::<D>(alloc)?;
-    fill(alloc, &mut device, Load::Singles, MOST.wrapping_sub(1))?;
+    fill(
+        alloc,
+        &mut device,
+        ConnectionLoad::Singles,
+        MOST.wrapping_sub(1),
+    )?;
     let (open, close) = (last_opening(alloc)?, last_closing(alloc)?);
     let nanos = reopened(rt, &mut device, &open, &close, count)?;
     Ok((nanos, u64::from(count)))
@@ -165,7 +170,7 @@ pub fn print_count<D: Device + Drop>(
     rt: &(impl Print + CpuClock),
     alloc: Global,
     name: &str,
-    work: Work,
+    work: TimedWork,
 ) -> Result<(), TimesFault> {
     let (_nanos, made) = done::<D>(rt, alloc, work, 10)?;
     println!(rt; "{name}: {made}")?;
@@ -177,7 +182,7 @@ pub fn print_time<D: Device + Drop>(
     rt: &(impl Print + CpuClock),
     alloc: Global,
     name: &str,
-    work: Work,
+    work: TimedWork,
     count: u32,
 ) -> Result<(), TimesFault> {
     let (mut best, mut each) = (u64::MAX, 0);

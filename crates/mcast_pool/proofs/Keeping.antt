@@ -3,12 +3,12 @@ use Rattle.std.proofs.Common.{◌≡◌, ◌<◌, ◌≤◌, ℕ, ◌+◌, ◌-�
 use Rattle.std.specs.List.{list_any}
 use Rattle.std.proofs.lemmas.Bool.Decides.{nat_tests}
 use Rattle.std.proofs.lemmas.List.{length-map}
-use Rattle.cip_types.specs.Places.{written_back}
+use Rattle.cip_types.specs.Indices.{written_back}
 use Rattle.cip_types.specs.declared.names.Ms.{Ms}
 use Rattle.cip_netparams.specs.declared.Trigger.{Trigger}
 use Rattle.cip_netparams.specs.declared.Trigger.TheVariants.{Cyclic, ChangeOfState}
 use Rattle.cip_productions.specs.declared.production.Production.{Production}
-use Rattle.cip_productions.specs.Productions.{produced, changed, changed_by, held, is_free, is_on_change}
+use Rattle.cip_productions.specs.Productions.{produced, changed, changed_by, deferred, is_free, is_on_change}
 use Rattle.mcast_pool.specs.declared.group.Group.{Group}
 use Rattle.mcast_pool.specs.Groups.{number_of, has_number, serves, is_like, is_due, change_first, left, rest_of, one_more, one_less, subscribers, numbered, with_production, written, waits, touched, touched_production, produced_group, produced_if_due, written_and_changed, AreGroups, FitsGroup, MayProduce, IsPool}
 use Rattle.mcast_pool.proofs.Limits.{fits_produced, fits_if_due, fits_touched, fits_changed}
@@ -110,7 +110,7 @@ keeps_if_due clock = record {
 touched_number : (clock : Ms) (group : Group) → (touched_production clock group.producer.production).producer ≡ number_of group
 touched_number clock group = split (waits clock group.producer.production)
   where
-    split : (b : Bool) → (cond b (held (written group.producer.production)) (written group.producer.production)).producer ≡ number_of group
+    split : (b : Bool) → (cond b (deferred (written group.producer.production)) (written group.producer.production)).producer ≡ number_of group
     split true = refl
     split false = refl
 
@@ -125,7 +125,7 @@ changed_number : (trigger : Trigger) (clock : Ms) (api : ℕ) (production : Prod
 changed_number Cyclic clock api production = refl
 changed_number ChangeOfState clock api production = split (is_free clock production)
   where
-    split : (b : Bool) → (cond b (produced clock api production) (held production)).producer ≡ production.producer
+    split : (b : Bool) → (cond b (produced clock api production) (deferred production)).producer ≡ production.producer
     split true = refl
     split false = refl
 
@@ -144,7 +144,7 @@ pool_if_due clock groups capacity time pool =
     record {
       each = each_map (produced_if_due clock) (keeps_if_due clock) same (λ group fits. fits_if_due clock group time fits) groups pool.each;
       few = subst (λ (n : ℕ). n ≤ 64) (sym (sum_map (produced_if_due clock) same groups)) pool.few;
-      room = pool.room;
+      space = pool.space;
     }
 
 pub pool_touched : (clock : Ms) (point : ℕ) (groups : List Group) (capacity : ℕ) → IsPool groups capacity → IsPool (map (touched clock point) groups) capacity
@@ -153,7 +153,7 @@ pool_touched clock point groups capacity pool =
     record {
       each = each_map (touched clock point) (keeps_touched clock point) same (fits_touched clock point) groups pool.each;
       few = subst (λ (n : ℕ). n ≤ 64) (sym (sum_map (touched clock point) same groups)) pool.few;
-      room = pool.room;
+      space = pool.space;
     }
 
 pub pool_changed : (clock : Ms) (point : ℕ) (groups : List Group) (capacity : ℕ) → clock.0 ≤ 2 ^ 48 → IsPool groups capacity → IsPool (map (written_and_changed clock point) groups) capacity
@@ -162,7 +162,7 @@ pool_changed clock point groups capacity time pool =
     record {
       each = each_map (written_and_changed clock point) (keeps_changed clock point) same (λ group fits. fits_changed clock point group time fits) groups pool.each;
       few = subst (λ (n : ℕ). n ≤ 64) (sym (sum_map (written_and_changed clock point) same groups)) pool.few;
-      room = pool.room;
+      space = pool.space;
     }
 
 may_of : (clock : Ms) (found : Option Group) (group : Group) → found ≡ Some group → MayProduce clock found → is_due clock group || is_on_change group.producer.production.trigger ≡ true
@@ -176,7 +176,7 @@ pool_produced clock number groups capacity time may pool =
     record {
       each = each_change (has_number number) (produced_group clock) (keeps_produced clock) (λ group. omega arith) groups (λ group found fits. fits_produced clock group time (may_of clock (numbered number groups) group found may) fits) pool.each;
       few = omega arith;
-      room = pool.room;
+      space = pool.space;
     }
 
 fits_more : (group : Group) → FitsGroup group → FitsGroup (one_more group)
@@ -188,7 +188,7 @@ pool_joined point groups capacity few pool =
     record {
       each = each_change (serves point) one_more keeps_more (λ group. omega arith) groups (λ group found fits. fits_more group fits) pool.each;
       few = omega arith;
-      room = pool.room;
+      space = pool.space;
     }
 
 -- A PRODUCER THAT ENDS
@@ -243,7 +243,7 @@ pub pool_left : (number : ℕ) (groups : List Group) (capacity : ℕ) → IsPool
 pool_left number groups capacity pool =
     let sum = sum_left number groups in
     let few = pool.few in
-    record { each = each_left number groups pool.each; few = omega arith; room = pool.room }
+    record { each = each_left number groups pool.each; few = omega arith; space = pool.space }
 
 -- A PRODUCER THAT BEGINS
 
@@ -290,7 +290,7 @@ sum_more (group ∷ groups) new = let rest = sum_more groups new in omega arith
 pub pool_more : (new : Group) (groups : List Group) (capacity : ℕ) → FitsGroup new → new.subscribers ≡ 1 → numbered (number_of new) groups ≡ None → (new.shared ≡ true → find (serves new.producer.point) groups ≡ None) → subscribers groups < 64 → IsPool groups capacity → IsPool (groups ++ new ∷ []) capacity
 pool_more new groups capacity fits one unused apart few pool =
     let sum = sum_more groups new in
-    record { each = each_more new groups fits (omega arith) unused apart pool.each; few = omega arith; room = pool.room }
+    record { each = each_more new groups fits (omega arith) unused apart pool.each; few = omega arith; space = pool.space }
 
 -- there are no more producers than connections
 pub no_more_groups : (groups : List Group) → AreGroups groups → length groups ≤ subscribers groups

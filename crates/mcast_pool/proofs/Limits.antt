@@ -5,7 +5,7 @@ use Rattle.cip_types.specs.declared.names.Ms.{Ms}
 use Rattle.cip_netparams.specs.declared.Trigger.{Trigger}
 use Rattle.cip_netparams.specs.declared.Trigger.TheVariants.{Cyclic, ChangeOfState}
 use Rattle.cip_productions.specs.declared.production.Production.{Production}
-use Rattle.cip_productions.specs.Productions.{due_again, produced, held, sooner_due, changed_by, changed, is_free, is_on_change}
+use Rattle.cip_productions.specs.Productions.{due_again, produced, deferred, sooner_due, changed_by, changed, is_free, is_on_change}
 use Rattle.mcast_pool.specs.declared.group.Group.{Group}
 use Rattle.mcast_pool.specs.Groups.{FitsGroup, with_production, written, waits, touched_production, touched, produced_group, produced_if_due, written_and_changed, is_due}
 
@@ -24,9 +24,9 @@ soon Cyclic clock due api time short may = split (nat_lt clock (due + api)) (le 
     split false le = omega arith
 soon ChangeOfState clock due api time short may = omega arith
 
-held_soon : (last : Option Ms) (inhibit : ℕ) (due : Ms) → Soon due.0 → Soon (sooner_due last inhibit due).0
-held_soon None inhibit due is = is
-held_soon (Some last) inhibit due is = omega arith
+deferred_soon : (last : Option Ms) (inhibit : ℕ) (due : Ms) → Soon due.0 → Soon (sooner_due last inhibit due).0
+deferred_soon None inhibit due is = is
+deferred_soon (Some last) inhibit due is = omega arith
 
 fits_with : (group : Group) (production : Production) → Soon production.due.0 → FitsGroup group → FitsGroup (with_production group production)
 fits_with group production due fits = record { api = fits.api; due = due }
@@ -49,8 +49,8 @@ fits_if_due clock group time fits = split (is_due clock group) refl
 touched_soon : (clock : Ms) (production : Production) → Soon production.due.0 → Soon (touched_production clock production).due.0
 touched_soon clock production is = split (waits clock production)
   where
-    split : (b : Bool) → Soon (cond b (held (written production)) (written production)).due.0
-    split true = held_soon production.last production.inhibit production.due is
+    split : (b : Bool) → Soon (cond b (deferred (written production)) (written production)).due.0
+    split true = deferred_soon production.last production.inhibit production.due is
     split false = is
 
 pub fits_touched : (clock : Ms) (point : ℕ) (group : Group) → FitsGroup group → FitsGroup (touched clock point group)
@@ -62,13 +62,13 @@ changed_soon : (trigger : Trigger) (clock : Ms) (api : ℕ) (production : Produc
 changed_soon Cyclic clock api production same time short is = is
 changed_soon ChangeOfState clock api production same time short is = split (is_free clock production)
   where
-    split : (b : Bool) → Soon (cond b (produced clock api production) (held production)).due.0
+    split : (b : Bool) → Soon (cond b (produced clock api production) (deferred production)).due.0
     split true = soon production.trigger clock.0 production.due.0 api time short (rw (← same) (any (nat_le production.due.0 clock.0)))
       where
         any : (b : Bool) → b || true ≡ true
         any true = refl
         any false = refl
-    split false = held_soon production.last production.inhibit production.due is
+    split false = deferred_soon production.last production.inhibit production.due is
 
 pub fits_changed : (clock : Ms) (point : ℕ) (group : Group) → clock.0 ≤ 2 ^ 48 → FitsGroup group → FitsGroup (written_and_changed clock point group)
 fits_changed clock point group time fits =

@@ -5,9 +5,9 @@ use Rattle.std.specs.Option.{IsSome}
 use Rattle.std.proofs.lemmas.Bool.Decides.{nat_tests, Decides-eqb}
 use Rattle.std.proofs.lemmas.List.{get_or-set_same}
 use Rattle.std.proofs.lemmas.List.Quantifiers.{position-Some}
-use Rattle.cip_types.specs.Places.{Mapped, mapped_at, find_none}
+use Rattle.cip_types.specs.Indices.{Mapped, mapped_at, find_none}
 use Rattle.mcast_pool.specs.declared.group.Group.{Group}
-use Rattle.mcast_pool.specs.Groups.{has_number, number_of, numbered, is_like, serves, place_for, joined_group, change_first, left, one_less, subscribers, AreGroups, FitsGroup}
+use Rattle.mcast_pool.specs.Groups.{has_number, number_of, numbered, is_like, serves, index_for, joined_group, change_first, left, one_less, subscribers, AreGroups, FitsGroup}
 
 -- the first that passes stands at this place
 pub record IsFirst (test : Group → Bool) (groups : List Group) (at : ℕ) (d : Group) : Type 0 where
@@ -36,12 +36,12 @@ found_there test (group ∷ groups) (suc at) d is =
     rw no (found_there test groups at d (later test group groups at d is))
 
 -- one that serves a single connection is gone
-pub gone_there : (number : ℕ) (groups : List Group) (at : ℕ) (d : Group) → IsFirst (has_number number) groups at d → (get_or groups at d).subscribers == 1 ≡ true → remove groups at ≡ left number groups
-gone_there number [] at d is one = let lt = is.within in absurd (omega arith)
-gone_there number (group ∷ groups) zero d is one = rw (is.passes, one) refl
-gone_there number (group ∷ groups) (suc at) d is one =
+pub removed_there : (number : ℕ) (groups : List Group) (at : ℕ) (d : Group) → IsFirst (has_number number) groups at d → (get_or groups at d).subscribers == 1 ≡ true → remove groups at ≡ left number groups
+removed_there number [] at d is one = let lt = is.within in absurd (omega arith)
+removed_there number (group ∷ groups) zero d is one = rw (is.passes, one) refl
+removed_there number (group ∷ groups) (suc at) d is one =
     let no : has_number number group ≡ false = is.fails 0 (omega arith) in
-    rw no (ap (λ l. group ∷ l) (gone_there number groups at d (later (has_number number) group groups at d is) one))
+    rw no (ap (λ l. group ∷ l) (removed_there number groups at d (later (has_number number) group groups at d is) one))
 
 -- another one stays
 pub less_there : (number : ℕ) (groups : List Group) (at : ℕ) (d : Group) → IsFirst (has_number number) groups at d → (get_or groups at d).subscribers == 1 ≡ false → set groups at (one_less (get_or groups at d)) ≡ left number groups
@@ -64,15 +64,15 @@ pub is_placed : (test : Group → Bool) (groups : List Group) (found : Option �
 is_placed test groups None is some = let none = no_place test groups (sym is) in absurd cc
 is_placed test groups (Some at) is some = search rules
 
-pub not_joined : (shared : Bool) (point : ℕ) (groups : List Group) → place_for shared point groups ≡ None → joined_group shared point groups ≡ None
+pub not_joined : (shared : Bool) (point : ℕ) (groups : List Group) → index_for shared point groups ≡ None → joined_group shared point groups ≡ None
 not_joined false point groups is = refl
 not_joined true point groups is = no_place (serves point) groups is
 
-pub joined_at : (shared : Bool) (point : ℕ) (groups : List Group) (at : ℕ) → place_for shared point groups ≡ Some at → position (serves point) groups ≡ Some at
+pub joined_at : (shared : Bool) (point : ℕ) (groups : List Group) (at : ℕ) → index_for shared point groups ≡ Some at → position (serves point) groups ≡ Some at
 joined_at false point groups at is = absurd cc
 joined_at true point groups at is = is
 
-pub joined_found : (shared : Bool) (point : ℕ) (groups : List Group) (at : ℕ) (d : Group) → place_for shared point groups ≡ Some at → joined_group shared point groups ≡ Some (get_or groups at d)
+pub joined_found : (shared : Bool) (point : ℕ) (groups : List Group) (at : ℕ) (d : Group) → index_for shared point groups ≡ Some at → joined_group shared point groups ≡ Some (get_or groups at d)
 joined_found false point groups at d is = absurd cc
 joined_found true point groups at d is = found_there (serves point) groups at d (first_at (serves point) groups at d is)
 
@@ -136,8 +136,8 @@ numbered_there number (group ∷ groups) (suc i) d each lt has = split (has_numb
         absurd (true≢false (sym has ∙ ap (λ n. has_number n (get_or groups i d)) (sym (same_number number group is)) ∙ other))
     split false is there = rw is there
 
-pub near : (number : ℕ) (groups : List Group) (i : ℕ) (d : Group) (result : Bool) → AreGroups groups → i < length groups → result ≡ has_number number (get_or groups i d) → result ≡ true → Some (get_or groups i d) ≡ numbered number groups
-near number groups i d result each lt is has = sym (numbered_there number groups i d each lt (sym is ∙ has))
+pub with_hint : (number : ℕ) (groups : List Group) (i : ℕ) (d : Group) (result : Bool) → AreGroups groups → i < length groups → result ≡ has_number number (get_or groups i d) → result ≡ true → Some (get_or groups i d) ≡ numbered number groups
+with_hint number groups i d result each lt is has = sym (numbered_there number groups i d each lt (sym is ∙ has))
 
 placed_there : (number : ℕ) (groups : List Group) (i : ℕ) (d : Group) → AreGroups groups → i < length groups → has_number number (get_or groups i d) ≡ true → position_or_len (has_number number) groups ≡ i
 placed_there number [] i d each lt has = absurd (omega arith)
@@ -156,5 +156,5 @@ position_is test groups i is lt =
     let within : nat_lt (position_or_len test groups) (length groups) ≡ true = grind (arith, nat_tests) in
     rw within (ap (λ (n : ℕ). Some n) is)
 
-pub near_place : (number : ℕ) (groups : List Group) (i : ℕ) (d : Group) (result : Bool) → AreGroups groups → i < length groups → result ≡ has_number number (get_or groups i d) → result ≡ true → Some i ≡ position (has_number number) groups
-near_place number groups i d result each lt is has = sym (position_is (has_number number) groups i (placed_there number groups i d each lt (sym is ∙ has)) lt)
+pub index_by_hint : (number : ℕ) (groups : List Group) (i : ℕ) (d : Group) (result : Bool) → AreGroups groups → i < length groups → result ≡ has_number number (get_or groups i d) → result ≡ true → Some i ≡ position (has_number number) groups
+index_by_hint number groups i d result each lt is has = sym (position_is (has_number number) groups i (placed_there number groups i d each lt (sym is ∙ has)) lt)

@@ -6,7 +6,7 @@ use Rattle.std.specs.List.{list_any, position}
 use Rattle.cip_types.specs.declared.names.Ms.{Ms}
 use Rattle.cip_productions.specs.declared.production.Production.{Production}
 use Rattle.cip_productions.specs.declared.production.Producer.{Producer}
-use Rattle.cip_productions.specs.Productions.{produced, is_production_due, is_on_change, is_free, held, changed, is_produced_on_change}
+use Rattle.cip_productions.specs.Productions.{produced, is_production_due, is_on_change, is_free, deferred, changed, is_produced_on_change}
 use Rattle.mcast_pool.specs.declared.group.Group.{Group}
 use Rattle.mcast_pool.specs.declared.pool.Joined.{Joined}
 
@@ -57,7 +57,7 @@ waits clock production = is_on_change production.trigger && not (is_free clock p
 
 -- it has new data; where it may not produce at the change yet, it is due when it may
 abbrev pub touched_production : Ms → Production → Production
-touched_production clock production = if waits clock production then held (written production) else written production
+touched_production clock production = if waits clock production then deferred (written production) else written production
 
 -- the same, where the point is its own
 abbrev pub touched : Ms → ℕ → Group → Group
@@ -106,9 +106,9 @@ joined_group false point groups = None
 joined_group true point groups = find (serves point) groups
 
 -- where that group stands
-abbrev pub place_for : Bool → ℕ → List Group → Option ℕ
-place_for false point groups = None
-place_for true point groups = position (serves point) groups
+abbrev pub index_for : Bool → ℕ → List Group → Option ℕ
+index_for false point groups = None
+index_for true point groups = position (serves point) groups
 
 -- a change of the first that passes a test
 abbrev pub change_first : (Group → Bool) → (Group → Group) → List Group → List Group
@@ -180,4 +180,4 @@ AreGroups (group ∷ groups) = FitsGroup group × (1 ≤ group.subscribers) × (
 pub record IsPool (groups : List Group) (capacity : ℕ) : Type 0 where
   pub each : AreGroups groups
   pub few : subscribers groups ≤ 64
-  pub room : 64 ≤ capacity
+  pub space : 64 ≤ capacity

@@ -6,7 +6,7 @@ ghost use Rattle.mcast_pool.specs.Groups.{has_number, serves, is_last, begun, on
 
 use cip_netparams::Trigger;
 use cip_productions::{
-    Producer, Production, changed, held, is_free, is_produced_on_change, is_production_due,
+    Producer, Production, changed, deferred, is_free, is_produced_on_change, is_production_due,
     produced,
 };
 use cip_types::Ms;
@@ -75,7 +75,7 @@ fn touched_production(production: Production, clock: Ms) -> Production
         ..production
     };
     match production.trigger {
-        Trigger::ChangeOfState if !is_free(&production, clock) => held(written),
+        Trigger::ChangeOfState if !is_free(&production, clock) => deferred(written),
         _ => written,
     }
 }

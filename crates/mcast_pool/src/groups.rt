@@ -3,7 +3,7 @@
 ghost use Rattle.std.specs.Prelude.{◌≡◌, ◌+◌, ◌≤◌, ◌<◌, ◌^◌, Some, filter, find, length, map, vec_capacity};
 ghost use Rattle.std.specs.List.{position};
 ghost use Rattle.std.specs.Option.{option_map};
-ghost use Rattle.mcast_pool.specs.Groups.{has_number, serves, producer_of, one_more, change_first, left, is_last, is_at_once, is_new_at_once, lower, lowest, first_due, touched, produced_group, produced_if_due, written_and_changed, numbered, place_for, subscribers, AreGroups};
+ghost use Rattle.mcast_pool.specs.Groups.{has_number, serves, producer_of, one_more, change_first, left, is_last, is_at_once, is_new_at_once, lower, lowest, first_due, touched, produced_group, produced_if_due, written_and_changed, numbered, index_for, subscribers, AreGroups};
 
 use crate::group::{
     Group, has_number, is_at_once, is_last, is_new_at_once, produced_group, produced_if_due,
@@ -12,24 +12,24 @@ use crate::group::{
 use cip_productions::Producer;
 use cip_types::Ms;
 
-pub(crate) fn place_of(groups: &[Group], number: u32) -> Option<usize>
+pub(crate) fn index_of(groups: &[Group], number: u32) -> Option<usize>
     ensures { result ≡ position (has_number number) groups.now }
 {
     groups.iter().position(|group| has_number(group, number))
 }
 
-fn place_serving(groups: &[Group], point: u32) -> Option<usize>
+fn index_serving(groups: &[Group], point: u32) -> Option<usize>
     ensures { result ≡ position (serves point) groups.now }
 {
     groups.iter().position(|group| serves(group, point))
 }
 
 /// Where the group is that a connection of the point joins, where it shares its producer.
-pub(crate) fn place_for(groups: &[Group], shared: bool, point: u32) -> Option<usize>
-    ensures { result ≡ place_for shared point groups.now }
+pub(crate) fn index_for(groups: &[Group], shared: bool, point: u32) -> Option<usize>
+    ensures { result ≡ index_for shared point groups.now }
 {
     if shared {
-        place_serving(groups, point)
+        index_serving(groups, point)
     } else {
         None
     }
@@ -46,7 +46,7 @@ pub(crate) fn find_group(groups: &[Group], number: u32) -> Option<Group>
 
 /// The group of a producer's number, which is first looked for at a place.
 #[inline(always)]
-pub(crate) fn find_near(groups: &[Group], number: u32, place: usize) -> Option<Group>
+pub(crate) fn find_with_hint(groups: &[Group], number: u32, place: usize) -> Option<Group>
     requires { AreGroups groups.now }
     ensures { result ≡ numbered number groups.now }
 {
@@ -57,20 +57,20 @@ pub(crate) fn find_near(groups: &[Group], number: u32, place: usize) -> Option<G
 }
 
 /// Where the group of a producer's number stands, which is first looked for at a place.
-pub(crate) fn place_near(groups: &[Group], number: u32, place: usize) -> Option<usize>
+pub(crate) fn index_with_hint(groups: &[Group], number: u32, place: usize) -> Option<usize>
     requires { AreGroups groups.now }
     ensures { result ≡ position (has_number number) groups.now }
 {
     if place >= groups.len() || !has_number(&groups[place], number) {
-        return place_of(groups, number);
+        return index_of(groups, number);
     }
     Some(place)
 }
 
 /// Where to look first for the producer after this one: behind it, where it stands at the place.
 #[inline(always)]
-pub(crate) fn place_after(groups: &[Group], number: u32, place: usize) -> usize
-    ensures near { result ≤ place + 1 }
+pub(crate) fn hint_after(groups: &[Group], number: u32, place: usize) -> usize
+    ensures bounded { result ≤ place + 1 }
 {
     match groups.get(place) {
         Some(group) if has_number(group, number) => place.saturating_add(1),

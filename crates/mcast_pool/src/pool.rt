@@ -8,8 +8,9 @@ ghost use Rattle.mcast_pool.specs.Groups.{has_number, begun, production_of, prod
 
 use crate::group::{Group, begun};
 use crate::groups::{
-    count_at_once, find_group, find_near, first_due, lowest_at_once, place_after, place_for,
-    place_near, place_of, produce_all, produce_at, subscribe, touch_all, unsubscribe, write_all,
+    count_at_once, find_group, find_with_hint, first_due, hint_after, index_for, index_of,
+    index_with_hint, lowest_at_once, produce_all, produce_at, subscribe, touch_all, unsubscribe,
+    write_all,
 };
 use cip_datagram::{Datagram, write_datagram};
 use cip_productions::{Producer, Production, next_count};
@@ -54,7 +55,7 @@ pub struct Joined {
 }
 
 /// What who joins this producer is told.
-fn told(producer: &Producer, fresh: bool) -> Joined
+fn join_result(producer: &Producer, fresh: bool) -> Joined
     ensures { result ≡ record { id = producer.now.id; number = producer.now.production.producer; fresh = fresh } }
 {
     Joined {
@@ -67,7 +68,7 @@ fn told(producer: &Producer, fresh: bool) -> Joined
 /// Appends the next datagram of a producer, whose data these are. Takes no memory.
 fn append_datagram(producer: &Producer, input: &[u8], out: &mut Vec<u8>)
     requires short { length input.now ≤ 65533 }
-    requires room { vec_len out.old + (20 + length input.now) ≤ vec_capacity out.old }
+    requires space { vec_len out.old + (20 + length input.now) ≤ vec_capacity out.old }
     ensures { out.new.items ≡ out.old.items ++ datagram_text (production_datagram producer.now.id producer.now.production input.now) }
 {
     let datagram = Datagram {
@@ -124,14 +125,14 @@ impl Pool {
         ensures joined { result ≡ joined_by producer (joined_group shared producer.point self.old) }
         ensures groups { self.new ≡ joined (begun producer shared api) self.old }
     {
-        match place_for(&self.groups, shared, producer.point) {
+        match index_for(&self.groups, shared, producer.point) {
             Some(at) => {
                 let serving = subscribe(&mut self.groups, at, producer.point);
-                told(&serving, false)
+                join_result(&serving, false)
             }
             None => {
                 self.groups.push_reserved(begun(producer, shared, api));
-                told(&producer, true)
+                join_result(&producer, true)
             }
         }
     }
@@ -143,16 +144,16 @@ impl Pool {
         ensures last { Some result ≡ option_map is_last (numbered number self.old) }
         ensures groups { self.new ≡ left number self.old }
     {
-        self.leave_near(number, 0)
+        self.leave_with_hint(number, 0)
     }
 
     /// The same for a producer that is first looked for at a place. Takes no memory.
-    pub fn leave_near(&mut self, number: u32, place: usize) -> bool
+    pub fn leave_with_hint(&mut self, number: u32, place: usize) -> bool
         requires { IsInUse number self.old }
         ensures last { Some result ≡ option_map is_last (numbered number self.old) }
         ensures groups { self.new ≡ left number self.old }
     {
-        let at = place_near(&self.groups, number, place).unwrap();
+        let at = index_with_hint(&self.groups, number, place).unwrap();
         unsubscribe(&mut self.groups, number, at)
     }
 
@@ -193,11 +194,11 @@ impl Pool {
         requires time { clock.0 ≤ 2 ^ 48 }
         requires may { MayProduce clock (numbered number self.old) }
         requires short { length input.now ≤ 65533 }
-        requires room { vec_len out.old + (20 + length input.now) ≤ vec_capacity out.old }
+        requires space { vec_len out.old + (20 + length input.now) ≤ vec_capacity out.old }
         ensures datagram { Some out.new.items ≡ option_map (λ group. out.old.items ++ datagram_text (production_datagram group.producer.id group.producer.production input.now)) (numbered number self.old) }
         ensures groups { self.new ≡ change_first (has_number number) (produced_group clock) self.old }
     {
-        let at = place_of(&self.groups, number).unwrap();
+        let at = index_of(&self.groups, number).unwrap();
         append_datagram(&self.groups[at].producer, input, out);
         produce_at(&mut self.groups, number, at, clock);
     }
@@ -244,11 +245,11 @@ impl Pool {
 
     /// The production of a producer, which is first looked for at a place. Takes no memory.
     #[inline(always)]
-    pub fn production_near(&self, number: u32, place: usize) -> Production
+    pub fn production_with_hint(&self, number: u32, place: usize) -> Production
         requires { IsInUse number self.now }
         ensures { Some result ≡ option_map production_of (numbered number self.now) }
     {
-        find_near(&self.groups, number, place)
+        find_with_hint(&self.groups, number, place)
             .unwrap()
             .producer
             .production
@@ -256,19 +257,21 @@ impl Pool {
 
     /// The producer of a number, which is first looked for at a place. Takes no memory.
     #[inline(always)]
-    pub fn producer_near(&self, number: u32, place: usize) -> Producer
+    pub fn producer_with_hint(&self, number: u32, place: usize) -> Producer
         requires { IsInUse number self.now }
         ensures { Some result ≡ option_map producer_of (numbered number self.now) }
     {
-        find_near(&self.groups, number, place).unwrap().producer
+        find_with_hint(&self.groups, number, place)
+            .unwrap()
+            .producer
     }
 
     /// Where to look first for the producer after this one. Takes no memory.
     #[inline(always)]
-    pub fn place_after(&self, number: u32, place: usize) -> usize
+    pub fn hint_after(&self, number: u32, place: usize) -> usize
         ensures { result ≤ place + 1 }
     {
-        place_after(&self.groups, number, place)
+        hint_after(&self.groups, number, place)
     }
 
     /// The production of a producer. Takes no memory.

@@ -4,7 +4,7 @@ use Rattle.std.specs.List.{position, position_or_len, remove}
 use Rattle.std.specs.Option.{IsSome}
 use Rattle.std.proofs.lemmas.Bool.Decides.{nat_tests, Decides-eqb}
 use Rattle.std.proofs.lemmas.List.Quantifiers.{position-Some}
-use Rattle.cip_types.specs.Places.{find_none}
+use Rattle.cip_types.specs.Indices.{find_none}
 use Rattle.owner_counts.specs.declared.counts.Count.{Count}
 use Rattle.owner_counts.specs.Counts.{is_at, number_in, number_at, total, one_more, less, one_less, AreCounts}
 
@@ -42,12 +42,12 @@ more_last point (count ∷ counts) none = split (is_at point count) refl none (m
     split true is none rest = let some : find (is_at point) (count ∷ counts) ≡ Some count = ap (λ b. cond b (Some count) (find (is_at point) counts)) is in absurd cc
     split false is none rest = rw is (ap (λ (l : List Count). count ∷ l) (rest (sym (ap (λ b. cond b (Some count) (find (is_at point) counts)) is) ∙ none)))
 
-pub gone_there : (point : ℕ) (counts : List Count) (at : ℕ) (d : Count) → IsFirst point counts at d → (get_or counts at d).number == 1 ≡ true → remove counts at ≡ one_less point counts
-gone_there point [] at d is one = let lt = is.within in absurd (omega arith)
-gone_there point (count ∷ counts) zero d is one = rw (is.passes, one) refl
-gone_there point (count ∷ counts) (suc at) d is one =
+pub removed_there : (point : ℕ) (counts : List Count) (at : ℕ) (d : Count) → IsFirst point counts at d → (get_or counts at d).number == 1 ≡ true → remove counts at ≡ one_less point counts
+removed_there point [] at d is one = let lt = is.within in absurd (omega arith)
+removed_there point (count ∷ counts) zero d is one = rw (is.passes, one) refl
+removed_there point (count ∷ counts) (suc at) d is one =
     let no : is_at point count ≡ false = is.fails 0 (omega arith) in
-    rw no (ap (λ l. count ∷ l) (gone_there point counts at d (later point count counts at d is) one))
+    rw no (ap (λ l. count ∷ l) (removed_there point counts at d (later point count counts at d is) one))
 
 pub less_there : (point : ℕ) (counts : List Count) (at : ℕ) (d : Count) → IsFirst point counts at d → (get_or counts at d).number == 1 ≡ false → set counts at (fewer (get_or counts at d)) ≡ one_less point counts
 less_there point [] at d is not_one = let lt = is.within in absurd (omega arith)
@@ -129,9 +129,9 @@ pub number_less : (point other : ℕ) (counts : List Count) → AreCounts counts
 number_less point other [] each some = absurd (omega arith)
 number_less point other (count ∷ counts) each some = split (is_at point count) (is_at other count) refl refl some (λ also. number_less point other counts each.2 also)
   where
-    gone : (e : Bool) → count.number == 1 ≡ e → is_at other count ≡ true → number_at other counts ≡ 0 → number_at other (cond e counts (fewer count ∷ counts)) + 1 ≡ count.number
-    gone true one there none = let is = same_of count.number 1 one in rw none (omega arith)
-    gone false one there none = let positive = each.0 in rw there (omega arith)
+    removed : (e : Bool) → count.number == 1 ≡ e → is_at other count ≡ true → number_at other counts ≡ 0 → number_at other (cond e counts (fewer count ∷ counts)) + 1 ≡ count.number
+    removed true one there none = let is = same_of count.number 1 one in rw none (omega arith)
+    removed false one there none = let positive = each.0 in rw there (omega arith)
 
     kept : (e : Bool) → is_at other count ≡ false → number_at other (cond e counts (fewer count ∷ counts)) ≡ number_at other counts
     kept true there = refl
@@ -142,7 +142,7 @@ number_less point other (count ∷ counts) each some = split (is_at point count)
     split true true here there some rest =
         let same : point == other ≡ true = ap (λ n. n == other) (sym (same_of count.point point here)) ∙ there in
         let none : number_at other counts ≡ 0 = subst (λ (n : ℕ). number_at n counts ≡ 0) (same_of count.point other there) each.1 in
-        rw same (gone (count.number == 1) refl there none)
+        rw same (removed (count.number == 1) refl there none)
     split true false here there some rest =
         let apart : point == other ≡ false = ap (λ n. n == other) (sym (same_of count.point point here)) ∙ there in
         let same = kept (count.number == 1) there in

@@ -78,10 +78,10 @@ pub record HasJoined (row : Row) (counts : Counts) : Type 0 where
   pub supporter : is_supporter row ≡ true → 1 ≤ number_at row.produced counts.supporters
 
 -- what belongs together in `Rules`
-pub record AreRules (owned : List Count) (owned_room : ℕ) (supported : List Count) (supported_room : ℕ) : Type 0 where
+pub record AreRules (owned : List Count) (owned_space : ℕ) (supported : List Count) (supported_space : ℕ) : Type 0 where
   pub owners : AreCounts owned
   pub supporters : AreCounts supported
   pub few_owners : total owned ≤ 64
   pub few_supporters : total supported ≤ 64
-  pub owner_room : 64 ≤ owned_room
-  pub supporter_room : 64 ≤ supported_room
+  pub owner_space : 64 ≤ owned_space
+  pub supporter_space : 64 ≤ supported_space

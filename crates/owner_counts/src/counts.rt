@@ -17,7 +17,7 @@ fn is_at(count: &Count, point: u32) -> bool
     count.point == point
 }
 
-fn place_of(counts: &[Count], point: u32) -> Option<usize>
+fn index_of(counts: &[Count], point: u32) -> Option<usize>
     ensures { result ≡ position (is_at point) counts.now }
 {
     counts.iter().position(|count| is_at(count, point))
@@ -53,11 +53,11 @@ fn raise(counts: &mut Vec<Count>, point: u32, at: usize)
 /// Counts one more at a point. Takes no memory.
 fn count_in(counts: &mut Vec<Count>, point: u32)
     requires few { total counts.old.items < 64 }
-    requires room { vec_len counts.old < vec_capacity counts.old }
+    requires space { vec_len counts.old < vec_capacity counts.old }
     ensures counts { counts.new.items ≡ one_more point counts.old.items }
     ensures capacity { vec_capacity counts.new ≡ vec_capacity counts.old }
 {
-    match place_of(counts, point) {
+    match index_of(counts, point) {
         Some(at) => raise(counts, point, at),
         None => counts.push_reserved(Count { point, number: 1 }),
     }
@@ -70,7 +70,7 @@ fn count_out(counts: &mut Vec<Count>, point: u32)
     ensures counts { counts.new.items ≡ one_less point counts.old.items }
     ensures capacity { vec_capacity counts.new ≡ vec_capacity counts.old }
 {
-    let at = place_of(counts, point).unwrap();
+    let at = index_of(counts, point).unwrap();
     if counts[at].number == 1 {
         counts.remove(at);
     } else {
@@ -82,7 +82,7 @@ fn count_out(counts: &mut Vec<Count>, point: u32)
 /// Counts one more at a point, where it counts. Takes no memory.
 pub(crate) fn count_in_if(counts: &mut Vec<Count>, counted: bool, point: u32)
     requires few { total counts.old.items < 64 }
-    requires room { vec_len counts.old < vec_capacity counts.old }
+    requires space { vec_len counts.old < vec_capacity counts.old }
     ensures counts { counts.new.items ≡ more_if counted point counts.old.items }
     ensures capacity { vec_capacity counts.new ≡ vec_capacity counts.old }
 {

@@ -3,13 +3,13 @@
 ghost use Rattle.std.specs.Prelude.{◌≡◌, []};
 ghost use Rattle.cip_events.specs.Answers.{plain_answer};
 ghost use Rattle.scanner_table.specs.declared.profile.ScannerProfile.{ScannerProfile};
-ghost use Rattle.slot_drafts.specs.Drafts.{view_draft, drafted_answer};
-ghost use Rattle.slot_places.specs.Places.{table_of};
+ghost use Rattle.slot_transactions.specs.Transactions.{view_transaction, progress_answer};
+ghost use Rattle.slot_places.specs.Views.{table_of};
 
-use cip_events::{Answer, Sending, Verdict};
+use cip_events::{Answer, OutgoingDatagram, Verdict};
 use cip_types::Items;
-use slot_drafts::Draft;
-use slot_places::Present;
+use slot_places::ScannerState;
+use slot_transactions::Transaction;
 use std::alloc::Global;
 
 /// An answer with no bytes. Takes no memory.
@@ -25,7 +25,7 @@ pub fn plain_answer(alloc: Global, verdict: Verdict) -> Answer
 }
 
 /// An answer with datagrams. Takes no memory.
-pub fn sent_answer(alloc: Global, datagrams: Vec<Sending>) -> Answer
+pub fn sent_answer(alloc: Global, datagrams: Vec<OutgoingDatagram>) -> Answer
     ensures { result ≡ record { frames = []; datagrams = datagrams.items; verdict = Verdict.Done; notices = [] } }
 {
     Answer {
@@ -37,11 +37,15 @@ pub fn sent_answer(alloc: Global, datagrams: Vec<Sending>) -> Answer
 }
 
 /// The answer of a draft, whose table becomes the present one. Takes no memory.
-pub fn taken(draft: Draft, present: &mut Present, datagrams: Vec<Sending>) -> Answer
-    ensures answer { (profile : ScannerProfile) → result ≡ drafted_answer (view_draft profile draft) datagrams.items }
-    ensures table { (profile : ScannerProfile) → table_of profile present.new ≡ (view_draft profile draft).table }
+pub fn taken(
+    transaction: Transaction,
+    scanner: &mut ScannerState,
+    datagrams: Vec<OutgoingDatagram>,
+) -> Answer
+    ensures answer { (profile : ScannerProfile) → result ≡ progress_answer (view_transaction profile transaction) datagrams.items }
+    ensures table { (profile : ScannerProfile) → table_of profile scanner.new ≡ (view_transaction profile transaction).table }
 {
-    let (answer, next) = draft.finish(datagrams);
-    *present = next;
+    let (answer, next) = transaction.finish(datagrams);
+    *scanner = next;
     answer
 }

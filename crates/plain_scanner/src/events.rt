@@ -5,10 +5,10 @@ ghost use Rattle.cip_events.specs.Outcomes.{Follows};
 ghost use Rattle.cip_tables.specs.Step.{image_of, is_datagram};
 ghost use Rattle.scanner_table.specs.Datagrams.{delivered, received};
 ghost use Rattle.scanner_table.specs.Points.{read, write, mode};
-ghost use Rattle.scanner_table.specs.Slots.{place_at};
+ghost use Rattle.scanner_table.specs.Slots.{slot_at};
 ghost use Rattle.scanner_table.specs.Step.{scanner_step};
 ghost use Rattle.scanner_table.specs.Whole.{IsWhole};
-ghost use Rattle.slot_places.specs.Places.{table_of};
+ghost use Rattle.slot_places.specs.Views.{table_of};
 
 use crate::answers::plain_answer;
 use crate::slots::{start, stop};
@@ -18,30 +18,30 @@ use cip_events::{Event, Outcome, StepFault, Verdict};
 use cip_types::Items;
 use scanner_table::ScannerProfile;
 use slot_data::{receive, set_mode, write};
-use slot_places::{Present, place_at};
+use slot_places::{ScannerState, slot_at};
 use std::alloc::Global;
 
 /// What the slot of a number gathered. Takes no memory.
 pub fn image_at<'a>(
     profile: &'a ScannerProfile,
-    present: &'a Present,
+    scanner: &'a ScannerState,
     number: u32,
 ) -> Result<&'a [u8], StepFault>
-    ensures found { IfOk result (λ bytes. image_of (place_at (table_of profile.now present.now) number) ≡ Some bytes.now) }
-    ensures none { IfErr result (λ fault. (fault ≡ StepFault.NoSuchSlot) × (place_at (table_of profile.now present.now) number ≡ None)) }
+    ensures found { IfOk result (λ bytes. image_of (slot_at (table_of profile.now scanner.now) number) ≡ Some bytes.now) }
+    ensures none { IfErr result (λ fault. (fault ≡ StepFault.NoSuchSlot) × (slot_at (table_of profile.now scanner.now) number ≡ None)) }
 {
-    match place_at(profile.slots.as_slice(), &present.slots, number) {
-        Some(place) => Ok(place.slot.image.as_slice()),
+    match slot_at(profile.slots.as_slice(), &scanner.slots, number) {
+        Some(indexed) => Ok(indexed.slot.image.as_slice()),
         None => Err(StepFault::NoSuchSlot),
     }
 }
 
 /// What the slot of a number gathered, as an answer.
 #[tactic(auto, unfolding(scanner_table::specs::Points::read))]
-fn read(alloc: Global, profile: &ScannerProfile, present: &mut Present, number: u32) -> Outcome
-    ensures { Follows (read (table_of profile.now present.old) number) (table_of profile.now present.old) result (table_of profile.now present.new) }
+fn read(alloc: Global, profile: &ScannerProfile, scanner: &mut ScannerState, number: u32) -> Outcome
+    ensures { Follows (read (table_of profile.now scanner.old) number) (table_of profile.now scanner.old) result (table_of profile.now scanner.new) }
 {
-    let value = Items::copy_of(alloc, image_at(profile, present, number)?)?;
+    let value = Items::copy_of(alloc, image_at(profile, scanner, number)?)?;
     Ok(plain_answer(alloc, Verdict::Value(value)))
 }
 
@@ -49,15 +49,15 @@ fn read(alloc: Global, profile: &ScannerProfile, present: &mut Present, number: 
 pub fn written(
     alloc: Global,
     profile: &ScannerProfile,
-    present: &mut Present,
+    scanner: &mut ScannerState,
     number: u32,
     bytes: &[u8],
 ) -> Outcome
-    requires { IsWhole (table_of profile.now present.old) }
-    ensures step { Follows (write (table_of profile.now present.old) number bytes.now) (table_of profile.now present.old) result (table_of profile.now present.new) }
+    requires { IsWhole (table_of profile.now scanner.old) }
+    ensures step { Follows (write (table_of profile.now scanner.old) number bytes.now) (table_of profile.now scanner.old) result (table_of profile.now scanner.new) }
     ensures no_memory { result ≢ Err StepFault.OutOfMemory }
 {
-    match write(profile, present, number, bytes) {
+    match write(profile, scanner, number, bytes) {
         Ok(()) => Ok(plain_answer(alloc, Verdict::Done)),
         Err(why) => Err(why),
     }
@@ -67,34 +67,34 @@ pub fn written(
 pub fn happened(
     alloc: Global,
     profile: &ScannerProfile,
-    present: &mut Present,
+    scanner: &mut ScannerState,
     event: &Event,
 ) -> Outcome
-    requires { IsWhole (table_of profile.now present.old) }
-    ensures step { Follows (scanner_step (table_of profile.now present.old) event.now) (table_of profile.now present.old) result (table_of profile.now present.new) }
+    requires { IsWhole (table_of profile.now scanner.old) }
+    ensures step { Follows (scanner_step (table_of profile.now scanner.old) event.now) (table_of profile.now scanner.old) result (table_of profile.now scanner.new) }
     ensures no_memory { is_datagram event.now ≡ true → result ≢ Err StepFault.OutOfMemory }
 {
     match event {
         Event::Request { .. } => Err(StepFault::NotAllowedNow),
         Event::StreamOpened { stream, peer } => {
-            open_stream(alloc, profile, present, *stream, *peer)
+            open_stream(alloc, profile, scanner, *stream, *peer)
         }
         Event::Frame { stream, bytes } => {
-            frame(alloc, profile, present, *stream, bytes.as_slice())
+            frame(alloc, profile, scanner, *stream, bytes.as_slice())
         }
-        Event::StreamCut { stream } => cut(alloc, profile, present, *stream),
+        Event::StreamCut { stream } => cut(alloc, profile, scanner, *stream),
         Event::Datagram { peer, bytes } => {
-            let delivery = receive(profile, present, *peer, bytes.as_slice());
+            let delivery = receive(profile, scanner, *peer, bytes.as_slice());
             Ok(plain_answer(alloc, Verdict::Delivered(delivery)))
         }
-        Event::Write { point, bytes } => written(alloc, profile, present, *point, bytes.as_slice()),
-        Event::Read { point } => read(alloc, profile, present, *point),
-        Event::Tick { ms } => tick(alloc, profile, present, *ms),
+        Event::Write { point, bytes } => written(alloc, profile, scanner, *point, bytes.as_slice()),
+        Event::Read { point } => read(alloc, profile, scanner, *point),
+        Event::Tick { ms } => tick(alloc, profile, scanner, *ms),
         Event::Mode { run } => {
-            set_mode(profile, present, *run);
+            set_mode(profile, scanner, *run);
             Ok(plain_answer(alloc, Verdict::Done))
         }
-        Event::Start { slot } => start(alloc, profile, present, *slot),
-        Event::Stop { slot } => stop(alloc, profile, present, *slot),
+        Event::Start { slot } => start(alloc, profile, scanner, *slot),
+        Event::Stop { slot } => stop(alloc, profile, scanner, *slot),
     }
 }

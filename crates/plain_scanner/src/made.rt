@@ -2,11 +2,11 @@
 
 ghost use Rattle.std.specs.Prelude.{◌≡◌, map, replicate, IfOk};
 ghost use Rattle.scanner_table.specs.Step.{fresh_slot, scanner_table};
-ghost use Rattle.slot_places.specs.Places.{table_of};
+ghost use Rattle.slot_places.specs.Views.{table_of};
 
 use cip_types::{Items, Ms, OutOfMemory};
 use scanner_table::{ScannerProfile, ScannerTable, Slot, SlotConfig, SlotState, copy_of_slots};
-use slot_places::Present;
+use slot_places::ScannerState;
 use std::alloc::Global;
 
 fn zeros(alloc: Global, len: u64) -> Result<Items<u8>, OutOfMemory>
@@ -23,8 +23,8 @@ fn fresh_slot(alloc: Global, config: &SlotConfig) -> Result<Slot, OutOfMemory>
     let image = zeros(alloc, config.in_len)?;
     Ok(Slot {
         state: SlotState::Idle,
-        wanted: false,
-        retry: Ms(0),
+        desired_up: false,
+        retry_at: Ms(0),
         output,
         image,
     })
@@ -41,11 +41,11 @@ fn fresh_slots(alloc: Global, configs: &[SlotConfig]) -> Result<Vec<Slot>, OutOf
 }
 
 /// What a fresh scanner has beside its profile.
-pub fn fresh_present(alloc: Global, profile: &ScannerProfile) -> Result<Present, OutOfMemory>
-    ensures { IfOk result (λ present. table_of profile.now present ≡ scanner_table profile.now) }
+pub fn fresh_state(alloc: Global, profile: &ScannerProfile) -> Result<ScannerState, OutOfMemory>
+    ensures { IfOk result (λ scanner. table_of profile.now scanner ≡ scanner_table profile.now) }
 {
     let slots = fresh_slots(alloc, profile.slots.as_slice())?;
-    Ok(Present {
+    Ok(ScannerState {
         slots,
         run: false,
         clock: Ms(0),
@@ -57,12 +57,12 @@ pub fn fresh_present(alloc: Global, profile: &ScannerProfile) -> Result<Present,
 }
 
 /// What a scanner of this table has beside its profile.
-pub fn present_of(alloc: Global, table: &ScannerTable) -> Result<Present, OutOfMemory>
-    ensures { IfOk result (λ present. table_of table.now.profile present ≡ table.now) }
+pub fn state_of(alloc: Global, table: &ScannerTable) -> Result<ScannerState, OutOfMemory>
+    ensures { IfOk result (λ scanner. table_of table.now.profile scanner ≡ table.now) }
 {
     let slots = copy_of_slots(alloc, table.slots.as_slice())?;
     let streams = Vec::from_slice(alloc, table.streams.as_slice())?;
-    Ok(Present {
+    Ok(ScannerState {
         slots,
         run: table.run,
         clock: table.clock,

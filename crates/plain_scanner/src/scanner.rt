@@ -1,7 +1,7 @@
 //! A scanner over plain lists.
 
 use crate::events::{happened, image_at, written};
-use crate::made::{fresh_present, present_of};
+use crate::made::{fresh_state, state_of};
 use cip_tables::{
     Config, Delivery, Device, DeviceTable, Event, NewFault, Outcome, StepFault, TableCopy,
 };
@@ -9,7 +9,7 @@ use cip_types::{Items, Node, OutOfMemory};
 use scanner_laws::{fresh_tables_are_whole, steps_keep_tables_whole};
 use scanner_table::{ScannerProfile, ScannerTable, copy_of_slots};
 use slot_data::receive;
-use slot_places::Present;
+use slot_places::ScannerState;
 use std::alloc::Global;
 use std::marker::Model;
 
@@ -20,19 +20,19 @@ use std::marker::Model;
 pub struct PlainScanner {
     alloc: Global,
     profile: ScannerProfile,
-    present: Present,
+    scanner: ScannerState,
 }
 
 impl Model for PlainScanner {
     ghost use Rattle.scanner_table.specs.declared.table.ScannerTable.{ScannerTable};
     ghost use Rattle.scanner_laws.specs.Whole.{IsWholeScanner};
-    ghost use Rattle.slot_places.specs.Places.{table_of};
+    ghost use Rattle.slot_places.specs.Views.{table_of};
 
     ghost Value = { ScannerTable };
 
-    ghost view = { λ s. table_of s.profile s.present };
+    ghost view = { λ s. table_of s.profile s.scanner };
 
-    ghost invariant = { λ s. IsWholeScanner (table_of s.profile s.present) };
+    ghost invariant = { λ s. IsWholeScanner (table_of s.profile s.scanner) };
 }
 
 impl Device for PlainScanner {
@@ -55,52 +55,52 @@ impl Device for PlainScanner {
         };
         profile.check()?;
         fresh_tables_are_whole();
-        let present = fresh_present(alloc, &profile)?;
+        let scanner = fresh_state(alloc, &profile)?;
         Ok(PlainScanner {
             alloc,
             profile,
-            present,
+            scanner,
         })
     }
 
     #[tactic(auto, unfolding(cip_tables::specs::Step::step), using(cip_tables::specs::FollowLaws::scanner_follows, crate::proofs::Kept::follows_kept))]
     fn step(&mut self, event: &Event) -> Outcome {
         steps_keep_tables_whole();
-        happened(self.alloc, &self.profile, &mut self.present, event)
+        happened(self.alloc, &self.profile, &mut self.scanner, event)
     }
 
     #[tactic(auto, unfolding(cip_tables::specs::Step::step), using(crate::proofs::Kept::received_kept))]
     fn deliver(&mut self, peer: Node, bytes: &[u8]) -> Delivery {
         steps_keep_tables_whole();
-        receive(&self.profile, &mut self.present, peer, bytes)
+        receive(&self.profile, &mut self.scanner, peer, bytes)
     }
 
     #[tactic(auto, unfolding(cip_tables::specs::Step::step), using(cip_tables::specs::FollowLaws::scanner_follows, crate::proofs::Kept::written_kept))]
     fn write_point(&mut self, point: u32, bytes: &[u8]) -> Outcome {
         steps_keep_tables_whole();
-        written(self.alloc, &self.profile, &mut self.present, point, bytes)
+        written(self.alloc, &self.profile, &mut self.scanner, point, bytes)
     }
 
     #[tactic(auto, unfolding(cip_tables::specs::Step::step, scanner_table::specs::Points::read))]
     fn read_point(&self, point: u32) -> Result<&[u8], StepFault> {
-        image_at(&self.profile, &self.present, point)
+        image_at(&self.profile, &self.scanner, point)
     }
 
     fn copy(&self) -> Result<TableCopy, OutOfMemory> {
         Ok(TableCopy::scanner(ScannerTable {
             profile: self.profile.copy(self.alloc)?,
-            slots: Items::from_vec(copy_of_slots(self.alloc, &self.present.slots)?),
-            run: self.present.run,
-            clock: self.present.clock,
-            next_id: self.present.next_id,
-            next_serial: self.present.next_serial,
-            next_request: self.present.next_request,
-            streams: Items::copy_of(self.alloc, &self.present.streams)?,
+            slots: Items::from_vec(copy_of_slots(self.alloc, &self.scanner.slots)?),
+            run: self.scanner.run,
+            clock: self.scanner.clock,
+            next_id: self.scanner.next_id,
+            next_serial: self.scanner.next_serial,
+            next_request: self.scanner.next_request,
+            streams: Items::copy_of(self.alloc, &self.scanner.streams)?,
         }))
     }
 
     fn is_whole(&self) {
-        let _clock = self.present.clock;
+        let _clock = self.scanner.clock;
     }
 }
 
@@ -121,11 +121,11 @@ impl PlainScanner {
             return Err(NewFault::WrongKind);
         };
         let profile = table.profile.copy(alloc)?;
-        let present = present_of(alloc, table)?;
+        let scanner = state_of(alloc, table)?;
         Ok(PlainScanner {
             alloc,
             profile,
-            present,
+            scanner,
         })
     }
 }

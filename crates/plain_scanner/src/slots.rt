@@ -4,22 +4,22 @@ ghost use Rattle.std.specs.Prelude.{◌≡◌, IsOk};
 ghost use Rattle.cip_events.specs.Outcomes.{Follows};
 ghost use Rattle.scanner_table.specs.Points.{start, stop};
 ghost use Rattle.scanner_table.specs.Whole.{IsWhole};
-ghost use Rattle.slot_places.specs.Places.{table_of};
-ghost use Rattle.plain_scanner.specs.Asked.{can_start, can_stop};
+ghost use Rattle.slot_places.specs.Views.{table_of};
+ghost use Rattle.plain_scanner.specs.Allowed.{can_start, can_stop};
 
 use crate::answers::taken;
 use cip_events::{Outcome, StepFault};
 use scanner_table::{ScannerProfile, Slot, SlotState};
-use slot_drafts::Draft;
-use slot_places::{Present, place_at};
+use slot_places::{ScannerState, slot_at};
+use slot_transactions::Transaction;
 use std::alloc::Global;
 
 /// Whether a slot is idle, and not to be open.
 fn can_start(slot: &Slot) -> bool
-    ensures { result ≡ can_start slot.now.wanted slot.now.state }
+    ensures { result ≡ can_start slot.now.desired_up slot.now.state }
 {
     match slot.state {
-        SlotState::Idle => !slot.wanted,
+        SlotState::Idle => !slot.desired_up,
         SlotState::Opening(_)
         | SlotState::Established(_)
         | SlotState::TimedOut(_)
@@ -29,10 +29,10 @@ fn can_start(slot: &Slot) -> bool
 
 /// Whether a slot is to be open, or has a connection that is not yet closing.
 fn can_stop(slot: &Slot) -> bool
-    ensures { result ≡ can_stop slot.now.wanted slot.now.state }
+    ensures { result ≡ can_stop slot.now.desired_up slot.now.state }
 {
     match slot.state {
-        SlotState::Idle => slot.wanted,
+        SlotState::Idle => slot.desired_up,
         SlotState::Opening(_) | SlotState::Established(_) | SlotState::TimedOut(_) => true,
         SlotState::Closing(_) => false,
     }
@@ -40,36 +40,46 @@ fn can_stop(slot: &Slot) -> bool
 
 /// A slot is to be open, and opens where it can at once.
 #[tactic(auto, unfolding(scanner_table::specs::Points::start))]
-pub fn start(alloc: Global, profile: &ScannerProfile, present: &mut Present, number: u32) -> Outcome
-    requires { IsWhole (table_of profile.now present.old) }
-    ensures { Follows (start (table_of profile.now present.old) number) (table_of profile.now present.old) result (table_of profile.now present.new) }
+pub fn start(
+    alloc: Global,
+    profile: &ScannerProfile,
+    scanner: &mut ScannerState,
+    number: u32,
+) -> Outcome
+    requires { IsWhole (table_of profile.now scanner.old) }
+    ensures { Follows (start (table_of profile.now scanner.old) number) (table_of profile.now scanner.old) result (table_of profile.now scanner.new) }
 {
-    let Some(place) = place_at(profile.slots.as_slice(), &present.slots, number) else {
+    let Some(indexed) = slot_at(profile.slots.as_slice(), &scanner.slots, number) else {
         return Err(StepFault::NoSuchSlot);
     };
-    if !can_start(place.slot) {
+    if !can_start(indexed.slot) {
         return Err(StepFault::NotAllowedNow);
     }
-    let mut draft = Draft::begin(alloc, present)?;
-    draft.start(profile, number)?;
-    Ok(taken(draft, present, Vec::new(alloc)))
+    let mut transaction = Transaction::begin(alloc, scanner)?;
+    transaction.start(profile, number)?;
+    Ok(taken(transaction, scanner, Vec::new(alloc)))
 }
 
 /// A slot is not to be open.
 #[tactic(auto, unfolding(scanner_table::specs::Points::stop))]
-pub fn stop(alloc: Global, profile: &ScannerProfile, present: &mut Present, number: u32) -> Outcome
-    requires { IsWhole (table_of profile.now present.old) }
-    ensures { Follows (stop (table_of profile.now present.old) number) (table_of profile.now present.old) result (table_of profile.now present.new) }
+pub fn stop(
+    alloc: Global,
+    profile: &ScannerProfile,
+    scanner: &mut ScannerState,
+    number: u32,
+) -> Outcome
+    requires { IsWhole (table_of profile.now scanner.old) }
+    ensures { Follows (stop (table_of profile.now scanner.old) number) (table_of profile.now scanner.old) result (table_of profile.now scanner.new) }
 {
-    let Some(place) = place_at(profile.slots.as_slice(), &present.slots, number) else {
+    let Some(indexed) = slot_at(profile.slots.as_slice(), &scanner.slots, number) else {
         return Err(StepFault::NoSuchSlot);
     };
-    if !can_stop(place.slot) {
+    if !can_stop(indexed.slot) {
         return Err(StepFault::NotAllowedNow);
     }
-    let mut draft = Draft::begin(alloc, present)?;
-    match draft.stop(profile, number) {
-        Ok(()) => Ok(taken(draft, present, Vec::new(alloc))),
+    let mut transaction = Transaction::begin(alloc, scanner)?;
+    match transaction.stop(profile, number) {
+        Ok(()) => Ok(taken(transaction, scanner, Vec::new(alloc))),
         Err(_) => Err(StepFault::OutOfMemory),
     }
 }

@@ -6,16 +6,16 @@ ghost use Rattle.cip_events.specs.Outcomes.{Follows};
 ghost use Rattle.scanner_table.specs.Encapsulation.{stream_opened, stream_cut, frame};
 ghost use Rattle.scanner_table.specs.Sessions.{is_stream, is_to, is_taken};
 ghost use Rattle.scanner_table.specs.Whole.{IsWhole};
-ghost use Rattle.slot_places.specs.Places.{table_of};
+ghost use Rattle.slot_places.specs.Views.{table_of};
 
 use crate::answers::{plain_answer, taken};
 use cip_events::{Answer, Outcome, StepFault, Verdict};
 use cip_types::{Items, Node, OutOfMemory};
 use scanner_table::{ScannerProfile, Stage, TargetStream};
-use slot_drafts::Draft;
-use slot_places::Present;
+use slot_places::ScannerState;
 use slot_requests::registration_frame;
-use slot_runs::{Heard, cut_stream, hear};
+use slot_runs::{FrameOutcome, cut_stream, receive_frame};
+use slot_transactions::Transaction;
 use std::alloc::Global;
 
 /// The most streams that are open.
@@ -53,13 +53,13 @@ fn add_stream(streams: &mut Vec<TargetStream>, stream: TargetStream) -> Result<(
 pub fn open_stream(
     alloc: Global,
     profile: &ScannerProfile,
-    present: &mut Present,
+    scanner: &mut ScannerState,
     number: u16,
     target: Node,
 ) -> Outcome
-    ensures { Follows (stream_opened (table_of profile.now present.old) number target) (table_of profile.now present.old) result (table_of profile.now present.new) }
+    ensures { Follows (stream_opened (table_of profile.now scanner.old) number target) (table_of profile.now scanner.old) result (table_of profile.now scanner.new) }
 {
-    if is_taken(&present.streams, number, target) {
+    if is_taken(&scanner.streams, number, target) {
         return Err(StepFault::NotAllowedNow);
     }
     let frame = registration_frame(alloc, number)?;
@@ -69,7 +69,7 @@ pub fn open_stream(
         peer: target,
         stage: Stage::Waiting,
     };
-    add_stream(&mut present.streams, stream)?;
+    add_stream(&mut scanner.streams, stream)?;
     Ok(Answer {
         frames,
         datagrams: Items::new(alloc),
@@ -89,16 +89,21 @@ fn find_stream(streams: &[TargetStream], number: u16) -> Option<TargetStream>
 
 /// A stream breaks, or its target ends it.
 #[tactic(auto, unfolding(scanner_table::specs::Encapsulation::stream_cut))]
-pub fn cut(alloc: Global, profile: &ScannerProfile, present: &mut Present, number: u16) -> Outcome
-    requires { IsWhole (table_of profile.now present.old) }
-    ensures { Follows (stream_cut (table_of profile.now present.old) number) (table_of profile.now present.old) result (table_of profile.now present.new) }
+pub fn cut(
+    alloc: Global,
+    profile: &ScannerProfile,
+    scanner: &mut ScannerState,
+    number: u16,
+) -> Outcome
+    requires { IsWhole (table_of profile.now scanner.old) }
+    ensures { Follows (stream_cut (table_of profile.now scanner.old) number) (table_of profile.now scanner.old) result (table_of profile.now scanner.new) }
 {
-    let Some(stream) = find_stream(&present.streams, number) else {
+    let Some(stream) = find_stream(&scanner.streams, number) else {
         return Err(StepFault::NotAllowedNow);
     };
-    let mut draft = Draft::begin(alloc, present)?;
-    cut_stream(&mut draft, profile, stream)?;
-    Ok(taken(draft, present, Vec::new(alloc)))
+    let mut transaction = Transaction::begin(alloc, scanner)?;
+    cut_stream(&mut transaction, profile, stream)?;
+    Ok(taken(transaction, scanner, Vec::new(alloc)))
 }
 
 /// A frame on a stream.
@@ -106,19 +111,19 @@ pub fn cut(alloc: Global, profile: &ScannerProfile, present: &mut Present, numbe
 pub fn frame(
     alloc: Global,
     profile: &ScannerProfile,
-    present: &mut Present,
+    scanner: &mut ScannerState,
     number: u16,
     bytes: &[u8],
 ) -> Outcome
-    requires { IsWhole (table_of profile.now present.old) }
-    ensures { Follows (frame (table_of profile.now present.old) number bytes.now) (table_of profile.now present.old) result (table_of profile.now present.new) }
+    requires { IsWhole (table_of profile.now scanner.old) }
+    ensures { Follows (frame (table_of profile.now scanner.old) number bytes.now) (table_of profile.now scanner.old) result (table_of profile.now scanner.new) }
 {
-    let Some(stream) = find_stream(&present.streams, number) else {
+    let Some(stream) = find_stream(&scanner.streams, number) else {
         return Err(StepFault::NotAllowedNow);
     };
-    match hear(alloc, profile, present, stream, bytes)? {
-        Heard::BadFrame => Ok(plain_answer(alloc, Verdict::BadFrame)),
-        Heard::Ignored => Ok(plain_answer(alloc, Verdict::Ignored)),
-        Heard::Answered(draft) => Ok(taken(draft, present, Vec::new(alloc))),
+    match receive_frame(alloc, profile, scanner, stream, bytes)? {
+        FrameOutcome::BadFrame => Ok(plain_answer(alloc, Verdict::BadFrame)),
+        FrameOutcome::Ignored => Ok(plain_answer(alloc, Verdict::Ignored)),
+        FrameOutcome::Answered(transaction) => Ok(taken(transaction, scanner, Vec::new(alloc))),
     }
 }

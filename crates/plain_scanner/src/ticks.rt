@@ -3,20 +3,20 @@
 ghost use Rattle.std.specs.Prelude.{IfOk, ◌≡◌, ◌≤◌, ◌+◌, ◌^◌, Ok};
 ghost use Rattle.cip_events.specs.Outcomes.{Follows};
 ghost use Rattle.scanner_table.specs.Effects.{nothing};
-ghost use Rattle.scanner_table.specs.Ticks.{clocked_table, elapsed, ticked, tick};
+ghost use Rattle.scanner_table.specs.Ticks.{clocked_table, advanced, ticked, tick};
 ghost use Rattle.scanner_table.specs.Whole.{IsWhole};
-ghost use Rattle.slot_data.specs.Told.{at_time};
-ghost use Rattle.slot_drafts.specs.Drafts.{begun, followed, view_draft};
-ghost use Rattle.slot_places.specs.Places.{table_of};
+ghost use Rattle.slot_data.specs.Results.{at_time};
+ghost use Rattle.slot_transactions.specs.Transactions.{begun, followed, view_transaction};
+ghost use Rattle.slot_places.specs.Views.{table_of};
 
 use crate::answers::{sent_answer, taken};
 use cip_events::{Outcome, StepFault};
 use cip_types::{Ms, OutOfMemory};
-use scanner_table::{ScannerProfile, elapsing_keeps_tables_whole};
-use slot_data::{is_quiet, produce, sendings};
-use slot_drafts::Draft;
-use slot_places::Present;
-use slot_runs::elapse;
+use scanner_table::{ScannerProfile, advancing_keeps_tables_whole};
+use slot_data::{due_datagrams, is_quiet, produce};
+use slot_places::ScannerState;
+use slot_runs::advance;
+use slot_transactions::Transaction;
 use std::alloc::Global;
 
 /// The longest tick, and the end of the clock, in milliseconds.
@@ -25,64 +25,69 @@ const LONGEST_TICK: u32 = 60_000;
 const CLOCK_END: u64 = 1 << 48;
 
 /// The clock comes to a time by which nothing happens to connections: slots that are due send.
-fn pass(alloc: Global, profile: &ScannerProfile, present: &mut Present, clock: Ms) -> Outcome
-    requires whole { IsWhole (table_of profile.now present.old) }
+fn pass(alloc: Global, profile: &ScannerProfile, scanner: &mut ScannerState, clock: Ms) -> Outcome
+    requires whole { IsWhole (table_of profile.now scanner.old) }
     requires time { clock.0 ≤ 2 ^ 48 }
-    requires quiet { elapsed (at_time (table_of profile.now present.old) clock) ≡ nothing (at_time (table_of profile.now present.old) clock) }
-    ensures { Follows (Ok (ticked (elapsed (at_time (table_of profile.now present.old) clock)))) (table_of profile.now present.old) result (table_of profile.now present.new) }
+    requires quiet { advanced (at_time (table_of profile.now scanner.old) clock) ≡ nothing (at_time (table_of profile.now scanner.old) clock) }
+    ensures { Follows (Ok (ticked (advanced (at_time (table_of profile.now scanner.old) clock)))) (table_of profile.now scanner.old) result (table_of profile.now scanner.new) }
 {
-    let datagrams = sendings(alloc, profile, present, clock)?;
-    produce(present, clock);
+    let datagrams = due_datagrams(alloc, profile, scanner, clock)?;
+    produce(scanner, clock);
     Ok(sent_answer(alloc, datagrams))
 }
 
 /// What milliseconds that do not lead past the end of the clock make of connections.
-fn elapsed(
+fn advanced(
     alloc: Global,
     profile: &ScannerProfile,
-    present: &Present,
+    scanner: &ScannerState,
     ms: u32,
-) -> Result<Draft, OutOfMemory>
-    requires whole { IsWhole (table_of profile.now present.now) }
-    requires time { present.now.clock.0 + ms ≤ 2 ^ 48 }
-    ensures effect { let t = clocked_table (table_of profile.now present.now) ms in IfOk result (λ draft. view_draft profile.now draft ≡ followed (begun t) (elapsed t)) }
+) -> Result<Transaction, OutOfMemory>
+    requires whole { IsWhole (table_of profile.now scanner.now) }
+    requires time { scanner.now.clock.0 + ms ≤ 2 ^ 48 }
+    ensures effect { let t = clocked_table (table_of profile.now scanner.now) ms in IfOk result (λ transaction. view_transaction profile.now transaction ≡ followed (begun t) (advanced t)) }
 {
-    let mut draft = Draft::begin(alloc, present)?;
-    draft.present.clock = Ms(present.clock.0 + u64::from(ms));
-    elapse(&mut draft, profile)?;
-    Ok(draft)
+    let mut transaction = Transaction::begin(alloc, scanner)?;
+    transaction.scanner.clock = Ms(scanner.clock.0 + u64::from(ms));
+    advance(&mut transaction, profile)?;
+    Ok(transaction)
 }
 
 /// Milliseconds pass that do not lead past the end of the clock: what becomes of connections, and then slots that
 /// are due send.
-fn elapse_by(alloc: Global, profile: &ScannerProfile, present: &mut Present, ms: u32) -> Outcome
-    requires whole { IsWhole (table_of profile.now present.old) }
-    requires time { present.old.clock.0 + ms ≤ 2 ^ 48 }
-    ensures { Follows (Ok (ticked (elapsed (clocked_table (table_of profile.now present.old) ms)))) (table_of profile.now present.old) result (table_of profile.now present.new) }
+fn advance_by(
+    alloc: Global,
+    profile: &ScannerProfile,
+    scanner: &mut ScannerState,
+    ms: u32,
+) -> Outcome
+    requires whole { IsWhole (table_of profile.now scanner.old) }
+    requires time { scanner.old.clock.0 + ms ≤ 2 ^ 48 }
+    ensures { Follows (Ok (ticked (advanced (clocked_table (table_of profile.now scanner.old) ms)))) (table_of profile.now scanner.old) result (table_of profile.now scanner.new) }
 {
-    elapsing_keeps_tables_whole();
-    let mut draft = elapsed(alloc, profile, present, ms)?;
-    let clock = draft.present.clock;
-    let datagrams = sendings(alloc, profile, &draft.present, clock)?;
-    produce(&mut draft.present, clock);
-    Ok(taken(draft, present, datagrams))
+    advancing_keeps_tables_whole();
+    let mut transaction = advanced(alloc, profile, scanner, ms)?;
+    let clock = transaction.scanner.clock;
+    let datagrams = due_datagrams(alloc, profile, &transaction.scanner, clock)?;
+    produce(&mut transaction.scanner, clock);
+    Ok(taken(transaction, scanner, datagrams))
 }
 
 /// Milliseconds pass.
 #[tactic(auto, unfolding(scanner_table::specs::Ticks::tick))]
-pub fn tick(alloc: Global, profile: &ScannerProfile, present: &mut Present, ms: u32) -> Outcome
-    requires { IsWhole (table_of profile.now present.old) }
-    ensures { Follows (tick (table_of profile.now present.old) ms) (table_of profile.now present.old) result (table_of profile.now present.new) }
+pub fn tick(alloc: Global, profile: &ScannerProfile, scanner: &mut ScannerState, ms: u32) -> Outcome
+    requires { IsWhole (table_of profile.now scanner.old) }
+    ensures { Follows (tick (table_of profile.now scanner.old) ms) (table_of profile.now scanner.old) result (table_of profile.now scanner.new) }
 {
     if ms > LONGEST_TICK {
         return Err(StepFault::TickTooLong);
     }
-    let clock = Ms(present.clock.0 + u64::from(ms));
+    let clock = Ms(scanner.clock.0 + u64::from(ms));
     if clock.0 > CLOCK_END {
         return Err(StepFault::ClockEnd);
     }
-    if is_quiet(profile, present, clock) {
-        return pass(alloc, profile, present, clock);
+    if is_quiet(profile, scanner, clock) {
+        return pass(alloc, profile, scanner, clock);
     }
-    elapse_by(alloc, profile, present, ms)
+    advance_by(alloc, profile, scanner, ms)
 }

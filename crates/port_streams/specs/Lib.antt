@@ -1,4 +1,4 @@
 pub mod Nil
-pub mod Lines
-pub mod Places
+pub mod StreamInputs
+pub mod Slots
 pub mod Routing

@@ -2,16 +2,16 @@
 use Rattle.std.specs.Prelude.{List, [], ◌∷◌, Option, Some, None, ◌==◌, if◌then◌else◌}
 use Rattle.cip_types.specs.declared.names.Node.{Node}
 use Rattle.port_streams.specs.declared.routes.Destination.{Destination}
-use Rattle.port_streams.specs.declared.routes.Route.{Route}
-use Rattle.port_streams.specs.declared.routes.Routes.{Routes}
-use Rattle.port_streams.specs.declared.routes.Routes.TheVariants.{One, Own, Listed}
+use Rattle.port_streams.specs.declared.routes.DatagramRoute.{DatagramRoute}
+use Rattle.port_streams.specs.declared.routes.DatagramRoutes.{DatagramRoutes}
+use Rattle.port_streams.specs.declared.routes.DatagramRoutes.TheVariants.{One, Own, Listed}
 
 -- where the first route of the node goes
-abbrev pub listed : List Route → Node → Option Destination
+abbrev pub listed : List DatagramRoute → Node → Option Destination
 listed [] node = None
 listed (route ∷ routes) node = if route.node.0 == node.0 then Some route.to else listed routes node
 
-abbrev pub destination_of : Routes → Node → Option Destination
+abbrev pub destination_of : DatagramRoutes → Node → Option Destination
 destination_of (One to) node = Some to
 destination_of (Own port) node = Some (record { node = node; port = port })
 destination_of (Listed routes) node = listed routes node

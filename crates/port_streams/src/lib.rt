@@ -2,12 +2,12 @@
 //! messages in their bytes, what is given of them in turn, and where datagrams go.
 #![tactic(auto)]
 
-mod line;
+mod port_stream;
 mod routes;
 mod streams;
 mod waiting;
 
-pub use line::Line;
-pub use routes::{Destination, Route, Routes};
-pub use streams::Streams;
-pub use waiting::Waiting;
+pub use port_stream::PortStream;
+pub use routes::{DatagramRoute, DatagramRoutes, Destination};
+pub use streams::PortStreams;
+pub use waiting::MessageQueue;

@@ -14,37 +14,37 @@ pub struct Destination {
 
 /// Where the datagrams of a node go.
 #[derive(Clone, Copy)]
-pub struct Route {
+pub struct DatagramRoute {
     pub node: Node,
     pub to: Destination,
 }
 
 /// The table of where the datagrams of each node go.
 #[derive(Drop)]
-pub enum Routes {
+pub enum DatagramRoutes {
     /// All to one place, as to a peer on this host.
     One(Destination),
     /// To each node's own address, at this port.
     Own(u16),
     /// As the first route of the node says. Those of other nodes go nowhere.
-    Listed(Items<Route>),
+    Listed(Items<DatagramRoute>),
 }
 
-impl Routes {
+impl DatagramRoutes {
     /// Where the datagrams of this node go. Takes no memory.
     pub fn destination_of(&self, node: Node) -> Option<Destination>
         ensures { result ≡ destination_of self.now node }
     {
         match self {
-            Routes::One(to) => Some(*to),
-            Routes::Own(port) => Some(Destination { node, port: *port }),
-            Routes::Listed(routes) => listed(routes.as_slice(), node),
+            DatagramRoutes::One(to) => Some(*to),
+            DatagramRoutes::Own(port) => Some(Destination { node, port: *port }),
+            DatagramRoutes::Listed(routes) => listed(routes.as_slice(), node),
         }
     }
 }
 
 /// Where the first route of this node goes.
-fn listed(routes: &[Route], node: Node) -> Option<Destination>
+fn listed(routes: &[DatagramRoute], node: Node) -> Option<Destination>
     ensures { result ≡ listed routes.now node }
 {
     for route in routes {

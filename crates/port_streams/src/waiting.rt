@@ -10,11 +10,11 @@ use std::marker::Model;
 
 /// Messages that wait to be given, in their order.
 #[derive(Drop)]
-pub struct Waiting {
+pub struct MessageQueue {
     messages: VecDeque<Message>,
 }
 
-impl Model for Waiting {
+impl Model for MessageQueue {
     ghost use Rattle.std.specs.Prelude.{List, ℕ};
 
     ghost Value = { List (List ℕ) };
@@ -22,12 +22,12 @@ impl Model for Waiting {
     ghost view = { λ w. w.messages.items };
 }
 
-impl Waiting {
+impl MessageQueue {
     /// None. Takes no memory.
     pub(crate) fn none(alloc: Global) -> Self
         ensures { result ≡ [] }
     {
-        Waiting {
+        MessageQueue {
             messages: VecDeque::new(alloc),
         }
     }
@@ -36,7 +36,7 @@ impl Waiting {
     pub(crate) fn of(messages: Vec<Message>) -> Self
         ensures { result ≡ messages.items }
     {
-        Waiting {
+        MessageQueue {
             messages: VecDeque::from_vec(messages),
         }
     }

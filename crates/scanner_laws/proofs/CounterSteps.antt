@@ -6,7 +6,7 @@ use Rattle.scanner_table.specs.declared.profile.ScannerProfile.{ScannerProfile}
 use Rattle.scanner_table.specs.declared.slot.Slot.{Slot}
 use Rattle.scanner_table.specs.declared.slot.SlotState.TheVariants.{Established, TimedOut}
 use Rattle.scanner_table.specs.declared.table.ScannerTable.{ScannerTable}
-use Rattle.scanner_table.specs.Slots.{places_from, places, with_slot}
+use Rattle.scanner_table.specs.Slots.{indexed_from, indexed_slots, with_slot}
 use Rattle.scanner_table.specs.Effects.{counted}
 use Rattle.scanner_table.specs.Opening.{drawn, opening_slot}
 use Rattle.scanner_table.specs.Replies.{new_connection, established_slot, failed_slot}
@@ -33,14 +33,14 @@ drawn_counts t config number slot = record { profile = refl; slots = λ full. le
 counted_counts : (t : ScannerTable) (number : ℕ) (slot : Slot) → CountsOn t (with_slot (counted t) number slot)
 counted_counts t number slot = record { profile = refl; slots = λ full. length-set t.slots number slot; ids = omega arith; requests = omega arith }
 
-places_long : (number : ℕ) (configs : List SlotConfig) (slots : List Slot) → length slots ≡ length configs → length (places_from number configs slots) ≡ length slots
-places_long number [] [] full = refl
-places_long number [] (slot ∷ slots) full = absurd (omega (arith, full))
-places_long number (config ∷ configs) [] full = refl
-places_long number (config ∷ configs) (slot ∷ slots) full = ap suc (places_long (suc number) configs slots (omega (arith, full)))
+slots_long : (number : ℕ) (configs : List SlotConfig) (slots : List Slot) → length slots ≡ length configs → length (indexed_from number configs slots) ≡ length slots
+slots_long number [] [] full = refl
+slots_long number [] (slot ∷ slots) full = absurd (omega (arith, full))
+slots_long number (config ∷ configs) [] full = refl
+slots_long number (config ∷ configs) (slot ∷ slots) full = ap suc (slots_long (suc number) configs slots (omega (arith, full)))
 
 moded_counts : (t : ScannerTable) (run : Bool) → CountsOn t (moded_table t run)
-moded_counts t run = record { profile = refl; slots = λ full. length-map (places t) moded_slot ∙ places_long 0 t.profile.slots t.slots full; ids = omega arith; requests = omega arith }
+moded_counts t run = record { profile = refl; slots = λ full. length-map (indexed_slots t) moded_slot ∙ slots_long 0 t.profile.slots t.slots full; ids = omega arith; requests = omega arith }
 
 produced_counts : (t : ScannerTable) → CountsOn t (produced_table t)
 unfolding produced_table
@@ -60,19 +60,19 @@ counts_always = record {
     slots = record {
       same = λ t. record { profile = refl; slots = λ full. refl; ids = omega arith; requests = omega arith };
       after = counts_after;
-      opening = λ t place stands resting. drawn_counts t place.config place.number (opening_slot t place);
-      idling = λ t place slot stands idle. set_counts t place.number slot;
-      timing_out = λ t place c stands is. set_counts t place.number (failed_slot t (TimedOut c.link) place.slot);
-      closing = λ t place c stands is. counted_counts t place.number (closing_slot t c place.slot);
+      opening = λ t indexed stands resting. drawn_counts t indexed.config indexed.number (opening_slot t indexed);
+      idling = λ t indexed slot stands idle. set_counts t indexed.number slot;
+      timing_out = λ t indexed c stands is. set_counts t indexed.number (failed_slot t (TimedOut c.link) indexed.slot);
+      closing = λ t indexed c stands is. counted_counts t indexed.number (closing_slot t c indexed.slot);
     };
     streams = λ t streams. record { profile = refl; slots = λ full. refl; ids = omega arith; requests = omega arith };
     clocked = λ t ms. record { profile = refl; slots = λ full. refl; ids = omega arith; requests = omega arith };
     producing = produced_counts;
     moding = moded_counts;
   };
-  establishing = λ t place o success stands is wanted. set_counts t place.number (established_slot place (new_connection t place o success));
-  writing = λ t place bytes stands. set_counts t place.number (output_slot bytes place.slot);
-  accepting = λ t place d c bytes stands is. set_counts t place.number (record place.slot { state = Established (accepted_connection t.clock place.config.mult d c); image = bytes });
+  establishing = λ t indexed o success stands is requested. set_counts t indexed.number (established_slot indexed (new_connection t indexed o success));
+  writing = λ t indexed bytes stands. set_counts t indexed.number (output_slot bytes indexed.slot);
+  accepting = λ t indexed d c bytes stands is. set_counts t indexed.number (record indexed.slot { state = Established (accepted_connection t.clock indexed.config.mult d c); image = bytes });
 }
 
 pub steps_count : StepsLead CountsOn

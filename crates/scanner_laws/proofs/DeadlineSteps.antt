@@ -12,22 +12,22 @@ use Rattle.cip_events.specs.Clock.{longest_tick, clock_end}
 use Rattle.cip_productions.specs.Kinds.{is_owner}
 use Rattle.conn_state.specs.declared.names.Link.{Link}
 use Rattle.scanner_table.specs.declared.profile.ScannerProfile.{ScannerProfile}
-use Rattle.scanner_table.specs.declared.slot.Closing as closing
-use Rattle.scanner_table.specs.declared.slot.Opening as opening
+use Rattle.scanner_table.specs.declared.slot.PendingClose as closing
+use Rattle.scanner_table.specs.declared.slot.PendingOpen as opening
 use Rattle.scanner_table.specs.declared.slot.Slot.{Slot}
 use Rattle.scanner_table.specs.declared.slot.SlotState.{SlotState}
 use Rattle.scanner_table.specs.declared.slot.SlotState.TheVariants.{Idle, Opening, Established, TimedOut, Closing}
 use Rattle.scanner_table.specs.declared.table.ScannerTable.{ScannerTable}
 use Rattle.scanner_table.specs.Profiles.{is_wait, has_times, keeps_time, profile_fault}
-use Rattle.scanner_table.specs.Slots.{Place, places, is_numbered, with_slot}
+use Rattle.scanner_table.specs.Slots.{IndexedSlot, indexed_slots, is_numbered, with_slot}
 use Rattle.scanner_table.specs.Effects.{Next, Effect, on_each}
 use Rattle.scanner_table.specs.Opening.{ready_opened}
 use Rattle.scanner_table.specs.Replies.{failed_slot}
 use Rattle.scanner_table.specs.Closing.{idle_slot, given_up_state, given_up}
 use Rattle.scanner_table.specs.Productions.{written_state, state_is_due, produced_state, produced_table}
-use Rattle.scanner_table.specs.Ticks.{state_has_expired, has_expired, by_deadline, expired_places, expired_state, expired, all_expired, state_is_overdue, is_overdue, all_given_up, clocked_table, elapsed, ticked, tick}
+use Rattle.scanner_table.specs.Ticks.{state_has_expired, has_expired, by_deadline, expired_slots, expired_state, expired, all_expired, state_is_overdue, is_overdue, all_given_up, clocked_table, advanced, ticked, tick}
 use Rattle.scanner_laws.specs.Deadlines.{StateIsAhead, DeadlinesAreAhead, TicksLeaveNoneLate}
-use Rattle.scanner_laws.proofs.Places.{some_is, get_same, Stands, placed, Each, EachTwo, Apart, each_filter, two_filter, each_in_order, two_in_order, each_stands, places_apart, place_is, place_stands}
+use Rattle.scanner_laws.proofs.SlotLookups.{some_is, get_same, Stands, indexed_at, Each, EachTwo, Apart, each_filter, two_filter, each_in_order, two_in_order, each_stands, slots_apart, slot_is, slot_stands}
 use Rattle.scanner_laws.proofs.Moves.{Kept, Local, given_does, expired_does, expired_leads, overdue_leads, ready_leads, stand_on}
 use Rattle.scanner_laws.proofs.Slotwise.{Relation, Slotwise, Goes, goes_widely, was_of}
 
@@ -40,26 +40,26 @@ clock_kept : Kept ClockStays
 clock_kept = record {
   same = λ t. refl;
   after = λ t u v first next. next ∙ first;
-  opening = λ t place stands resting. refl;
-  idling = λ t place slot stands idle. refl;
-  timing_out = λ t place c stands is. refl;
-  closing = λ t place c stands is. refl;
+  opening = λ t indexed stands resting. refl;
+  idling = λ t indexed slot stands idle. refl;
+  timing_out = λ t indexed c stands is. refl;
+  closing = λ t indexed c stands is. refl;
 }
 
 -- ---- an effect on each slot of which a test holds leaves none of which it holds
 
 -- each place of which the test holds is among these, by its number
-abbrev Left : (SlotState → Bool) → List Place → ScannerTable → Type 0
-Left test rest t = (place : Place) → Stands t place → test place.slot.state ≡ true → list_any (is_numbered place.number) rest ≡ true
+abbrev Left : (SlotState → Bool) → List IndexedSlot → ScannerTable → Type 0
+Left test rest t = (indexed : IndexedSlot) → Stands t indexed → test indexed.slot.state ≡ true → list_any (is_numbered indexed.number) rest ≡ true
 
 -- the test holds of no slot
 abbrev pub NoneIs : (SlotState → Bool) → ScannerTable → Type 0
-NoneIs test t = (place : Place) → Stands t place → test place.slot.state ≡ false
+NoneIs test t = (indexed : IndexedSlot) → Stands t indexed → test indexed.slot.state ≡ false
 
 -- after the effect it does not hold of the place's slot, and other slots stay
-record Clears (test : SlotState → Bool) (place : Place) (t u : ScannerTable) : Type 0 where
-  local : Local place.number t u
-  clear : (slot : Slot) → slice_get u.slots place.number ≡ Some slot → test slot.state ≡ false
+record Clears (test : SlotState → Bool) (indexed : IndexedSlot) (t u : ScannerTable) : Type 0 where
+  local : Local indexed.number t u
+  clear : (slot : Slot) → slice_get u.slots indexed.number ≡ Some slot → test slot.state ≡ false
 
 is_true_or : (b : Bool) → (b ≡ true → ⊥) → b ≡ false
 is_true_or true not_so = absurd (not_so refl)
@@ -74,33 +74,33 @@ number_is a b is = grind (arith, nat_tests)
 number_flip : (a b : ℕ) → (a == b) ≡ false → (b == a) ≡ false
 number_flip a b is = grind (arith, nat_tests)
 
-left_step : (b : Bool) (test : SlotState → Bool) (place : Place) (rest : List Place) (t u : ScannerTable) → Left test (place ∷ rest) t → Clears test place t u → (other : Place) → (place.number == other.number) ≡ b → Stands u other → test other.slot.state ≡ true → list_any (is_numbered other.number) rest ≡ true
-left_step true test place rest t u left clears other is stands holds =
-    let same : other.number ≡ place.number = sym (number_is place.number other.number is) in
+left_step : (b : Bool) (test : SlotState → Bool) (indexed : IndexedSlot) (rest : List IndexedSlot) (t u : ScannerTable) → Left test (indexed ∷ rest) t → Clears test indexed t u → (other : IndexedSlot) → (indexed.number == other.number) ≡ b → Stands u other → test other.slot.state ≡ true → list_any (is_numbered other.number) rest ≡ true
+left_step true test indexed rest t u left clears other is stands holds =
+    let same : other.number ≡ indexed.number = sym (number_is indexed.number other.number is) in
     let clear : test other.slot.state ≡ false = clears.clear other.slot (subst (λ (n : ℕ). slice_get u.slots n ≡ Some other.slot) same stands.slot) in
     absurd (contrary (test other.slot.state) holds clear) where
       contrary : (b : Bool) → b ≡ true → b ≡ false → ⊥
       contrary b yes_so not_so = absurd cc
-left_step false test place rest t u left clears other is stands holds =
-    let before : Stands t other = record { config = subst (λ (p : ScannerProfile). slice_get p.slots other.number ≡ Some other.config) clears.local.profile stands.config; slot = sym (clears.local.elsewhere other.number (number_differs other.number place.number (number_flip place.number other.number is))) ∙ stands.slot } in
-    behind (place.number == other.number) is (left other before holds) where
+left_step false test indexed rest t u left clears other is stands holds =
+    let before : Stands t other = record { config = subst (λ (p : ScannerProfile). slice_get p.slots other.number ≡ Some other.config) clears.local.profile stands.config; slot = sym (clears.local.elsewhere other.number (number_differs other.number indexed.number (number_flip indexed.number other.number is))) ∙ stands.slot } in
+    behind (indexed.number == other.number) is (left other before holds) where
       behind : (b : Bool) → b ≡ false → (b || list_any (is_numbered other.number) rest) ≡ true → list_any (is_numbered other.number) rest ≡ true
       behind true not_so any = absurd cc
       behind false not_so any = any
 
 -- an effect at a place that stands clears its slot
-abbrev ClearsAt : (SlotState → Bool) → (Place → Type 0) → (ScannerTable → Place → Effect) → Type 0
-ClearsAt test Q effect = (t : ScannerTable) (place : Place) → Stands t place → Q place → Clears test place t (effect t place).table
+abbrev ClearsAt : (SlotState → Bool) → (IndexedSlot → Type 0) → (ScannerTable → IndexedSlot → Effect) → Type 0
+ClearsAt test Q effect = (t : ScannerTable) (indexed : IndexedSlot) → Stands t indexed → Q indexed → Clears test indexed t (effect t indexed).table
 
-sweep : (test : SlotState → Bool) (Q : Place → Type 0) (effect : ScannerTable → Place → Effect) → ClearsAt test Q effect → (rest : List Place) (t : ScannerTable) → Each (Stands t) rest → EachTwo Apart rest → Each Q rest → Left test rest t → NoneIs test (on_each effect rest t).table
-sweep test Q effect clears [] t stand apart holds left = λ place stands. is_true_or (test place.slot.state) (λ is. absurd (empty (left place stands is))) where
+sweep : (test : SlotState → Bool) (Q : IndexedSlot → Type 0) (effect : ScannerTable → IndexedSlot → Effect) → ClearsAt test Q effect → (rest : List IndexedSlot) (t : ScannerTable) → Each (Stands t) rest → EachTwo Apart rest → Each Q rest → Left test rest t → NoneIs test (on_each effect rest t).table
+sweep test Q effect clears [] t stand apart holds left = λ indexed stands. is_true_or (test indexed.slot.state) (λ is. absurd (empty (left indexed stands is))) where
   empty : false ≡ true → ⊥
   empty is = absurd cc
-sweep test Q effect clears (place ∷ rest) t stand apart holds left =
-    let first = clears t place stand.0 holds.0 in
-    let next = (effect t place).table in
-    sweep test Q effect clears rest next (stand_on t next place.number rest first.local apart.0 stand.1) apart.1 holds.1
-    (λ other stands is. left_step (place.number == other.number) test place rest t next left first other refl stands is)
+sweep test Q effect clears (indexed ∷ rest) t stand apart holds left =
+    let first = clears t indexed stand.0 holds.0 in
+    let next = (effect t indexed).table in
+    sweep test Q effect clears rest next (stand_on t next indexed.number rest first.local apart.0 stand.1) apart.1 holds.1
+    (λ other stands is. left_step (indexed.number == other.number) test indexed rest t next left first other refl stands is)
 
 -- ---- the places of which a test holds are all among those that are filtered
 
@@ -111,15 +111,15 @@ or_true false = refl
 contrary : (b : Bool) → b ≡ true → b ≡ false → ⊥
 contrary b yes_so not_so = absurd cc
 
-filter_step : (a b : Bool) (p q : Place → Bool) (place first : Place) (rest : List Place) → q first ≡ a → p first ≡ b → cond a (Some first) (find q rest) ≡ Some place → p place ≡ true → (find q rest ≡ Some place → list_any q (filter p rest) ≡ true) → list_any q (cond b (first ∷ filter p rest) (filter p rest)) ≡ true
-filter_step true true p q place first rest passes kept is holds more = rw passes refl
-filter_step true false p q place first rest passes kept is holds more = absurd (contrary (p place) holds (subst (λ (x : Place). p x ≡ false) (some_is first place is) kept))
-filter_step false true p q place first rest passes kept is holds more = rw passes (more is)
-filter_step false false p q place first rest passes kept is holds more = more is
+filter_step : (a b : Bool) (p q : IndexedSlot → Bool) (indexed first : IndexedSlot) (rest : List IndexedSlot) → q first ≡ a → p first ≡ b → cond a (Some first) (find q rest) ≡ Some indexed → p indexed ≡ true → (find q rest ≡ Some indexed → list_any q (filter p rest) ≡ true) → list_any q (cond b (first ∷ filter p rest) (filter p rest)) ≡ true
+filter_step true true p q indexed first rest passes kept is holds more = rw passes refl
+filter_step true false p q indexed first rest passes kept is holds more = absurd (contrary (p indexed) holds (subst (λ (x : IndexedSlot). p x ≡ false) (some_is first indexed is) kept))
+filter_step false true p q indexed first rest passes kept is holds more = rw passes (more is)
+filter_step false false p q indexed first rest passes kept is holds more = more is
 
-any_filter : (p q : Place → Bool) (place : Place) (all : List Place) → find q all ≡ Some place → p place ≡ true → list_any q (filter p all) ≡ true
-any_filter p q place [] is holds = absurd cc
-any_filter p q place (first ∷ rest) is holds = filter_step (q first) (p first) p q place first rest refl refl is holds (λ later. any_filter p q place rest later holds)
+any_filter : (p q : IndexedSlot → Bool) (indexed : IndexedSlot) (all : List IndexedSlot) → find q all ≡ Some indexed → p indexed ≡ true → list_any q (filter p all) ≡ true
+any_filter p q indexed [] is holds = absurd cc
+any_filter p q indexed (first ∷ rest) is holds = filter_step (q first) (p first) p q indexed first rest refl refl is holds (λ later. any_filter p q indexed rest later holds)
 
 either_or : (a b c : Bool) → (a || (b || c)) ≡ true → (b ≡ true) ⊎ ((a || c) ≡ true)
 either_or true b c is = inr refl
@@ -130,80 +130,80 @@ behind_or : (a b c : Bool) → (b ≡ true) ⊎ (a ≡ true) → (a ≡ true →
 behind_or a b c (inl is) more = rw is refl
 behind_or a b c (inr is) more = rw (more is) (or_true b)
 
-inserted_step : (b : Bool) (q : Place → Bool) (place first : Place) (rest more : List Place) → (q place || (q first || list_any q rest)) ≡ true → (q first || list_any q more) ≡ true → list_any q (cond b (place ∷ first ∷ rest) (first ∷ more)) ≡ true
-inserted_step true q place first rest more any behind = any
-inserted_step false q place first rest more any behind = behind
+inserted_step : (b : Bool) (q : IndexedSlot → Bool) (indexed first : IndexedSlot) (rest more : List IndexedSlot) → (q indexed || (q first || list_any q rest)) ≡ true → (q first || list_any q more) ≡ true → list_any q (cond b (indexed ∷ first ∷ rest) (first ∷ more)) ≡ true
+inserted_step true q indexed first rest more any behind = any
+inserted_step false q indexed first rest more any behind = behind
 
-any_inserted : (q : Place → Bool) (before : Place → Place → Bool) (place : Place) (rest : List Place) → (q place || list_any q rest) ≡ true → list_any q (inserted before place rest) ≡ true
-any_inserted q before place [] any = any
-any_inserted q before place (first ∷ rest) any =
-    inserted_step (before place first) q place first rest (inserted before place rest) any
-    (behind_or (q place || list_any q rest) (q first) (list_any q (inserted before place rest)) (either_or (q place) (q first) (list_any q rest) any) (any_inserted q before place rest))
+any_inserted : (q : IndexedSlot → Bool) (before : IndexedSlot → IndexedSlot → Bool) (indexed : IndexedSlot) (rest : List IndexedSlot) → (q indexed || list_any q rest) ≡ true → list_any q (inserted before indexed rest) ≡ true
+any_inserted q before indexed [] any = any
+any_inserted q before indexed (first ∷ rest) any =
+    inserted_step (before indexed first) q indexed first rest (inserted before indexed rest) any
+    (behind_or (q indexed || list_any q rest) (q first) (list_any q (inserted before indexed rest)) (either_or (q indexed) (q first) (list_any q rest) any) (any_inserted q before indexed rest))
 
 or_more : (b c d : Bool) → (b || c) ≡ true → (c ≡ true → d ≡ true) → (b || d) ≡ true
 or_more true c d is more = refl
 or_more false c d is more = more is
 
-any_in_order : (q : Place → Bool) (before : Place → Place → Bool) (all : List Place) → list_any q all ≡ true → list_any q (in_order before all) ≡ true
+any_in_order : (q : IndexedSlot → Bool) (before : IndexedSlot → IndexedSlot → Bool) (all : List IndexedSlot) → list_any q all ≡ true → list_any q (in_order before all) ≡ true
 any_in_order q before [] any = any
-any_in_order q before (place ∷ rest) any =
-    any_inserted q before place (in_order before rest) (or_more (q place) (list_any q rest) (list_any q (in_order before rest)) any (any_in_order q before rest))
+any_in_order q before (indexed ∷ rest) any =
+    any_inserted q before indexed (in_order before rest) (or_more (q indexed) (list_any q rest) (list_any q (in_order before rest)) any (any_in_order q before rest))
 
-all_left : (test : SlotState → Bool) (t : ScannerTable) → Left test (filter (λ place. test place.slot.state) (places t)) t
-all_left test t = λ place stands is. any_filter (λ p. test p.slot.state) (is_numbered place.number) place (places t) (place_stands t place stands) is
+all_left : (test : SlotState → Bool) (t : ScannerTable) → Left test (filter (λ indexed. test indexed.slot.state) (indexed_slots t)) t
+all_left test t = λ indexed stands is. any_filter (λ p. test p.slot.state) (is_numbered indexed.number) indexed (indexed_slots t) (slot_stands t indexed stands) is
 
 -- ---- connections that expired, and answers that did not come
 
 -- the test that filters holds of the place
-abbrev Passes : (SlotState → Bool) → Place → Type 0
-Passes test place = test place.slot.state ≡ true
+abbrev Passes : (SlotState → Bool) → IndexedSlot → Type 0
+Passes test indexed = test indexed.slot.state ≡ true
 
-passes_step : (test : SlotState → Bool) (b : Bool) (place : Place) (rest : List Place) → test place.slot.state ≡ b → Each (Passes test) rest → Each (Passes test) (cond b (place ∷ rest) rest)
-passes_step test true place rest is all = (is, all)
-passes_step test false place rest is all = all
+passes_step : (test : SlotState → Bool) (b : Bool) (indexed : IndexedSlot) (rest : List IndexedSlot) → test indexed.slot.state ≡ b → Each (Passes test) rest → Each (Passes test) (cond b (indexed ∷ rest) rest)
+passes_step test true indexed rest is all = (is, all)
+passes_step test false indexed rest is all = all
 
-each_passes : (test : SlotState → Bool) (all : List Place) → Each (Passes test) (filter (λ place. test place.slot.state) all)
+each_passes : (test : SlotState → Bool) (all : List IndexedSlot) → Each (Passes test) (filter (λ indexed. test indexed.slot.state) all)
 each_passes test [] = tt
-each_passes test (place ∷ rest) = passes_step test (test place.slot.state) place (filter (λ p. test p.slot.state) rest) refl (each_passes test rest)
+each_passes test (indexed ∷ rest) = passes_step test (test indexed.slot.state) indexed (filter (λ p. test p.slot.state) rest) refl (each_passes test rest)
 
-set_clears : (test : SlotState → Bool) (t : ScannerTable) (place : Place) (slot : Slot) → Stands t place → Local place.number t (with_slot t place.number slot) → test slot.state ≡ false → Clears test place t (with_slot t place.number slot)
-set_clears test t place slot stands local clear = record {
+set_clears : (test : SlotState → Bool) (t : ScannerTable) (indexed : IndexedSlot) (slot : Slot) → Stands t indexed → Local indexed.number t (with_slot t indexed.number slot) → test slot.state ≡ false → Clears test indexed t (with_slot t indexed.number slot)
+set_clears test t indexed slot stands local clear = record {
   local = local;
-  clear = λ now is. subst (λ (s : Slot). test s.state ≡ false) (some_is slot now (sym (get_same place.number t.slots slot place.slot stands.slot) ∙ is)) clear;
+  clear = λ now is. subst (λ (s : Slot). test s.state ≡ false) (some_is slot now (sym (get_same indexed.number t.slots slot indexed.slot stands.slot) ∙ is)) clear;
 }
 
-expired_clears : (k : Ms) (t : ScannerTable) (place : Place) (state : SlotState) → place.slot.state ≡ state → Stands t place → state_has_expired k state ≡ true → Local place.number t (expired_state t place state).table → Clears (state_has_expired k) place t (expired_state t place state).table
-expired_clears k t place Idle is stands late local = absurd cc
-expired_clears k t place (Opening o) is stands late local = absurd cc
-expired_clears k t place (Established c) is stands late local = set_clears (state_has_expired k) t place (failed_slot t (TimedOut c.link) place.slot) stands local refl
-expired_clears k t place (TimedOut link) is stands late local = absurd cc
-expired_clears k t place (Closing c) is stands late local = absurd cc
+expired_clears : (k : Ms) (t : ScannerTable) (indexed : IndexedSlot) (state : SlotState) → indexed.slot.state ≡ state → Stands t indexed → state_has_expired k state ≡ true → Local indexed.number t (expired_state t indexed state).table → Clears (state_has_expired k) indexed t (expired_state t indexed state).table
+expired_clears k t indexed Idle is stands late local = absurd cc
+expired_clears k t indexed (Opening o) is stands late local = absurd cc
+expired_clears k t indexed (Established c) is stands late local = set_clears (state_has_expired k) t indexed (failed_slot t (TimedOut c.link) indexed.slot) stands local refl
+expired_clears k t indexed (TimedOut link) is stands late local = absurd cc
+expired_clears k t indexed (Closing c) is stands late local = absurd cc
 
-given_clears : (k : Ms) (t : ScannerTable) (place : Place) (state : SlotState) → place.slot.state ≡ state → Stands t place → state_is_overdue k state ≡ true → Local place.number t (given_up_state t place state).table → Clears (state_is_overdue k) place t (given_up_state t place state).table
-given_clears k t place Idle is stands late local = absurd cc
-given_clears k t place (Opening o) is stands late local = set_clears (state_is_overdue k) t place (failed_slot t Idle place.slot) stands local refl
-given_clears k t place (Established c) is stands late local = absurd cc
-given_clears k t place (TimedOut link) is stands late local = absurd cc
-given_clears k t place (Closing c) is stands late local = set_clears (state_is_overdue k) t place (idle_slot place.slot) stands local refl
+given_clears : (k : Ms) (t : ScannerTable) (indexed : IndexedSlot) (state : SlotState) → indexed.slot.state ≡ state → Stands t indexed → state_is_overdue k state ≡ true → Local indexed.number t (given_up_state t indexed state).table → Clears (state_is_overdue k) indexed t (given_up_state t indexed state).table
+given_clears k t indexed Idle is stands late local = absurd cc
+given_clears k t indexed (Opening o) is stands late local = set_clears (state_is_overdue k) t indexed (failed_slot t Idle indexed.slot) stands local refl
+given_clears k t indexed (Established c) is stands late local = absurd cc
+given_clears k t indexed (TimedOut link) is stands late local = absurd cc
+given_clears k t indexed (Closing c) is stands late local = set_clears (state_is_overdue k) t indexed (idle_slot indexed.slot) stands local refl
 
 none_expired : (t : ScannerTable) → NoneIs (state_has_expired t.clock) (all_expired t).table
 unfolding all_expired
 none_expired t =
-    let late = filter (has_expired t.clock) (places t) in
+    let late = filter (has_expired t.clock) (indexed_slots t) in
     sweep (state_has_expired t.clock) (Passes (state_has_expired t.clock)) expired
-    (λ u place stands is. expired_clears t.clock u place place.slot.state refl stands is (expired_does ClockStays clock_kept u place stands tt).local) (expired_places t) t
-    (each_in_order (Stands t) by_deadline late (each_filter (Stands t) (has_expired t.clock) (places t) (each_stands t)))
-    (two_in_order by_deadline late (two_filter Apart (has_expired t.clock) (places t) (places_apart t)))
-    (each_in_order (Passes (state_has_expired t.clock)) by_deadline late (each_passes (state_has_expired t.clock) (places t)))
-    (λ place stands is. any_in_order (is_numbered place.number) by_deadline late (all_left (state_has_expired t.clock) t place stands is))
+    (λ u indexed stands is. expired_clears t.clock u indexed indexed.slot.state refl stands is (expired_does ClockStays clock_kept u indexed stands tt).local) (expired_slots t) t
+    (each_in_order (Stands t) by_deadline late (each_filter (Stands t) (has_expired t.clock) (indexed_slots t) (each_stands t)))
+    (two_in_order by_deadline late (two_filter Apart (has_expired t.clock) (indexed_slots t) (slots_apart t)))
+    (each_in_order (Passes (state_has_expired t.clock)) by_deadline late (each_passes (state_has_expired t.clock) (indexed_slots t)))
+    (λ indexed stands is. any_in_order (is_numbered indexed.number) by_deadline late (all_left (state_has_expired t.clock) t indexed stands is))
 
 none_overdue : (t : ScannerTable) → NoneIs (state_is_overdue t.clock) (all_given_up t).table
 unfolding all_given_up
 none_overdue t =
     sweep (state_is_overdue t.clock) (Passes (state_is_overdue t.clock)) given_up
-    (λ u place stands is. given_clears t.clock u place place.slot.state refl stands is (given_does ClockStays clock_kept u place stands tt).local) (filter (is_overdue t.clock) (places t)) t
-    (each_filter (Stands t) (is_overdue t.clock) (places t) (each_stands t)) (two_filter Apart (is_overdue t.clock) (places t) (places_apart t))
-    (each_passes (state_is_overdue t.clock) (places t)) (all_left (state_is_overdue t.clock) t)
+    (λ u indexed stands is. given_clears t.clock u indexed indexed.slot.state refl stands is (given_does ClockStays clock_kept u indexed stands tt).local) (filter (is_overdue t.clock) (indexed_slots t)) t
+    (each_filter (Stands t) (is_overdue t.clock) (indexed_slots t) (each_stands t)) (two_filter Apart (is_overdue t.clock) (indexed_slots t) (slots_apart t))
+    (each_passes (state_is_overdue t.clock) (indexed_slots t)) (all_left (state_is_overdue t.clock) t)
 
 -- ---- none becomes late by what follows
 
@@ -214,8 +214,8 @@ Clear test k t u number config was now = k.0 ≤ t.clock.0 → 1 ≤ t.profile.o
 record Calms (k : Ms) (test : SlotState → Bool) : Type 0 where
   idle : test Idle ≡ false
   timed_out : (link : Link) → test (TimedOut link) ≡ false
-  opening : (o : opening.Opening) → nat_le o.deadline.0 k.0 ≡ false → test (Opening o) ≡ false
-  closing : (c : closing.Closing) → nat_le c.deadline.0 k.0 ≡ false → test (Closing c) ≡ false
+  opening : (o : opening.PendingOpen) → nat_le o.deadline.0 k.0 ≡ false → test (Opening o) ≡ false
+  closing : (c : closing.PendingClose) → nat_le c.deadline.0 k.0 ≡ false → test (Closing c) ≡ false
   produced : (clock : Ms) (state : SlotState) → test state ≡ false → test (produced_state clock state) ≡ false
   written : (state : SlotState) → test state ≡ false → test (written_state state) ≡ false
 
@@ -268,18 +268,18 @@ clear_widely : (k : Ms) (test : SlotState → Bool) → Calms k test → Slotwis
 clear_widely k test calms = record {
   stays = λ t u number config slot later from wait is. is;
   after = λ t u v number config a b c first next before behind from wait is. behind (omega (arith, from, first.clock)) (subst (λ (p : ScannerProfile). 1 ≤ p.open_timeout) (sym first.profile) wait) (before from wait is);
-  opening = λ t place resting from wait is. calms.opening _ (not_yet k.0 t.clock.0 t.profile.open_timeout from wait);
-  idling = λ t place slot idle from wait is. rw idle.state calms.idle;
-  timing_out = λ t place c was from wait is. calms.timed_out c.link;
-  closing = λ t place c was from wait is. calms.closing _ (not_yet k.0 t.clock.0 t.profile.open_timeout from wait);
+  opening = λ t indexed resting from wait is. calms.opening _ (not_yet k.0 t.clock.0 t.profile.open_timeout from wait);
+  idling = λ t indexed slot idle from wait is. rw idle.state calms.idle;
+  timing_out = λ t indexed c was from wait is. calms.timed_out c.link;
+  closing = λ t indexed c was from wait is. calms.closing _ (not_yet k.0 t.clock.0 t.profile.open_timeout from wait);
   producing = λ t number config slot from wait is. due_clear (state_is_due t.clock slot.state) k test t.clock slot calms is;
-  moding = λ t run place from wait is. moded_clear (is_owner place.config.kind) k test place.slot calms is;
+  moding = λ t run indexed from wait is. moded_clear (is_owner indexed.config.kind) k test indexed.slot calms is;
 }
 
 none_later : (k : Ms) (test : SlotState → Bool) (t u : ScannerTable) → Goes (Clear test k) t u → k.0 ≤ t.clock.0 → 1 ≤ t.profile.open_timeout → NoneIs test t → NoneIs test u
-none_later k test t u goes from wait none = λ place stands.
-    let was = was_of (Clear test k) t u place goes stands in
-    was.holds from wait (none (placed place.number place.config was.slot) was.stands)
+none_later k test t u goes from wait none = λ indexed stands.
+    let was = was_of (Clear test k) t u indexed goes stands in
+    was.holds from wait (none (indexed_at indexed.number indexed.config was.slot) was.stands)
 
 -- ---- a tick
 
@@ -300,7 +300,7 @@ ahead_is k (Established c) not_expired not_overdue = later_than c.deadline.0 k.0
 ahead_is k (TimedOut link) not_expired not_overdue = tt
 ahead_is k (Closing c) not_expired not_overdue = later_than c.deadline.0 k.0 not_overdue
 
-tick_ends : (t : ScannerTable) → 1 ≤ t.profile.open_timeout → Ticks t.clock (produced_table (elapsed t).table)
+tick_ends : (t : ScannerTable) → 1 ≤ t.profile.open_timeout → Ticks t.clock (produced_table (advanced t).table)
 unfolding produced_table
 tick_ends t wait =
     let k = t.clock in
@@ -333,19 +333,19 @@ tick_ends t wait =
     }
 
 ticks_ahead : (k : Ms) (u : ScannerTable) → Ticks k u → DeadlinesAreAhead u
-ticks_ahead k u ticks = λ number place is.
-    let stands = (place_is u number place is).stands in
-    subst (λ (m : Ms). StateIsAhead m.0 place.slot.state) (sym ticks.clock) (ahead_is k place.slot.state (ticks.expired place stands) (ticks.overdue place stands))
+ticks_ahead k u ticks = λ number indexed is.
+    let stands = (slot_is u number indexed is).stands in
+    subst (λ (m : Ms). StateIsAhead m.0 indexed.slot.state) (sym ticks.clock) (ahead_is k indexed.slot.state (ticks.expired indexed stands) (ticks.overdue indexed stands))
 
 next_is : (x y : Next) → ◌≡◌ {A = Result Next StepFault} (Ok x) (Ok y) → x ≡ y
 next_is x y is = cc
 
-tick_step : (a b : Bool) (t : ScannerTable) (ms : ℕ) (next : Next) → 1 ≤ t.profile.open_timeout → cond a (Err fault.TickTooLong) (cond b (Err fault.ClockEnd) (Ok (ticked (elapsed (clocked_table t ms))))) ≡ Ok next → DeadlinesAreAhead next.1
+tick_step : (a b : Bool) (t : ScannerTable) (ms : ℕ) (next : Next) → 1 ≤ t.profile.open_timeout → cond a (Err fault.TickTooLong) (cond b (Err fault.ClockEnd) (Ok (ticked (advanced (clocked_table t ms))))) ≡ Ok next → DeadlinesAreAhead next.1
 tick_step true b t ms next wait is = absurd cc
 tick_step false true t ms next wait is = absurd cc
 tick_step false false t ms next wait is =
     let now = clocked_table t ms in
-    subst (λ (n : Next). DeadlinesAreAhead n.1) (next_is (ticked (elapsed now)) next is) (ticks_ahead now.clock (produced_table (elapsed now).table) (tick_ends now wait))
+    subst (λ (n : Next). DeadlinesAreAhead n.1) (next_is (ticked (advanced now)) next is) (ticks_ahead now.clock (produced_table (advanced now).table) (tick_ends now wait))
 
 -- ---- the time that a target has, in a profile without fault
 

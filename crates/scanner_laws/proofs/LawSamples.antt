@@ -15,10 +15,10 @@ use Rattle.scanner_laws.specs.Runs.{table_after}
 use Rattle.scanner_laws.specs.Counters.{CountsOn}
 use Rattle.scanner_laws.specs.Drawn.{IsDrawn, WantsDrawn, Began, StateIsDrawn, OpensAnew, id_of, IdsAreOwn}
 use Rattle.scanner_laws.specs.Producers.{ProducesAsItself}
-use Rattle.scanner_laws.specs.Deadlines.{PlaceWaits, PlaceIsAhead}
+use Rattle.scanner_laws.specs.Deadlines.{SlotWaits, SlotIsAhead}
 use Rattle.scanner_laws.specs.Scratch.{data_left, zeros_left, output_left, last_image, last_output}
 use Rattle.scanner_laws.specs.Newest.{Acceptance, accepted_at, acceptances, last_accepted, HasNewerNumber, HasOtherCount, StateRemembers, last_in, StateIsNumbered}
-use Rattle.scanner_laws.proofs.SmallTables.{target, owner, gatherer, profile, triad, own_id, opening, link, connection, first_slot, place, table, open_table, arrives}
+use Rattle.scanner_laws.proofs.SmallTables.{target, owner, gatherer, profile, triad, own_id, opening, link, connection, first_slot, indexed, table, open_table, arrives}
 
 -- ---- events
 
@@ -57,17 +57,17 @@ opening_is_drawn = (omega arith, record { counter = 6; is = refl; begins = omega
 opening_is_next : StateIsDrawn profile 7 7 false (Opening opening) → ⊥
 opening_is_next drawn = absurd (omega (arith, drawn.0))
 
-ids : id_of (place (Opening opening)) ∷ id_of (place (Established connection)) ∷ id_of (place (TimedOut link)) ∷ id_of (place Idle) ∷ [] ≡ Some own_id ∷ Some own_id ∷ Some own_id ∷ None ∷ []
+ids : id_of (indexed (Opening opening)) ∷ id_of (indexed (Established connection)) ∷ id_of (indexed (TimedOut link)) ∷ id_of (indexed Idle) ∷ [] ≡ Some own_id ∷ Some own_id ∷ Some own_id ∷ None ∷ []
 ids = refl
 
-group_has_none : id_of (record (place (Established connection)) { config = gatherer }) ≡ None
+group_has_none : id_of (record (indexed (Established connection)) { config = gatherer }) ≡ None
 group_has_none = refl
 
 -- the slot that is ready opens at a tick: its numbers are the next ones, which go up
 abbrev ticked : ScannerTable
 ticked = table_after (table Idle) (Tick 400 ∷ [])
 
-tick_begins : Began (table Idle) ticked owner (record { request = 8; wanted = record { triad = record triad { serial = 6 }; t_o_id = Some (record { 0 = 0x20000007 }) }; deadline = record { 0 = 3000 } })
+tick_begins : Began (table Idle) ticked owner (record { request = 8; requested = record { triad = record triad { serial = 6 }; t_o_id = Some (record { 0 = 0x20000007 }) }; deadline = record { 0 = 3000 } })
 unfolding tick all_expired all_given_up ready_opened produced_table opened
 tick_begins = record { begins = omega arith; ends = omega arith; id = record { counter = 7; is = refl; begins = omega arith; ends = omega arith } }
 
@@ -77,24 +77,24 @@ tick_counts = record { profile = refl; slots = λ full. refl; ids = omega arith;
 
 -- ---- producers and deadlines
 
-produces : ProducesAsItself (place (Established connection))
+produces : ProducesAsItself (indexed (Established connection))
 produces = (refl, refl)
 
 -- the second slot's producer has the number 1
-produces_not : ProducesAsItself (record (place (Established connection)) { number = 1 }) → ⊥
+produces_not : ProducesAsItself (record (indexed (Established connection)) { number = 1 }) → ⊥
 produces_not itself = absurd (omega (arith, itself.0))
 
-waits : PlaceWaits (table Idle) (place (Opening opening))
+waits : SlotWaits (table Idle) (indexed (Opening opening))
 waits = omega arith
 
-waits_not : PlaceWaits (record (table Idle) { clock = record { 0 = 499 } }) (place (Opening opening)) → ⊥
+waits_not : SlotWaits (record (table Idle) { clock = record { 0 = 499 } }) (indexed (Opening opening)) → ⊥
 waits_not late = absurd (omega (arith, late))
 
-ahead : PlaceIsAhead (table Idle) (place (Established connection))
+ahead : SlotIsAhead (table Idle) (indexed (Established connection))
 ahead = omega arith
 
 -- a deadline that is now has come
-ahead_not : PlaceIsAhead (record (table Idle) { clock = record { 0 = 660 } }) (place (Established connection)) → ⊥
+ahead_not : SlotIsAhead (record (table Idle) { clock = record { 0 = 660 } }) (indexed (Established connection)) → ⊥
 ahead_not is = absurd (omega (arith, is))
 
 -- ---- images and outputs
@@ -107,7 +107,7 @@ applied_data : data_left 0 open_table (arrives 8 4 9) ∷ data_left 1 open_table
 unfolding received datagrams.datagram_reading
 applied_data = refl
 
-zeros : zeros_left (place (Opening opening)) (place (Established connection)) ∷ zeros_left (place (Established connection)) (place (Established connection)) ∷ zeros_left (place (Established connection)) (place (TimedOut link)) ∷ [] ≡ Some (two 0) ∷ None ∷ None ∷ []
+zeros : zeros_left (indexed (Opening opening)) (indexed (Established connection)) ∷ zeros_left (indexed (Established connection)) (indexed (Established connection)) ∷ zeros_left (indexed (Established connection)) (indexed (TimedOut link)) ∷ [] ≡ Some (two 0) ∷ None ∷ None ∷ []
 zeros = refl
 
 images : last_image 0 open_table (arrives 8 4 9 ∷ arrives 9 5 6 ∷ arrives 10 5 7 ∷ Tick 1 ∷ Stop 0 ∷ []) ≡ Some (two 6)
@@ -144,9 +144,9 @@ accepts_another : accepted_at 0 8 open_table (arrives 8 4 9) ≡ []
 unfolding received datagrams.datagram_reading
 accepts_another = refl
 
-accepts_repeated : accepted_at 0 7 open_table (arrives 8 3 9) ≡ record (acceptance 8 3) { applied = false } ∷ []
+accepts_duplicate : accepted_at 0 7 open_table (arrives 8 3 9) ≡ record (acceptance 8 3) { applied = false } ∷ []
 unfolding received datagrams.datagram_reading
-accepts_repeated = refl
+accepts_duplicate = refl
 
 accepts_no_old : accepted_at 0 7 open_table (arrives 7 4 9) ≡ []
 unfolding received datagrams.datagram_reading
@@ -188,10 +188,10 @@ twins = record open_table {
 }
 
 twins_not : IdsAreOwn twins → ⊥
-twins_not own = own (place (Established connection)) (record (place (TimedOut link)) { number = 1 }) own_id (λ same. absurd (omega (arith, same))) refl refl refl refl
+twins_not own = own (indexed (Established connection)) (record (indexed (TimedOut link)) { number = 1 }) own_id (λ same. absurd (omega (arith, same))) refl refl refl refl
 
 -- a slot cannot come to wait for an opening that was numbered before
-opens_not : OpensAnew (table Idle) (table (Opening opening)) (place Idle) (place (Opening opening)) → ⊥
+opens_not : OpensAnew (table Idle) (table (Opening opening)) (indexed Idle) (indexed (Opening opening)) → ⊥
 opens_not anew = step (anew opening refl) where
   step : (◌≡◌ {A = SlotState} Idle (Opening opening)) ⊎ Began (table Idle) (table (Opening opening)) owner opening → ⊥
   step (inl same) = absurd cc

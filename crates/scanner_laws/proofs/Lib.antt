@@ -1,4 +1,4 @@
-mod Places
+mod SlotLookups
 mod Moves
 mod Events
 mod CounterSteps

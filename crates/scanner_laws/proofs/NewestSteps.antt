@@ -16,7 +16,7 @@ use Rattle.cip_events.specs.declared.event.StepFault.{StepFault}
 use Rattle.cip_events.specs.declared.event.Verdict.TheVariants.{Delivered}
 use Rattle.cip_events.specs.Answers.{is_accepted}
 use Rattle.cip_productions.specs.declared.acceptance.Accepted.{Accepted}
-use Rattle.cip_productions.specs.Acceptance.{is_news, is_repeated}
+use Rattle.cip_productions.specs.Acceptance.{accepts_sequence, is_duplicate}
 use Rattle.cip_productions.specs.Kinds.{is_owner}
 use Rattle.scanner_table.specs.declared.profile.SlotConfig.{SlotConfig}
 use Rattle.scanner_table.specs.declared.slot.Connection.{Connection}
@@ -24,7 +24,7 @@ use Rattle.scanner_table.specs.declared.slot.Slot.{Slot}
 use Rattle.scanner_table.specs.declared.slot.SlotState.{SlotState}
 use Rattle.scanner_table.specs.declared.slot.SlotState.TheVariants.{Idle, Opening, Established, TimedOut, Closing}
 use Rattle.scanner_table.specs.declared.table.ScannerTable.{ScannerTable}
-use Rattle.scanner_table.specs.Slots.{Place, places, place_at}
+use Rattle.scanner_table.specs.Slots.{IndexedSlot, indexed_slots, slot_at}
 use Rattle.scanner_table.specs.Effects.{Next}
 use Rattle.scanner_table.specs.Replies.{new_connection, established_slot}
 use Rattle.scanner_table.specs.Datagrams.{is_for, accepted_connection, accepted_table, delivered, accepted, sized, state_received, received_at, received_as, received}
@@ -35,10 +35,10 @@ use Rattle.scanner_table.specs.Whole.{FitsState, SlotsFit}
 use Rattle.scanner_laws.specs.Runs.{left_by, StepsKeep, IsLaw}
 use Rattle.scanner_laws.specs.Deliveries.{is_applied}
 use Rattle.scanner_laws.specs.Newest.{Acceptance, came_from, is_connection, accepted_found, accepted_read, accepted_at, acceptances, EachAfter, last_accepted, HasNewerNumber, IsAppliedNew, IsNotAgain, StateRemembers, TableRemembers, state_last, last_of, last_in, StateIsNumbered, OpeningsAreNumbered, WholeTablesNumberOpenings, StepsAcceptAfter, RefusalsAcceptNothing, EventsAcceptAfter}
-use Rattle.scanner_laws.proofs.Places.{Stands, placed, place_is, place_stands, each_found, each_stands}
+use Rattle.scanner_laws.proofs.SlotLookups.{Stands, indexed_at, slot_is, slot_stands, each_found, each_stands}
 use Rattle.scanner_laws.proofs.Moves.{KeptWidely, OrEstablished, Leads, Writes, streamed_leads, frame_leads, cut_leads, read_leads, tick_leads, mode_leads, start_leads, stop_leads, write_leads}
 use Rattle.scanner_laws.proofs.Events.{steps_lead, law_of}
-use Rattle.scanner_laws.proofs.Slotwise.{set_later, Relation, Slotwise, SlotwiseAlways, Goes, set_goes, apart_goes, goes_widely, goes_always, Property, Stays, was_of, of_each_place}
+use Rattle.scanner_laws.proofs.Slotwise.{set_later, Relation, Slotwise, SlotwiseAlways, Goes, set_goes, apart_goes, goes_widely, goes_always, Property, Stays, was_of, of_each_slot}
 use Rattle.scanner_laws.proofs.OwnSteps.{fresh_rests}
 
 -- ---- openings are numbered
@@ -90,30 +90,30 @@ numbered_always = record {
   widely = record {
     stays = λ t u number config slot later numbered. numbered_on t.next_request u.next_request slot.state later.requests numbered;
     after = λ t u v number config a b c first next before behind numbered. behind (before numbered);
-    opening = λ t place resting numbered. omega arith;
-    idling = λ t place slot idle numbered. idle_numbered t.next_request slot.state idle.state;
-    timing_out = λ t place c is numbered. tt;
-    closing = λ t place c is numbered. tt;
+    opening = λ t indexed resting numbered. omega arith;
+    idling = λ t indexed slot idle numbered. idle_numbered t.next_request slot.state idle.state;
+    timing_out = λ t indexed c is numbered. tt;
+    closing = λ t indexed c is numbered. tt;
     producing = table_numbered;
-    moding = λ t run place numbered. moded_numbered (is_owner place.config.kind) t.next_request place.slot numbered;
+    moding = λ t run indexed numbered. moded_numbered (is_owner indexed.config.kind) t.next_request indexed.slot numbered;
   };
-  establishing = λ t place o success is wanted numbered. numbered_is t.next_request place.slot.state (Opening o) is numbered;
-  writing = λ t place bytes numbered. written_numbered t.next_request place.slot.state numbered;
-  accepting = λ t place d c bytes is numbered. numbered_is t.next_request place.slot.state (Established c) is.established numbered;
+  establishing = λ t indexed o success is desired_up numbered. numbered_is t.next_request indexed.slot.state (Opening o) is numbered;
+  writing = λ t indexed bytes numbered. written_numbered t.next_request indexed.slot.state numbered;
+  accepting = λ t indexed d c bytes is numbered. numbered_is t.next_request indexed.slot.state (Established c) is.established numbered;
 }
 
 numbers_keep : StepsKeep OpeningsAreNumbered
-numbers_keep t event next is all = of_each_place Numbered t next.1 (steps_lead (Goes (Stays Numbered)) (goes_always (Stays Numbered) numbered_always) t event next is) all
+numbers_keep t event next is all = of_each_slot Numbered t next.1 (steps_lead (Goes (Stays Numbered)) (goes_always (Stays Numbered) numbered_always) t event next is) all
 
 pub numbered_law : IsLaw OpeningsAreNumbered
-numbered_law = law_of OpeningsAreNumbered numbers_keep (λ profile number place is. idle_numbered 1 place.slot.state (fresh_rests profile number place is))
+numbered_law = law_of OpeningsAreNumbered numbers_keep (λ profile number indexed is. idle_numbered 1 indexed.slot.state (fresh_rests profile number indexed is))
 
-fits_numbered : (next clock : ℕ) (wanted : Bool) (state : SlotState) → FitsState next clock wanted state → StateIsNumbered next state
-fits_numbered next clock wanted Idle fits = tt
-fits_numbered next clock wanted (Opening o) fits = fits.1
-fits_numbered next clock wanted (Established c) fits = fits.1.opening
-fits_numbered next clock wanted (TimedOut link) fits = tt
-fits_numbered next clock wanted (Closing c) fits = tt
+fits_numbered : (next clock : ℕ) (desired_up : Bool) (state : SlotState) → FitsState next clock desired_up state → StateIsNumbered next state
+fits_numbered next clock desired_up Idle fits = tt
+fits_numbered next clock desired_up (Opening o) fits = fits.1
+fits_numbered next clock desired_up (Established c) fits = fits.1.opening
+fits_numbered next clock desired_up (TimedOut link) fits = tt
+fits_numbered next clock desired_up (Closing c) fits = tt
 
 slot_numbered : (next clock k : ℕ) (configs : List SlotConfig) (slots : List Slot) (slot : Slot) → SlotsFit next clock configs slots → slice_get slots k ≡ Some slot → StateIsNumbered next slot.state
 slot_numbered next clock k [] [] slot fit is = absurd cc
@@ -121,11 +121,11 @@ slot_numbered next clock k [] (first ∷ slots) slot fit is = absurd fit
 slot_numbered next clock k (config ∷ configs) [] slot fit is = absurd cc
 slot_numbered next clock zero (config ∷ configs) (first ∷ slots) slot fit is =
     let same : first ≡ slot = cc in
-    subst (λ (s : Slot). StateIsNumbered next s.state) same (fits_numbered next clock first.wanted first.state fit.0.state)
+    subst (λ (s : Slot). StateIsNumbered next s.state) same (fits_numbered next clock first.desired_up first.state fit.0.state)
 slot_numbered next clock (suc k) (config ∷ configs) (first ∷ slots) slot fit is = slot_numbered next clock k configs slots slot fit.1 is
 
 pub whole_numbered : WholeTablesNumberOpenings
-whole_numbered t whole = λ number place is. slot_numbered t.next_request t.clock.0 place.number t.profile.slots t.slots place.slot whole.slots (place_is t number place is).stands.slot
+whole_numbered t whole = λ number indexed is. slot_numbered t.next_request t.clock.0 indexed.number t.profile.slots t.slots indexed.slot whole.slots (slot_is t number indexed is).stands.slot
 
 -- ---- what stays remembered
 
@@ -178,12 +178,12 @@ remembers_widely : (opening : ℕ) (last : Option Accepted) → Slotwise (Stays 
 remembers_widely opening last = record {
   stays = λ t u number config slot later knows. record { numbered = numbered_on t.next_request u.next_request slot.state later.requests knows.numbered; unopened = λ more. knows.unopened (omega (arith, more, later.requests)); remembers = knows.remembers };
   after = λ t u v number config a b c first next before behind knows. behind (before knows);
-  opening = λ t place resting knows. record { numbered = omega arith; unopened = λ more. knows.unopened (omega (arith, more)); remembers = λ is. knows.unopened (omega (arith, is)) };
-  idling = λ t place slot idle knows. record { numbered = idle_numbered t.next_request slot.state idle.state; unopened = knows.unopened; remembers = idle_remembers opening last slot.state idle.state };
-  timing_out = λ t place c is knows. record { numbered = tt; unopened = knows.unopened; remembers = tt };
-  closing = λ t place c is knows. record { numbered = tt; unopened = λ more. knows.unopened (omega (arith, more)); remembers = tt };
+  opening = λ t indexed resting knows. record { numbered = omega arith; unopened = λ more. knows.unopened (omega (arith, more)); remembers = λ is. knows.unopened (omega (arith, is)) };
+  idling = λ t indexed slot idle knows. record { numbered = idle_numbered t.next_request slot.state idle.state; unopened = knows.unopened; remembers = idle_remembers opening last slot.state idle.state };
+  timing_out = λ t indexed c is knows. record { numbered = tt; unopened = knows.unopened; remembers = tt };
+  closing = λ t indexed c is knows. record { numbered = tt; unopened = λ more. knows.unopened (omega (arith, more)); remembers = tt };
   producing = table_remembers opening last;
-  moding = λ t run place knows. record { numbered = moded_numbered (is_owner place.config.kind) t.next_request place.slot knows.numbered; unopened = knows.unopened; remembers = moded_remembers (is_owner place.config.kind) opening last place.slot knows.remembers };
+  moding = λ t run indexed knows. record { numbered = moded_numbered (is_owner indexed.config.kind) t.next_request indexed.slot knows.numbered; unopened = knows.unopened; remembers = moded_remembers (is_owner indexed.config.kind) opening last indexed.slot knows.remembers };
 }
 
 abbrev Knowing : ℕ → Option Accepted → ScannerTable → ScannerTable → Type 0
@@ -197,34 +197,34 @@ known_established : (opening : ℕ) (last : Option Accepted) (t : ScannerTable) 
 known_established opening last t = record {
   kept = known_widely opening last;
   weaker = λ u goes. goes;
-  establishing = λ place o success stands is wanted.
-      let slot = established_slot place (new_connection t place o success) in
-      set_goes (Stays (Remembers opening last)) (remembers_widely opening last).stays t t place slot (set_later t place.number slot) refl stands
-      (λ knows. record { numbered = numbered_is t.next_request place.slot.state (Opening o) is knows.numbered; unopened = knows.unopened; remembers = λ same. sym (remembers_is opening last place.slot.state (Opening o) is knows.remembers same) });
+  establishing = λ indexed o success stands is desired_up.
+      let slot = established_slot indexed (new_connection t indexed o success) in
+      set_goes (Stays (Remembers opening last)) (remembers_widely opening last).stays t t indexed slot (set_later t indexed.number slot) refl stands
+      (λ knows. record { numbered = numbered_is t.next_request indexed.slot.state (Opening o) is knows.numbered; unopened = knows.unopened; remembers = λ same. sym (remembers_is opening last indexed.slot.state (Opening o) is knows.remembers same) });
 }
 
 known_writes : (opening : ℕ) (last : Option Accepted) (t : ScannerTable) → Writes (Knowing opening last) t
-known_writes opening last t place bytes stands =
-    let slot = output_slot bytes place.slot in
-    set_goes (Stays (Remembers opening last)) (remembers_widely opening last).stays t t place slot (set_later t place.number slot) refl stands
-    (λ knows. record { numbered = written_numbered t.next_request place.slot.state knows.numbered; unopened = knows.unopened; remembers = written_remembers opening last place.slot.state knows.remembers })
+known_writes opening last t indexed bytes stands =
+    let slot = output_slot bytes indexed.slot in
+    set_goes (Stays (Remembers opening last)) (remembers_widely opening last).stays t t indexed slot (set_later t indexed.number slot) refl stands
+    (λ knows. record { numbered = written_numbered t.next_request indexed.slot.state knows.numbered; unopened = knows.unopened; remembers = written_remembers opening last indexed.slot.state knows.remembers })
 
 known_table : (number opening : ℕ) (last : Option Accepted) (t u : ScannerTable) → OpeningsAreNumbered t → TableRemembers number opening last t → Knowing opening last t u → TableRemembers number opening last u
 known_table number opening last t u all table goes = record {
-  there = λ place is.
-      let at = place_is u number place is in
-      let was = was_of (Stays (Remembers opening last)) t u place goes at.stands in
-      let before = placed place.number place.config was.slot in
-      let stands : place_at t number ≡ Some before = subst (λ (n : ℕ). place_at t n ≡ Some before) at.number_is (place_stands t before was.stands) in
+  there = λ indexed is.
+      let at = slot_is u number indexed is in
+      let was = was_of (Stays (Remembers opening last)) t u indexed goes at.stands in
+      let before = indexed_at indexed.number indexed.config was.slot in
+      let stands : slot_at t number ≡ Some before = subst (λ (n : ℕ). slot_at t n ≡ Some before) at.number_is (slot_stands t before was.stands) in
       (was.holds (record { numbered = all number before stands; unopened = table.unopened; remembers = table.there before stands })).remembers;
   unopened = λ more. table.unopened (omega (arith, more, goes.later.requests));
 }
 
 -- ---- what an accepted datagram is
 
--- it holds of a datagram whose number is news, and whose count is no repeated one where it is applied
-abbrev pub FitsNews : (Option Accepted → Acceptance → Type 0) → Type 0
-FitsNews R = (last : Option Accepted) (next : Acceptance) → is_news last next.datagram.number ≡ true → (next.applied ≡ true → is_repeated last next.datagram.count ≡ false) → R last next
+-- it holds of a datagram whose number is news, and whose count is not the last one's where it is applied
+abbrev pub FitsNewer : (Option Accepted → Acceptance → Type 0) → Type 0
+FitsNewer R = (last : Option Accepted) (next : Acceptance) → accepts_sequence last next.datagram.number ≡ true → (next.applied ≡ true → is_duplicate last next.datagram.count ≡ false) → R last next
 
 is_newer_by : (a b : ℕ) → is_newer a b ≡ true → IsNewer a b
 is_newer_by a b is =
@@ -233,20 +233,20 @@ is_newer_by a b is =
       le_of : (m n : ℕ) → nat_le m n ≡ true → m ≤ n
       le_of m n h = grind (arith, nat_tests)
 
-newer_fits : FitsNews HasNewerNumber
-newer_fits None next news other = tt
-newer_fits (Some last) next news other = is_newer_by next.datagram.number last.number news
+newer_fits : FitsNewer HasNewerNumber
+newer_fits None next newer other = tt
+newer_fits (Some last) next newer other = is_newer_by next.datagram.number last.number newer
 
 count_differs : (a b : ℕ) → (a == b) ≡ false → a ≢ b
 count_differs a b h same = absurd (grind (arith, nat_tests))
 
-applied_fits : FitsNews IsAppliedNew
-applied_fits None next news other = λ applied. tt
-applied_fits (Some last) next news other = λ applied. count_differs next.datagram.count last.count (other applied)
+applied_fits : FitsNewer IsAppliedNew
+applied_fits None next newer other = λ applied. tt
+applied_fits (Some last) next newer other = λ applied. count_differs next.datagram.count last.count (other applied)
 
-again_fits : FitsNews IsNotAgain
-again_fits None next news other = tt
-again_fits (Some last) next news other = λ applied same. count_differs next.datagram.count last.count (other applied) (ap (λ (a : Accepted). a.count) same)
+again_fits : FitsNewer IsNotAgain
+again_fits None next newer other = tt
+again_fits (Some last) next newer other = λ applied same. count_differs next.datagram.count last.count (other applied) (ap (λ (a : Accepted). a.count) same)
 
 -- ---- a datagram
 
@@ -272,106 +272,106 @@ Renewed number opening last after t u k config was now = k ≡ number → StateR
 
 renewed_table : (number opening : ℕ) (last after : Option Accepted) (t u : ScannerTable) → TableRemembers number opening last t → (u.next_request ≤ opening → after ≡ None) → Goes (Renewed number opening last after) t u → TableRemembers number opening after u
 renewed_table number opening last after t u table unopened goes = record {
-  there = λ place is.
-      let at = place_is u number place is in
-      let was = was_of (Renewed number opening last after) t u place goes at.stands in
-      let before = placed place.number place.config was.slot in
-      let stands : place_at t number ≡ Some before = subst (λ (n : ℕ). place_at t n ≡ Some before) at.number_is (place_stands t before was.stands) in
+  there = λ indexed is.
+      let at = slot_is u number indexed is in
+      let was = was_of (Renewed number opening last after) t u indexed goes at.stands in
+      let before = indexed_at indexed.number indexed.config was.slot in
+      let stands : slot_at t number ≡ Some before = subst (λ (n : ℕ). slot_at t n ≡ Some before) at.number_is (slot_stands t before was.stands) in
       was.holds at.number_is (table.there before stands);
   unopened = unopened;
 }
 
 -- what stands before a datagram
-record Before (number opening : ℕ) (last : Option Accepted) (t : ScannerTable) (place : Place) (c : Connection) : Type 0 where
-  stands : Stands t place
-  established : place.slot.state ≡ Established c
+record Before (number opening : ℕ) (last : Option Accepted) (t : ScannerTable) (indexed : IndexedSlot) (c : Connection) : Type 0 where
+  stands : Stands t indexed
+  established : indexed.slot.state ≡ Established c
   all : OpeningsAreNumbered t
   table : TableRemembers number opening last t
 
 -- the datagram is accepted on another connection
-other_goes : (number opening : ℕ) (last : Option Accepted) (t : ScannerTable) (place : Place) (d : DatagramFields) (c : Connection) (bytes : List ℕ) → Before number opening last t place c → (place.number ≡ number → c.opening ≡ opening → ⊥) → TableRemembers number opening last (accepted_table t place d c bytes)
-other_goes number opening last t place d c bytes before other =
-    let slot : Slot = record place.slot { state = Established (accepted_connection t.clock place.config.mult d c); image = bytes } in
-    renewed_table number opening last last t (accepted_table t place d c bytes) before.table before.table.unopened
-    (apart_goes (Renewed number opening last last) t t place slot (λ k config was apart same remembers. remembers) (set_later t place.number slot) refl before.stands (λ same remembers opened. absurd (other same opened)))
+other_goes : (number opening : ℕ) (last : Option Accepted) (t : ScannerTable) (indexed : IndexedSlot) (d : DatagramFields) (c : Connection) (bytes : List ℕ) → Before number opening last t indexed c → (indexed.number ≡ number → c.opening ≡ opening → ⊥) → TableRemembers number opening last (accepted_table t indexed d c bytes)
+other_goes number opening last t indexed d c bytes before other =
+    let slot : Slot = record indexed.slot { state = Established (accepted_connection t.clock indexed.config.mult d c); image = bytes } in
+    renewed_table number opening last last t (accepted_table t indexed d c bytes) before.table before.table.unopened
+    (apart_goes (Renewed number opening last last) t t indexed slot (λ k config was apart same remembers. remembers) (set_later t indexed.number slot) refl before.stands (λ same remembers opened. absurd (other same opened)))
 
 -- the datagram is accepted on the connection itself
-own_goes : (number opening : ℕ) (last : Option Accepted) (t : ScannerTable) (place : Place) (d : DatagramFields) (c : Connection) (bytes : List ℕ) → Before number opening last t place c → place.number ≡ number → c.opening ≡ opening → TableRemembers number opening (Some (record { number = d.sequence; count = d.count })) (accepted_table t place d c bytes)
-own_goes number opening last t place d c bytes before same opened =
-    let slot : Slot = record place.slot { state = Established (accepted_connection t.clock place.config.mult d c); image = bytes } in
-    let below : c.opening < t.next_request = numbered_is t.next_request place.slot.state (Established c) before.established (before.all place.number place (place_stands t place before.stands)) in
+own_goes : (number opening : ℕ) (last : Option Accepted) (t : ScannerTable) (indexed : IndexedSlot) (d : DatagramFields) (c : Connection) (bytes : List ℕ) → Before number opening last t indexed c → indexed.number ≡ number → c.opening ≡ opening → TableRemembers number opening (Some (record { number = d.sequence; count = d.count })) (accepted_table t indexed d c bytes)
+own_goes number opening last t indexed d c bytes before same opened =
+    let slot : Slot = record indexed.slot { state = Established (accepted_connection t.clock indexed.config.mult d c); image = bytes } in
+    let below : c.opening < t.next_request = numbered_is t.next_request indexed.slot.state (Established c) before.established (before.all indexed.number indexed (slot_stands t indexed before.stands)) in
     let after : Option Accepted = Some (record { number = d.sequence; count = d.count }) in
-    renewed_table number opening last after t (accepted_table t place d c bytes) before.table (λ more. absurd (omega (arith, more, below, opened)))
-    (apart_goes (Renewed number opening last after) t t place slot (λ k config was apart is. absurd (number_differs k place.number apart (is ∙ sym same))) (set_later t place.number slot) refl before.stands (λ is remembers other. refl))
+    renewed_table number opening last after t (accepted_table t indexed d c bytes) before.table (λ more. absurd (omega (arith, more, below, opened)))
+    (apart_goes (Renewed number opening last after) t t indexed slot (λ k config was apart is. absurd (number_differs k indexed.number apart (is ∙ sym same))) (set_later t indexed.number slot) refl before.stands (λ is remembers other. refl))
 
 -- what the connection had accepted last
-had_last : (number opening : ℕ) (last : Option Accepted) (t : ScannerTable) (place : Place) (c : Connection) → Before number opening last t place c → place.number ≡ number → c.opening ≡ opening → c.last ≡ last
-had_last number opening last t place c before same opened =
-    let at : place_at t number ≡ Some place = subst (λ (n : ℕ). place_at t n ≡ Some place) same (place_stands t place before.stands) in
-    remembers_is opening last place.slot.state (Established c) before.established (before.table.there place at) opened
+had_last : (number opening : ℕ) (last : Option Accepted) (t : ScannerTable) (indexed : IndexedSlot) (c : Connection) → Before number opening last t indexed c → indexed.number ≡ number → c.opening ≡ opening → c.last ≡ last
+had_last number opening last t indexed c before same opened =
+    let at : slot_at t number ≡ Some indexed = subst (λ (n : ℕ). slot_at t n ≡ Some indexed) same (slot_stands t indexed before.stands) in
+    remembers_is opening last indexed.slot.state (Established c) before.established (before.table.there indexed at) opened
 
-accepts_step : (a b : Bool) (R : Option Accepted → Acceptance → Type 0) → FitsNews R → (number opening : ℕ) (last : Option Accepted) (t : ScannerTable) (place : Place) (d : DatagramFields) (c : Connection) (bytes : List ℕ) (applied : Bool) → (place.number == number) ≡ a → (c.opening == opening) ≡ b → Before number opening last t place c → is_news c.last d.sequence ≡ true → (applied ≡ true → is_repeated c.last d.count ≡ false) → GoesOn R number opening last (cond ((a && b) && true) (record { datagram = record { number = d.sequence; count = d.count }; applied = applied } ∷ []) []) (accepted_table t place d c bytes)
-accepts_step true true R fits number opening last t place d c bytes applied numbered opened before news fresh =
-    let same = number_is place.number number numbered in
+accepts_step : (a b : Bool) (R : Option Accepted → Acceptance → Type 0) → FitsNewer R → (number opening : ℕ) (last : Option Accepted) (t : ScannerTable) (indexed : IndexedSlot) (d : DatagramFields) (c : Connection) (bytes : List ℕ) (applied : Bool) → (indexed.number == number) ≡ a → (c.opening == opening) ≡ b → Before number opening last t indexed c → accepts_sequence c.last d.sequence ≡ true → (applied ≡ true → is_duplicate c.last d.count ≡ false) → GoesOn R number opening last (cond ((a && b) && true) (record { datagram = record { number = d.sequence; count = d.count }; applied = applied } ∷ []) []) (accepted_table t indexed d c bytes)
+accepts_step true true R fits number opening last t indexed d c bytes applied numbered opened before newer fresh =
+    let same = number_is indexed.number number numbered in
     let from = number_is c.opening opening opened in
     let next : Acceptance = record { datagram = record { number = d.sequence; count = d.count }; applied = applied } in
-    ((subst (λ (x : Option Accepted). R x next) (had_last number opening last t place c before same from) (fits c.last next news fresh), tt), own_goes number opening last t place d c bytes before same from)
-accepts_step true false R fits number opening last t place d c bytes applied numbered opened before news fresh =
-    (tt, other_goes number opening last t place d c bytes before (λ same from. number_differs c.opening opening opened from))
-accepts_step false b R fits number opening last t place d c bytes applied numbered opened before news fresh =
-    (tt, other_goes number opening last t place d c bytes before (λ same from. number_differs place.number number numbered same))
+    ((subst (λ (x : Option Accepted). R x next) (had_last number opening last t indexed c before same from) (fits c.last next newer fresh), tt), own_goes number opening last t indexed d c bytes before same from)
+accepts_step true false R fits number opening last t indexed d c bytes applied numbered opened before newer fresh =
+    (tt, other_goes number opening last t indexed d c bytes before (λ same from. number_differs c.opening opening opened from))
+accepts_step false b R fits number opening last t indexed d c bytes applied numbered opened before newer fresh =
+    (tt, other_goes number opening last t indexed d c bytes before (λ same from. number_differs indexed.number number numbered same))
 
 -- what a datagram that is found does
-abbrev GoesBy : (Option Accepted → Acceptance → Type 0) → ℕ → ℕ → Option Accepted → Option Place → DatagramFields → Next → Type 0
+abbrev GoesBy : (Option Accepted → Acceptance → Type 0) → ℕ → ℕ → Option Accepted → Option IndexedSlot → DatagramFields → Next → Type 0
 GoesBy R number opening last found d next = GoesOn R number opening last (accepted_found number opening d next.0.verdict found) next.1
 
 and_none : (b : Bool) → (b && false) ≡ false
 and_none true = refl
 and_none false = refl
 
-none_accepted : (number opening : ℕ) (d : DatagramFields) (what : Delivery) (found : Option Place) → is_accepted what ≡ false → accepted_found number opening d (Delivered what) found ≡ []
+none_accepted : (number opening : ℕ) (d : DatagramFields) (what : Delivery) (found : Option IndexedSlot) → is_accepted what ≡ false → accepted_found number opening d (Delivered what) found ≡ []
 none_accepted number opening d what None is = refl
-none_accepted number opening d what (Some place) is = rw (is, and_none (is_connection number opening place)) refl
+none_accepted number opening d what (Some indexed) is = rw (is, and_none (is_connection number opening indexed)) refl
 
-stays_on : (R : Option Accepted → Acceptance → Type 0) (number opening : ℕ) (last : Option Accepted) (t : ScannerTable) (d : DatagramFields) (what : Delivery) (found : Option Place) → is_accepted what ≡ false → TableRemembers number opening last t → GoesBy R number opening last found d (delivered what t)
+stays_on : (R : Option Accepted → Acceptance → Type 0) (number opening : ℕ) (last : Option Accepted) (t : ScannerTable) (d : DatagramFields) (what : Delivery) (found : Option IndexedSlot) → is_accepted what ≡ false → TableRemembers number opening last t → GoesBy R number opening last found d (delivered what t)
 stays_on R number opening last t d what found is table = rw (none_accepted number opening d what found is) (tt, table)
 
 came_is : (opening : ℕ) (state : SlotState) (c : Connection) → state ≡ Established c → came_from opening state ≡ (c.opening == opening)
 came_is opening state c is = ap (came_from opening) is
 
-accepted_goes : (R : Option Accepted → Acceptance → Type 0) → FitsNews R → (number opening : ℕ) (last : Option Accepted) (t : ScannerTable) (place : Place) (d : DatagramFields) (c : Connection) (bytes : List ℕ) (what : Delivery) → is_accepted what ≡ true → Before number opening last t place c → is_news c.last d.sequence ≡ true → (is_applied what ≡ true → is_repeated c.last d.count ≡ false) → GoesBy R number opening last (Some place) d (delivered what (accepted_table t place d c bytes))
-accepted_goes R fits number opening last t place d c bytes what is before news fresh =
-    rw (is, came_is opening place.slot.state c before.established)
-    (accepts_step (place.number == number) (c.opening == opening) R fits number opening last t place d c bytes (is_applied what) refl refl before news fresh)
+accepted_goes : (R : Option Accepted → Acceptance → Type 0) → FitsNewer R → (number opening : ℕ) (last : Option Accepted) (t : ScannerTable) (indexed : IndexedSlot) (d : DatagramFields) (c : Connection) (bytes : List ℕ) (what : Delivery) → is_accepted what ≡ true → Before number opening last t indexed c → accepts_sequence c.last d.sequence ≡ true → (is_applied what ≡ true → is_duplicate c.last d.count ≡ false) → GoesBy R number opening last (Some indexed) d (delivered what (accepted_table t indexed d c bytes))
+accepted_goes R fits number opening last t indexed d c bytes what is before newer fresh =
+    rw (is, came_is opening indexed.slot.state c before.established)
+    (accepts_step (indexed.number == number) (c.opening == opening) R fits number opening last t indexed d c bytes (is_applied what) refl refl before newer fresh)
 
-repeated_step : (b : Bool) (R : Option Accepted → Acceptance → Type 0) → FitsNews R → (number opening : ℕ) (last : Option Accepted) (t : ScannerTable) (place : Place) (d : DatagramFields) (c : Connection) → is_repeated c.last d.count ≡ b → Before number opening last t place c → is_news c.last d.sequence ≡ true → GoesBy R number opening last (Some place) d (cond b (delivered delivery.Duplicate (accepted_table t place d c place.slot.image)) (delivered delivery.Applied (accepted_table t place d c d.payload)))
-repeated_step true R fits number opening last t place d c is before news = accepted_goes R fits number opening last t place d c place.slot.image delivery.Duplicate refl before news (λ never. absurd cc)
-repeated_step false R fits number opening last t place d c is before news = accepted_goes R fits number opening last t place d c d.payload delivery.Applied refl before news (λ applied. is)
+duplicate_step : (b : Bool) (R : Option Accepted → Acceptance → Type 0) → FitsNewer R → (number opening : ℕ) (last : Option Accepted) (t : ScannerTable) (indexed : IndexedSlot) (d : DatagramFields) (c : Connection) → is_duplicate c.last d.count ≡ b → Before number opening last t indexed c → accepts_sequence c.last d.sequence ≡ true → GoesBy R number opening last (Some indexed) d (cond b (delivered delivery.Duplicate (accepted_table t indexed d c indexed.slot.image)) (delivered delivery.Applied (accepted_table t indexed d c d.payload)))
+duplicate_step true R fits number opening last t indexed d c is before newer = accepted_goes R fits number opening last t indexed d c indexed.slot.image delivery.Duplicate refl before newer (λ never. absurd cc)
+duplicate_step false R fits number opening last t indexed d c is before newer = accepted_goes R fits number opening last t indexed d c d.payload delivery.Applied refl before newer (λ applied. is)
 
-news_step : (b : Bool) (R : Option Accepted → Acceptance → Type 0) → FitsNews R → (number opening : ℕ) (last : Option Accepted) (t : ScannerTable) (place : Place) (d : DatagramFields) (c : Connection) → is_news c.last d.sequence ≡ b → Before number opening last t place c → GoesBy R number opening last (Some place) d (cond b (accepted t place d c) (delivered delivery.Old t))
-news_step true R fits number opening last t place d c is before = repeated_step (is_repeated c.last d.count) R fits number opening last t place d c refl before is
-news_step false R fits number opening last t place d c is before = stays_on R number opening last t d delivery.Old (Some place) refl before.table
+sequence_step : (b : Bool) (R : Option Accepted → Acceptance → Type 0) → FitsNewer R → (number opening : ℕ) (last : Option Accepted) (t : ScannerTable) (indexed : IndexedSlot) (d : DatagramFields) (c : Connection) → accepts_sequence c.last d.sequence ≡ b → Before number opening last t indexed c → GoesBy R number opening last (Some indexed) d (cond b (accepted t indexed d c) (delivered delivery.Old t))
+sequence_step true R fits number opening last t indexed d c is before = duplicate_step (is_duplicate c.last d.count) R fits number opening last t indexed d c refl before is
+sequence_step false R fits number opening last t indexed d c is before = stays_on R number opening last t d delivery.Old (Some indexed) refl before.table
 
-sized_step : (b : Bool) (R : Option Accepted → Acceptance → Type 0) → FitsNews R → (number opening : ℕ) (last : Option Accepted) (t : ScannerTable) (place : Place) (d : DatagramFields) (c : Connection) → Before number opening last t place c → GoesBy R number opening last (Some place) d (cond b (sized t place d c) (delivered delivery.WrongSize t))
-sized_step true R fits number opening last t place d c before = news_step (is_news c.last d.sequence) R fits number opening last t place d c refl before
-sized_step false R fits number opening last t place d c before = stays_on R number opening last t d delivery.WrongSize (Some place) refl before.table
+sized_step : (b : Bool) (R : Option Accepted → Acceptance → Type 0) → FitsNewer R → (number opening : ℕ) (last : Option Accepted) (t : ScannerTable) (indexed : IndexedSlot) (d : DatagramFields) (c : Connection) → Before number opening last t indexed c → GoesBy R number opening last (Some indexed) d (cond b (sized t indexed d c) (delivered delivery.WrongSize t))
+sized_step true R fits number opening last t indexed d c before = sequence_step (accepts_sequence c.last d.sequence) R fits number opening last t indexed d c refl before
+sized_step false R fits number opening last t indexed d c before = stays_on R number opening last t d delivery.WrongSize (Some indexed) refl before.table
 
-state_step : (R : Option Accepted → Acceptance → Type 0) → FitsNews R → (number opening : ℕ) (last : Option Accepted) (t : ScannerTable) (place : Place) (d : DatagramFields) (state : SlotState) → place.slot.state ≡ state → Stands t place → OpeningsAreNumbered t → TableRemembers number opening last t → GoesBy R number opening last (Some place) d (state_received t place d state)
-state_step R fits number opening last t place d Idle is stands all table = stays_on R number opening last t d delivery.UnknownId (Some place) refl table
-state_step R fits number opening last t place d (Opening o) is stands all table = stays_on R number opening last t d delivery.UnknownId (Some place) refl table
-state_step R fits number opening last t place d (Established c) is stands all table = sized_step _ R fits number opening last t place d c (record { stands = stands; established = is; all = all; table = table })
-state_step R fits number opening last t place d (TimedOut link) is stands all table = stays_on R number opening last t d delivery.UnknownId (Some place) refl table
-state_step R fits number opening last t place d (Closing c) is stands all table = stays_on R number opening last t d delivery.UnknownId (Some place) refl table
+state_step : (R : Option Accepted → Acceptance → Type 0) → FitsNewer R → (number opening : ℕ) (last : Option Accepted) (t : ScannerTable) (indexed : IndexedSlot) (d : DatagramFields) (state : SlotState) → indexed.slot.state ≡ state → Stands t indexed → OpeningsAreNumbered t → TableRemembers number opening last t → GoesBy R number opening last (Some indexed) d (state_received t indexed d state)
+state_step R fits number opening last t indexed d Idle is stands all table = stays_on R number opening last t d delivery.UnknownId (Some indexed) refl table
+state_step R fits number opening last t indexed d (Opening o) is stands all table = stays_on R number opening last t d delivery.UnknownId (Some indexed) refl table
+state_step R fits number opening last t indexed d (Established c) is stands all table = sized_step _ R fits number opening last t indexed d c (record { stands = stands; established = is; all = all; table = table })
+state_step R fits number opening last t indexed d (TimedOut link) is stands all table = stays_on R number opening last t d delivery.UnknownId (Some indexed) refl table
+state_step R fits number opening last t indexed d (Closing c) is stands all table = stays_on R number opening last t d delivery.UnknownId (Some indexed) refl table
 
-found_goes : (R : Option Accepted → Acceptance → Type 0) → FitsNews R → (number opening : ℕ) (last : Option Accepted) (t : ScannerTable) (d : DatagramFields) (p : Place → Bool) (found : Option Place) → find p (places t) ≡ found → OpeningsAreNumbered t → TableRemembers number opening last t → GoesBy R number opening last found d (received_at t d found)
+found_goes : (R : Option Accepted → Acceptance → Type 0) → FitsNewer R → (number opening : ℕ) (last : Option Accepted) (t : ScannerTable) (d : DatagramFields) (p : IndexedSlot → Bool) (found : Option IndexedSlot) → find p (indexed_slots t) ≡ found → OpeningsAreNumbered t → TableRemembers number opening last t → GoesBy R number opening last found d (received_at t d found)
 found_goes R fits number opening last t d p None is all table = stays_on R number opening last t d delivery.UnknownId None refl table
-found_goes R fits number opening last t d p (Some place) is all table = state_step R fits number opening last t place d place.slot.state refl (each_found (Stands t) p (places t) place is (each_stands t)) all table
+found_goes R fits number opening last t d p (Some indexed) is all table = state_step R fits number opening last t indexed d indexed.slot.state refl (each_found (Stands t) p (indexed_slots t) indexed is (each_stands t)) all table
 
-read_goes : (R : Option Accepted → Acceptance → Type 0) → FitsNews R → (number opening : ℕ) (last : Option Accepted) (t : ScannerTable) (peer : Node) (reading : Result DatagramFields DatagramFault) → OpeningsAreNumbered t → TableRemembers number opening last t → GoesOn R number opening last (accepted_read number opening t peer (received_as t peer reading).0.verdict reading) (received_as t peer reading).1
+read_goes : (R : Option Accepted → Acceptance → Type 0) → FitsNewer R → (number opening : ℕ) (last : Option Accepted) (t : ScannerTable) (peer : Node) (reading : Result DatagramFields DatagramFault) → OpeningsAreNumbered t → TableRemembers number opening last t → GoesOn R number opening last (accepted_read number opening t peer (received_as t peer reading).0.verdict reading) (received_as t peer reading).1
 read_goes R fits number opening last t peer (Err why) all table = (tt, table)
-read_goes R fits number opening last t peer (Ok d) all table = found_goes R fits number opening last t d (is_for peer d.connection) (find (is_for peer d.connection) (places t)) refl all table
+read_goes R fits number opening last t peer (Ok d) all table = found_goes R fits number opening last t d (is_for peer d.connection) (find (is_for peer d.connection) (indexed_slots t)) refl all table
 
-received_goes : (R : Option Accepted → Acceptance → Type 0) → FitsNews R → (number opening : ℕ) (last : Option Accepted) (t : ScannerTable) (peer : Node) (bytes : List ℕ) → OpeningsAreNumbered t → TableRemembers number opening last t → GoesOn R number opening last (accepted_at number opening t (Datagram peer bytes)) (received t peer bytes).1
+received_goes : (R : Option Accepted → Acceptance → Type 0) → FitsNewer R → (number opening : ℕ) (last : Option Accepted) (t : ScannerTable) (peer : Node) (bytes : List ℕ) → OpeningsAreNumbered t → TableRemembers number opening last t → GoesOn R number opening last (accepted_at number opening t (Datagram peer bytes)) (received t peer bytes).1
 unfolding received
 received_goes R fits number opening last t peer bytes all table = read_goes R fits number opening last t peer (datagram_reading bytes) all table
 
@@ -385,7 +385,7 @@ leads_known : (number opening : ℕ) (last : Option Accepted) (t : ScannerTable)
 leads_known number opening last t (Ok next) all table goes = (tt, known_table number opening last t next.1 all table goes)
 leads_known number opening last t (Err why) all table goes = tt
 
-step_goes : (R : Option Accepted → Acceptance → Type 0) → FitsNews R → (number opening : ℕ) (last : Option Accepted) (t : ScannerTable) (event : Event) → OpeningsAreNumbered t → TableRemembers number opening last t → AnswerGoes R number opening last t event (scanner_step t event)
+step_goes : (R : Option Accepted → Acceptance → Type 0) → FitsNewer R → (number opening : ℕ) (last : Option Accepted) (t : ScannerTable) (event : Event) → OpeningsAreNumbered t → TableRemembers number opening last t → AnswerGoes R number opening last t event (scanner_step t event)
 step_goes R fits number opening last t (Request peer bytes) all table = tt
 step_goes R fits number opening last t (StreamOpened stream peer) all table = leads_known number opening last t (scanner_step t (StreamOpened stream peer)) all table (streamed_leads (Knowing opening last) (known_widely opening last) t stream peer)
 step_goes R fits number opening last t (Frame stream bytes) all table = leads_known number opening last t (scanner_step t (Frame stream bytes)) all table (frame_leads (Knowing opening last) (Knowing opening last) t (known_established opening last t) stream bytes)
@@ -401,7 +401,7 @@ step_goes R fits number opening last t (Stop slot) all table = leads_known numbe
 goes_next : (R : Option Accepted → Acceptance → Type 0) (number opening : ℕ) (last : Option Accepted) (t : ScannerTable) (event : Event) (said : Result Next StepFault) (next : Next) → said ≡ Ok next → AnswerGoes R number opening last t event said → GoesOn R number opening last (accepted_at number opening t event) next.1
 goes_next R number opening last t event said next is goes = subst (AnswerGoes R number opening last t event) is goes
 
-accept_after : (R : Option Accepted → Acceptance → Type 0) → FitsNews R → StepsAcceptAfter R
+accept_after : (R : Option Accepted → Acceptance → Type 0) → FitsNewer R → StepsAcceptAfter R
 accept_after R fits number opening last t event next is all table = goes_next R number opening last t event (scanner_step t event) next is (step_goes R fits number opening last t event all table)
 
 pub refusals_accept_nothing : RefusalsAcceptNothing
@@ -428,11 +428,11 @@ record Left (R : Option Accepted → Acceptance → Type 0) (number opening : �
   goes : GoesOn R number opening last (accepted_at number opening t event) u
   all : OpeningsAreNumbered u
 
-left_goes : (R : Option Accepted → Acceptance → Type 0) → FitsNews R → (number opening : ℕ) (last : Option Accepted) (t : ScannerTable) (event : Event) (said : Result Next StepFault) → scanner_step t event ≡ said → OpeningsAreNumbered t → TableRemembers number opening last t → Left R number opening last t event (left_by t said)
+left_goes : (R : Option Accepted → Acceptance → Type 0) → FitsNewer R → (number opening : ℕ) (last : Option Accepted) (t : ScannerTable) (event : Event) (said : Result Next StepFault) → scanner_step t event ≡ said → OpeningsAreNumbered t → TableRemembers number opening last t → Left R number opening last t event (left_by t said)
 left_goes R fits number opening last t event (Ok next) is all table = record { goes = accept_after R fits number opening last t event next is all table; all = numbers_keep t event next is all }
 left_goes R fits number opening last t event (Err why) is all table = record { goes = rw (refusals_accept_nothing number opening t event why is) (tt, table); all = all }
 
-events_go : (R : Option Accepted → Acceptance → Type 0) → FitsNews R → (number opening : ℕ) (last : Option Accepted) (t : ScannerTable) (events : List Event) → OpeningsAreNumbered t → TableRemembers number opening last t → EachAfter R last (acceptances number opening t events)
+events_go : (R : Option Accepted → Acceptance → Type 0) → FitsNewer R → (number opening : ℕ) (last : Option Accepted) (t : ScannerTable) (events : List Event) → OpeningsAreNumbered t → TableRemembers number opening last t → EachAfter R last (acceptances number opening t events)
 events_go R fits number opening last t [] all table = tt
 events_go R fits number opening last t (event ∷ events) all table =
     let next = left_by t (scanner_step t event) in
@@ -459,17 +459,17 @@ state_unopened opening next (Established c) numbered more = none_later (c.openin
 state_unopened opening next (TimedOut link) numbered more = refl
 state_unopened opening next (Closing c) numbered more = refl
 
-found_unopened : (opening : ℕ) (t : ScannerTable) (number : ℕ) (found : Option Place) → place_at t number ≡ found → OpeningsAreNumbered t → t.next_request ≤ opening → last_of opening found ≡ None
+found_unopened : (opening : ℕ) (t : ScannerTable) (number : ℕ) (found : Option IndexedSlot) → slot_at t number ≡ found → OpeningsAreNumbered t → t.next_request ≤ opening → last_of opening found ≡ None
 found_unopened opening t number None is all more = refl
-found_unopened opening t number (Some place) is all more = state_unopened opening t.next_request place.slot.state (all number place is) more
+found_unopened opening t number (Some indexed) is all more = state_unopened opening t.next_request indexed.slot.state (all number indexed is) more
 
 knows_last : (number opening : ℕ) (t : ScannerTable) → OpeningsAreNumbered t → TableRemembers number opening (last_in number opening t) t
 knows_last number opening t all = record {
-  there = λ place is. rw is (state_knows opening place.slot.state);
-  unopened = λ more. found_unopened opening t number (place_at t number) refl all more;
+  there = λ indexed is. rw is (state_knows opening indexed.slot.state);
+  unopened = λ more. found_unopened opening t number (slot_at t number) refl all more;
 }
 
-events_accept : (R : Option Accepted → Acceptance → Type 0) → FitsNews R → EventsAcceptAfter R
+events_accept : (R : Option Accepted → Acceptance → Type 0) → FitsNewer R → EventsAcceptAfter R
 events_accept R fits number opening t events all = events_go R fits number opening (last_in number opening t) t events all (knows_last number opening t all)
 
 -- ---- the laws

@@ -6,16 +6,16 @@ use Rattle.cip_types.specs.declared.names.Ms.{Ms}
 use Rattle.cip_fwdopen.specs.declared.reply.Opened as made
 use Rattle.cip_productions.specs.Kinds.{is_owner}
 use Rattle.conn_state.specs.declared.names.Link.{Link}
-use Rattle.conn_state.specs.Answers.{is_wanted_id}
+use Rattle.conn_state.specs.Answers.{is_requested_id}
 use Rattle.scanner_table.specs.declared.profile.ScannerProfile.{ScannerProfile}
 use Rattle.scanner_table.specs.declared.profile.SlotConfig.{SlotConfig}
-use Rattle.scanner_table.specs.declared.slot.Opening as asked
+use Rattle.scanner_table.specs.declared.slot.PendingOpen as pending
 use Rattle.scanner_table.specs.declared.slot.Slot.{Slot}
 use Rattle.scanner_table.specs.declared.slot.SlotState.{SlotState}
 use Rattle.scanner_table.specs.declared.slot.SlotState.TheVariants.{Idle, Opening, Established, TimedOut, Closing}
 use Rattle.scanner_table.specs.declared.table.ScannerTable.{ScannerTable}
-use Rattle.scanner_table.specs.Slots.{Place, place_at, with_slot}
-use Rattle.scanner_table.specs.Asking.{connection_id}
+use Rattle.scanner_table.specs.Slots.{IndexedSlot, slot_at, with_slot}
+use Rattle.scanner_table.specs.Requests.{connection_id}
 use Rattle.scanner_table.specs.Effects.{counted}
 use Rattle.scanner_table.specs.Opening.{drawn, opening_slot}
 use Rattle.scanner_table.specs.Replies.{new_connection, established_slot, failed_slot}
@@ -27,11 +27,11 @@ use Rattle.scanner_table.specs.Ticks.{clocked_table}
 use Rattle.scanner_table.specs.Step.{fresh_slot, scanner_table}
 use Rattle.scanner_laws.specs.Runs.{table_after, StepsKeep, IsLaw}
 use Rattle.scanner_laws.specs.Drawn.{IsDrawn, WantsDrawn, LinkIsDrawn, StateIsDrawn, NumbersAreDrawn, Began, RequestsRise, IdsAreGivenOnce, drawn_id, IdsAreOwn, NumbersAreOwn}
-use Rattle.scanner_laws.proofs.Places.{some_is, get_same, get_other, Stands, placed, place_is, place_stands}
+use Rattle.scanner_laws.proofs.SlotLookups.{some_is, get_same, get_other, Stands, indexed_at, slot_is, slot_stands}
 use Rattle.scanner_laws.proofs.Moves.{Kept, KeptAlways}
 use Rattle.scanner_laws.proofs.Events.{steps_lead, law_of}
 use Rattle.scanner_laws.proofs.DrawnSteps.{events_begin}
-use Rattle.scanner_laws.proofs.Slotwise.{Later, set_later, counted_later, Relation, StaysSo, SlotwiseAlways, Goes, stays_goes, set_goes, moded_goes, produced_goes, goes_always, Property, Stays, was_of, of_each_place}
+use Rattle.scanner_laws.proofs.Slotwise.{Later, set_later, counted_later, Relation, StaysSo, SlotwiseAlways, Goes, stays_goes, set_goes, moded_goes, produced_goes, goes_always, Property, Stays, was_of, of_each_slot}
 
 -- ---- numbers are drawn
 
@@ -41,7 +41,7 @@ Drawn t number config slot = StateIsDrawn t.profile t.next_id t.next_request con
 drawn_later_id : (profile other : ScannerProfile) (n m : ℕ) (id : ConnId) → other ≡ profile → n ≤ m → IsDrawn profile 0 n id → IsDrawn other 0 m id
 drawn_later_id profile other n m id same up drawn = record { counter = drawn.counter; is = drawn.is ∙ ap (λ (p : ScannerProfile). connection_id p drawn.counter) (sym same); begins = omega arith; ends = omega (arith, drawn.ends) }
 
-wants_on : (profile other : ScannerProfile) (n m : ℕ) (multicast : Bool) (wanted : Option ConnId) → other ≡ profile → n ≤ m → WantsDrawn profile 0 n multicast wanted → WantsDrawn other 0 m multicast wanted
+wants_on : (profile other : ScannerProfile) (n m : ℕ) (multicast : Bool) (requested : Option ConnId) → other ≡ profile → n ≤ m → WantsDrawn profile 0 n multicast requested → WantsDrawn other 0 m multicast requested
 wants_on profile other n m true None same up wants = tt
 wants_on profile other n m true (Some id) same up wants = absurd wants
 wants_on profile other n m false None same up wants = absurd wants
@@ -53,7 +53,7 @@ link_on profile other n m false link same up drawn = drawn_later_id profile othe
 
 state_on : (profile other : ScannerProfile) (n m r s : ℕ) (multicast : Bool) (state : SlotState) → other ≡ profile → n ≤ m → r ≤ s → StateIsDrawn profile n r multicast state → StateIsDrawn other m s multicast state
 state_on profile other n m r s multicast Idle same up on drawn = tt
-state_on profile other n m r s multicast (Opening o) same up on drawn = (omega (arith, drawn.0), wants_on profile other n m multicast o.wanted.t_o_id same up drawn.1)
+state_on profile other n m r s multicast (Opening o) same up on drawn = (omega (arith, drawn.0), wants_on profile other n m multicast o.requested.t_o_id same up drawn.1)
 state_on profile other n m r s multicast (Established c) same up on drawn = (omega (arith, drawn.0), link_on profile other n m multicast c.link same up drawn.1)
 state_on profile other n m r s multicast (TimedOut link) same up on drawn = link_on profile other n m multicast link same up drawn
 state_on profile other n m r s multicast (Closing c) same up on drawn = (omega (arith, drawn.0), link_on profile other n m multicast c.link same up drawn.1)
@@ -65,8 +65,8 @@ wants_next profile n false = record { counter = n; is = refl; begins = omega ari
 same_id : (a b : ConnId) → (a.0 == b.0) ≡ true → a ≡ b
 same_id a b is = let same : a.0 ≡ b.0 = grind (arith, nat_tests) in ap (λ (n : ℕ). let id : ConnId = record { 0 = n } in id) same
 
-link_made : (profile : ScannerProfile) (n : ℕ) (multicast : Bool) (wanted : Option ConnId) (id : ConnId) → is_wanted_id wanted id ≡ true → WantsDrawn profile 0 n multicast wanted → cond multicast (Unit {0}) (IsDrawn profile 0 n id)
-link_made profile n true wanted id is wants = tt
+link_made : (profile : ScannerProfile) (n : ℕ) (multicast : Bool) (requested : Option ConnId) (id : ConnId) → is_requested_id requested id ≡ true → WantsDrawn profile 0 n multicast requested → cond multicast (Unit {0}) (IsDrawn profile 0 n id)
+link_made profile n true requested id is wants = tt
 link_made profile n false None id is wants = absurd wants
 link_made profile n false (Some asked) id is wants = subst (IsDrawn profile 0 n) (same_id asked id is) wants
 
@@ -111,25 +111,25 @@ drawn_always = record {
   widely = record {
     stays = λ t u number config slot later drawn. state_on t.profile u.profile t.next_id u.next_id t.next_request u.next_request config.multicast slot.state later.profile later.ids later.requests drawn;
     after = λ t u v number config a b c first next before behind drawn. behind (before drawn);
-    opening = λ t place resting drawn. (omega arith, wants_next t.profile t.next_id place.config.multicast);
-    idling = λ t place slot idle drawn. idle_drawn t place.config.multicast slot.state idle.state;
-    timing_out = λ t place c is drawn. (state_is t place.config.multicast place.slot.state (Established c) is drawn).1;
-    closing = λ t place c is drawn. (omega arith, (state_is t place.config.multicast place.slot.state (Established c) is drawn).1);
+    opening = λ t indexed resting drawn. (omega arith, wants_next t.profile t.next_id indexed.config.multicast);
+    idling = λ t indexed slot idle drawn. idle_drawn t indexed.config.multicast slot.state idle.state;
+    timing_out = λ t indexed c is drawn. (state_is t indexed.config.multicast indexed.slot.state (Established c) is drawn).1;
+    closing = λ t indexed c is drawn. (omega arith, (state_is t indexed.config.multicast indexed.slot.state (Established c) is drawn).1);
     producing = table_drawn;
-    moding = λ t run place drawn. moded_drawn (is_owner place.config.kind) t place.config.multicast place.slot drawn;
+    moding = λ t run indexed drawn. moded_drawn (is_owner indexed.config.kind) t indexed.config.multicast indexed.slot drawn;
   };
-  establishing = λ t place o success is wanted drawn.
-      let was = state_is t place.config.multicast place.slot.state (Opening o) is drawn in
-      (was.0, link_is t.profile t.next_id place.config.multicast (new_connection t place o success).link (link_made t.profile t.next_id place.config.multicast o.wanted.t_o_id success.t_o_id wanted was.1));
-  writing = λ t place bytes drawn. written_drawn t place.config.multicast place.slot.state drawn;
-  accepting = λ t place d c bytes is drawn. state_is t place.config.multicast place.slot.state (Established c) is.established drawn;
+  establishing = λ t indexed o success is requested drawn.
+      let was = state_is t indexed.config.multicast indexed.slot.state (Opening o) is drawn in
+      (was.0, link_is t.profile t.next_id indexed.config.multicast (new_connection t indexed o success).link (link_made t.profile t.next_id indexed.config.multicast o.requested.t_o_id success.t_o_id requested was.1));
+  writing = λ t indexed bytes drawn. written_drawn t indexed.config.multicast indexed.slot.state drawn;
+  accepting = λ t indexed d c bytes is drawn. state_is t indexed.config.multicast indexed.slot.state (Established c) is.established drawn;
 }
 
 drawn_goes : KeptAlways (Goes (Stays Drawn))
 drawn_goes = goes_always (Stays Drawn) drawn_always
 
 numbers_stay : (t u : ScannerTable) → Goes (Stays Drawn) t u → NumbersAreDrawn t → NumbersAreDrawn u
-numbers_stay t u goes drawn = of_each_place Drawn t u goes drawn
+numbers_stay t u goes drawn = of_each_slot Drawn t u goes drawn
 
 pub steps_draw : StepsKeep NumbersAreDrawn
 steps_draw t event next is drawn = numbers_stay t next.1 (steps_lead (Goes (Stays Drawn)) drawn_goes t event next is) drawn
@@ -142,13 +142,13 @@ slot_id config state = cond config.multicast None (drawn_id state)
 
 -- no two slots have one id
 abbrev Own : ScannerTable → Type 0
-Own t = (a b : Place) (id : ConnId) → a.number ≢ b.number → Stands t a → Stands t b → slot_id a.config a.slot.state ≡ Some id → slot_id b.config b.slot.state ≢ Some id
+Own t = (a b : IndexedSlot) (id : ConnId) → a.number ≢ b.number → Stands t a → Stands t b → slot_id a.config a.slot.state ≡ Some id → slot_id b.config b.slot.state ≢ Some id
 
 own_ids : (t : ScannerTable) → Own t → IdsAreOwn t
-own_ids t own = λ a b id apart first second. own a b id apart (place_is t a.number a first).stands (place_is t b.number b second).stands
+own_ids t own = λ a b id apart first second. own a b id apart (slot_is t a.number a first).stands (slot_is t b.number b second).stands
 
 ids_own : (t : ScannerTable) → IdsAreOwn t → Own t
-ids_own t own = λ a b id apart first second. own a b id apart (place_stands t a first) (place_stands t b second)
+ids_own t own = λ a b id apart first second. own a b id apart (slot_stands t a first) (slot_stands t b second)
 
 -- a slot whose numbers are drawn has no id but the one that it had
 abbrev IdStays : Relation
@@ -161,11 +161,11 @@ own_where : (t u : ScannerTable) → Goes IdStays t u → NumbersAreDrawn t → 
 own_where t u goes drawn own a b id apart first second = λ is other.
     let was = was_of IdStays t u a goes first in
     let had = was_of IdStays t u b goes second in
-    let before = placed a.number a.config was.slot in
-    let behind = placed b.number b.config had.slot in
+    let before = indexed_at a.number a.config was.slot in
+    let behind = indexed_at b.number b.config had.slot in
     own before behind id apart was.stands had.stands
-    (was.holds (drawn a.number before (place_stands t before was.stands)) id is)
-    (had.holds (drawn b.number behind (place_stands t behind had.stands)) id other)
+    (was.holds (drawn a.number before (slot_stands t before was.stands)) id is)
+    (had.holds (drawn b.number behind (slot_stands t behind had.stands)) id other)
 
 -- ids are own in the later table
 record Owns (t u : ScannerTable) : Type 0 where
@@ -184,28 +184,28 @@ owns_after t u v first next = record {
 -- ---- an opening has an id of its own
 
 -- the place is another one than the place that opens, and stands as before
-others_stand : (t : ScannerTable) (place other : Place) → other.number ≢ place.number → Stands (with_slot (counted (drawn t place.config)) place.number (opening_slot t place)) other → Stands t other
-others_stand t place other apart stands = record { config = stands.config; slot = sym (get_other place.number other.number t.slots (opening_slot t place) apart) ∙ stands.slot }
+others_stand : (t : ScannerTable) (indexed other : IndexedSlot) → other.number ≢ indexed.number → Stands (with_slot (counted (drawn t indexed.config)) indexed.number (opening_slot t indexed)) other → Stands t other
+others_stand t indexed other apart stands = record { config = stands.config; slot = sym (get_other indexed.number other.number t.slots (opening_slot t indexed) apart) ∙ stands.slot }
 
 next_id_is : (t : ScannerTable) (multicast : Bool) (id : ConnId) → cond multicast None (cond multicast None (Some (connection_id t.profile t.next_id))) ≡ Some id → id ≡ connection_id t.profile t.next_id
 next_id_is t true id is = absurd cc
 next_id_is t false id is = sym (some_is (connection_id t.profile t.next_id) id is)
 
 -- the id of the place that opens is the next one
-opened_id : (t : ScannerTable) (place other : Place) (id : ConnId) → Stands t place → other.number ≡ place.number → Stands (with_slot (counted (drawn t place.config)) place.number (opening_slot t place)) other → slot_id other.config other.slot.state ≡ Some id → id ≡ connection_id t.profile t.next_id
-opened_id t place other id there same stands is =
-    let config : place.config ≡ other.config = some_is place.config other.config (sym there.config ∙ subst (λ (n : ℕ). slice_get t.profile.slots n ≡ Some other.config) same stands.config) in
-    let now : slice_get (slice_set t.slots place.number (opening_slot t place)) place.number ≡ Some other.slot = subst (λ (n : ℕ). slice_get (slice_set t.slots place.number (opening_slot t place)) n ≡ Some other.slot) same stands.slot in
-    let slot : opening_slot t place ≡ other.slot = some_is (opening_slot t place) other.slot (sym (get_same place.number t.slots (opening_slot t place) place.slot there.slot) ∙ now) in
-    next_id_is t place.config.multicast id
-    (subst (λ (c : SlotConfig). slot_id c (opening_slot t place).state ≡ Some id) (sym config)
+opened_id : (t : ScannerTable) (indexed other : IndexedSlot) (id : ConnId) → Stands t indexed → other.number ≡ indexed.number → Stands (with_slot (counted (drawn t indexed.config)) indexed.number (opening_slot t indexed)) other → slot_id other.config other.slot.state ≡ Some id → id ≡ connection_id t.profile t.next_id
+opened_id t indexed other id there same stands is =
+    let config : indexed.config ≡ other.config = some_is indexed.config other.config (sym there.config ∙ subst (λ (n : ℕ). slice_get t.profile.slots n ≡ Some other.config) same stands.config) in
+    let now : slice_get (slice_set t.slots indexed.number (opening_slot t indexed)) indexed.number ≡ Some other.slot = subst (λ (n : ℕ). slice_get (slice_set t.slots indexed.number (opening_slot t indexed)) n ≡ Some other.slot) same stands.slot in
+    let slot : opening_slot t indexed ≡ other.slot = some_is (opening_slot t indexed) other.slot (sym (get_same indexed.number t.slots (opening_slot t indexed) indexed.slot there.slot) ∙ now) in
+    next_id_is t indexed.config.multicast id
+    (subst (λ (c : SlotConfig). slot_id c (opening_slot t indexed).state ≡ Some id) (sym config)
     (subst (λ (s : Slot). slot_id other.config s.state ≡ Some id) (sym slot) is))
 
 drawn_below : (t : ScannerTable) (multicast : Bool) (state : SlotState) (id : ConnId) → StateIsDrawn t.profile t.next_id t.next_request multicast state → cond multicast None (drawn_id state) ≡ Some id → IsDrawn t.profile 0 t.next_id id
 drawn_below t true state id drawn is = absurd cc
 drawn_below t false Idle id drawn is = absurd cc
-drawn_below t false (Opening o) id drawn is = below o.wanted.t_o_id is drawn.1 where
-  below : (wanted : Option ConnId) → wanted ≡ Some id → WantsDrawn t.profile 0 t.next_id false wanted → IsDrawn t.profile 0 t.next_id id
+drawn_below t false (Opening o) id drawn is = below o.requested.t_o_id is drawn.1 where
+  below : (requested : Option ConnId) → requested ≡ Some id → WantsDrawn t.profile 0 t.next_id false requested → IsDrawn t.profile 0 t.next_id id
   below None none wants = absurd wants
   below (Some other) same wants = subst (IsDrawn t.profile 0 t.next_id) (some_is other id same) wants
 drawn_below t false (Established c) id drawn is = subst (IsDrawn t.profile 0 t.next_id) (some_is c.link.t_o_id id is) drawn.1
@@ -223,20 +223,20 @@ number_is a b is = grind (arith, nat_tests)
 number_differs : (a b : ℕ) → (a == b) ≡ false → a ≢ b
 number_differs a b is same = absurd (grind (arith, nat_tests))
 
-opening_owns : (t : ScannerTable) (place : Place) → Stands t place → NumbersAreDrawn t → Own t → Own (with_slot (counted (drawn t place.config)) place.number (opening_slot t place))
-opening_owns t place there all own a b id apart first second is other = step (a.number == place.number) (b.number == place.number) refl refl where
-  step : (x y : Bool) → (a.number == place.number) ≡ x → (b.number == place.number) ≡ y → ⊥
-  step true true one two = apart (number_is a.number place.number one ∙ sym (number_is b.number place.number two))
+opening_owns : (t : ScannerTable) (indexed : IndexedSlot) → Stands t indexed → NumbersAreDrawn t → Own t → Own (with_slot (counted (drawn t indexed.config)) indexed.number (opening_slot t indexed))
+opening_owns t indexed there all own a b id apart first second is other = step (a.number == indexed.number) (b.number == indexed.number) refl refl where
+  step : (x y : Bool) → (a.number == indexed.number) ≡ x → (b.number == indexed.number) ≡ y → ⊥
+  step true true one two = apart (number_is a.number indexed.number one ∙ sym (number_is b.number indexed.number two))
   step true false one two =
-      let stands = others_stand t place b (number_differs b.number place.number two) second in
-      not_drawn t.profile t.next_id id (opened_id t place a id there (number_is a.number place.number one) first is)
-      (drawn_below t b.config.multicast b.slot.state id (all b.number b (place_stands t b stands)) other)
+      let stands = others_stand t indexed b (number_differs b.number indexed.number two) second in
+      not_drawn t.profile t.next_id id (opened_id t indexed a id there (number_is a.number indexed.number one) first is)
+      (drawn_below t b.config.multicast b.slot.state id (all b.number b (slot_stands t b stands)) other)
   step false true one two =
-      let stands = others_stand t place a (number_differs a.number place.number one) first in
-      not_drawn t.profile t.next_id id (opened_id t place b id there (number_is b.number place.number two) second other)
-      (drawn_below t a.config.multicast a.slot.state id (all a.number a (place_stands t a stands)) is)
+      let stands = others_stand t indexed a (number_differs a.number indexed.number one) first in
+      not_drawn t.profile t.next_id id (opened_id t indexed b id there (number_is b.number indexed.number two) second other)
+      (drawn_below t a.config.multicast a.slot.state id (all a.number a (slot_stands t a stands)) is)
   step false false one two =
-      own a b id apart (others_stand t place a (number_differs a.number place.number one) first) (others_stand t place b (number_differs b.number place.number two) second) is other
+      own a b id apart (others_stand t indexed a (number_differs a.number indexed.number one) first) (others_stand t indexed b (number_differs b.number indexed.number two) second) is other
 
 -- ---- what happens to the id of one slot
 
@@ -274,27 +274,27 @@ moded_id : (b : Bool) (slot : Slot) → drawn_id slot.state ≡ drawn_id (cond b
 moded_id true slot = written_id slot.state
 moded_id false slot = refl
 
-success_id : (t : ScannerTable) (multicast : Bool) (wanted : Option ConnId) (made_id id : ConnId) → is_wanted_id wanted made_id ≡ true → WantsDrawn t.profile 0 t.next_id multicast wanted → cond multicast None (Some made_id) ≡ Some id → cond multicast None wanted ≡ Some id
-success_id t true wanted made_id id is wants same = absurd cc
+success_id : (t : ScannerTable) (multicast : Bool) (requested : Option ConnId) (made_id id : ConnId) → is_requested_id requested made_id ≡ true → WantsDrawn t.profile 0 t.next_id multicast requested → cond multicast None (Some made_id) ≡ Some id → cond multicast None requested ≡ Some id
+success_id t true requested made_id id is wants same = absurd cc
 success_id t false None made_id id is wants same = absurd wants
 success_id t false (Some asked) made_id id is wants same = ap (λ (x : ConnId). Some x) (same_id asked made_id is) ∙ same
 
 -- the slot's id stays, and its numbers are drawn
-set_owns : (t u : ScannerTable) (place : Place) (slot : Slot) → Goes (Stays Drawn) t (with_slot u place.number slot) → Later t (with_slot u place.number slot) → u.slots ≡ t.slots → Stands t place → IdStays t (with_slot u place.number slot) place.number place.config place.slot slot → Owns t (with_slot u place.number slot)
-set_owns t u place slot goes later same stands stays = owns_by t (with_slot u place.number slot) goes (set_goes IdStays id_stays t u place slot later same stands stays)
+set_owns : (t u : ScannerTable) (indexed : IndexedSlot) (slot : Slot) → Goes (Stays Drawn) t (with_slot u indexed.number slot) → Later t (with_slot u indexed.number slot) → u.slots ≡ t.slots → Stands t indexed → IdStays t (with_slot u indexed.number slot) indexed.number indexed.config indexed.slot slot → Owns t (with_slot u indexed.number slot)
+set_owns t u indexed slot goes later same stands stays = owns_by t (with_slot u indexed.number slot) goes (set_goes IdStays id_stays t u indexed slot later same stands stays)
 
 owns_kept : Kept Owns
 owns_kept = record {
   same = λ t. owns_by t t (drawn_goes.widely.slots.same t) (stays_goes IdStays id_stays t t (drawn_goes.widely.slots.same t).later refl);
   after = owns_after;
-  opening = λ t place stands resting. record { goes = drawn_goes.widely.slots.opening t place stands resting; own = opening_owns t place stands };
-  idling = λ t place slot stands idle. set_owns t t place slot (drawn_goes.widely.slots.idling t place slot stands idle) (set_later t place.number slot) refl stands (λ drawn id is. absurd (no_id place.config.multicast slot.state id idle.state is));
-  timing_out = λ t place c stands is.
-      let slot = failed_slot t (TimedOut c.link) place.slot in
-      set_owns t t place slot (drawn_goes.widely.slots.timing_out t place c stands is) (set_later t place.number slot) refl stands (λ drawn id. same_state_id place.config place.slot.state (Established c) slot.state id is refl);
-  closing = λ t place c stands is.
-      let slot = closing_slot t c place.slot in
-      set_owns t (counted t) place slot (drawn_goes.widely.slots.closing t place c stands is) (counted_later t place.number slot) refl stands (λ drawn id. same_state_id place.config place.slot.state (Established c) slot.state id is refl);
+  opening = λ t indexed stands resting. record { goes = drawn_goes.widely.slots.opening t indexed stands resting; own = opening_owns t indexed stands };
+  idling = λ t indexed slot stands idle. set_owns t t indexed slot (drawn_goes.widely.slots.idling t indexed slot stands idle) (set_later t indexed.number slot) refl stands (λ drawn id is. absurd (no_id indexed.config.multicast slot.state id idle.state is));
+  timing_out = λ t indexed c stands is.
+      let slot = failed_slot t (TimedOut c.link) indexed.slot in
+      set_owns t t indexed slot (drawn_goes.widely.slots.timing_out t indexed c stands is) (set_later t indexed.number slot) refl stands (λ drawn id. same_state_id indexed.config indexed.slot.state (Established c) slot.state id is refl);
+  closing = λ t indexed c stands is.
+      let slot = closing_slot t c indexed.slot in
+      set_owns t (counted t) indexed slot (drawn_goes.widely.slots.closing t indexed c stands is) (counted_later t indexed.number slot) refl stands (λ drawn id. same_state_id indexed.config indexed.slot.state (Established c) slot.state id is refl);
 }
 
 produced_owns : (t : ScannerTable) → Owns t (produced_table t)
@@ -303,14 +303,14 @@ produced_owns t = owns_by t (produced_table t) (drawn_goes.widely.producing t)
 
 moded_owns : (t : ScannerTable) (run : Bool) → Owns t (moded_table t run)
 moded_owns t run = owns_by t (moded_table t run) (drawn_goes.widely.moding t run)
-    (moded_goes IdStays (λ u mode place drawn id. same_state_id place.config place.slot.state place.slot.state (moded_slot place).state id refl (moded_id (is_owner place.config.kind) place.slot)) t run)
+    (moded_goes IdStays (λ u mode indexed drawn id. same_state_id indexed.config indexed.slot.state indexed.slot.state (moded_slot indexed).state id refl (moded_id (is_owner indexed.config.kind) indexed.slot)) t run)
 
-established_owns : (t : ScannerTable) (place : Place) (o : asked.Opening) (success : made.Opened) → Stands t place → place.slot.state ≡ Opening o → is_wanted_id o.wanted.t_o_id success.t_o_id ≡ true → Owns t (with_slot t place.number (established_slot place (new_connection t place o success)))
-established_owns t place o success stands is wanted =
-    let slot = established_slot place (new_connection t place o success) in
-    set_owns t t place slot (drawn_goes.establishing t place o success stands is wanted) (set_later t place.number slot) refl stands
-    (λ drawn id same. same_state_id place.config place.slot.state (Opening o) (Opening o) id is refl
-    (success_id t place.config.multicast o.wanted.t_o_id success.t_o_id id wanted (state_is t place.config.multicast place.slot.state (Opening o) is drawn).1 same))
+established_owns : (t : ScannerTable) (indexed : IndexedSlot) (o : pending.PendingOpen) (success : made.Opened) → Stands t indexed → indexed.slot.state ≡ Opening o → is_requested_id o.requested.t_o_id success.t_o_id ≡ true → Owns t (with_slot t indexed.number (established_slot indexed (new_connection t indexed o success)))
+established_owns t indexed o success stands is requested =
+    let slot = established_slot indexed (new_connection t indexed o success) in
+    set_owns t t indexed slot (drawn_goes.establishing t indexed o success stands is requested) (set_later t indexed.number slot) refl stands
+    (λ drawn id same. same_state_id indexed.config indexed.slot.state (Opening o) (Opening o) id is refl
+    (success_id t indexed.config.multicast o.requested.t_o_id success.t_o_id id requested (state_is t indexed.config.multicast indexed.slot.state (Opening o) is drawn).1 same))
 
 owns_always : KeptAlways Owns
 owns_always = record {
@@ -322,12 +322,12 @@ owns_always = record {
     moding = moded_owns;
   };
   establishing = established_owns;
-  writing = λ t place bytes stands.
-      let slot = output_slot bytes place.slot in
-      set_owns t t place slot (drawn_goes.writing t place bytes stands) (set_later t place.number slot) refl stands (λ drawn id. same_state_id place.config place.slot.state place.slot.state slot.state id refl (written_id place.slot.state));
-  accepting = λ t place d c bytes stands is.
-      let slot : Slot = record place.slot { state = Established (accepted_connection t.clock place.config.mult d c); image = bytes } in
-      set_owns t t place slot (drawn_goes.accepting t place d c bytes stands is) (set_later t place.number slot) refl stands (λ drawn id. same_state_id place.config place.slot.state (Established c) slot.state id is.established refl);
+  writing = λ t indexed bytes stands.
+      let slot = output_slot bytes indexed.slot in
+      set_owns t t indexed slot (drawn_goes.writing t indexed bytes stands) (set_later t indexed.number slot) refl stands (λ drawn id. same_state_id indexed.config indexed.slot.state indexed.slot.state slot.state id refl (written_id indexed.slot.state));
+  accepting = λ t indexed d c bytes stands is.
+      let slot : Slot = record indexed.slot { state = Established (accepted_connection t.clock indexed.config.mult d c); image = bytes } in
+      set_owns t t indexed slot (drawn_goes.accepting t indexed d c bytes stands is) (set_later t indexed.number slot) refl stands (λ drawn id. same_state_id indexed.config indexed.slot.state (Established c) slot.state id is.established refl);
 }
 
 pub steps_own : StepsKeep NumbersAreOwn
@@ -343,12 +343,12 @@ fresh_idle (config ∷ configs) zero slot is = ap (λ (s : Slot). s.state) (sym 
 fresh_idle (config ∷ configs) (suc k) slot is = fresh_idle configs k slot is
 
 -- a fresh scanner's slots are idle
-pub fresh_rests : (profile : ScannerProfile) (number : ℕ) (place : Place) → place_at (scanner_table profile) number ≡ Some place → place.slot.state ≡ Idle
-fresh_rests profile number place is = fresh_idle profile.slots place.number place.slot (place_is (scanner_table profile) number place is).stands.slot
+pub fresh_rests : (profile : ScannerProfile) (number : ℕ) (indexed : IndexedSlot) → slot_at (scanner_table profile) number ≡ Some indexed → indexed.slot.state ≡ Idle
+fresh_rests profile number indexed is = fresh_idle profile.slots indexed.number indexed.slot (slot_is (scanner_table profile) number indexed is).stands.slot
 
 fresh_own : (profile : ScannerProfile) → NumbersAreOwn (scanner_table profile)
 fresh_own profile = record {
-  drawn = λ number place is. idle_drawn (scanner_table profile) place.config.multicast place.slot.state (fresh_rests profile number place is);
+  drawn = λ number indexed is. idle_drawn (scanner_table profile) indexed.config.multicast indexed.slot.state (fresh_rests profile number indexed is);
   own = λ a b id apart first second is. absurd (no_id a.config.multicast a.slot.state id (fresh_rests profile a.number a first) is);
 }
 
@@ -357,7 +357,7 @@ numbers_law = law_of NumbersAreOwn steps_own fresh_own
 
 -- ---- numbers rise
 
-rise_step : (t u : ScannerTable) (config : SlotConfig) (state : SlotState) (opening : asked.Opening) (request : ℕ) → request < t.next_request → (state ≡ Opening opening) ⊎ Began t u config opening → (state ≡ Opening opening) ⊎ (request < opening.request)
+rise_step : (t u : ScannerTable) (config : SlotConfig) (state : SlotState) (opening : pending.PendingOpen) (request : ℕ) → request < t.next_request → (state ≡ Opening opening) ⊎ Began t u config opening → (state ≡ Opening opening) ⊎ (request < opening.request)
 rise_step t u config state opening request less (inl same) = inl same
 rise_step t u config state opening request less (inr began) = inr (omega (arith, less, began.begins))
 
@@ -366,7 +366,7 @@ requests_rise t events request less was now opening at later opens =
     rise_step t (table_after t events) now.config was.slot.state opening request less (events_begin t events was.number was now at later opening opens)
 
 -- an id that is drawn from a number on is none that was drawn below it
-drawn_apart : (profile : ScannerProfile) (n m : ℕ) (multicast : Bool) (wanted : Option ConnId) (id : ConnId) → WantsDrawn profile n m multicast wanted → IsDrawn profile 0 n id → wanted ≢ Some id
+drawn_apart : (profile : ScannerProfile) (n m : ℕ) (multicast : Bool) (requested : Option ConnId) (id : ConnId) → WantsDrawn profile n m multicast requested → IsDrawn profile 0 n id → requested ≢ Some id
 drawn_apart profile n m true None id wants drawn same = absurd cc
 drawn_apart profile n m true (Some other) id wants drawn same = absurd wants
 drawn_apart profile n m false None id wants drawn same = absurd wants
@@ -375,9 +375,9 @@ drawn_apart profile n m false (Some other) id wants drawn same =
     let counters : profile.incarnation * 2 ^ 24 + wants.counter ≡ profile.incarnation * 2 ^ 24 + drawn.counter = ap (λ (i : ConnId). i.0) (sym wants.is ∙ ids ∙ drawn.is) in
     absurd (omega (arith, counters, wants.begins, drawn.ends))
 
-once_step : (t u : ScannerTable) (config : SlotConfig) (state : SlotState) (opening : asked.Opening) (id : ConnId) → IsDrawn t.profile 0 t.next_id id → (state ≡ Opening opening) ⊎ Began t u config opening → (state ≡ Opening opening) ⊎ (opening.wanted.t_o_id ≢ Some id)
+once_step : (t u : ScannerTable) (config : SlotConfig) (state : SlotState) (opening : pending.PendingOpen) (id : ConnId) → IsDrawn t.profile 0 t.next_id id → (state ≡ Opening opening) ⊎ Began t u config opening → (state ≡ Opening opening) ⊎ (opening.requested.t_o_id ≢ Some id)
 once_step t u config state opening id drawn (inl same) = inl same
-once_step t u config state opening id drawn (inr began) = inr (drawn_apart t.profile t.next_id u.next_id config.multicast opening.wanted.t_o_id id began.id drawn)
+once_step t u config state opening id drawn (inr began) = inr (drawn_apart t.profile t.next_id u.next_id config.multicast opening.requested.t_o_id id began.id drawn)
 
 pub ids_given_once : IdsAreGivenOnce
 ids_given_once t events id drawn was now opening at later opens =

@@ -15,7 +15,7 @@ use Rattle.scanner_laws.specs.Runs.{StepsKeep, IsLaw}
 use Rattle.scanner_laws.specs.Producers.{StateProducesAs, SlotsProduceAsThemselves}
 use Rattle.scanner_laws.specs.Deadlines.{StateWaitsTo, SlotsWaitInTime}
 use Rattle.scanner_laws.proofs.Events.{steps_lead, law_of}
-use Rattle.scanner_laws.proofs.Slotwise.{Later, SlotwiseAlways, Goes, goes_always, Property, Stays, of_each_place}
+use Rattle.scanner_laws.proofs.Slotwise.{Later, SlotwiseAlways, Goes, goes_always, Property, Stays, of_each_slot}
 use Rattle.scanner_laws.proofs.OwnSteps.{fresh_rests}
 
 -- ---- producers
@@ -56,24 +56,24 @@ produces_always = record {
   widely = record {
     stays = λ t u number config slot later produces. produces;
     after = λ t u v number config a b c first next before behind produces. behind (before produces);
-    opening = λ t place resting produces. tt;
-    idling = λ t place slot idle produces. idle_produces place.number place.config.target slot.state idle.state;
-    timing_out = λ t place c is produces. tt;
-    closing = λ t place c is produces. tt;
+    opening = λ t indexed resting produces. tt;
+    idling = λ t indexed slot idle produces. idle_produces indexed.number indexed.config.target slot.state idle.state;
+    timing_out = λ t indexed c is produces. tt;
+    closing = λ t indexed c is produces. tt;
     producing = λ t number config slot produces. due_produces (state_is_due t.clock slot.state) t.clock number config.target slot produces;
-    moding = λ t run place produces. moded_produces (is_owner place.config.kind) place.number place.config.target place.slot produces;
+    moding = λ t run indexed produces. moded_produces (is_owner indexed.config.kind) indexed.number indexed.config.target indexed.slot produces;
   };
-  establishing = λ t place o success is wanted produces. (refl, refl);
-  writing = λ t place bytes produces. written_produces place.number place.config.target place.slot.state produces;
-  accepting = λ t place d c bytes is produces. produces_is place.number place.config.target place.slot.state (Established c) is.established produces;
+  establishing = λ t indexed o success is requested produces. (refl, refl);
+  writing = λ t indexed bytes produces. written_produces indexed.number indexed.config.target indexed.slot.state produces;
+  accepting = λ t indexed d c bytes is produces. produces_is indexed.number indexed.config.target indexed.slot.state (Established c) is.established produces;
 }
 
 producers_keep : StepsKeep SlotsProduceAsThemselves
-producers_keep t event next is all = of_each_place Produces t next.1 (steps_lead (Goes (Stays Produces)) (goes_always (Stays Produces) produces_always) t event next is) all
+producers_keep t event next is all = of_each_slot Produces t next.1 (steps_lead (Goes (Stays Produces)) (goes_always (Stays Produces) produces_always) t event next is) all
 
 pub producers_law : IsLaw SlotsProduceAsThemselves
 producers_law = law_of SlotsProduceAsThemselves producers_keep
-    (λ profile number place is. idle_produces place.number place.config.target place.slot.state (fresh_rests profile number place is))
+    (λ profile number indexed is. idle_produces indexed.number indexed.config.target indexed.slot.state (fresh_rests profile number indexed is))
 
 -- ---- waiting
 
@@ -124,21 +124,21 @@ waits_always = record {
   widely = record {
     stays = λ t u number config slot later waits. waits_longer (t.clock.0 + t.profile.open_timeout) (u.clock.0 + u.profile.open_timeout) slot.state (longer t u later) waits;
     after = λ t u v number config a b c first next before behind waits. behind (before waits);
-    opening = λ t place resting waits. omega arith;
-    idling = λ t place slot idle waits. idle_waits (t.clock.0 + t.profile.open_timeout) slot.state idle.state;
-    timing_out = λ t place c is waits. tt;
-    closing = λ t place c is waits. omega arith;
+    opening = λ t indexed resting waits. omega arith;
+    idling = λ t indexed slot idle waits. idle_waits (t.clock.0 + t.profile.open_timeout) slot.state idle.state;
+    timing_out = λ t indexed c is waits. tt;
+    closing = λ t indexed c is waits. omega arith;
     producing = table_waits;
-    moding = λ t run place waits. moded_waits (is_owner place.config.kind) (t.clock.0 + t.profile.open_timeout) place.slot waits;
+    moding = λ t run indexed waits. moded_waits (is_owner indexed.config.kind) (t.clock.0 + t.profile.open_timeout) indexed.slot waits;
   };
-  establishing = λ t place o success is wanted waits. tt;
-  writing = λ t place bytes waits. written_waits (t.clock.0 + t.profile.open_timeout) place.slot.state waits;
-  accepting = λ t place d c bytes is waits. tt;
+  establishing = λ t indexed o success is requested waits. tt;
+  writing = λ t indexed bytes waits. written_waits (t.clock.0 + t.profile.open_timeout) indexed.slot.state waits;
+  accepting = λ t indexed d c bytes is waits. tt;
 }
 
 waits_keep : StepsKeep SlotsWaitInTime
-waits_keep t event next is all = of_each_place Waits t next.1 (steps_lead (Goes (Stays Waits)) (goes_always (Stays Waits) waits_always) t event next is) all
+waits_keep t event next is all = of_each_slot Waits t next.1 (steps_lead (Goes (Stays Waits)) (goes_always (Stays Waits) waits_always) t event next is) all
 
 pub waits_law : IsLaw SlotsWaitInTime
 waits_law = law_of SlotsWaitInTime waits_keep
-    (λ profile number place is. idle_waits ((scanner_table profile).clock.0 + profile.open_timeout) place.slot.state (fresh_rests profile number place is))
+    (λ profile number indexed is. idle_waits ((scanner_table profile).clock.0 + profile.open_timeout) indexed.slot.state (fresh_rests profile number indexed is))

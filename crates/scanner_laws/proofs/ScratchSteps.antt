@@ -13,26 +13,26 @@ use Rattle.cip_events.specs.declared.event.Event.TheVariants.{Request, StreamOpe
 use Rattle.cip_events.specs.declared.event.StepFault.{StepFault}
 use Rattle.cip_events.specs.declared.event.StepFault.TheVariants as fault
 use Rattle.cip_fwdopen.specs.declared.reply.Opened as made
-use Rattle.cip_productions.specs.Acceptance.{is_news, is_repeated}
+use Rattle.cip_productions.specs.Acceptance.{accepts_sequence, is_duplicate}
 use Rattle.cip_productions.specs.Kinds.{is_owner}
 use Rattle.scanner_table.specs.declared.profile.SlotConfig.{SlotConfig}
 use Rattle.scanner_table.specs.declared.slot.Connection.{Connection}
-use Rattle.scanner_table.specs.declared.slot.Opening as asked
+use Rattle.scanner_table.specs.declared.slot.PendingOpen as pending
 use Rattle.scanner_table.specs.declared.slot.Slot.{Slot}
 use Rattle.scanner_table.specs.declared.slot.SlotState.{SlotState}
 use Rattle.scanner_table.specs.declared.slot.SlotState.TheVariants.{Idle, Opening, Established, TimedOut, Closing}
 use Rattle.scanner_table.specs.declared.table.ScannerTable.{ScannerTable}
-use Rattle.scanner_table.specs.Slots.{Place, places, place_at}
+use Rattle.scanner_table.specs.Slots.{IndexedSlot, indexed_slots, slot_at}
 use Rattle.scanner_table.specs.Effects.{Next}
 use Rattle.scanner_table.specs.Replies.{new_connection, established_slot}
 use Rattle.scanner_table.specs.Datagrams.{is_for, accepted_connection, accepted_table, delivered, accepted, sized, state_received, received_at, received_as, received}
-use Rattle.scanner_table.specs.Points.{output_slot, written_place, write_at, write, mode}
+use Rattle.scanner_table.specs.Points.{output_slot, output_written, write_at, write, mode}
 use Rattle.scanner_table.specs.Productions.{written_state, state_is_due, produced_state}
 use Rattle.scanner_table.specs.Step.{scanner_step, fresh_slot, scanner_table}
 use Rattle.scanner_laws.specs.Runs.{left_by, table_after}
-use Rattle.scanner_laws.specs.Deliveries.{is_applied, tells_applied, is_slots}
+use Rattle.scanner_laws.specs.Deliveries.{is_applied, reports_applied, is_slots}
 use Rattle.scanner_laws.specs.Scratch.{or_else, datagram_left, data_left, is_established, opening_left, image_left, written, output_left, StepsLeaveBytes, RefusalsTouchNothing, last_image, last_output, BytesAreFromScratch, FreshBytesAreFromScratch}
-use Rattle.scanner_laws.proofs.Places.{some_is, Stands, placed, place_is, place_stands, each_found, each_stands}
+use Rattle.scanner_laws.proofs.SlotLookups.{some_is, Stands, indexed_at, slot_is, slot_stands, each_found, each_stands}
 use Rattle.scanner_laws.proofs.Moves.{KeptWidely, OrEstablished, Leads, Writes, Accepts, streamed_leads, frame_leads, cut_leads, read_leads, tick_leads, mode_leads, start_leads, stop_leads, write_leads, received_leads}
 use Rattle.scanner_laws.proofs.Events.{events_lead}
 use Rattle.scanner_laws.proofs.Slotwise.{set_later, Relation, StaysSo, Slotwise, SlotwiseAlways, Goes, goes_always, stays_goes, set_goes, apart_goes, goes_widely, was_of, of_each_change}
@@ -80,12 +80,12 @@ calm_slotwise : Slotwise Calm
 calm_slotwise = record {
   stays = λ t u number config slot later. record { image = refl; begun = λ is. is };
   after = λ t u v number config a b c first next before behind. record { image = behind.image ∙ before.image; begun = λ is. before.begun (behind.begun is) };
-  opening = λ t place resting. record { image = refl; begun = λ is. absurd cc };
-  idling = λ t place slot idle. record { image = idle.image; begun = λ is. absurd (not_established slot.state idle.state is) };
-  timing_out = λ t place c was. record { image = refl; begun = λ is. absurd cc };
-  closing = λ t place c was. record { image = refl; begun = λ is. absurd cc };
+  opening = λ t indexed resting. record { image = refl; begun = λ is. absurd cc };
+  idling = λ t indexed slot idle. record { image = idle.image; begun = λ is. absurd (not_established slot.state idle.state is) };
+  timing_out = λ t indexed c was. record { image = refl; begun = λ is. absurd cc };
+  closing = λ t indexed c was. record { image = refl; begun = λ is. absurd cc };
   producing = λ t number config slot. due_holds (state_is_due t.clock slot.state) t.clock slot;
-  moding = λ t run place. moded_holds (is_owner place.config.kind) place.slot;
+  moding = λ t run indexed. moded_holds (is_owner indexed.config.kind) indexed.slot;
 }
 
 calm_widely : KeptWidely (Goes Calm)
@@ -121,16 +121,16 @@ calm_images t u goes = record {
 }
 
 -- a slot that is established holds zeros
-zeros_stand : (t : ScannerTable) (place : Place) (o : asked.Opening) (success : made.Opened) → place.slot.state ≡ Opening o → ImageIs None place.config place.slot (established_slot place (new_connection t place o success))
-zeros_stand t place o success is = rw is refl
+zeros_stand : (t : ScannerTable) (indexed : IndexedSlot) (o : pending.PendingOpen) (success : made.Opened) → indexed.slot.state ≡ Opening o → ImageIs None indexed.config indexed.slot (established_slot indexed (new_connection t indexed o success))
+zeros_stand t indexed o success is = rw is refl
 
 or_established : (t : ScannerTable) → OrEstablished (Goes Calm) (Goes Images) t
 or_established t = record {
   kept = calm_widely;
   weaker = calm_images t;
-  establishing = λ place o success stands is wanted.
-      let slot = established_slot place (new_connection t place o success) in
-      set_goes Images images_stay t t place slot (set_later t place.number slot) refl stands (zeros_stand t place o success is);
+  establishing = λ indexed o success stands is requested.
+      let slot = established_slot indexed (new_connection t indexed o success) in
+      set_goes Images images_stay t t indexed slot (set_later t indexed.number slot) refl stands (zeros_stand t indexed o success is);
 }
 
 calm_leads : (t : ScannerTable) (said : Result Next StepFault) → Leads (Goes Calm) t said → Leads (Goes Images) t said
@@ -138,8 +138,8 @@ calm_leads t (Ok next) leads = calm_images t next.1 leads
 calm_leads t (Err why) leads = tt
 
 calm_writes : (t : ScannerTable) → Writes (Goes Calm) t
-calm_writes t place bytes stands =
-    set_goes Calm calm_slotwise.stays t t place (output_slot bytes place.slot) (set_later t place.number (output_slot bytes place.slot)) refl stands (record { image = refl; begun = written_begun place.slot.state })
+calm_writes t indexed bytes stands =
+    set_goes Calm calm_slotwise.stays t t indexed (output_slot bytes indexed.slot) (set_later t indexed.number (output_slot bytes indexed.slot)) refl stands (record { image = refl; begun = written_begun indexed.slot.state })
 
 -- ---- data that are applied
 
@@ -160,14 +160,14 @@ stays_images : (t : ScannerTable) → Goes Images t t
 stays_images t = stays_goes Images images_stay t t (calm_widely.slots.same t).later refl
 
 -- what a delivery leaves at the slots, where the datagram was for a place
-abbrev delivery_left : Option Place → DatagramFields → Delivery → ℕ → Option (List ℕ)
+abbrev delivery_left : Option IndexedSlot → DatagramFields → Delivery → ℕ → Option (List ℕ)
 delivery_left found d what number = cond (is_slots number found && is_applied what) (Some d.payload) None
 
 and_none : (b : Bool) → (b && false) ≡ false
 and_none true = refl
 and_none false = refl
 
-none_applied : (found : Option Place) (d : DatagramFields) (what : Delivery) (number : ℕ) → is_applied what ≡ false → delivery_left found d what number ≡ None
+none_applied : (found : Option IndexedSlot) (d : DatagramFields) (what : Delivery) (number : ℕ) → is_applied what ≡ false → delivery_left found d what number ≡ None
 none_applied found d what number is = rw (is, and_none (is_slots number found)) refl
 
 number_flip : (a b : ℕ) → (a == b) ≡ false → (b == a) ≡ false
@@ -177,51 +177,51 @@ number_same : (n : ℕ) → (n == n) ≡ true
 number_same n = grind (arith, nat_tests)
 
 -- an accepted datagram leaves the image as it is, or its data there
-accepted_images : (t : ScannerTable) (place : Place) (d : DatagramFields) (c : Connection) → Stands t place → place.slot.state ≡ Established c → Goes Images t (accepted_table t place d c place.slot.image)
-accepted_images t place d c stands is =
-    let slot : Slot = record place.slot { state = Established (accepted_connection t.clock place.config.mult d c) } in
-    set_goes Images images_stay t t place slot (set_later t place.number slot) refl stands (calm_image place.config place.slot slot (record { image = refl; begun = λ now. rw is refl }))
+accepted_images : (t : ScannerTable) (indexed : IndexedSlot) (d : DatagramFields) (c : Connection) → Stands t indexed → indexed.slot.state ≡ Established c → Goes Images t (accepted_table t indexed d c indexed.slot.image)
+accepted_images t indexed d c stands is =
+    let slot : Slot = record indexed.slot { state = Established (accepted_connection t.clock indexed.config.mult d c) } in
+    set_goes Images images_stay t t indexed slot (set_later t indexed.number slot) refl stands (calm_image indexed.config indexed.slot slot (record { image = refl; begun = λ now. rw is refl }))
 
-applied_goes : (t : ScannerTable) (place : Place) (d : DatagramFields) (c : Connection) → Stands t place → place.slot.state ≡ Established c → Goes (Left (delivery_left (Some place) d delivery.Applied)) t (accepted_table t place d c d.payload)
-applied_goes t place d c stands is =
-    let slot : Slot = record place.slot { state = Established (accepted_connection t.clock place.config.mult d c); image = d.payload } in
-    apart_goes (Left (delivery_left (Some place) d delivery.Applied)) t t place slot
-    (λ number config other apart. rw (number_flip number place.number apart) (calm_image config other other (record { image = refl; begun = λ is. is })))
-    (set_later t place.number slot) refl stands (rw (number_same place.number) refl)
+applied_goes : (t : ScannerTable) (indexed : IndexedSlot) (d : DatagramFields) (c : Connection) → Stands t indexed → indexed.slot.state ≡ Established c → Goes (Left (delivery_left (Some indexed) d delivery.Applied)) t (accepted_table t indexed d c d.payload)
+applied_goes t indexed d c stands is =
+    let slot : Slot = record indexed.slot { state = Established (accepted_connection t.clock indexed.config.mult d c); image = d.payload } in
+    apart_goes (Left (delivery_left (Some indexed) d delivery.Applied)) t t indexed slot
+    (λ number config other apart. rw (number_flip number indexed.number apart) (calm_image config other other (record { image = refl; begun = λ is. is })))
+    (set_later t indexed.number slot) refl stands (rw (number_same indexed.number) refl)
 
 -- what a datagram that is read does
-abbrev GoesBy : ScannerTable → Option Place → DatagramFields → Next → Type 0
-GoesBy t found d next = Goes (Left (λ number. cond (is_slots number found && tells_applied next.0.verdict) (Some d.payload) None)) t next.1
+abbrev GoesBy : ScannerTable → Option IndexedSlot → DatagramFields → Next → Type 0
+GoesBy t found d next = Goes (Left (λ number. cond (is_slots number found && reports_applied next.0.verdict) (Some d.payload) None)) t next.1
 
-stays_by : (t : ScannerTable) (found : Option Place) (d : DatagramFields) (what : Delivery) → is_applied what ≡ false → GoesBy t found d (delivered what t)
+stays_by : (t : ScannerTable) (found : Option IndexedSlot) (d : DatagramFields) (what : Delivery) → is_applied what ≡ false → GoesBy t found d (delivered what t)
 stays_by t found d what is = left_nothing (delivery_left found d what) t t (λ number. none_applied found d what number is) (stays_images t)
 
-accepted_step : (b : Bool) (t : ScannerTable) (place : Place) (d : DatagramFields) (c : Connection) → Stands t place → place.slot.state ≡ Established c → GoesBy t (Some place) d (cond b (delivered delivery.Duplicate (accepted_table t place d c place.slot.image)) (delivered delivery.Applied (accepted_table t place d c d.payload)))
-accepted_step true t place d c stands is = left_nothing (delivery_left (Some place) d delivery.Duplicate) t (accepted_table t place d c place.slot.image) (λ number. none_applied (Some place) d delivery.Duplicate number refl) (accepted_images t place d c stands is)
-accepted_step false t place d c stands is = applied_goes t place d c stands is
+accepted_step : (b : Bool) (t : ScannerTable) (indexed : IndexedSlot) (d : DatagramFields) (c : Connection) → Stands t indexed → indexed.slot.state ≡ Established c → GoesBy t (Some indexed) d (cond b (delivered delivery.Duplicate (accepted_table t indexed d c indexed.slot.image)) (delivered delivery.Applied (accepted_table t indexed d c d.payload)))
+accepted_step true t indexed d c stands is = left_nothing (delivery_left (Some indexed) d delivery.Duplicate) t (accepted_table t indexed d c indexed.slot.image) (λ number. none_applied (Some indexed) d delivery.Duplicate number refl) (accepted_images t indexed d c stands is)
+accepted_step false t indexed d c stands is = applied_goes t indexed d c stands is
 
-news_step : (b : Bool) (t : ScannerTable) (place : Place) (d : DatagramFields) (c : Connection) → Stands t place → place.slot.state ≡ Established c → GoesBy t (Some place) d (cond b (accepted t place d c) (delivered delivery.Old t))
-news_step true t place d c stands is = accepted_step (is_repeated c.last d.count) t place d c stands is
-news_step false t place d c stands is = stays_by t (Some place) d delivery.Old refl
+sequence_step : (b : Bool) (t : ScannerTable) (indexed : IndexedSlot) (d : DatagramFields) (c : Connection) → Stands t indexed → indexed.slot.state ≡ Established c → GoesBy t (Some indexed) d (cond b (accepted t indexed d c) (delivered delivery.Old t))
+sequence_step true t indexed d c stands is = accepted_step (is_duplicate c.last d.count) t indexed d c stands is
+sequence_step false t indexed d c stands is = stays_by t (Some indexed) d delivery.Old refl
 
-sized_step : (b : Bool) (t : ScannerTable) (place : Place) (d : DatagramFields) (c : Connection) → Stands t place → place.slot.state ≡ Established c → GoesBy t (Some place) d (cond b (sized t place d c) (delivered delivery.WrongSize t))
-sized_step true t place d c stands is = news_step (is_news c.last d.sequence) t place d c stands is
-sized_step false t place d c stands is = stays_by t (Some place) d delivery.WrongSize refl
+sized_step : (b : Bool) (t : ScannerTable) (indexed : IndexedSlot) (d : DatagramFields) (c : Connection) → Stands t indexed → indexed.slot.state ≡ Established c → GoesBy t (Some indexed) d (cond b (sized t indexed d c) (delivered delivery.WrongSize t))
+sized_step true t indexed d c stands is = sequence_step (accepts_sequence c.last d.sequence) t indexed d c stands is
+sized_step false t indexed d c stands is = stays_by t (Some indexed) d delivery.WrongSize refl
 
-state_step : (t : ScannerTable) (place : Place) (d : DatagramFields) (state : SlotState) → place.slot.state ≡ state → Stands t place → GoesBy t (Some place) d (state_received t place d state)
-state_step t place d Idle is stands = stays_by t (Some place) d delivery.UnknownId refl
-state_step t place d (Opening o) is stands = stays_by t (Some place) d delivery.UnknownId refl
-state_step t place d (Established c) is stands = sized_step _ t place d c stands is
-state_step t place d (TimedOut link) is stands = stays_by t (Some place) d delivery.UnknownId refl
-state_step t place d (Closing c) is stands = stays_by t (Some place) d delivery.UnknownId refl
+state_step : (t : ScannerTable) (indexed : IndexedSlot) (d : DatagramFields) (state : SlotState) → indexed.slot.state ≡ state → Stands t indexed → GoesBy t (Some indexed) d (state_received t indexed d state)
+state_step t indexed d Idle is stands = stays_by t (Some indexed) d delivery.UnknownId refl
+state_step t indexed d (Opening o) is stands = stays_by t (Some indexed) d delivery.UnknownId refl
+state_step t indexed d (Established c) is stands = sized_step _ t indexed d c stands is
+state_step t indexed d (TimedOut link) is stands = stays_by t (Some indexed) d delivery.UnknownId refl
+state_step t indexed d (Closing c) is stands = stays_by t (Some indexed) d delivery.UnknownId refl
 
-found_goes : (t : ScannerTable) (d : DatagramFields) (p : Place → Bool) (found : Option Place) → find p (places t) ≡ found → GoesBy t found d (received_at t d found)
+found_goes : (t : ScannerTable) (d : DatagramFields) (p : IndexedSlot → Bool) (found : Option IndexedSlot) → find p (indexed_slots t) ≡ found → GoesBy t found d (received_at t d found)
 found_goes t d p None is = stays_by t None d delivery.UnknownId refl
-found_goes t d p (Some place) is = state_step t place d place.slot.state refl (each_found (Stands t) p (places t) place is (each_stands t))
+found_goes t d p (Some indexed) is = state_step t indexed d indexed.slot.state refl (each_found (Stands t) p (indexed_slots t) indexed is (each_stands t))
 
 read_goes : (t : ScannerTable) (peer : Node) (reading : Result DatagramFields DatagramFault) → Goes (Left (λ number. datagram_left number t peer (received_as t peer reading).0.verdict reading)) t (received_as t peer reading).1
 read_goes t peer (Err why) = left_nothing (λ number. None) t t (λ number. refl) (stays_images t)
-read_goes t peer (Ok d) = found_goes t d (is_for peer d.connection) (find (is_for peer d.connection) (places t)) refl
+read_goes t peer (Ok d) = found_goes t d (is_for peer d.connection) (find (is_for peer d.connection) (indexed_slots t)) refl
 
 received_goes : (t : ScannerTable) (peer : Node) (bytes : List ℕ) → Goes (Left (λ number. data_left number t (Datagram peer bytes))) t (received t peer bytes).1
 unfolding received
@@ -264,12 +264,12 @@ same_slotwise : Slotwise Same
 same_slotwise = record {
   stays = λ t u number config slot later. refl;
   after = λ t u v number config a b c first next before behind. behind ∙ before;
-  opening = λ t place resting. refl;
-  idling = λ t place slot idle. idle.output;
-  timing_out = λ t place c was. refl;
-  closing = λ t place c was. refl;
+  opening = λ t indexed resting. refl;
+  idling = λ t indexed slot idle. idle.output;
+  timing_out = λ t indexed c was. refl;
+  closing = λ t indexed c was. refl;
   producing = λ t number config slot. due_same (state_is_due t.clock slot.state) t.clock slot;
-  moding = λ t run place. moded_same (is_owner place.config.kind) place.slot;
+  moding = λ t run indexed. moded_same (is_owner indexed.config.kind) indexed.slot;
 }
 
 same_widely : KeptWidely (Goes Same)
@@ -279,15 +279,15 @@ same_established : (t : ScannerTable) → OrEstablished (Goes Same) (Goes Same) 
 same_established t = record {
   kept = same_widely;
   weaker = λ u goes. goes;
-  establishing = λ place o success stands is wanted.
-      let slot = established_slot place (new_connection t place o success) in
-      set_goes Same same_slotwise.stays t t place slot (set_later t place.number slot) refl stands refl;
+  establishing = λ indexed o success stands is requested.
+      let slot = established_slot indexed (new_connection t indexed o success) in
+      set_goes Same same_slotwise.stays t t indexed slot (set_later t indexed.number slot) refl stands refl;
 }
 
 same_accepts : (t : ScannerTable) → Accepts (Goes Same) t
-same_accepts t place d c bytes stands is =
-    let slot : Slot = record place.slot { state = Established (accepted_connection t.clock place.config.mult d c); image = bytes } in
-    set_goes Same same_slotwise.stays t t place slot (set_later t place.number slot) refl stands refl
+same_accepts t indexed d c bytes stands is =
+    let slot : Slot = record indexed.slot { state = Established (accepted_connection t.clock indexed.config.mult d c); image = bytes } in
+    set_goes Same same_slotwise.stays t t indexed slot (set_later t indexed.number slot) refl stands refl
 
 -- the output holds what is left there, or what it held
 abbrev LeftOutput : (ℕ → Option (List ℕ)) → Relation
@@ -300,30 +300,30 @@ write_left point bytes said number = cond (point == number) (written said bytes)
 abbrev WritesSo : ScannerTable → ℕ → List ℕ → Result Next StepFault → Type 0
 WritesSo t point bytes said = Leads (Goes (LeftOutput (write_left point bytes said))) t said
 
-written_goes : (t : ScannerTable) (point : ℕ) (place : Place) (bytes : List ℕ) → place.number ≡ point → Stands t place → WritesSo t point bytes (Ok (written_place t place bytes))
-written_goes t point place bytes same stands =
-    let slot = output_slot bytes place.slot in
-    apart_goes (LeftOutput (write_left point bytes (Ok (written_place t place bytes)))) t t place slot
-    (λ number config other apart. rw (sym same, number_flip number place.number apart) refl)
-    (set_later t place.number slot) refl stands (rw (sym same, number_same place.number) refl)
+written_goes : (t : ScannerTable) (point : ℕ) (indexed : IndexedSlot) (bytes : List ℕ) → indexed.number ≡ point → Stands t indexed → WritesSo t point bytes (Ok (output_written t indexed bytes))
+written_goes t point indexed bytes same stands =
+    let slot = output_slot bytes indexed.slot in
+    apart_goes (LeftOutput (write_left point bytes (Ok (output_written t indexed bytes)))) t t indexed slot
+    (λ number config other apart. rw (sym same, number_flip number indexed.number apart) refl)
+    (set_later t indexed.number slot) refl stands (rw (sym same, number_same indexed.number) refl)
 
-length_writes : (b : Bool) (t : ScannerTable) (point : ℕ) (place : Place) (bytes : List ℕ) → place.number ≡ point → Stands t place → WritesSo t point bytes (cond b (Ok (written_place t place bytes)) (Err fault.WrongLength))
-length_writes true t point place bytes same stands = written_goes t point place bytes same stands
-length_writes false t point place bytes same stands = tt
+length_writes : (b : Bool) (t : ScannerTable) (point : ℕ) (indexed : IndexedSlot) (bytes : List ℕ) → indexed.number ≡ point → Stands t indexed → WritesSo t point bytes (cond b (Ok (output_written t indexed bytes)) (Err fault.WrongLength))
+length_writes true t point indexed bytes same stands = written_goes t point indexed bytes same stands
+length_writes false t point indexed bytes same stands = tt
 
-owner_writes : (b c : Bool) (t : ScannerTable) (point : ℕ) (place : Place) (bytes : List ℕ) → place.number ≡ point → Stands t place → WritesSo t point bytes (cond b (cond c (Ok (written_place t place bytes)) (Err fault.WrongLength)) (Err fault.NotAllowedNow))
-owner_writes true c t point place bytes same stands = length_writes c t point place bytes same stands
-owner_writes false c t point place bytes same stands = tt
+owner_writes : (b c : Bool) (t : ScannerTable) (point : ℕ) (indexed : IndexedSlot) (bytes : List ℕ) → indexed.number ≡ point → Stands t indexed → WritesSo t point bytes (cond b (cond c (Ok (output_written t indexed bytes)) (Err fault.WrongLength)) (Err fault.NotAllowedNow))
+owner_writes true c t point indexed bytes same stands = length_writes c t point indexed bytes same stands
+owner_writes false c t point indexed bytes same stands = tt
 
-at_writes : (t : ScannerTable) (point : ℕ) (bytes : List ℕ) (found : Option Place) → place_at t point ≡ found → WritesSo t point bytes (write_at t bytes found)
+at_writes : (t : ScannerTable) (point : ℕ) (bytes : List ℕ) (found : Option IndexedSlot) → slot_at t point ≡ found → WritesSo t point bytes (write_at t bytes found)
 at_writes t point bytes None is = tt
-at_writes t point bytes (Some place) is =
-    let place_of = place_is t point place is in
-    owner_writes (is_owner place.config.kind) _ t point place bytes place_of.number_is place_of.stands
+at_writes t point bytes (Some indexed) is =
+    let slot_of = slot_is t point indexed is in
+    owner_writes (is_owner indexed.config.kind) _ t point indexed bytes slot_of.number_is slot_of.stands
 
 write_writes : (t : ScannerTable) (point : ℕ) (bytes : List ℕ) → WritesSo t point bytes (write t point bytes)
 unfolding write
-write_writes t point bytes = at_writes t point bytes (place_at t point) refl
+write_writes t point bytes = at_writes t point bytes (slot_at t point) refl
 
 -- what is answered leaves at outputs what the event says
 abbrev LeavesOutputs : ScannerTable → Event → Result Next StepFault → Type 0
@@ -347,16 +347,16 @@ step_outputs t (Stop slot) = stop_leads (Goes Same) same_widely.slots t slot
 leads_next : (R : ScannerTable → ScannerTable → Type 0) (t : ScannerTable) (said : Result Next StepFault) (next : Next) → said ≡ Ok next → Leads R t said → R t next.1
 leads_next R t said next is leads = subst (Leads R t) is leads
 
-image_next : (t : ScannerTable) (event : Event) (next : Next) (number : ℕ) (was now : Place) → scanner_step t event ≡ Ok next → place_at t number ≡ Some was → place_at next.1 number ≡ Some now → now.slot.image ≡ unwrap_or (image_left number t event next.1) was.slot.image
+image_next : (t : ScannerTable) (event : Event) (next : Next) (number : ℕ) (was now : IndexedSlot) → scanner_step t event ≡ Ok next → slot_at t number ≡ Some was → slot_at next.1 number ≡ Some now → now.slot.image ≡ unwrap_or (image_left number t event next.1) was.slot.image
 image_next t event next number was now is before behind =
     let goes = leads_next (Goes (Left (λ n. data_left n t event))) t (scanner_step t event) next is (step_images t event) in
-    let same = (place_is next.1 number now behind).number_is in
+    let same = (slot_is next.1 number now behind).number_is in
     rw (before, behind) (subst (λ (n : ℕ). ImageIs (data_left n t event) now.config was.slot now.slot) same (of_each_change (Left (λ n. data_left n t event)) t next.1 goes number was now before behind))
 
-output_next : (t : ScannerTable) (event : Event) (next : Next) (number : ℕ) (was now : Place) → scanner_step t event ≡ Ok next → place_at t number ≡ Some was → place_at next.1 number ≡ Some now → now.slot.output ≡ unwrap_or (output_left number t event) was.slot.output
+output_next : (t : ScannerTable) (event : Event) (next : Next) (number : ℕ) (was now : IndexedSlot) → scanner_step t event ≡ Ok next → slot_at t number ≡ Some was → slot_at next.1 number ≡ Some now → now.slot.output ≡ unwrap_or (output_left number t event) was.slot.output
 output_next t event next number was now is before behind =
     let goes = leads_next (Goes (LeftOutput (λ n. output_left n t event))) t (scanner_step t event) next is (step_outputs t event) in
-    let same = (place_is next.1 number now behind).number_is in
+    let same = (slot_is next.1 number now behind).number_is in
     subst (λ (n : ℕ). now.slot.output ≡ unwrap_or (output_left n t event) was.slot.output) same (of_each_change (LeftOutput (λ n. output_left n t event)) t next.1 goes number was now before behind)
 
 pub steps_leave : StepsLeaveBytes
@@ -368,9 +368,9 @@ never_begins : (b : Bool) → (b && not b) ≡ false
 never_begins true = refl
 never_begins false = refl
 
-none_opens : (found : Option Place) → opening_left found found ≡ None
+none_opens : (found : Option IndexedSlot) → opening_left found found ≡ None
 none_opens None = refl
-none_opens (Some place) = rw (never_begins (is_established place.slot.state)) refl
+none_opens (Some indexed) = rw (never_begins (is_established indexed.slot.state)) refl
 
 refused_left : (point number : ℕ) (bytes : List ℕ) (said : Result Next StepFault) (why : StepFault) → said ≡ Err why → cond (point == number) (written said bytes) None ≡ None
 refused_left point number bytes said why is = rw is (either (point == number)) where
@@ -405,32 +405,32 @@ refused_output number t (Start slot) why is = refl
 refused_output number t (Stop slot) why is = refl
 
 pub refusals_touch_nothing : RefusalsTouchNothing
-refusals_touch_nothing t event why number is = (rw (refused_image number t event why is, none_opens (place_at t number)) refl, refused_output number t event why is)
+refusals_touch_nothing t event why number is = (rw (refused_image number t event why is, none_opens (slot_at t number)) refl, refused_output number t event why is)
 
 -- ---- events
 
 -- the slot after an event, or a refusal
-record Mid (t : ScannerTable) (event : Event) (u : ScannerTable) (number : ℕ) (was : Place) : Type 0 where
-  place : Place
-  stands : place_at u number ≡ Some place
-  image : place.slot.image ≡ unwrap_or (image_left number t event u) was.slot.image
-  output : place.slot.output ≡ unwrap_or (output_left number t event) was.slot.output
+record Mid (t : ScannerTable) (event : Event) (u : ScannerTable) (number : ℕ) (was : IndexedSlot) : Type 0 where
+  indexed : IndexedSlot
+  stands : slot_at u number ≡ Some indexed
+  image : indexed.slot.image ≡ unwrap_or (image_left number t event u) was.slot.image
+  output : indexed.slot.output ≡ unwrap_or (output_left number t event) was.slot.output
 
-mid_next : (t : ScannerTable) (event : Event) (next : Next) (number : ℕ) (was : Place) → scanner_step t event ≡ Ok next → place_at t number ≡ Some was → Mid t event next.1 number was
+mid_next : (t : ScannerTable) (event : Event) (next : Next) (number : ℕ) (was : IndexedSlot) → scanner_step t event ≡ Ok next → slot_at t number ≡ Some was → Mid t event next.1 number was
 mid_next t event next number was is before =
     let goes = leads_next (Goes (LeftOutput (λ n. output_left n t event))) t (scanner_step t event) next is (step_outputs t event) in
-    let at = place_is t number was before in
+    let at = slot_is t number was before in
     let end = goes.changes was.number was.config was.slot at.stands.config at.stands.slot in
-    let now = placed was.number was.config end.now in
-    let stands : place_at next.1 number ≡ Some now = subst (λ (n : ℕ). place_at next.1 n ≡ Some now) at.number_is (place_stands next.1 now (record { config = rw goes.later.profile at.stands.config; slot = end.stands })) in
+    let now = indexed_at was.number was.config end.now in
+    let stands : slot_at next.1 number ≡ Some now = subst (λ (n : ℕ). slot_at next.1 n ≡ Some now) at.number_is (slot_stands next.1 now (record { config = rw goes.later.profile at.stands.config; slot = end.stands })) in
     let leaves = steps_leave t event next number was now is before stands in
-    record { place = now; stands = stands; image = leaves.0; output = leaves.1 }
+    record { indexed = now; stands = stands; image = leaves.0; output = leaves.1 }
 
-mid_of : (t : ScannerTable) (event : Event) (said : Result Next StepFault) (number : ℕ) (was : Place) → scanner_step t event ≡ said → place_at t number ≡ Some was → Mid t event (left_by t said) number was
+mid_of : (t : ScannerTable) (event : Event) (said : Result Next StepFault) (number : ℕ) (was : IndexedSlot) → scanner_step t event ≡ said → slot_at t number ≡ Some was → Mid t event (left_by t said) number was
 mid_of t event (Ok next) number was is before = mid_next t event next number was is before
 mid_of t event (Err why) number was is before =
     let none = refusals_touch_nothing t event why number is in
-    record { place = was; stands = before; image = rw none.0 refl; output = rw none.1 refl }
+    record { indexed = was; stands = before; image = rw none.0 refl; output = rw none.1 refl }
 
 unwrap_either : (a b : Option (List ℕ)) (bytes : List ℕ) → unwrap_or a (unwrap_or b bytes) ≡ unwrap_or (or_else a b) bytes
 unwrap_either None b bytes = refl
@@ -439,11 +439,11 @@ unwrap_either (Some x) b bytes = refl
 pub bytes_from_scratch : BytesAreFromScratch
 bytes_from_scratch t [] number was now before behind =
     let same : now ≡ was = some_is now was (sym behind ∙ before) in
-    (ap (λ (p : Place). p.slot.image) same, ap (λ (p : Place). p.slot.output) same)
+    (ap (λ (p : IndexedSlot). p.slot.image) same, ap (λ (p : IndexedSlot). p.slot.output) same)
 bytes_from_scratch t (event ∷ events) number was now before behind =
     let next = left_by t (scanner_step t event) in
     let mid = mid_of t event (scanner_step t event) number was refl before in
-    let rest = bytes_from_scratch next events number mid.place now mid.stands behind in (
+    let rest = bytes_from_scratch next events number mid.indexed now mid.stands behind in (
       rest.0 ∙ ap (unwrap_or (last_image number next events)) mid.image ∙ unwrap_either (last_image number next events) (image_left number t event next) was.slot.image,
       rest.1 ∙ ap (unwrap_or (last_output number next events)) mid.output ∙ unwrap_either (last_output number next events) (output_left number t event) was.slot.output,
     )
@@ -458,16 +458,16 @@ anything_always = record {
   widely = record {
     stays = λ t u number config slot later. tt;
     after = λ t u v number config a b c first next before behind. tt;
-    opening = λ t place resting. tt;
-    idling = λ t place slot idle. tt;
-    timing_out = λ t place c is. tt;
-    closing = λ t place c is. tt;
+    opening = λ t indexed resting. tt;
+    idling = λ t indexed slot idle. tt;
+    timing_out = λ t indexed c is. tt;
+    closing = λ t indexed c is. tt;
     producing = λ t number config slot. tt;
-    moding = λ t run place. tt;
+    moding = λ t run indexed. tt;
   };
-  establishing = λ t place o success is wanted. tt;
-  writing = λ t place bytes. tt;
-  accepting = λ t place d c bytes is. tt;
+  establishing = λ t indexed o success is requested. tt;
+  writing = λ t indexed bytes. tt;
+  accepting = λ t indexed d c bytes is. tt;
 }
 
 fresh_is : (configs : List SlotConfig) (k : ℕ) (config : SlotConfig) (slot : Slot) → slice_get configs k ≡ Some config → slice_get (map fresh_slot configs) k ≡ Some slot → fresh_slot config ≡ slot
@@ -478,12 +478,12 @@ fresh_is (first ∷ configs) (suc k) config slot at is = fresh_is configs k conf
 pub fresh_from_scratch : FreshBytesAreFromScratch
 fresh_from_scratch profile events number now is =
     let t = scanner_table profile in
-    let at = place_is (table_after t events) number now is in
+    let at = slot_is (table_after t events) number now is in
     let was = was_of Anything t (table_after t events) now (events_lead (Goes Anything) (goes_always Anything anything_always) t events) at.stands in
-    let place = placed now.number now.config was.slot in
-    let before : place_at t number ≡ Some place = subst (λ (n : ℕ). place_at t n ≡ Some place) at.number_is (place_stands t place was.stands) in
+    let indexed = indexed_at now.number now.config was.slot in
+    let before : slot_at t number ≡ Some indexed = subst (λ (n : ℕ). slot_at t n ≡ Some indexed) at.number_is (slot_stands t indexed was.stands) in
     let fresh : fresh_slot now.config ≡ was.slot = fresh_is profile.slots now.number now.config was.slot was.stands.config was.stands.slot in
-    let after = bytes_from_scratch t events number place now before is in (
+    let after = bytes_from_scratch t events number indexed now before is in (
       after.0 ∙ ap (λ (s : Slot). unwrap_or (last_image number t events) s.image) (sym fresh),
       after.1 ∙ ap (λ (s : Slot). unwrap_or (last_output number t events) s.output) (sym fresh),
     )

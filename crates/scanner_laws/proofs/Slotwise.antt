@@ -5,15 +5,15 @@ use Rattle.std.proofs.lemmas.List.{length-map}
 use Rattle.std.proofs.lemmas.Option.{slice_get_within}
 use Rattle.cip_datagram.specs.Datagram.{DatagramFields}
 use Rattle.cip_fwdopen.specs.declared.reply.Opened as made
-use Rattle.conn_state.specs.Answers.{is_wanted_id}
+use Rattle.conn_state.specs.Answers.{is_requested_id}
 use Rattle.scanner_table.specs.declared.profile.ScannerProfile.{ScannerProfile}
 use Rattle.scanner_table.specs.declared.profile.SlotConfig.{SlotConfig}
 use Rattle.scanner_table.specs.declared.slot.Connection.{Connection}
-use Rattle.scanner_table.specs.declared.slot.Opening as opening
+use Rattle.scanner_table.specs.declared.slot.PendingOpen as opening
 use Rattle.scanner_table.specs.declared.slot.Slot.{Slot}
 use Rattle.scanner_table.specs.declared.slot.SlotState.TheVariants.{Opening, Established, TimedOut}
 use Rattle.scanner_table.specs.declared.table.ScannerTable.{ScannerTable}
-use Rattle.scanner_table.specs.Slots.{Place, places_from, places, with_slot, is_resting}
+use Rattle.scanner_table.specs.Slots.{IndexedSlot, indexed_from, indexed_slots, with_slot, is_resting}
 use Rattle.scanner_table.specs.Effects.{counted}
 use Rattle.scanner_table.specs.Opening.{drawn, opening_slot}
 use Rattle.scanner_table.specs.Replies.{new_connection, established_slot, failed_slot}
@@ -22,8 +22,8 @@ use Rattle.scanner_table.specs.Datagrams.{accepted_connection, accepted_table}
 use Rattle.scanner_table.specs.Points.{output_slot, moded_slot, moded_table}
 use Rattle.scanner_table.specs.Productions.{produced_slot, produced_table}
 use Rattle.scanner_table.specs.Ticks.{clocked_table}
-use Rattle.scanner_laws.specs.Runs.{OfEachPlace, OfEachChange}
-use Rattle.scanner_laws.proofs.Places.{some_is, get_same, get_other, Stands, placed, place_is, place_stands, IsPlace}
+use Rattle.scanner_laws.specs.Runs.{OfEachSlot, OfEachChange}
+use Rattle.scanner_laws.proofs.SlotLookups.{some_is, get_same, get_other, Stands, indexed_at, slot_is, slot_stands, IsIndexed}
 use Rattle.scanner_laws.proofs.Moves.{BecomesIdle, Kept, KeptWidely, IsAccepted, KeptAlways}
 
 -- ---- later tables
@@ -73,16 +73,16 @@ abbrev pub ProducesSo : Relation → Type 0
 ProducesSo S = (t : ScannerTable) (number : ℕ) (config : SlotConfig) (slot : Slot) → S t (produced_table t) number config slot (produced_slot t.clock slot)
 
 abbrev pub ModesSo : Relation → Type 0
-ModesSo S = (t : ScannerTable) (run : Bool) (place : Place) → S t (moded_table t run) place.number place.config place.slot (moded_slot place)
+ModesSo S = (t : ScannerTable) (run : Bool) (indexed : IndexedSlot) → S t (moded_table t run) indexed.number indexed.config indexed.slot (moded_slot indexed)
 
 -- what has to hold where one slot changes
 pub record Slotwise (S : Relation) : Type 0 where
   pub stays : StaysSo S
   pub after : (t u v : ScannerTable) (number : ℕ) (config : SlotConfig) (a b c : Slot) → Later t u → Later u v → S t u number config a b → S u v number config b c → S t v number config a c
-  pub opening : (t : ScannerTable) (place : Place) → is_resting place.slot.state ≡ true → S t (with_slot (counted (drawn t place.config)) place.number (opening_slot t place)) place.number place.config place.slot (opening_slot t place)
-  pub idling : (t : ScannerTable) (place : Place) (slot : Slot) → BecomesIdle place.slot slot → S t (with_slot t place.number slot) place.number place.config place.slot slot
-  pub timing_out : (t : ScannerTable) (place : Place) (c : Connection) → place.slot.state ≡ Established c → S t (with_slot t place.number (failed_slot t (TimedOut c.link) place.slot)) place.number place.config place.slot (failed_slot t (TimedOut c.link) place.slot)
-  pub closing : (t : ScannerTable) (place : Place) (c : Connection) → place.slot.state ≡ Established c → S t (with_slot (counted t) place.number (closing_slot t c place.slot)) place.number place.config place.slot (closing_slot t c place.slot)
+  pub opening : (t : ScannerTable) (indexed : IndexedSlot) → is_resting indexed.slot.state ≡ true → S t (with_slot (counted (drawn t indexed.config)) indexed.number (opening_slot t indexed)) indexed.number indexed.config indexed.slot (opening_slot t indexed)
+  pub idling : (t : ScannerTable) (indexed : IndexedSlot) (slot : Slot) → BecomesIdle indexed.slot slot → S t (with_slot t indexed.number slot) indexed.number indexed.config indexed.slot slot
+  pub timing_out : (t : ScannerTable) (indexed : IndexedSlot) (c : Connection) → indexed.slot.state ≡ Established c → S t (with_slot t indexed.number (failed_slot t (TimedOut c.link) indexed.slot)) indexed.number indexed.config indexed.slot (failed_slot t (TimedOut c.link) indexed.slot)
+  pub closing : (t : ScannerTable) (indexed : IndexedSlot) (c : Connection) → indexed.slot.state ≡ Established c → S t (with_slot (counted t) indexed.number (closing_slot t c indexed.slot)) indexed.number indexed.config indexed.slot (closing_slot t c indexed.slot)
   pub producing : ProducesSo S
   pub moding : ModesSo S
 
@@ -96,36 +96,36 @@ number_differs a b is same = absurd (grind (arith, nat_tests))
 
 -- it holds of each slot that stays, but that of a number
 abbrev pub StaysElsewhere : Relation → ScannerTable → ScannerTable → ℕ → Type 0
-StaysElsewhere S t u place = (number : ℕ) (config : SlotConfig) (slot : Slot) → (number == place) ≡ false → S t u number config slot slot
+StaysElsewhere S t u indexed = (number : ℕ) (config : SlotConfig) (slot : Slot) → (number == indexed) ≡ false → S t u number config slot slot
 
-set_step : (b : Bool) (S : Relation) (t u : ScannerTable) (place : Place) (slot : Slot) → StaysElsewhere S t (with_slot u place.number slot) place.number → (number : ℕ) (config : SlotConfig) (was : Slot) → (number == place.number) ≡ b → u.slots ≡ t.slots → Stands t place → S t (with_slot u place.number slot) place.number place.config place.slot slot → slice_get t.profile.slots number ≡ Some config → slice_get t.slots number ≡ Some was → Becomes S t (with_slot u place.number slot) number config was
-set_step true S t u place slot by number config was is same stands turns at there =
-    let one : number ≡ place.number = number_is number place.number is in
-    let c : place.config ≡ config = some_is place.config config (sym stands.config ∙ subst (λ (n : ℕ). slice_get t.profile.slots n ≡ Some config) one at) in
-    let s : place.slot ≡ was = some_is place.slot was (sym stands.slot ∙ subst (λ (n : ℕ). slice_get t.slots n ≡ Some was) one there) in
+set_step : (b : Bool) (S : Relation) (t u : ScannerTable) (indexed : IndexedSlot) (slot : Slot) → StaysElsewhere S t (with_slot u indexed.number slot) indexed.number → (number : ℕ) (config : SlotConfig) (was : Slot) → (number == indexed.number) ≡ b → u.slots ≡ t.slots → Stands t indexed → S t (with_slot u indexed.number slot) indexed.number indexed.config indexed.slot slot → slice_get t.profile.slots number ≡ Some config → slice_get t.slots number ≡ Some was → Becomes S t (with_slot u indexed.number slot) number config was
+set_step true S t u indexed slot by number config was is same stands turns at there =
+    let one : number ≡ indexed.number = number_is number indexed.number is in
+    let c : indexed.config ≡ config = some_is indexed.config config (sym stands.config ∙ subst (λ (n : ℕ). slice_get t.profile.slots n ≡ Some config) one at) in
+    let s : indexed.slot ≡ was = some_is indexed.slot was (sym stands.slot ∙ subst (λ (n : ℕ). slice_get t.slots n ≡ Some was) one there) in
     record {
       now = slot;
-      stands = subst (λ (n : ℕ). slice_get (slice_set u.slots place.number slot) n ≡ Some slot) (sym one) (get_same place.number u.slots slot place.slot (subst (λ (xs : List Slot). slice_get xs place.number ≡ Some place.slot) (sym same) stands.slot));
-      holds = subst (λ (n : ℕ). S t (with_slot u place.number slot) n config was slot) (sym one)
-          (subst (λ (x : Slot). S t (with_slot u place.number slot) place.number config x slot) s (subst (λ (x : SlotConfig). S t (with_slot u place.number slot) place.number x place.slot slot) c turns));
+      stands = subst (λ (n : ℕ). slice_get (slice_set u.slots indexed.number slot) n ≡ Some slot) (sym one) (get_same indexed.number u.slots slot indexed.slot (subst (λ (xs : List Slot). slice_get xs indexed.number ≡ Some indexed.slot) (sym same) stands.slot));
+      holds = subst (λ (n : ℕ). S t (with_slot u indexed.number slot) n config was slot) (sym one)
+          (subst (λ (x : Slot). S t (with_slot u indexed.number slot) indexed.number config x slot) s (subst (λ (x : SlotConfig). S t (with_slot u indexed.number slot) indexed.number x indexed.slot slot) c turns));
     }
-set_step false S t u place slot by number config was is same stands turns at there = record {
+set_step false S t u indexed slot by number config was is same stands turns at there = record {
   now = was;
-  stands = get_other place.number number u.slots slot (number_differs number place.number is) ∙ subst (λ (xs : List Slot). slice_get xs number ≡ Some was) (sym same) there;
+  stands = get_other indexed.number number u.slots slot (number_differs number indexed.number is) ∙ subst (λ (xs : List Slot). slice_get xs number ≡ Some was) (sym same) there;
   holds = by number config was is;
 }
 
 -- the slot of a place is another, and it holds of all others that stay
-pub apart_goes : (S : Relation) (t u : ScannerTable) (place : Place) (slot : Slot) → StaysElsewhere S t (with_slot u place.number slot) place.number → Later t (with_slot u place.number slot) → u.slots ≡ t.slots → Stands t place → S t (with_slot u place.number slot) place.number place.config place.slot slot → Goes S t (with_slot u place.number slot)
-apart_goes S t u place slot by later same stands turns = record {
+pub apart_goes : (S : Relation) (t u : ScannerTable) (indexed : IndexedSlot) (slot : Slot) → StaysElsewhere S t (with_slot u indexed.number slot) indexed.number → Later t (with_slot u indexed.number slot) → u.slots ≡ t.slots → Stands t indexed → S t (with_slot u indexed.number slot) indexed.number indexed.config indexed.slot slot → Goes S t (with_slot u indexed.number slot)
+apart_goes S t u indexed slot by later same stands turns = record {
   later = later;
-  fewer = rw (length-set u.slots place.number slot, same) (omega arith);
-  changes = λ number config was at there. set_step (number == place.number) S t u place slot by number config was refl same stands turns at there;
+  fewer = rw (length-set u.slots indexed.number slot, same) (omega arith);
+  changes = λ number config was at there. set_step (number == indexed.number) S t u indexed slot by number config was refl same stands turns at there;
 }
 
-pub set_goes : (S : Relation) → StaysSo S → (t u : ScannerTable) (place : Place) (slot : Slot) → Later t (with_slot u place.number slot) → u.slots ≡ t.slots → Stands t place → S t (with_slot u place.number slot) place.number place.config place.slot slot → Goes S t (with_slot u place.number slot)
-set_goes S by t u place slot later same stands turns =
-    apart_goes S t u place slot (λ number config was is. by t (with_slot u place.number slot) number config was later) later same stands turns
+pub set_goes : (S : Relation) → StaysSo S → (t u : ScannerTable) (indexed : IndexedSlot) (slot : Slot) → Later t (with_slot u indexed.number slot) → u.slots ≡ t.slots → Stands t indexed → S t (with_slot u indexed.number slot) indexed.number indexed.config indexed.slot slot → Goes S t (with_slot u indexed.number slot)
+set_goes S by t u indexed slot later same stands turns =
+    apart_goes S t u indexed slot (λ number config was is. by t (with_slot u indexed.number slot) number config was later) later same stands turns
 
 pub stays_goes : (S : Relation) → StaysSo S → (t u : ScannerTable) → Later t u → u.slots ≡ t.slots → Goes S t u
 stays_goes S by t u later same = record {
@@ -151,34 +151,34 @@ get_map f k [] x is = absurd cc
 get_map f zero (y ∷ xs) x is = ap (λ z. Some (f z)) (some_is y x is)
 get_map f (suc k) (y ∷ xs) x is = get_map f k xs x is
 
-get_moded : (n k : ℕ) (configs : List SlotConfig) (slots : List Slot) (config : SlotConfig) (slot : Slot) → slice_get configs k ≡ Some config → slice_get slots k ≡ Some slot → slice_get (map moded_slot (places_from n configs slots)) k ≡ Some (moded_slot (placed (n + k) config slot))
+get_moded : (n k : ℕ) (configs : List SlotConfig) (slots : List Slot) (config : SlotConfig) (slot : Slot) → slice_get configs k ≡ Some config → slice_get slots k ≡ Some slot → slice_get (map moded_slot (indexed_from n configs slots)) k ≡ Some (moded_slot (indexed_at (n + k) config slot))
 get_moded n k [] slots config slot is there = absurd cc
 get_moded n k (c ∷ configs) [] config slot is there = absurd cc
 get_moded n zero (c ∷ configs) (s ∷ slots) config slot is there =
     let same : n ≡ n + 0 = omega arith in
-    rw (some_is c config is, some_is s slot there) (ap (λ (m : ℕ). Some (moded_slot (placed m config slot))) same)
+    rw (some_is c config is, some_is s slot there) (ap (λ (m : ℕ). Some (moded_slot (indexed_at m config slot))) same)
 get_moded n (suc k) (c ∷ configs) (s ∷ slots) config slot is there =
     let same : suc n + k ≡ n + suc k = omega arith in
-    subst (λ (m : ℕ). slice_get (map moded_slot (places_from (suc n) configs slots)) k ≡ Some (moded_slot (placed m config slot))) same (get_moded (suc n) k configs slots config slot is there)
+    subst (λ (m : ℕ). slice_get (map moded_slot (indexed_from (suc n) configs slots)) k ≡ Some (moded_slot (indexed_at m config slot))) same (get_moded (suc n) k configs slots config slot is there)
 
-fewer_places : (n : ℕ) (configs : List SlotConfig) (slots : List Slot) → length (places_from n configs slots) ≤ length slots
-fewer_places n [] slots = omega arith
-fewer_places n (config ∷ configs) [] = omega arith
-fewer_places n (config ∷ configs) (slot ∷ slots) = omega (arith, fewer_places (suc n) configs slots)
+fewer_slots : (n : ℕ) (configs : List SlotConfig) (slots : List Slot) → length (indexed_from n configs slots) ≤ length slots
+fewer_slots n [] slots = omega arith
+fewer_slots n (config ∷ configs) [] = omega arith
+fewer_slots n (config ∷ configs) (slot ∷ slots) = omega (arith, fewer_slots (suc n) configs slots)
 
-moded_stands : (t : ScannerTable) (number : ℕ) (config : SlotConfig) (slot : Slot) → slice_get t.profile.slots number ≡ Some config → slice_get t.slots number ≡ Some slot → slice_get (map moded_slot (places t)) number ≡ Some (moded_slot (placed number config slot))
+moded_stands : (t : ScannerTable) (number : ℕ) (config : SlotConfig) (slot : Slot) → slice_get t.profile.slots number ≡ Some config → slice_get t.slots number ≡ Some slot → slice_get (map moded_slot (indexed_slots t)) number ≡ Some (moded_slot (indexed_at number config slot))
 moded_stands t number config slot is there =
     let same : 0 + number ≡ number = omega arith in
-    subst (λ (m : ℕ). slice_get (map moded_slot (places t)) number ≡ Some (moded_slot (placed m config slot))) same (get_moded 0 number t.profile.slots t.slots config slot is there)
+    subst (λ (m : ℕ). slice_get (map moded_slot (indexed_slots t)) number ≡ Some (moded_slot (indexed_at m config slot))) same (get_moded 0 number t.profile.slots t.slots config slot is there)
 
 pub moded_goes : (S : Relation) → ModesSo S → (t : ScannerTable) (run : Bool) → Goes S t (moded_table t run)
 moded_goes S by t run = record {
   later = record { profile = refl; ids = omega arith; requests = omega arith; clock = omega arith };
-  fewer = rw (length-map (places t) moded_slot) (fewer_places 0 t.profile.slots t.slots);
+  fewer = rw (length-map (indexed_slots t) moded_slot) (fewer_slots 0 t.profile.slots t.slots);
   changes = λ number config was at there. record {
-    now = moded_slot (placed number config was);
+    now = moded_slot (indexed_at number config was);
     stands = moded_stands t number config was at there;
-    holds = by t run (placed number config was);
+    holds = by t run (indexed_at number config was);
   };
 }
 
@@ -213,10 +213,10 @@ pub goes_kept : (S : Relation) → Slotwise S → Kept (Goes S)
 goes_kept S by = record {
   same = λ t. stays_goes S by.stays t t (same_later t) refl;
   after = goes_after S by;
-  opening = λ t place stands resting. set_goes S by.stays t (counted (drawn t place.config)) place (opening_slot t place) (drawn_later t place.config place.number (opening_slot t place)) refl stands (by.opening t place resting);
-  idling = λ t place slot stands idle. set_goes S by.stays t t place slot (set_later t place.number slot) refl stands (by.idling t place slot idle);
-  timing_out = λ t place c stands is. set_goes S by.stays t t place (failed_slot t (TimedOut c.link) place.slot) (set_later t place.number (failed_slot t (TimedOut c.link) place.slot)) refl stands (by.timing_out t place c is);
-  closing = λ t place c stands is. set_goes S by.stays t (counted t) place (closing_slot t c place.slot) (counted_later t place.number (closing_slot t c place.slot)) refl stands (by.closing t place c is);
+  opening = λ t indexed stands resting. set_goes S by.stays t (counted (drawn t indexed.config)) indexed (opening_slot t indexed) (drawn_later t indexed.config indexed.number (opening_slot t indexed)) refl stands (by.opening t indexed resting);
+  idling = λ t indexed slot stands idle. set_goes S by.stays t t indexed slot (set_later t indexed.number slot) refl stands (by.idling t indexed slot idle);
+  timing_out = λ t indexed c stands is. set_goes S by.stays t t indexed (failed_slot t (TimedOut c.link) indexed.slot) (set_later t indexed.number (failed_slot t (TimedOut c.link) indexed.slot)) refl stands (by.timing_out t indexed c is);
+  closing = λ t indexed c stands is. set_goes S by.stays t (counted t) indexed (closing_slot t c indexed.slot) (counted_later t indexed.number (closing_slot t c indexed.slot)) refl stands (by.closing t indexed c is);
 }
 
 pub goes_widely : (S : Relation) → Slotwise S → KeptWidely (Goes S)
@@ -231,29 +231,29 @@ goes_widely S by = record {
 -- what has to hold too where a slot is established, written, or accepts a datagram
 pub record SlotwiseAlways (S : Relation) : Type 0 where
   pub widely : Slotwise S
-  pub establishing : (t : ScannerTable) (place : Place) (o : opening.Opening) (success : made.Opened) → place.slot.state ≡ Opening o → is_wanted_id o.wanted.t_o_id success.t_o_id ≡ true → S t (with_slot t place.number (established_slot place (new_connection t place o success))) place.number place.config place.slot (established_slot place (new_connection t place o success))
-  pub writing : (t : ScannerTable) (place : Place) (bytes : List ℕ) → S t (with_slot t place.number (output_slot bytes place.slot)) place.number place.config place.slot (output_slot bytes place.slot)
-  pub accepting : (t : ScannerTable) (place : Place) (d : DatagramFields) (c : Connection) (bytes : List ℕ) → IsAccepted place d c bytes → S t (accepted_table t place d c bytes) place.number place.config place.slot (record place.slot { state = Established (accepted_connection t.clock place.config.mult d c); image = bytes })
+  pub establishing : (t : ScannerTable) (indexed : IndexedSlot) (o : opening.PendingOpen) (success : made.Opened) → indexed.slot.state ≡ Opening o → is_requested_id o.requested.t_o_id success.t_o_id ≡ true → S t (with_slot t indexed.number (established_slot indexed (new_connection t indexed o success))) indexed.number indexed.config indexed.slot (established_slot indexed (new_connection t indexed o success))
+  pub writing : (t : ScannerTable) (indexed : IndexedSlot) (bytes : List ℕ) → S t (with_slot t indexed.number (output_slot bytes indexed.slot)) indexed.number indexed.config indexed.slot (output_slot bytes indexed.slot)
+  pub accepting : (t : ScannerTable) (indexed : IndexedSlot) (d : DatagramFields) (c : Connection) (bytes : List ℕ) → IsAccepted indexed d c bytes → S t (accepted_table t indexed d c bytes) indexed.number indexed.config indexed.slot (record indexed.slot { state = Established (accepted_connection t.clock indexed.config.mult d c); image = bytes })
 
 pub goes_always : (S : Relation) → SlotwiseAlways S → KeptAlways (Goes S)
 goes_always S by = record {
   widely = goes_widely S by.widely;
-  establishing = λ t place o success stands is wanted.
-      let slot = established_slot place (new_connection t place o success) in
-      set_goes S by.widely.stays t t place slot (set_later t place.number slot) refl stands (by.establishing t place o success is wanted);
-  writing = λ t place bytes stands. set_goes S by.widely.stays t t place (output_slot bytes place.slot) (set_later t place.number (output_slot bytes place.slot)) refl stands (by.writing t place bytes);
-  accepting = λ t place d c bytes stands is.
-      let slot : Slot = record place.slot { state = Established (accepted_connection t.clock place.config.mult d c); image = bytes } in
-      set_goes S by.widely.stays t t place slot (set_later t place.number slot) refl stands (by.accepting t place d c bytes is);
+  establishing = λ t indexed o success stands is requested.
+      let slot = established_slot indexed (new_connection t indexed o success) in
+      set_goes S by.widely.stays t t indexed slot (set_later t indexed.number slot) refl stands (by.establishing t indexed o success is requested);
+  writing = λ t indexed bytes stands. set_goes S by.widely.stays t t indexed (output_slot bytes indexed.slot) (set_later t indexed.number (output_slot bytes indexed.slot)) refl stands (by.writing t indexed bytes);
+  accepting = λ t indexed d c bytes stands is.
+      let slot : Slot = record indexed.slot { state = Established (accepted_connection t.clock indexed.config.mult d c); image = bytes } in
+      set_goes S by.widely.stays t t indexed slot (set_later t indexed.number slot) refl stands (by.accepting t indexed d c bytes is);
 }
 
 -- ---- what the laws say
 
 -- each change is so related
-abbrev pub InPlaces : Relation → ScannerTable → ScannerTable → Place → Place → Type 0
-InPlaces S t u was now = S t u now.number now.config was.slot now.slot
+abbrev pub InSlots : Relation → ScannerTable → ScannerTable → IndexedSlot → IndexedSlot → Type 0
+InSlots S t u was now = S t u now.number now.config was.slot now.slot
 
-change_holds : (S : Relation) (t u : ScannerTable) (number : ℕ) (was now : Place) → Goes S t u → IsPlace t number was → IsPlace u number now → InPlaces S t u was now
+change_holds : (S : Relation) (t u : ScannerTable) (number : ℕ) (was now : IndexedSlot) → Goes S t u → IsIndexed t number was → IsIndexed u number now → InSlots S t u was now
 change_holds S t u number was now goes before behind =
     let at : slice_get t.profile.slots was.number ≡ Some was.config = before.stands.config in
     let same : was.number ≡ now.number = before.number_is ∙ sym behind.number_is in
@@ -264,8 +264,8 @@ change_holds S t u number was now goes before behind =
     (subst (λ (x : SlotConfig). S t u now.number x was.slot end.now) config
     (subst (λ (n : ℕ). S t u n was.config was.slot end.now) same end.holds))
 
-pub of_each_change : (S : Relation) (t u : ScannerTable) → Goes S t u → OfEachChange (InPlaces S t u) t u
-of_each_change S t u goes = λ number was now before behind. change_holds S t u number was now goes (place_is t number was before) (place_is u number now behind)
+pub of_each_change : (S : Relation) (t u : ScannerTable) → Goes S t u → OfEachChange (InSlots S t u) t u
+of_each_change S t u goes = λ number was now before behind. change_holds S t u number was now goes (slot_is t number was before) (slot_is u number now behind)
 
 -- ---- what holds of each slot
 
@@ -277,8 +277,8 @@ Property = ScannerTable → ℕ → SlotConfig → Slot → Type 0
 abbrev pub Stays : Property → Relation
 Stays P t u number config was now = P t number config was → P u number config now
 
-abbrev pub InPlace : Property → ScannerTable → Place → Type 0
-InPlace P t place = P t place.number place.config place.slot
+abbrev pub InSlot : Property → ScannerTable → IndexedSlot → Type 0
+InSlot P t indexed = P t indexed.number indexed.config indexed.slot
 
 get_some : {A : Type 0} → (k : ℕ) (xs : List A) → k < length xs → (x : A) × (slice_get xs k ≡ Some x)
 get_some k [] less = absurd (omega (arith, less))
@@ -286,27 +286,27 @@ get_some zero (x ∷ xs) less = (x, refl)
 get_some (suc k) (x ∷ xs) less = get_some k xs (omega (arith, less))
 
 -- the slot of a later table as it was
-pub record Was (S : Relation) (t u : ScannerTable) (place : Place) : Type 0 where
+pub record Was (S : Relation) (t u : ScannerTable) (indexed : IndexedSlot) : Type 0 where
   pub slot : Slot
-  pub stands : Stands t (placed place.number place.config slot)
-  pub holds : S t u place.number place.config slot place.slot
+  pub stands : Stands t (indexed_at indexed.number indexed.config slot)
+  pub holds : S t u indexed.number indexed.config slot indexed.slot
 
-pub was_of : (S : Relation) (t u : ScannerTable) (place : Place) → Goes S t u → Stands u place → Was S t u place
-was_of S t u place goes stands =
-    let within : place.number < length t.slots = omega (arith, slice_get_within u.slots place.number place.slot stands.slot, goes.fewer) in
-    let old = get_some place.number t.slots within in
-    let config : slice_get t.profile.slots place.number ≡ Some place.config = subst (λ (p : ScannerProfile). slice_get p.slots place.number ≡ Some place.config) goes.later.profile stands.config in
-    let end = goes.changes place.number place.config old.0 config old.1 in
+pub was_of : (S : Relation) (t u : ScannerTable) (indexed : IndexedSlot) → Goes S t u → Stands u indexed → Was S t u indexed
+was_of S t u indexed goes stands =
+    let within : indexed.number < length t.slots = omega (arith, slice_get_within u.slots indexed.number indexed.slot stands.slot, goes.fewer) in
+    let old = get_some indexed.number t.slots within in
+    let config : slice_get t.profile.slots indexed.number ≡ Some indexed.config = subst (λ (p : ScannerProfile). slice_get p.slots indexed.number ≡ Some indexed.config) goes.later.profile stands.config in
+    let end = goes.changes indexed.number indexed.config old.0 config old.1 in
     record {
       slot = old.0;
       stands = record { config = config; slot = old.1 };
-      holds = subst (λ (x : Slot). S t u place.number place.config old.0 x) (some_is end.now place.slot (sym end.stands ∙ stands.slot)) end.holds;
+      holds = subst (λ (x : Slot). S t u indexed.number indexed.config old.0 x) (some_is end.now indexed.slot (sym end.stands ∙ stands.slot)) end.holds;
     }
 
-property_holds : (P : Property) (t u : ScannerTable) (place : Place) → Goes (Stays P) t u → Stands u place → OfEachPlace (InPlace P t) t → InPlace P u place
-property_holds P t u place goes stands all =
-    let was = was_of (Stays P) t u place goes stands in
-    was.holds (all place.number (placed place.number place.config was.slot) (place_stands t (placed place.number place.config was.slot) was.stands))
+property_holds : (P : Property) (t u : ScannerTable) (indexed : IndexedSlot) → Goes (Stays P) t u → Stands u indexed → OfEachSlot (InSlot P t) t → InSlot P u indexed
+property_holds P t u indexed goes stands all =
+    let was = was_of (Stays P) t u indexed goes stands in
+    was.holds (all indexed.number (indexed_at indexed.number indexed.config was.slot) (slot_stands t (indexed_at indexed.number indexed.config was.slot) was.stands))
 
-pub of_each_place : (P : Property) (t u : ScannerTable) → Goes (Stays P) t u → OfEachPlace (InPlace P t) t → OfEachPlace (InPlace P u) u
-of_each_place P t u goes all = λ number place is. property_holds P t u place goes (place_is u number place is).stands all
+pub of_each_slot : (P : Property) (t u : ScannerTable) → Goes (Stays P) t u → OfEachSlot (InSlot P t) t → OfEachSlot (InSlot P u) u
+of_each_slot P t u goes all = λ number indexed is. property_holds P t u indexed goes (slot_is u number indexed is).stands all

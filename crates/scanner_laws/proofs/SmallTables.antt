@@ -12,13 +12,13 @@ use Rattle.conn_state.specs.declared.names.Link.{Link}
 use Rattle.scanner_table.specs.declared.profile.ScannerProfile.{ScannerProfile}
 use Rattle.scanner_table.specs.declared.profile.SlotConfig.{SlotConfig}
 use Rattle.scanner_table.specs.declared.slot.Connection.{Connection}
-use Rattle.scanner_table.specs.declared.slot.Opening as asked
+use Rattle.scanner_table.specs.declared.slot.PendingOpen as pending
 use Rattle.scanner_table.specs.declared.slot.Slot.{Slot}
 use Rattle.scanner_table.specs.declared.slot.SlotState.{SlotState}
 use Rattle.scanner_table.specs.declared.slot.SlotState.TheVariants.{Idle, Established}
 use Rattle.scanner_table.specs.declared.table.ScannerTable.{ScannerTable}
 use Rattle.scanner_table.specs.declared.table.Stage.TheVariants.{Up}
-use Rattle.scanner_table.specs.Slots.{Place}
+use Rattle.scanner_table.specs.Slots.{IndexedSlot}
 
 abbrev pub target : Node
 target = record { 0 = 0xC0A8010A }
@@ -66,8 +66,8 @@ abbrev pub own_id : ConnId
 own_id = record { 0 = 0x20000006 }
 
 -- the opening of request number 7, which asks for the id
-abbrev pub opening : asked.Opening
-opening = record { request = 7; wanted = record { triad = triad; t_o_id = Some own_id }; deadline = record { 0 = 2500 } }
+abbrev pub opening : pending.PendingOpen
+opening = record { request = 7; requested = record { triad = triad; t_o_id = Some own_id }; deadline = record { 0 = 2500 } }
 
 abbrev pub link : Link
 link = record { triad = triad; o_t_id = record { 0 = 0x10000001 }; t_o_id = own_id }
@@ -91,8 +91,8 @@ abbrev pub connection : Connection
 connection = record {
   opening = 7;
   link = link;
-  o_t_api = 10;
-  t_o_api = 10;
+  o_t_api_ms = 10;
+  t_o_api_ms = 10;
   last = Some (record { number = 7; count = 3 });
   deadline = record { 0 = 660 };
   production = production;
@@ -100,14 +100,14 @@ connection = record {
 
 -- the first slot in a state
 abbrev pub first_slot : SlotState → Slot
-first_slot state = record { state = state; wanted = true; retry = record { 0 = 0 }; output = 1 ∷ 2 ∷ []; image = 3 ∷ 4 ∷ [] }
+first_slot state = record { state = state; desired_up = true; retry_at = record { 0 = 0 }; output = 1 ∷ 2 ∷ []; image = 3 ∷ 4 ∷ [] }
 
 -- the second is never started
 abbrev pub second_slot : Slot
-second_slot = record { state = Idle; wanted = false; retry = record { 0 = 0 }; output = []; image = 0 ∷ 0 ∷ [] }
+second_slot = record { state = Idle; desired_up = false; retry_at = record { 0 = 0 }; output = []; image = 0 ∷ 0 ∷ [] }
 
-abbrev pub place : SlotState → Place
-place state = record { number = 0; config = owner; slot = first_slot state }
+abbrev pub indexed : SlotState → IndexedSlot
+indexed state = record { number = 0; config = owner; slot = first_slot state }
 
 -- at 600 milliseconds, with a session over stream 0
 abbrev pub table : SlotState → ScannerTable

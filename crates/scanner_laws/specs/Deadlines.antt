@@ -5,10 +5,10 @@ use Rattle.scanner_table.specs.declared.slot.SlotState.{SlotState}
 use Rattle.scanner_table.specs.declared.slot.SlotState.TheVariants.{Idle, Opening, Established, TimedOut, Closing}
 use Rattle.scanner_table.specs.declared.table.ScannerTable.{ScannerTable}
 use Rattle.scanner_table.specs.Profiles.{profile_fault}
-use Rattle.scanner_table.specs.Slots.{Place}
+use Rattle.scanner_table.specs.Slots.{IndexedSlot}
 use Rattle.scanner_table.specs.Effects.{Next}
 use Rattle.scanner_table.specs.Step.{scanner_step}
-use Rattle.scanner_laws.specs.Runs.{OfEachPlace}
+use Rattle.scanner_laws.specs.Runs.{OfEachSlot}
 
 -- what is asked is waited for until this time at most
 abbrev pub StateWaitsTo : ℕ → SlotState → Type 0
@@ -18,12 +18,12 @@ StateWaitsTo time (Established c) = Unit {0}
 StateWaitsTo time (TimedOut link) = Unit {0}
 StateWaitsTo time (Closing c) = c.deadline.0 ≤ time
 
-abbrev pub PlaceWaits : ScannerTable → Place → Type 0
-PlaceWaits t place = StateWaitsTo (t.clock.0 + t.profile.open_timeout) place.slot.state
+abbrev pub SlotWaits : ScannerTable → IndexedSlot → Type 0
+SlotWaits t indexed = StateWaitsTo (t.clock.0 + t.profile.open_timeout) indexed.slot.state
 
 -- a slot that opens or closes has a deadline, no later than the time that a target has to answer from now on
 abbrev pub SlotsWaitInTime : ScannerTable → Type 0
-SlotsWaitInTime t = OfEachPlace (PlaceWaits t) t
+SlotsWaitInTime t = OfEachSlot (SlotWaits t) t
 
 -- the deadline is still to come, where the state has one
 abbrev pub StateIsAhead : ℕ → SlotState → Type 0
@@ -33,12 +33,12 @@ StateIsAhead time (Established c) = time < c.deadline.0
 StateIsAhead time (TimedOut link) = Unit {0}
 StateIsAhead time (Closing c) = time < c.deadline.0
 
-abbrev pub PlaceIsAhead : ScannerTable → Place → Type 0
-PlaceIsAhead t place = StateIsAhead t.clock.0 place.slot.state
+abbrev pub SlotIsAhead : ScannerTable → IndexedSlot → Type 0
+SlotIsAhead t indexed = StateIsAhead t.clock.0 indexed.slot.state
 
 -- no slot has a deadline that has come
 abbrev pub DeadlinesAreAhead : ScannerTable → Type 0
-DeadlinesAreAhead t = OfEachPlace (PlaceIsAhead t) t
+DeadlinesAreAhead t = OfEachSlot (SlotIsAhead t) t
 
 -- none has after a tick of a scanner whose profile has no fault
 abbrev pub TicksLeaveNoneLate : Type 0

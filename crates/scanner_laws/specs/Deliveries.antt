@@ -5,7 +5,7 @@ use Rattle.cip_events.specs.declared.event.Delivery.TheVariants as delivery
 use Rattle.cip_events.specs.declared.event.Verdict.{Verdict}
 use Rattle.cip_events.specs.declared.event.Verdict.TheVariants.{Done, BadFrame, Ignored, Value, Delivered}
 use Rattle.cip_events.specs.Answers.{is_accepted}
-use Rattle.scanner_table.specs.Slots.{Place, is_numbered}
+use Rattle.scanner_table.specs.Slots.{IndexedSlot, is_numbered}
 
 abbrev pub is_applied : Delivery → Bool
 is_applied delivery.Applied = true
@@ -18,22 +18,22 @@ is_applied delivery.WrongSize = false
 is_applied delivery.Malformed = false
 
 -- the answer tells that the data of a datagram were applied
-abbrev pub tells_applied : Verdict → Bool
-tells_applied Done = false
-tells_applied BadFrame = false
-tells_applied Ignored = false
-tells_applied (Value bytes) = false
-tells_applied (Delivered delivery) = is_applied delivery
+abbrev pub reports_applied : Verdict → Bool
+reports_applied Done = false
+reports_applied BadFrame = false
+reports_applied Ignored = false
+reports_applied (Value bytes) = false
+reports_applied (Delivered delivery) = is_applied delivery
 
 -- the answer tells that a datagram was accepted
-abbrev pub tells_accepted : Verdict → Bool
-tells_accepted Done = false
-tells_accepted BadFrame = false
-tells_accepted Ignored = false
-tells_accepted (Value bytes) = false
-tells_accepted (Delivered delivery) = is_accepted delivery
+abbrev pub reports_accepted : Verdict → Bool
+reports_accepted Done = false
+reports_accepted BadFrame = false
+reports_accepted Ignored = false
+reports_accepted (Value bytes) = false
+reports_accepted (Delivered delivery) = is_accepted delivery
 
 -- the place that is found, if one is, is the slot of this number
-abbrev pub is_slots : ℕ → Option Place → Bool
+abbrev pub is_slots : ℕ → Option IndexedSlot → Bool
 is_slots number None = false
-is_slots number (Some place) = is_numbered number place
+is_slots number (Some indexed) = is_numbered number indexed

@@ -6,13 +6,13 @@ use Rattle.cip_events.specs.declared.event.Event.{Event}
 use Rattle.conn_state.specs.declared.names.Link.{Link}
 use Rattle.scanner_table.specs.declared.profile.ScannerProfile.{ScannerProfile}
 use Rattle.scanner_table.specs.declared.profile.SlotConfig.{SlotConfig}
-use Rattle.scanner_table.specs.declared.slot.Opening as asked
+use Rattle.scanner_table.specs.declared.slot.PendingOpen as pending
 use Rattle.scanner_table.specs.declared.slot.SlotState.{SlotState}
 use Rattle.scanner_table.specs.declared.slot.SlotState.TheVariants.{Idle, Opening, Established, TimedOut, Closing}
 use Rattle.scanner_table.specs.declared.table.ScannerTable.{ScannerTable}
-use Rattle.scanner_table.specs.Slots.{Place, place_at}
-use Rattle.scanner_table.specs.Asking.{connection_id}
-use Rattle.scanner_laws.specs.Runs.{table_after, OfEachPlace, OfEachChange}
+use Rattle.scanner_table.specs.Slots.{IndexedSlot, slot_at}
+use Rattle.scanner_table.specs.Requests.{connection_id}
+use Rattle.scanner_laws.specs.Runs.{table_after, OfEachSlot, OfEachChange}
 
 -- IDS
 
@@ -33,15 +33,15 @@ WantsDrawn profile first next false (Some id) = IsDrawn profile first next id
 -- OPENINGS THAT BEGIN
 
 -- an opening that began between two tables: its request number and its id were drawn between them
-pub record Began (old new : ScannerTable) (config : SlotConfig) (opening : asked.Opening) : Type 0 where
+pub record Began (old new : ScannerTable) (config : SlotConfig) (opening : pending.PendingOpen) : Type 0 where
   pub begins : old.next_request ≤ opening.request
   pub ends : opening.request < new.next_request
-  pub id : WantsDrawn old.profile old.next_id new.next_id config.multicast opening.wanted.t_o_id
+  pub id : WantsDrawn old.profile old.next_id new.next_id config.multicast opening.requested.t_o_id
 
 -- a slot that opens now waited for the same opening before, or the opening began since
-abbrev pub OpensAnew : ScannerTable → ScannerTable → Place → Place → Type 0
+abbrev pub OpensAnew : ScannerTable → ScannerTable → IndexedSlot → IndexedSlot → Type 0
 OpensAnew old new was now =
-    (opening : asked.Opening) → now.slot.state ≡ Opening opening → (was.slot.state ≡ Opening opening) ⊎ Began old new now.config opening
+    (opening : pending.PendingOpen) → now.slot.state ≡ Opening opening → (was.slot.state ≡ Opening opening) ⊎ Began old new now.config opening
 
 abbrev pub OpeningsBegin : ScannerTable → ScannerTable → Type 0
 OpeningsBegin old new = OfEachChange (OpensAnew old new) old new
@@ -56,17 +56,17 @@ LinkIsDrawn profile next_id false link = IsDrawn profile 0 next_id link.t_o_id
 -- a request that is waited for, and the opening that a connection came from, were numbered, and ids were drawn
 abbrev pub StateIsDrawn : ScannerProfile → ℕ → ℕ → Bool → SlotState → Type 0
 StateIsDrawn profile next_id next_request multicast Idle = Unit {0}
-StateIsDrawn profile next_id next_request multicast (Opening o) = (o.request < next_request) × WantsDrawn profile 0 next_id multicast o.wanted.t_o_id
+StateIsDrawn profile next_id next_request multicast (Opening o) = (o.request < next_request) × WantsDrawn profile 0 next_id multicast o.requested.t_o_id
 StateIsDrawn profile next_id next_request multicast (Established c) = (c.opening < next_request) × LinkIsDrawn profile next_id multicast c.link
 StateIsDrawn profile next_id next_request multicast (TimedOut link) = LinkIsDrawn profile next_id multicast link
 StateIsDrawn profile next_id next_request multicast (Closing c) = (c.request < next_request) × LinkIsDrawn profile next_id multicast c.link
 
-abbrev pub PlaceIsDrawn : ScannerTable → Place → Type 0
-PlaceIsDrawn t place = StateIsDrawn t.profile t.next_id t.next_request place.config.multicast place.slot.state
+abbrev pub SlotIsDrawn : ScannerTable → IndexedSlot → Type 0
+SlotIsDrawn t indexed = StateIsDrawn t.profile t.next_id t.next_request indexed.config.multicast indexed.slot.state
 
 -- all numbers of all slots are below the next ones
 abbrev pub NumbersAreDrawn : ScannerTable → Type 0
-NumbersAreDrawn t = OfEachPlace (PlaceIsDrawn t) t
+NumbersAreDrawn t = OfEachSlot (SlotIsDrawn t) t
 
 -- NUMBERS THAT RISE
 
@@ -75,35 +75,35 @@ NumbersAreDrawn t = OfEachPlace (PlaceIsDrawn t) t
 abbrev pub RequestsRise : Type 0
 RequestsRise =
     (t : ScannerTable) (events : List Event) (request : ℕ) → request < t.next_request →
-    (was now : Place) (opening : asked.Opening) →
-    place_at t was.number ≡ Some was → place_at (table_after t events) was.number ≡ Some now →
+    (was now : IndexedSlot) (opening : pending.PendingOpen) →
+    slot_at t was.number ≡ Some was → slot_at (table_after t events) was.number ≡ Some now →
     now.slot.state ≡ Opening opening → (was.slot.state ≡ Opening opening) ⊎ (request < opening.request)
 
 -- a slot that opens after events waited for the same opening before them, or asks for no id that was drawn by then
 abbrev pub IdsAreGivenOnce : Type 0
 IdsAreGivenOnce =
     (t : ScannerTable) (events : List Event) (id : ConnId) → IsDrawn t.profile 0 t.next_id id →
-    (was now : Place) (opening : asked.Opening) →
-    place_at t was.number ≡ Some was → place_at (table_after t events) was.number ≡ Some now →
-    now.slot.state ≡ Opening opening → (was.slot.state ≡ Opening opening) ⊎ (opening.wanted.t_o_id ≢ Some id)
+    (was now : IndexedSlot) (opening : pending.PendingOpen) →
+    slot_at t was.number ≡ Some was → slot_at (table_after t events) was.number ≡ Some now →
+    now.slot.state ≡ Opening opening → (was.slot.state ≡ Opening opening) ⊎ (opening.requested.t_o_id ≢ Some id)
 
 -- the T->O id of a point to point connection that is asked for, open, timed out or closing
 abbrev pub drawn_id : SlotState → Option ConnId
 drawn_id Idle = None
-drawn_id (Opening o) = o.wanted.t_o_id
+drawn_id (Opening o) = o.requested.t_o_id
 drawn_id (Established c) = Some c.link.t_o_id
 drawn_id (TimedOut link) = Some link.t_o_id
 drawn_id (Closing c) = Some c.link.t_o_id
 
-abbrev pub id_of : Place → Option ConnId
-id_of place = if place.config.multicast then None else drawn_id place.slot.state
+abbrev pub id_of : IndexedSlot → Option ConnId
+id_of indexed = if indexed.config.multicast then None else drawn_id indexed.slot.state
 
 -- no two slots have one such id
 abbrev pub IdsAreOwn : ScannerTable → Type 0
 IdsAreOwn t =
-    (place other : Place) (id : ConnId) → place.number ≢ other.number →
-    place_at t place.number ≡ Some place → place_at t other.number ≡ Some other →
-    id_of place ≡ Some id → id_of other ≢ Some id
+    (indexed other : IndexedSlot) (id : ConnId) → indexed.number ≢ other.number →
+    slot_at t indexed.number ≡ Some indexed → slot_at t other.number ≡ Some other →
+    id_of indexed ≡ Some id → id_of other ≢ Some id
 
 -- the numbers of all slots were drawn, and none was given twice
 pub record NumbersAreOwn (t : ScannerTable) : Type 0 where

@@ -15,13 +15,13 @@ use Rattle.cip_productions.specs.declared.acceptance.Accepted.{Accepted}
 use Rattle.scanner_table.specs.declared.slot.SlotState.{SlotState}
 use Rattle.scanner_table.specs.declared.slot.SlotState.TheVariants.{Idle, Opening, Established, TimedOut, Closing}
 use Rattle.scanner_table.specs.declared.table.ScannerTable.{ScannerTable}
-use Rattle.scanner_table.specs.Slots.{Place, places, place_at, is_numbered}
+use Rattle.scanner_table.specs.Slots.{IndexedSlot, indexed_slots, slot_at, is_numbered}
 use Rattle.scanner_table.specs.Effects.{Next}
 use Rattle.scanner_table.specs.Datagrams.{is_for, received}
 use Rattle.scanner_table.specs.Step.{scanner_step}
 use Rattle.scanner_table.specs.Whole.{IsWhole}
-use Rattle.scanner_laws.specs.Runs.{left_by, OfEachPlace}
-use Rattle.scanner_laws.specs.Deliveries.{tells_applied, tells_accepted}
+use Rattle.scanner_laws.specs.Runs.{left_by, OfEachSlot}
+use Rattle.scanner_laws.specs.Deliveries.{reports_applied, reports_accepted}
 
 -- WHAT IS ACCEPTED
 
@@ -31,7 +31,7 @@ pub record Acceptance : Type 0 where
   pub applied : Bool
 
 abbrev pub acceptance_of : DatagramFields → Verdict → Acceptance
-acceptance_of d verdict = record { datagram = record { number = d.sequence; count = d.count }; applied = tells_applied verdict }
+acceptance_of d verdict = record { datagram = record { number = d.sequence; count = d.count }; applied = reports_applied verdict }
 
 -- the connection came from the opening of this request number
 abbrev pub came_from : ℕ → SlotState → Bool
@@ -42,18 +42,18 @@ came_from opening (TimedOut link) = false
 came_from opening (Closing c) = false
 
 -- the connection is the slot's
-abbrev pub is_connection : ℕ → ℕ → Place → Bool
-is_connection number opening place = is_numbered number place && came_from opening place.slot.state
+abbrev pub is_connection : ℕ → ℕ → IndexedSlot → Bool
+is_connection number opening indexed = is_numbered number indexed && came_from opening indexed.slot.state
 
 -- what the connection accepts, where the datagram is for a slot
-abbrev pub accepted_found : ℕ → ℕ → DatagramFields → Verdict → Option Place → List Acceptance
+abbrev pub accepted_found : ℕ → ℕ → DatagramFields → Verdict → Option IndexedSlot → List Acceptance
 accepted_found number opening d verdict None = []
-accepted_found number opening d verdict (Some place) =
-    if is_connection number opening place && tells_accepted verdict then acceptance_of d verdict ∷ [] else []
+accepted_found number opening d verdict (Some indexed) =
+    if is_connection number opening indexed && reports_accepted verdict then acceptance_of d verdict ∷ [] else []
 
 abbrev pub accepted_read : ℕ → ℕ → ScannerTable → Node → Verdict → Result DatagramFields DatagramFault → List Acceptance
 accepted_read number opening t peer verdict (Err fault) = []
-accepted_read number opening t peer verdict (Ok d) = accepted_found number opening d verdict (find (is_for peer d.connection) (places t))
+accepted_read number opening t peer verdict (Ok d) = accepted_found number opening d verdict (find (is_for peer d.connection) (indexed_slots t))
 
 -- what the connection of a slot's number and an opening accepts at an event
 abbrev pub accepted_at : ℕ → ℕ → ScannerTable → Event → List Acceptance
@@ -118,7 +118,7 @@ StateRemembers opening last (Closing c) = Unit {0}
 
 -- the same of the slot of a number
 pub record TableRemembers (number opening : ℕ) (last : Option Accepted) (t : ScannerTable) : Type 0 where
-  pub there : (place : Place) → place_at t number ≡ Some place → StateRemembers opening last place.slot.state
+  pub there : (indexed : IndexedSlot) → slot_at t number ≡ Some indexed → StateRemembers opening last indexed.slot.state
   pub unopened : t.next_request ≤ opening → last ≡ None
 
 abbrev pub state_last : ℕ → SlotState → Option Accepted
@@ -128,13 +128,13 @@ state_last opening (Established c) = if c.opening == opening then c.last else No
 state_last opening (TimedOut link) = None
 state_last opening (Closing c) = None
 
-abbrev pub last_of : ℕ → Option Place → Option Accepted
+abbrev pub last_of : ℕ → Option IndexedSlot → Option Accepted
 last_of opening None = None
-last_of opening (Some place) = state_last opening place.slot.state
+last_of opening (Some indexed) = state_last opening indexed.slot.state
 
 -- what a connection accepted last, as the table knows
 abbrev pub last_in : ℕ → ℕ → ScannerTable → Option Accepted
-last_in number opening t = last_of opening (place_at t number)
+last_in number opening t = last_of opening (slot_at t number)
 
 -- the opening of a slot has a number below the next one
 abbrev pub StateIsNumbered : ℕ → SlotState → Type 0
@@ -144,11 +144,11 @@ StateIsNumbered next_request (Established c) = c.opening < next_request
 StateIsNumbered next_request (TimedOut link) = Unit {0}
 StateIsNumbered next_request (Closing c) = Unit {0}
 
-abbrev pub PlaceIsNumbered : ScannerTable → Place → Type 0
-PlaceIsNumbered t place = StateIsNumbered t.next_request place.slot.state
+abbrev pub SlotIsNumbered : ScannerTable → IndexedSlot → Type 0
+SlotIsNumbered t indexed = StateIsNumbered t.next_request indexed.slot.state
 
 abbrev pub OpeningsAreNumbered : ScannerTable → Type 0
-OpeningsAreNumbered t = OfEachPlace (PlaceIsNumbered t) t
+OpeningsAreNumbered t = OfEachSlot (SlotIsNumbered t) t
 
 -- as they are in a whole table
 abbrev pub WholeTablesNumberOpenings : Type 0

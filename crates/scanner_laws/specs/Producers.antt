@@ -4,8 +4,8 @@ use Rattle.cip_types.specs.declared.names.Node.{Node}
 use Rattle.scanner_table.specs.declared.slot.SlotState.{SlotState}
 use Rattle.scanner_table.specs.declared.slot.SlotState.TheVariants.{Idle, Opening, Established, TimedOut, Closing}
 use Rattle.scanner_table.specs.declared.table.ScannerTable.{ScannerTable}
-use Rattle.scanner_table.specs.Slots.{Place}
-use Rattle.scanner_laws.specs.Runs.{OfEachPlace}
+use Rattle.scanner_table.specs.Slots.{IndexedSlot}
+use Rattle.scanner_laws.specs.Runs.{OfEachSlot}
 
 -- a connection's producer has this number, and sends to this node
 abbrev pub StateProducesAs : ℕ → Node → SlotState → Type 0
@@ -16,9 +16,9 @@ StateProducesAs number target (TimedOut link) = Unit {0}
 StateProducesAs number target (Closing c) = Unit {0}
 
 -- the number is the slot's, and the node its target
-abbrev pub ProducesAsItself : Place → Type 0
-ProducesAsItself place = StateProducesAs place.number place.config.target place.slot.state
+abbrev pub ProducesAsItself : IndexedSlot → Type 0
+ProducesAsItself indexed = StateProducesAs indexed.number indexed.config.target indexed.slot.state
 
 -- each slot produces by its own number, for its own target
 abbrev pub SlotsProduceAsThemselves : ScannerTable → Type 0
-SlotsProduceAsThemselves t = OfEachPlace ProducesAsItself t
+SlotsProduceAsThemselves t = OfEachSlot ProducesAsItself t

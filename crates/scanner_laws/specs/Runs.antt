@@ -4,7 +4,7 @@ use Rattle.cip_events.specs.declared.event.Event.{Event}
 use Rattle.cip_events.specs.declared.event.StepFault.{StepFault}
 use Rattle.scanner_table.specs.declared.profile.ScannerProfile.{ScannerProfile}
 use Rattle.scanner_table.specs.declared.table.ScannerTable.{ScannerTable}
-use Rattle.scanner_table.specs.Slots.{Place, place_at}
+use Rattle.scanner_table.specs.Slots.{IndexedSlot, slot_at}
 use Rattle.scanner_table.specs.Effects.{Next}
 use Rattle.scanner_table.specs.Step.{scanner_step, scanner_table}
 
@@ -23,13 +23,13 @@ table_after t (event ∷ events) = table_after (left_by t (scanner_step t event)
 -- PLACES
 
 -- it holds of each of the table's places
-abbrev pub OfEachPlace : (Place → Type 0) → ScannerTable → Type 0
-OfEachPlace P t = (number : ℕ) (place : Place) → place_at t number ≡ Some place → P place
+abbrev pub OfEachSlot : (IndexedSlot → Type 0) → ScannerTable → Type 0
+OfEachSlot P t = (number : ℕ) (indexed : IndexedSlot) → slot_at t number ≡ Some indexed → P indexed
 
 -- it holds of each place as it was and as it is now
-abbrev pub OfEachChange : (Place → Place → Type 0) → ScannerTable → ScannerTable → Type 0
+abbrev pub OfEachChange : (IndexedSlot → IndexedSlot → Type 0) → ScannerTable → ScannerTable → Type 0
 OfEachChange R old new =
-    (number : ℕ) (was now : Place) → place_at old number ≡ Some was → place_at new number ≡ Some now → R was now
+    (number : ℕ) (was now : IndexedSlot) → slot_at old number ≡ Some was → slot_at new number ≡ Some now → R was now
 
 -- LAWS
 

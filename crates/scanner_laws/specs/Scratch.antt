@@ -13,13 +13,13 @@ use Rattle.scanner_table.specs.declared.profile.ScannerProfile.{ScannerProfile}
 use Rattle.scanner_table.specs.declared.slot.SlotState.{SlotState}
 use Rattle.scanner_table.specs.declared.slot.SlotState.TheVariants.{Idle, Opening, Established, TimedOut, Closing}
 use Rattle.scanner_table.specs.declared.table.ScannerTable.{ScannerTable}
-use Rattle.scanner_table.specs.Slots.{Place, places, place_at}
+use Rattle.scanner_table.specs.Slots.{IndexedSlot, indexed_slots, slot_at}
 use Rattle.scanner_table.specs.Effects.{Next}
 use Rattle.scanner_table.specs.Datagrams.{is_for, received}
 use Rattle.scanner_table.specs.Points.{write}
 use Rattle.scanner_table.specs.Step.{scanner_step, scanner_table}
 use Rattle.scanner_laws.specs.Runs.{left_by, table_after}
-use Rattle.scanner_laws.specs.Deliveries.{tells_applied, is_slots}
+use Rattle.scanner_laws.specs.Deliveries.{reports_applied, is_slots}
 
 -- the first of two, where it is there, and otherwise the second
 abbrev pub or_else : {A : Type 0} → Option A → Option A → Option A
@@ -32,7 +32,7 @@ or_else (Some first) second = Some first
 abbrev pub datagram_left : ℕ → ScannerTable → Node → Verdict → Result DatagramFields DatagramFault → Option (List ℕ)
 datagram_left number t peer verdict (Err fault) = None
 datagram_left number t peer verdict (Ok d) =
-    if is_slots number (find (is_for peer d.connection) (places t)) && tells_applied verdict then Some d.payload else None
+    if is_slots number (find (is_for peer d.connection) (indexed_slots t)) && reports_applied verdict then Some d.payload else None
 
 -- what the data of an event leave there
 abbrev pub data_left : ℕ → ScannerTable → Event → Option (List ℕ)
@@ -56,18 +56,18 @@ is_established (TimedOut link) = false
 is_established (Closing c) = false
 
 -- zeros, where the slot becomes established
-abbrev pub zeros_left : Place → Place → Option (List ℕ)
+abbrev pub zeros_left : IndexedSlot → IndexedSlot → Option (List ℕ)
 zeros_left was now =
     if is_established now.slot.state && not (is_established was.slot.state) then Some (replicate now.config.in_len 0) else None
 
-abbrev pub opening_left : Option Place → Option Place → Option (List ℕ)
+abbrev pub opening_left : Option IndexedSlot → Option IndexedSlot → Option (List ℕ)
 opening_left None now = None
 opening_left (Some was) None = None
 opening_left (Some was) (Some now) = zeros_left was now
 
 -- what an event that leads from one table to another leaves at the image of a slot, where it touches it
 abbrev pub image_left : ℕ → ScannerTable → Event → ScannerTable → Option (List ℕ)
-image_left number old event new = or_else (data_left number old event) (opening_left (place_at old number) (place_at new number))
+image_left number old event new = or_else (data_left number old event) (opening_left (slot_at old number) (slot_at new number))
 
 -- OUTPUTS
 
@@ -95,8 +95,8 @@ output_left number t (Stop slot) = None
 -- a step leaves at each image and output what the event says where it touches them, and otherwise what they held
 abbrev pub StepsLeaveBytes : Type 0
 StepsLeaveBytes =
-    (t : ScannerTable) (event : Event) (next : Next) (number : ℕ) (was now : Place) →
-    scanner_step t event ≡ Ok next → place_at t number ≡ Some was → place_at next.1 number ≡ Some now →
+    (t : ScannerTable) (event : Event) (next : Next) (number : ℕ) (was now : IndexedSlot) →
+    scanner_step t event ≡ Ok next → slot_at t number ≡ Some was → slot_at next.1 number ≡ Some now →
     (now.slot.image ≡ unwrap_or (image_left number t event next.1) was.slot.image)
     × (now.slot.output ≡ unwrap_or (output_left number t event) was.slot.output)
 
@@ -123,15 +123,15 @@ last_output number t (event ∷ events) = or_else (last_output number (left_by t
 -- after events each image and output holds what the last event that touched it left, or else what it held before
 abbrev pub BytesAreFromScratch : Type 0
 BytesAreFromScratch =
-    (t : ScannerTable) (events : List Event) (number : ℕ) (was now : Place) →
-    place_at t number ≡ Some was → place_at (table_after t events) number ≡ Some now →
+    (t : ScannerTable) (events : List Event) (number : ℕ) (was now : IndexedSlot) →
+    slot_at t number ≡ Some was → slot_at (table_after t events) number ≡ Some now →
     (now.slot.image ≡ unwrap_or (last_image number t events) was.slot.image)
     × (now.slot.output ≡ unwrap_or (last_output number t events) was.slot.output)
 
 -- and at a scanner that was fresh before them, or else zeros
 abbrev pub FreshBytesAreFromScratch : Type 0
 FreshBytesAreFromScratch =
-    (profile : ScannerProfile) (events : List Event) (number : ℕ) (now : Place) →
-    place_at (table_after (scanner_table profile) events) number ≡ Some now →
+    (profile : ScannerProfile) (events : List Event) (number : ℕ) (now : IndexedSlot) →
+    slot_at (table_after (scanner_table profile) events) number ≡ Some now →
     (now.slot.image ≡ unwrap_or (last_image number (scanner_table profile) events) (replicate now.config.in_len 0))
     × (now.slot.output ≡ unwrap_or (last_output number (scanner_table profile) events) (replicate now.config.out_len 0))

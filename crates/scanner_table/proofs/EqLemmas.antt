@@ -12,17 +12,17 @@ use Rattle.cip_types.specs.declared.names.Triad.{Triad}
 use Rattle.cip_types.specs.declared.names.Node.{Node}
 use Rattle.cip_types.specs.declared.names.ConnId.{ConnId}
 use Rattle.cip_netparams.specs.declared.Trigger.{Trigger}
-use Rattle.cip_epath.specs.declared.key.Key.{Key}
+use Rattle.cip_epath.specs.declared.key.ElectronicKey.{ElectronicKey}
 use Rattle.cip_productions.specs.declared.kind.Kind.{Kind}
 use Rattle.cip_productions.specs.declared.production.Production.{Production}
 use Rattle.cip_productions.specs.declared.acceptance.Accepted.{Accepted}
 use Rattle.conn_state.specs.declared.names.Link.{Link}
-use Rattle.conn_state.specs.declared.names.Wanted.{Wanted}
+use Rattle.conn_state.specs.declared.names.Requested.{Requested}
 use Rattle.scanner_table.specs.declared.profile.SlotConfig.{SlotConfig}
 use Rattle.scanner_table.specs.declared.profile.ScannerProfile.{ScannerProfile}
-use Rattle.scanner_table.specs.declared.slot.Opening.{Opening}
+use Rattle.scanner_table.specs.declared.slot.PendingOpen.{PendingOpen}
 use Rattle.scanner_table.specs.declared.slot.Connection.{Connection}
-use Rattle.scanner_table.specs.declared.slot.Closing.{Closing}
+use Rattle.scanner_table.specs.declared.slot.PendingClose.{PendingClose}
 use Rattle.scanner_table.specs.declared.slot.SlotState.{SlotState}
 use Rattle.scanner_table.specs.declared.slot.Slot.{Slot}
 use Rattle.scanner_table.specs.declared.table.Stage.{Stage}
@@ -33,17 +33,17 @@ use Rattle.cip_types.specs.contracts.names.NodePartialEq.TheImpl as node
 use Rattle.cip_types.specs.contracts.names.ConnIdPartialEq.TheImpl as id
 use Rattle.cip_types.specs.contracts.names.TriadPartialEq.TheImpl as triad
 use Rattle.cip_netparams.specs.contracts.TriggerPartialEq.TheImpl as trigger
-use Rattle.cip_epath.specs.contracts.key.KeyPartialEq.TheImpl as key
+use Rattle.cip_epath.specs.contracts.key.ElectronicKeyPartialEq.TheImpl as key
 use Rattle.cip_productions.specs.contracts.kind.KindPartialEq.TheImpl as kind
 use Rattle.cip_productions.specs.contracts.production.ProductionPartialEq.TheImpl as production
 use Rattle.cip_productions.specs.contracts.acceptance.AcceptedPartialEq.TheImpl as accepted
 use Rattle.conn_state.specs.contracts.names.LinkPartialEq.TheImpl as link
-use Rattle.conn_state.specs.contracts.names.WantedPartialEq.TheImpl as wanted
+use Rattle.conn_state.specs.contracts.names.RequestedPartialEq.TheImpl as desired_up
 use Rattle.scanner_table.specs.contracts.profile.SlotConfigPartialEq.TheImpl as config
 use Rattle.scanner_table.specs.contracts.profile.ScannerProfilePartialEq.TheImpl as profile
-use Rattle.scanner_table.specs.contracts.slot.OpeningPartialEq.TheImpl as opening
+use Rattle.scanner_table.specs.contracts.slot.PendingOpenPartialEq.TheImpl as opening
 use Rattle.scanner_table.specs.contracts.slot.ConnectionPartialEq.TheImpl as connection
-use Rattle.scanner_table.specs.contracts.slot.ClosingPartialEq.TheImpl as closing
+use Rattle.scanner_table.specs.contracts.slot.PendingClosePartialEq.TheImpl as closing
 use Rattle.scanner_table.specs.contracts.slot.SlotStatePartialEq.TheImpl as state
 use Rattle.scanner_table.specs.contracts.slot.SlotPartialEq.TheImpl as slot
 use Rattle.scanner_table.specs.contracts.table.StagePartialEq.TheImpl as stage
@@ -73,17 +73,17 @@ kind_decides a b = search rules
 link_decides : (a b : Link) → Decides ((link.ghosts).eq a b) (a ≡ b)
 link_decides a b = search rules
 
-wanted_decides : (a b : Wanted) → Decides ((wanted.ghosts).eq a b) (a ≡ b)
-wanted_decides a b = search rules
+requested_decides : (a b : Requested) → Decides ((desired_up.ghosts).eq a b) (a ≡ b)
+requested_decides a b = search rules
 
 -- ---- profiles
 
 -- the two keys have equal fields
-abbrev SameKey : Key → Key → Type 0
+abbrev SameKey : ElectronicKey → ElectronicKey → Type 0
 SameKey a b = (a.vendor ≡ b.vendor) × ((a.device_type ≡ b.device_type) × ((a.product ≡ b.product) × ((a.compatible ≡ b.compatible) × ((a.major ≡ b.major) × (a.minor ≡ b.minor)))))
 
 -- they are then one key: that a major revision has seven bits has one proof
-key_is : (a b : Key) → SameKey a b → a ≡ b
+key_is : (a b : ElectronicKey) → SameKey a b → a ≡ b
 key_is a b same = λ i. record {
   vendor = same.0 i;
   device_type = same.1.0 i;
@@ -94,16 +94,16 @@ key_is a b same = λ i. record {
   seven_bits = is_prop→PathP (λ j. same.1.1.1.1.0 j < 128) (λ j. le_prop) a.seven_bits b.seven_bits i;
 }
 
-same_key : (a b : Key) → a ≡ b → SameKey a b
+same_key : (a b : ElectronicKey) → a ≡ b → SameKey a b
 same_key a b is = (
-  ap (λ (k : Key). k.vendor) is,
+  ap (λ (k : ElectronicKey). k.vendor) is,
   (
-    ap (λ (k : Key). k.device_type) is,
-    (ap (λ (k : Key). k.product) is, (ap (λ (k : Key). k.compatible) is, (ap (λ (k : Key). k.major) is, ap (λ (k : Key). k.minor) is))),
+    ap (λ (k : ElectronicKey). k.device_type) is,
+    (ap (λ (k : ElectronicKey). k.product) is, (ap (λ (k : ElectronicKey). k.compatible) is, (ap (λ (k : ElectronicKey). k.major) is, ap (λ (k : ElectronicKey). k.minor) is))),
   ),
 )
 
-key_decides : (a b : Key) → Decides ((key.ghosts).eq a b) (a ≡ b)
+key_decides : (a b : ElectronicKey) → Decides ((key.ghosts).eq a b) (a ≡ b)
 key_decides a b =
     Decides-like ((key.ghosts).eq a b) (key_is a b) (same_key a b)
     (Decides-and _ _ (Decides-eqb a.vendor b.vendor)
@@ -113,7 +113,7 @@ key_decides a b =
     (Decides-and _ _ (Decides-eqb a.major b.major)
     (Decides-eqb a.minor b.minor))))))
 
-keys_decide : (a b : Option Key) → Decides (option_eq (key.ghosts).eq a b) (a ≡ b)
+keys_decide : (a b : Option ElectronicKey) → Decides (option_eq (key.ghosts).eq a b) (a ≡ b)
 keys_decide a b = search (rules, key_decides)
 
 numbers_decide : (a b : Option ℕ) → Decides (option_eq nat_eq a b) (a ≡ b)
@@ -173,23 +173,23 @@ production_decides a b =
     (Decides-and _ _ (Decides-eqb a.inhibit b.inhibit)
     (time_decides a.last b.last)))))))))
 
-opening_decides : (a b : Opening) → Decides ((opening.ghosts).eq a b) (a ≡ b)
+opening_decides : (a b : PendingOpen) → Decides ((opening.ghosts).eq a b) (a ≡ b)
 opening_decides a b =
     Decides-like ((opening.ghosts).eq a b) (λ p. search rules) (λ e. search rules)
-    (Decides-and _ _ (Decides-eqb a.request b.request) (Decides-and _ _ (wanted_decides a.wanted b.wanted) (ms_decides a.deadline b.deadline)))
+    (Decides-and _ _ (Decides-eqb a.request b.request) (Decides-and _ _ (requested_decides a.requested b.requested) (ms_decides a.deadline b.deadline)))
 
 connection_decides : (a b : Connection) → Decides ((connection.ghosts).eq a b) (a ≡ b)
 connection_decides a b =
     Decides-like ((connection.ghosts).eq a b) (λ p. search rules) (λ e. search rules)
     (Decides-and _ _ (Decides-eqb a.opening b.opening)
     (Decides-and _ _ (link_decides a.link b.link)
-    (Decides-and _ _ (Decides-eqb a.o_t_api b.o_t_api)
-    (Decides-and _ _ (Decides-eqb a.t_o_api b.t_o_api)
+    (Decides-and _ _ (Decides-eqb a.o_t_api_ms b.o_t_api_ms)
+    (Decides-and _ _ (Decides-eqb a.t_o_api_ms b.t_o_api_ms)
     (Decides-and _ _ (last_decides a.last b.last)
     (Decides-and _ _ (ms_decides a.deadline b.deadline)
     (production_decides a.production b.production)))))))
 
-closing_decides : (a b : Closing) → Decides ((closing.ghosts).eq a b) (a ≡ b)
+closing_decides : (a b : PendingClose) → Decides ((closing.ghosts).eq a b) (a ≡ b)
 closing_decides a b =
     Decides-like ((closing.ghosts).eq a b) (λ p. search rules) (λ e. search rules)
     (Decides-and _ _ (Decides-eqb a.request b.request) (Decides-and _ _ (link_decides a.link b.link) (ms_decides a.deadline b.deadline)))
@@ -201,8 +201,8 @@ slot_decides : (a b : Slot) → Decides ((slot.ghosts).eq a b) (a ≡ b)
 slot_decides a b =
     Decides-like ((slot.ghosts).eq a b) (λ p. search rules) (λ e. search rules)
     (Decides-and _ _ (state_decides a.state b.state)
-    (Decides-and _ _ (booleans_Decides a.wanted b.wanted)
-    (Decides-and _ _ (ms_decides a.retry b.retry)
+    (Decides-and _ _ (booleans_Decides a.desired_up b.desired_up)
+    (Decides-and _ _ (ms_decides a.retry_at b.retry_at)
     (Decides-and _ _ (pointwise_decides Decides-eqb a.output b.output)
     (pointwise_decides Decides-eqb a.image b.image)))))
 

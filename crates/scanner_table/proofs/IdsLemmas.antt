@@ -10,7 +10,7 @@ use Rattle.scanner_table.specs.declared.slot.Connection.{Connection}
 use Rattle.scanner_table.specs.declared.slot.Slot.{Slot}
 use Rattle.scanner_table.specs.declared.slot.SlotState.{SlotState}
 use Rattle.scanner_table.specs.declared.slot.SlotState.TheVariants.{Idle, Opening, Established, TimedOut, Closing}
-use Rattle.scanner_table.specs.Slots.{Place, places_from, is_with}
+use Rattle.scanner_table.specs.Slots.{IndexedSlot, indexed_from, is_with}
 use Rattle.scanner_table.specs.Replies.{state_consumes, uses_id}
 use Rattle.scanner_table.specs.Whole.{states_clash, clashes, IdsDiffer}
 
@@ -70,19 +70,19 @@ and_step : (b c d : Bool) → (c ≡ false → d ≡ false) → (b && c) ≡ fal
 and_step true c d weaker none = weaker none
 and_step false c d weaker none = refl
 
-any_weaker : (n m : ℕ) (config : SlotConfig) (old new : Slot) (configs : List SlotConfig) (olds news : List Slot) → Weaker old.state new.state → AllWeaker olds news → list_any (clashes (record { number = n; config = config; slot = old })) (places_from m configs olds) ≡ false → list_any (clashes (record { number = n; config = config; slot = new })) (places_from m configs news) ≡ false
+any_weaker : (n m : ℕ) (config : SlotConfig) (old new : Slot) (configs : List SlotConfig) (olds news : List Slot) → Weaker old.state new.state → AllWeaker olds news → list_any (clashes (record { number = n; config = config; slot = old })) (indexed_from m configs olds) ≡ false → list_any (clashes (record { number = n; config = config; slot = new })) (indexed_from m configs news) ≡ false
 any_weaker n m config old new [] olds news w all none = refl
 any_weaker n m config old new (c ∷ configs) [] [] w all none = refl
 any_weaker n m config old new (c ∷ configs) [] (x ∷ news) w all none = absurd all
 any_weaker n m config old new (c ∷ configs) (y ∷ olds) [] w all none = absurd all
 any_weaker n m config old new (c ∷ configs) (y ∷ olds) (x ∷ news) w all none =
-    let first : Place = record { number = n; config = config; slot = old } in
-    let head : Place = record { number = m; config = c; slot = y } in
-    let parts = or_parts (clashes first head) (list_any (clashes first) (places_from (suc m) configs olds)) none in
+    let first : IndexedSlot = record { number = n; config = config; slot = old } in
+    let head : IndexedSlot = record { number = m; config = c; slot = y } in
+    let parts = or_parts (clashes first head) (list_any (clashes first) (indexed_from (suc m) configs olds)) none in
     rw (and_step (c.target.0 == config.target.0) (states_clash old.state y.state) (states_clash new.state x.state) (clash_weaker old.state new.state y.state x.state w all.0) parts.0)
     (any_weaker n (suc m) config old new configs olds news w all.1 parts.1)
 
-pub differ_weaker : (n : ℕ) (configs : List SlotConfig) (olds news : List Slot) → AllWeaker olds news → IdsDiffer (places_from n configs olds) → IdsDiffer (places_from n configs news)
+pub differ_weaker : (n : ℕ) (configs : List SlotConfig) (olds news : List Slot) → AllWeaker olds news → IdsDiffer (indexed_from n configs olds) → IdsDiffer (indexed_from n configs news)
 differ_weaker n [] olds news all differ = tt
 differ_weaker n (config ∷ configs) [] [] all differ = tt
 differ_weaker n (config ∷ configs) [] (new ∷ news) all differ = absurd all
@@ -93,8 +93,8 @@ differ_weaker n (config ∷ configs) (old ∷ olds) (new ∷ news) all differ =
 -- ---- a slot that is established with a free id
 
 -- the slot is established with this target and T->O id
-abbrev holds_id : Node → ConnId → Place → Bool
-holds_id target id place = is_with target place && state_consumes id place.slot.state
+abbrev holds_id : Node → ConnId → IndexedSlot → Bool
+holds_id target id indexed = is_with target indexed && state_consumes id indexed.slot.state
 
 other_number : (m n : ℕ) → m < n → (n == m) ≡ false
 other_number m n less = grind (arith, nat_tests)
@@ -103,12 +103,12 @@ other_step : (b c : Bool) → b ≡ false → (not b && c) ≡ false → c ≡ f
 other_step true c is none = absurd cc
 other_step false c is none = none
 
-free_after : (m n : ℕ) (target : Node) (id : ConnId) (configs : List SlotConfig) (slots : List Slot) → m < n → list_any (uses_id m target id) (places_from n configs slots) ≡ false → list_any (holds_id target id) (places_from n configs slots) ≡ false
+free_after : (m n : ℕ) (target : Node) (id : ConnId) (configs : List SlotConfig) (slots : List Slot) → m < n → list_any (uses_id m target id) (indexed_from n configs slots) ≡ false → list_any (holds_id target id) (indexed_from n configs slots) ≡ false
 free_after m n target id [] slots less none = refl
 free_after m n target id (config ∷ configs) [] less none = refl
 free_after m n target id (config ∷ configs) (slot ∷ slots) less none =
-    let head : Place = record { number = n; config = config; slot = slot } in
-    let parts = or_parts (uses_id m target id head) (list_any (uses_id m target id) (places_from (suc n) configs slots)) none in
+    let head : IndexedSlot = record { number = n; config = config; slot = slot } in
+    let parts = or_parts (uses_id m target id head) (list_any (uses_id m target id) (indexed_from (suc n) configs slots)) none in
     rw (other_step (n == m) (holds_id target id head) (other_number m n less) parts.0) (free_after m (suc n) target id configs slots (omega arith) parts.1)
 
 flip_false : (a b : ℕ) → (a == b) ≡ false → (b == a) ≡ false
@@ -142,36 +142,36 @@ apart_state target head c (Closing h) none = rw (flipped head target) none
 abbrev pub established : Slot → Connection → List ℕ → Slot
 established base c image = record base { state = Established c; image = image }
 
-any_established : (n m k : ℕ) (config wanted : SlotConfig) (head base : Slot) (c : Connection) (image : List ℕ) (configs : List SlotConfig) (slots : List Slot) → slice_get configs k ≡ Some wanted → ((config.target.0 == wanted.target.0) && state_consumes c.link.t_o_id head.state) ≡ false → list_any (clashes (record { number = n; config = config; slot = head })) (places_from m configs slots) ≡ false → list_any (clashes (record { number = n; config = config; slot = head })) (places_from m configs (slice_set slots k (established base c image))) ≡ false
-any_established n m k config wanted head base c image [] slots at apart none = refl
-any_established n m k config wanted head base c image (x ∷ configs) [] at apart none = refl
-any_established n m zero config wanted head base c image (x ∷ configs) (slot ∷ slots) at apart none =
-    let same : x ≡ wanted = some_is x wanted at in
-    let one : Place = record { number = n; config = config; slot = head } in
-    let old : Place = record { number = m; config = x; slot = slot } in
-    let parts = or_parts (clashes one old) (list_any (clashes one) (places_from (suc m) configs slots)) none in
-    let clear : ((x.target.0 == config.target.0) && states_clash head.state (Established c)) ≡ false = rw same (apart_state wanted.target.0 config.target.0 c head.state apart) in
+any_established : (n m k : ℕ) (config sought : SlotConfig) (head base : Slot) (c : Connection) (image : List ℕ) (configs : List SlotConfig) (slots : List Slot) → slice_get configs k ≡ Some sought → ((config.target.0 == sought.target.0) && state_consumes c.link.t_o_id head.state) ≡ false → list_any (clashes (record { number = n; config = config; slot = head })) (indexed_from m configs slots) ≡ false → list_any (clashes (record { number = n; config = config; slot = head })) (indexed_from m configs (slice_set slots k (established base c image))) ≡ false
+any_established n m k config sought head base c image [] slots at apart none = refl
+any_established n m k config sought head base c image (x ∷ configs) [] at apart none = refl
+any_established n m zero config sought head base c image (x ∷ configs) (slot ∷ slots) at apart none =
+    let same : x ≡ sought = some_is x sought at in
+    let one : IndexedSlot = record { number = n; config = config; slot = head } in
+    let old : IndexedSlot = record { number = m; config = x; slot = slot } in
+    let parts = or_parts (clashes one old) (list_any (clashes one) (indexed_from (suc m) configs slots)) none in
+    let clear : ((x.target.0 == config.target.0) && states_clash head.state (Established c)) ≡ false = rw same (apart_state sought.target.0 config.target.0 c head.state apart) in
     rw clear parts.1
-any_established n m (suc k) config wanted head base c image (x ∷ configs) (slot ∷ slots) at apart none =
-    let one : Place = record { number = n; config = config; slot = head } in
-    let old : Place = record { number = m; config = x; slot = slot } in
-    let parts = or_parts (clashes one old) (list_any (clashes one) (places_from (suc m) configs slots)) none in
-    rw parts.0 (any_established n (suc m) k config wanted head base c image configs slots at apart parts.1)
+any_established n m (suc k) config sought head base c image (x ∷ configs) (slot ∷ slots) at apart none =
+    let one : IndexedSlot = record { number = n; config = config; slot = head } in
+    let old : IndexedSlot = record { number = m; config = x; slot = slot } in
+    let parts = or_parts (clashes one old) (list_any (clashes one) (indexed_from (suc m) configs slots)) none in
+    rw parts.0 (any_established n (suc m) k config sought head base c image configs slots at apart parts.1)
 
-pub differ_established : (n k : ℕ) (wanted : SlotConfig) (base : Slot) (c : Connection) (image : List ℕ) (configs : List SlotConfig) (slots : List Slot) → slice_get configs k ≡ Some wanted → list_any (uses_id (n + k) wanted.target c.link.t_o_id) (places_from n configs slots) ≡ false → IdsDiffer (places_from n configs slots) → IdsDiffer (places_from n configs (slice_set slots k (established base c image)))
-differ_established n k wanted base c image [] slots at free differ = tt
-differ_established n k wanted base c image (x ∷ configs) [] at free differ = tt
-differ_established n zero wanted base c image (x ∷ configs) (slot ∷ slots) at free differ =
-    let same : x ≡ wanted = some_is x wanted at in
+pub differ_established : (n k : ℕ) (sought : SlotConfig) (base : Slot) (c : Connection) (image : List ℕ) (configs : List SlotConfig) (slots : List Slot) → slice_get configs k ≡ Some sought → list_any (uses_id (n + k) sought.target c.link.t_o_id) (indexed_from n configs slots) ≡ false → IdsDiffer (indexed_from n configs slots) → IdsDiffer (indexed_from n configs (slice_set slots k (established base c image)))
+differ_established n k sought base c image [] slots at free differ = tt
+differ_established n k sought base c image (x ∷ configs) [] at free differ = tt
+differ_established n zero sought base c image (x ∷ configs) (slot ∷ slots) at free differ =
+    let same : x ≡ sought = some_is x sought at in
     let id = c.link.t_o_id in
-    let head : Place = record { number = n; config = x; slot = slot } in
-    let parts = or_parts (uses_id (n + 0) wanted.target id head) (list_any (uses_id (n + 0) wanted.target id) (places_from (suc n) configs slots)) free in
-    (rw same (free_after (n + 0) (suc n) wanted.target id configs slots (omega arith) parts.1), differ.1)
-differ_established n (suc k) wanted base c image (x ∷ configs) (slot ∷ slots) at free differ =
+    let head : IndexedSlot = record { number = n; config = x; slot = slot } in
+    let parts = or_parts (uses_id (n + 0) sought.target id head) (list_any (uses_id (n + 0) sought.target id) (indexed_from (suc n) configs slots)) free in
+    (rw same (free_after (n + 0) (suc n) sought.target id configs slots (omega arith) parts.1), differ.1)
+differ_established n (suc k) sought base c image (x ∷ configs) (slot ∷ slots) at free differ =
     let id = c.link.t_o_id in
-    let head : Place = record { number = n; config = x; slot = slot } in
-    let parts = or_parts (uses_id (n + suc k) wanted.target id head) (list_any (uses_id (n + suc k) wanted.target id) (places_from (suc n) configs slots)) free in
+    let head : IndexedSlot = record { number = n; config = x; slot = slot } in
+    let parts = or_parts (uses_id (n + suc k) sought.target id head) (list_any (uses_id (n + suc k) sought.target id) (indexed_from (suc n) configs slots)) free in
     let shifted : n + suc k ≡ suc n + k = omega arith in
-    let later : list_any (uses_id (suc n + k) wanted.target id) (places_from (suc n) configs slots) ≡ false = subst (λ (m : ℕ). list_any (uses_id m wanted.target id) (places_from (suc n) configs slots) ≡ false) shifted parts.1 in
-    let apart = other_step (n == (n + suc k)) (holds_id wanted.target id head) (before n k) parts.0 in
-    (any_established n (suc n) k x wanted slot base c image configs slots at apart differ.0, differ_established (suc n) k wanted base c image configs slots at later differ.1)
+    let later : list_any (uses_id (suc n + k) sought.target id) (indexed_from (suc n) configs slots) ≡ false = subst (λ (m : ℕ). list_any (uses_id m sought.target id) (indexed_from (suc n) configs slots) ≡ false) shifted parts.1 in
+    let apart = other_step (n == (n + suc k)) (holds_id sought.target id head) (before n k) parts.0 in
+    (any_established n (suc n) k x sought slot base c image configs slots at apart differ.0, differ_established (suc n) k sought base c image configs slots at later differ.1)

@@ -9,8 +9,8 @@ use Rattle.cip_events.specs.declared.event.Recipient.TheVariants as recipient
 use Rattle.cip_events.specs.declared.event.Verdict.TheVariants.{Done, BadFrame, Ignored}
 use Rattle.cip_events.specs.Answers.{plain_answer}
 use Rattle.scanner_table.specs.declared.profile.SlotConfig.{SlotConfig}
-use Rattle.scanner_table.specs.Asking.{open_fields, next_wanted, is_large, manager_text, open_service}
-use Rattle.scanner_table.proofs.SmallScanner.{target, other_target, owner, gatherer, profile, told, after, quiet, only, not_now, tells, becomes, refuses, asks, registration, registered, items, forward_open, opening_frame, success, opened_frame, ownership, registers, connected}
+use Rattle.scanner_table.specs.Requests.{open_fields, next_requested, is_large, manager_text, open_service}
+use Rattle.scanner_table.proofs.SmallScanner.{target, other_target, owner, gatherer, profile, reported, after, quiet, only, not_now, tells, becomes, refuses, asks, registration, registered, items, forward_open, opening_frame, success, opened_frame, ownership, registers, connected}
 use Rattle.cip_encap.specs.Reading as messages
 use Rattle.cip_encap.specs.PacketReading as packets
 use Rattle.cip_fwdopen.specs.Open as opens
@@ -20,7 +20,7 @@ use Rattle.cip_datagram.specs.Reading as datagrams
 use Rattle.scanner_table.specs.declared.table.ScannerTable.{ScannerTable}
 use Rattle.scanner_table.specs.declared.table.Stage.TheVariants.{Waiting}
 use Rattle.scanner_table.specs.Opening.{opened, ready_opened, target_opened}
-use Rattle.scanner_table.specs.Replies.{open_told, answered}
+use Rattle.scanner_table.specs.Replies.{open_answer, answered}
 use Rattle.scanner_table.specs.Closing.{target_lost}
 use Rattle.scanner_table.specs.Encapsulation.{stream_opened, stream_cut, frame}
 use Rattle.scanner_table.specs.Datagrams.{received}
@@ -34,21 +34,21 @@ use Rattle.scanner_table.specs.Step.{scanner_table}
 abbrev tries_events : List Event
 tries_events = Start 0 ∷ Tick 1999 ∷ Tick 1 ∷ Tick 2999 ∷ Tick 1 ∷ Frame 0 opened_frame ∷ Frame 0 (items 2 16 (ownership 2)) ∷ Tick 2999 ∷ Tick 1 ∷ Frame 0 (items 3 16 (ownership 3)) ∷ Tick 3000 ∷ Frame 0 (items 4 30 (success 4 2 4)) ∷ []
 
-tries : told connected tries_events
+tries : reported connected tries_events
     ≡ asks (opening_frame 1) 2
     ∷ quiet
     ∷ becomes 0
     ∷ quiet
     ∷ asks (opening_frame 2) 2
     ∷ only Ignored
-    ∷ refuses (reason.Cip (record { general = 1; extra = Some 0x0106 }))
+    ∷ refuses (reason.Cip (record { general = 1; extended = Some 0x0106 }))
     ∷ quiet
     ∷ asks (opening_frame 3) 2
-    ∷ refuses (reason.Cip (record { general = 1; extra = Some 0x0106 }))
+    ∷ refuses (reason.Cip (record { general = 1; extended = Some 0x0106 }))
     ∷ asks (opening_frame 4) 2
     ∷ becomes 3
     ∷ []
-unfolding messages.message_reading packets.packet_reading packets.behind_socket packets.are_sockets replies.open_reply_reading replies.unread_reading opens.open_text closes.close_text datagrams.datagram_reading opened ready_opened target_opened open_told answered target_lost stream_opened stream_cut frame received produced_table all_expired all_given_up tick write read mode start stop
+unfolding messages.message_reading packets.packet_reading packets.behind_socket packets.are_sockets replies.open_reply_reading replies.unread_reading opens.open_text closes.close_text datagrams.datagram_reading opened ready_opened target_opened open_answer answered target_lost stream_opened stream_cut frame received produced_table all_expired all_given_up tick write read mode start stop
 tries = refl
 
 -- ---- streams
@@ -58,7 +58,7 @@ tries = refl
 abbrev streams_events : List Event
 streams_events = StreamOpened 0 target ∷ StreamOpened 0 other_target ∷ StreamOpened 1 target ∷ Frame 1 registered ∷ StreamCut 1 ∷ Request target [] ∷ Frame 0 opened_frame ∷ Frame 0 (0x65 ∷ []) ∷ Start 0 ∷ Frame 0 registered ∷ Frame 0 registered ∷ []
 
-streams : told (scanner_table (profile (owner ∷ []))) streams_events
+streams : reported (scanner_table (profile (owner ∷ []))) streams_events
     ≡ Ok (record (plain_answer Done) { frames = record { to = recipient.Stream 0; bytes = registration } ∷ [] })
     ∷ not_now
     ∷ not_now
@@ -71,7 +71,7 @@ streams : told (scanner_table (profile (owner ∷ []))) streams_events
     ∷ asks (opening_frame 1) 2
     ∷ only Ignored
     ∷ []
-unfolding messages.message_reading packets.packet_reading packets.behind_socket packets.are_sockets replies.open_reply_reading replies.unread_reading opens.open_text closes.close_text datagrams.datagram_reading opened ready_opened target_opened open_told answered target_lost stream_opened stream_cut frame received produced_table all_expired all_given_up tick write read mode start stop
+unfolding messages.message_reading packets.packet_reading packets.behind_socket packets.are_sockets replies.open_reply_reading replies.unread_reading opens.open_text closes.close_text datagrams.datagram_reading opened ready_opened target_opened open_answer answered target_lost stream_opened stream_cut frame received produced_table all_expired all_given_up tick write read mode start stop
 streams = refl
 
 -- as many streams as these to another target are open
@@ -79,13 +79,13 @@ abbrev crowded : ℕ → ScannerTable
 crowded n = record (scanner_table (profile (owner ∷ []))) { streams = replicate n (record { number = 9; peer = other_target; stage = Waiting }) }
 
 -- the sixteenth stream opens
-sixteenth : told (crowded 15) (StreamOpened 0 target ∷ []) ≡ Ok (record (plain_answer Done) { frames = record { to = recipient.Stream 0; bytes = registration } ∷ [] }) ∷ []
-unfolding messages.message_reading packets.packet_reading packets.behind_socket packets.are_sockets replies.open_reply_reading replies.unread_reading opens.open_text closes.close_text datagrams.datagram_reading opened ready_opened target_opened open_told answered target_lost stream_opened stream_cut frame received produced_table all_expired all_given_up tick write read mode start stop
+sixteenth : reported (crowded 15) (StreamOpened 0 target ∷ []) ≡ Ok (record (plain_answer Done) { frames = record { to = recipient.Stream 0; bytes = registration } ∷ [] }) ∷ []
+unfolding messages.message_reading packets.packet_reading packets.behind_socket packets.are_sockets replies.open_reply_reading replies.unread_reading opens.open_text closes.close_text datagrams.datagram_reading opened ready_opened target_opened open_answer answered target_lost stream_opened stream_cut frame received produced_table all_expired all_given_up tick write read mode start stop
 sixteenth = refl
 
 -- and no further one
-seventeenth : told (crowded 16) (StreamOpened 0 target ∷ []) ≡ not_now ∷ []
-unfolding messages.message_reading packets.packet_reading packets.behind_socket packets.are_sockets replies.open_reply_reading replies.unread_reading opens.open_text closes.close_text datagrams.datagram_reading opened ready_opened target_opened open_told answered target_lost stream_opened stream_cut frame received produced_table all_expired all_given_up tick write read mode start stop
+seventeenth : reported (crowded 16) (StreamOpened 0 target ∷ []) ≡ not_now ∷ []
+unfolding messages.message_reading packets.packet_reading packets.behind_socket packets.are_sockets replies.open_reply_reading replies.unread_reading opens.open_text closes.close_text datagrams.datagram_reading opened ready_opened target_opened open_answer answered target_lost stream_opened stream_cut frame received produced_table all_expired all_given_up tick write read mode start stop
 seventeenth = refl
 
 -- a registration that is refused
@@ -96,7 +96,7 @@ no_session = 0x65 ∷ 0x00 ∷ 0x00 ∷ 0x00 ∷ 0x00 ∷ 0x00 ∷ 0x00 ∷ 0x00
 abbrev unused_events : List Event
 unused_events = StreamOpened 0 target ∷ Frame 0 no_session ∷ Frame 0 registered ∷ Start 0 ∷ Tick 5000 ∷ StreamCut 0 ∷ []
 
-unused : told (scanner_table (profile (owner ∷ []))) unused_events
+unused : reported (scanner_table (profile (owner ∷ []))) unused_events
     ≡ Ok (record (plain_answer Done) { frames = record { to = recipient.Stream 0; bytes = registration } ∷ [] })
     ∷ quiet
     ∷ only Ignored
@@ -104,14 +104,14 @@ unused : told (scanner_table (profile (owner ∷ []))) unused_events
     ∷ quiet
     ∷ quiet
     ∷ []
-unfolding messages.message_reading packets.packet_reading packets.behind_socket packets.are_sockets replies.open_reply_reading replies.unread_reading opens.open_text closes.close_text datagrams.datagram_reading opened ready_opened target_opened open_told answered target_lost stream_opened stream_cut frame received produced_table all_expired all_given_up tick write read mode start stop
+unfolding messages.message_reading packets.packet_reading packets.behind_socket packets.are_sockets replies.open_reply_reading replies.unread_reading opens.open_text closes.close_text datagrams.datagram_reading opened ready_opened target_opened open_answer answered target_lost stream_opened stream_cut frame received produced_table all_expired all_given_up tick write read mode start stop
 unused = refl
 
 -- an opening ends with its stream, and is tried again over the next one at its time and no sooner
 abbrev cut_opening_events : List Event
 cut_opening_events = Start 0 ∷ StreamCut 0 ∷ StreamOpened 0 target ∷ Tick 2999 ∷ Frame 0 registered ∷ Tick 1 ∷ []
 
-cut_opening : told connected cut_opening_events
+cut_opening : reported connected cut_opening_events
     ≡ asks (opening_frame 1) 2
     ∷ becomes 0
     ∷ Ok (record (plain_answer Done) { frames = record { to = recipient.Stream 0; bytes = registration } ∷ [] })
@@ -119,7 +119,7 @@ cut_opening : told connected cut_opening_events
     ∷ quiet
     ∷ asks (opening_frame 2) 2
     ∷ []
-unfolding messages.message_reading packets.packet_reading packets.behind_socket packets.are_sockets replies.open_reply_reading replies.unread_reading opens.open_text closes.close_text datagrams.datagram_reading opened ready_opened target_opened open_told answered target_lost stream_opened stream_cut frame received produced_table all_expired all_given_up tick write read mode start stop
+unfolding messages.message_reading packets.packet_reading packets.behind_socket packets.are_sockets replies.open_reply_reading replies.unread_reading opens.open_text closes.close_text datagrams.datagram_reading opened ready_opened target_opened open_answer answered target_lost stream_opened stream_cut frame received produced_table all_expired all_given_up tick write read mode start stop
 cut_opening = refl
 
 -- the request of the second slot, for the input 101
@@ -130,13 +130,13 @@ second_frame = items 2 50 (0x54 ∷ 0x02 ∷ 0x20 ∷ 0x06 ∷ 0x24 ∷ 0x01 ∷
 abbrev both : ScannerTable
 both = after (scanner_table (profile (owner ∷ record owner { produced = 101 } ∷ []))) (Start 1 ∷ Start 0 ∷ StreamOpened 0 target ∷ [])
 
-both_open : told both (Frame 0 registered ∷ [])
+both_open : reported both (Frame 0 registered ∷ [])
     ≡ Ok (record (plain_answer Done) {
       frames = record { to = recipient.Stream 0; bytes = opening_frame 1 } ∷ record { to = recipient.Stream 0; bytes = second_frame } ∷ [];
       notices = notice.Slot 0 2 ∷ notice.Slot 1 2 ∷ [];
     })
     ∷ []
-unfolding messages.message_reading packets.packet_reading packets.behind_socket packets.are_sockets replies.open_reply_reading replies.unread_reading opens.open_text closes.close_text datagrams.datagram_reading opened ready_opened target_opened open_told answered target_lost stream_opened stream_cut frame received produced_table all_expired all_given_up tick write read mode start stop
+unfolding messages.message_reading packets.packet_reading packets.behind_socket packets.are_sockets replies.open_reply_reading replies.unread_reading opens.open_text closes.close_text datagrams.datagram_reading opened ready_opened target_opened open_answer answered target_lost stream_opened stream_cut frame received produced_table all_expired all_given_up tick write read mode start stop
 both_open = refl
 
 -- ---- numbers
@@ -145,24 +145,24 @@ both_open = refl
 abbrev last_serial : ScannerTable
 last_serial = record connected { next_serial = 65535 }
 
-last_request : told last_serial (Start 0 ∷ []) ≡ asks (items 1 50 (0x54 ∷ 0x02 ∷ 0x20 ∷ 0x06 ∷ 0x24 ∷ 0x01 ∷ 0x0A ∷ 0x0E ∷ 0x00 ∷ 0x00 ∷ 0x00 ∷ 0x00 ∷ 0x01 ∷ 0x00 ∷ 0x00 ∷ 0x20 ∷ 0xFF ∷ 0xFF ∷ 0x34 ∷ 0x12 ∷ 0x78 ∷ 0x56 ∷ 0x34 ∷ 0x12 ∷ 0x02 ∷ 0x00 ∷ 0x00 ∷ 0x00 ∷ 0x10 ∷ 0x27 ∷ 0x00 ∷ 0x00 ∷ 0x0A ∷ 0x48 ∷ 0x10 ∷ 0x27 ∷ 0x00 ∷ 0x00 ∷ 0x06 ∷ 0x48 ∷ 0x01 ∷ 0x04 ∷ 0x20 ∷ 0x04 ∷ 0x24 ∷ 0x97 ∷ 0x2C ∷ 0x96 ∷ 0x2C ∷ 0x64 ∷ [])) 2 ∷ []
-unfolding messages.message_reading packets.packet_reading packets.behind_socket packets.are_sockets replies.open_reply_reading replies.unread_reading opens.open_text closes.close_text datagrams.datagram_reading opened ready_opened target_opened open_told answered target_lost stream_opened stream_cut frame received produced_table all_expired all_given_up tick write read mode start stop
+last_request : reported last_serial (Start 0 ∷ []) ≡ asks (items 1 50 (0x54 ∷ 0x02 ∷ 0x20 ∷ 0x06 ∷ 0x24 ∷ 0x01 ∷ 0x0A ∷ 0x0E ∷ 0x00 ∷ 0x00 ∷ 0x00 ∷ 0x00 ∷ 0x01 ∷ 0x00 ∷ 0x00 ∷ 0x20 ∷ 0xFF ∷ 0xFF ∷ 0x34 ∷ 0x12 ∷ 0x78 ∷ 0x56 ∷ 0x34 ∷ 0x12 ∷ 0x02 ∷ 0x00 ∷ 0x00 ∷ 0x00 ∷ 0x10 ∷ 0x27 ∷ 0x00 ∷ 0x00 ∷ 0x0A ∷ 0x48 ∷ 0x10 ∷ 0x27 ∷ 0x00 ∷ 0x00 ∷ 0x06 ∷ 0x48 ∷ 0x01 ∷ 0x04 ∷ 0x20 ∷ 0x04 ∷ 0x24 ∷ 0x97 ∷ 0x2C ∷ 0x96 ∷ 0x2C ∷ 0x64 ∷ [])) 2 ∷ []
+unfolding messages.message_reading packets.packet_reading packets.behind_socket packets.are_sockets replies.open_reply_reading replies.unread_reading opens.open_text closes.close_text datagrams.datagram_reading opened ready_opened target_opened open_answer answered target_lost stream_opened stream_cut frame received produced_table all_expired all_given_up tick write read mode start stop
 last_request = refl
 
 first_again : (after last_serial (Start 0 ∷ [])).next_serial ≡ 1
-unfolding messages.message_reading packets.packet_reading packets.behind_socket packets.are_sockets replies.open_reply_reading replies.unread_reading opens.open_text closes.close_text datagrams.datagram_reading opened ready_opened target_opened open_told answered target_lost stream_opened stream_cut frame received produced_table all_expired all_given_up tick write read mode start stop
+unfolding messages.message_reading packets.packet_reading packets.behind_socket packets.are_sockets replies.open_reply_reading replies.unread_reading opens.open_text closes.close_text datagrams.datagram_reading opened ready_opened target_opened open_answer answered target_lost stream_opened stream_cut frame received produced_table all_expired all_given_up tick write read mode start stop
 first_again = refl
 
 -- the fifth opening is one of a group: the target chooses its id, and none is drawn
 abbrev grouped : ScannerTable
 grouped = record (after (scanner_table (profile (gatherer ∷ []))) registers) { next_serial = 5 }
 
-group_request : told grouped (Start 0 ∷ []) ≡ asks (items 1 50 (0x54 ∷ 0x02 ∷ 0x20 ∷ 0x06 ∷ 0x24 ∷ 0x01 ∷ 0x0A ∷ 0x0E ∷ 0x00 ∷ 0x00 ∷ 0x00 ∷ 0x00 ∷ 0x00 ∷ 0x00 ∷ 0x00 ∷ 0x00 ∷ 0x05 ∷ 0x00 ∷ 0x34 ∷ 0x12 ∷ 0x78 ∷ 0x56 ∷ 0x34 ∷ 0x12 ∷ 0x02 ∷ 0x00 ∷ 0x00 ∷ 0x00 ∷ 0x10 ∷ 0x27 ∷ 0x00 ∷ 0x00 ∷ 0x02 ∷ 0x48 ∷ 0x10 ∷ 0x27 ∷ 0x00 ∷ 0x00 ∷ 0x06 ∷ 0x28 ∷ 0x01 ∷ 0x04 ∷ 0x20 ∷ 0x04 ∷ 0x24 ∷ 0x97 ∷ 0x2C ∷ 0x98 ∷ 0x2C ∷ 0x64 ∷ [])) 2 ∷ []
-unfolding messages.message_reading packets.packet_reading packets.behind_socket packets.are_sockets replies.open_reply_reading replies.unread_reading opens.open_text closes.close_text datagrams.datagram_reading opened ready_opened target_opened open_told answered target_lost stream_opened stream_cut frame received produced_table all_expired all_given_up tick write read mode start stop
+group_request : reported grouped (Start 0 ∷ []) ≡ asks (items 1 50 (0x54 ∷ 0x02 ∷ 0x20 ∷ 0x06 ∷ 0x24 ∷ 0x01 ∷ 0x0A ∷ 0x0E ∷ 0x00 ∷ 0x00 ∷ 0x00 ∷ 0x00 ∷ 0x00 ∷ 0x00 ∷ 0x00 ∷ 0x00 ∷ 0x05 ∷ 0x00 ∷ 0x34 ∷ 0x12 ∷ 0x78 ∷ 0x56 ∷ 0x34 ∷ 0x12 ∷ 0x02 ∷ 0x00 ∷ 0x00 ∷ 0x00 ∷ 0x10 ∷ 0x27 ∷ 0x00 ∷ 0x00 ∷ 0x02 ∷ 0x48 ∷ 0x10 ∷ 0x27 ∷ 0x00 ∷ 0x00 ∷ 0x06 ∷ 0x28 ∷ 0x01 ∷ 0x04 ∷ 0x20 ∷ 0x04 ∷ 0x24 ∷ 0x97 ∷ 0x2C ∷ 0x98 ∷ 0x2C ∷ 0x64 ∷ [])) 2 ∷ []
+unfolding messages.message_reading packets.packet_reading packets.behind_socket packets.are_sockets replies.open_reply_reading replies.unread_reading opens.open_text closes.close_text datagrams.datagram_reading opened ready_opened target_opened open_answer answered target_lost stream_opened stream_cut frame received produced_table all_expired all_given_up tick write read mode start stop
 group_request = refl
 
 no_id_drawn : (after grouped (Start 0 ∷ [])).next_id ≡ 1
-unfolding messages.message_reading packets.packet_reading packets.behind_socket packets.are_sockets replies.open_reply_reading replies.unread_reading opens.open_text closes.close_text datagrams.datagram_reading opened ready_opened target_opened open_told answered target_lost stream_opened stream_cut frame received produced_table all_expired all_given_up tick write read mode start stop
+unfolding messages.message_reading packets.packet_reading packets.behind_socket packets.are_sockets replies.open_reply_reading replies.unread_reading opens.open_text closes.close_text datagrams.datagram_reading opened ready_opened target_opened open_answer answered target_lost stream_opened stream_cut frame received produced_table all_expired all_given_up tick write read mode start stop
 no_id_drawn = refl
 
 -- no id is left: the slot is not to be open any more, and no serial number is drawn
@@ -173,16 +173,16 @@ no_ids = record connected { next_id = 16777216 }
 abbrev ids_end_events : List Event
 ids_end_events = Start 0 ∷ Tick 3000 ∷ Stop 0 ∷ []
 
-ids_end : told no_ids ids_end_events
+ids_end : reported no_ids ids_end_events
     ≡ tells (notice.NoIds 0 ∷ [])
     ∷ quiet
     ∷ not_now
     ∷ []
-unfolding messages.message_reading packets.packet_reading packets.behind_socket packets.are_sockets replies.open_reply_reading replies.unread_reading opens.open_text closes.close_text datagrams.datagram_reading opened ready_opened target_opened open_told answered target_lost stream_opened stream_cut frame received produced_table all_expired all_given_up tick write read mode start stop
+unfolding messages.message_reading packets.packet_reading packets.behind_socket packets.are_sockets replies.open_reply_reading replies.unread_reading opens.open_text closes.close_text datagrams.datagram_reading opened ready_opened target_opened open_answer answered target_lost stream_opened stream_cut frame received produced_table all_expired all_given_up tick write read mode start stop
 ids_end = refl
 
 no_serial : (after no_ids (Start 0 ∷ [])).next_serial ≡ 1
-unfolding messages.message_reading packets.packet_reading packets.behind_socket packets.are_sockets replies.open_reply_reading replies.unread_reading opens.open_text closes.close_text datagrams.datagram_reading opened ready_opened target_opened open_told answered target_lost stream_opened stream_cut frame received produced_table all_expired all_given_up tick write read mode start stop
+unfolding messages.message_reading packets.packet_reading packets.behind_socket packets.are_sockets replies.open_reply_reading replies.unread_reading opens.open_text closes.close_text datagrams.datagram_reading opened ready_opened target_opened open_answer answered target_lost stream_opened stream_cut frame received produced_table all_expired all_given_up tick write read mode start stop
 no_serial = refl
 
 -- a connection that timed out is to be tried again, and no request number is left
@@ -193,49 +193,49 @@ no_numbers = record (after connected (Start 0 ∷ Frame 0 opened_frame ∷ Tick 
 abbrev numbers_end_events : List Event
 numbers_end_events = Tick 2999 ∷ Tick 1 ∷ Tick 3000 ∷ []
 
-numbers_end : told no_numbers numbers_end_events
+numbers_end : reported no_numbers numbers_end_events
     ≡ quiet
     ∷ tells (notice.NoIds 0 ∷ notice.Slot 0 0 ∷ [])
     ∷ quiet
     ∷ []
-unfolding messages.message_reading packets.packet_reading packets.behind_socket packets.are_sockets replies.open_reply_reading replies.unread_reading opens.open_text closes.close_text datagrams.datagram_reading opened ready_opened target_opened open_told answered target_lost stream_opened stream_cut frame received produced_table all_expired all_given_up tick write read mode start stop
+unfolding messages.message_reading packets.packet_reading packets.behind_socket packets.are_sockets replies.open_reply_reading replies.unread_reading opens.open_text closes.close_text datagrams.datagram_reading opened ready_opened target_opened open_answer answered target_lost stream_opened stream_cut frame received produced_table all_expired all_given_up tick write read mode start stop
 numbers_end = refl
 
 -- the last request number
 abbrev last_number : ScannerTable
 last_number = record connected { next_request = 281474976710656 }
 
-last_numbered : told last_number (Start 0 ∷ []) ≡ asks (0x6F ∷ 0x00 ∷ 0x42 ∷ 0x00 ∷ 0x01 ∷ 0x00 ∷ 0x00 ∷ 0x00 ∷ 0x00 ∷ 0x00 ∷ 0x00 ∷ 0x00 ∷ 0x00 ∷ 0x00 ∷ 0x00 ∷ 0x00 ∷ 0x00 ∷ 0x00 ∷ 0x01 ∷ 0x00 ∷ 0x00 ∷ 0x00 ∷ 0x00 ∷ 0x00 ∷ 0x00 ∷ 0x00 ∷ 0x00 ∷ 0x00 ∷ 0x00 ∷ 0x00 ∷ 0x02 ∷ 0x00 ∷ 0x00 ∷ 0x00 ∷ 0x00 ∷ 0x00 ∷ 0xB2 ∷ 0x00 ∷ 0x32 ∷ 0x00 ∷ forward_open 1 1) 2 ∷ []
-unfolding messages.message_reading packets.packet_reading packets.behind_socket packets.are_sockets replies.open_reply_reading replies.unread_reading opens.open_text closes.close_text datagrams.datagram_reading opened ready_opened target_opened open_told answered target_lost stream_opened stream_cut frame received produced_table all_expired all_given_up tick write read mode start stop
+last_numbered : reported last_number (Start 0 ∷ []) ≡ asks (0x6F ∷ 0x00 ∷ 0x42 ∷ 0x00 ∷ 0x01 ∷ 0x00 ∷ 0x00 ∷ 0x00 ∷ 0x00 ∷ 0x00 ∷ 0x00 ∷ 0x00 ∷ 0x00 ∷ 0x00 ∷ 0x00 ∷ 0x00 ∷ 0x00 ∷ 0x00 ∷ 0x01 ∷ 0x00 ∷ 0x00 ∷ 0x00 ∷ 0x00 ∷ 0x00 ∷ 0x00 ∷ 0x00 ∷ 0x00 ∷ 0x00 ∷ 0x00 ∷ 0x00 ∷ 0x02 ∷ 0x00 ∷ 0x00 ∷ 0x00 ∷ 0x00 ∷ 0x00 ∷ 0xB2 ∷ 0x00 ∷ 0x32 ∷ 0x00 ∷ forward_open 1 1) 2 ∷ []
+unfolding messages.message_reading packets.packet_reading packets.behind_socket packets.are_sockets replies.open_reply_reading replies.unread_reading opens.open_text closes.close_text datagrams.datagram_reading opened ready_opened target_opened open_answer answered target_lost stream_opened stream_cut frame received produced_table all_expired all_given_up tick write read mode start stop
 last_numbered = refl
 
 -- ---- requests
 
 -- the request of a slot's first opening, as a message router reads it
-abbrev asked_by : SlotConfig → List ℕ
-asked_by config = manager_text (open_service (is_large config)) (opens.open_text (is_large config) (open_fields config (next_wanted connected config)))
+abbrev requested_by : SlotConfig → List ℕ
+requested_by config = manager_text (open_service (is_large config)) (opens.open_text (is_large config) (open_fields config (next_requested connected config)))
 
 -- a target that produces at a change, held back for 5 ms
-at_change : asked_by (record owner { trigger = ChangeOfState; inhibit = 5 }) ≡ 0x54 ∷ 0x02 ∷ 0x20 ∷ 0x06 ∷ 0x24 ∷ 0x01 ∷ 0x0A ∷ 0x0E ∷ 0x00 ∷ 0x00 ∷ 0x00 ∷ 0x00 ∷ 0x01 ∷ 0x00 ∷ 0x00 ∷ 0x20 ∷ 0x01 ∷ 0x00 ∷ 0x34 ∷ 0x12 ∷ 0x78 ∷ 0x56 ∷ 0x34 ∷ 0x12 ∷ 0x02 ∷ 0x00 ∷ 0x00 ∷ 0x00 ∷ 0x10 ∷ 0x27 ∷ 0x00 ∷ 0x00 ∷ 0x0A ∷ 0x48 ∷ 0x10 ∷ 0x27 ∷ 0x00 ∷ 0x00 ∷ 0x06 ∷ 0x48 ∷ 0x11 ∷ 0x05 ∷ 0x43 ∷ 0x05 ∷ 0x20 ∷ 0x04 ∷ 0x24 ∷ 0x97 ∷ 0x2C ∷ 0x96 ∷ 0x2C ∷ 0x64 ∷ []
-unfolding messages.message_reading packets.packet_reading packets.behind_socket packets.are_sockets replies.open_reply_reading replies.unread_reading opens.open_text closes.close_text datagrams.datagram_reading opened ready_opened target_opened open_told answered target_lost stream_opened stream_cut frame received produced_table all_expired all_given_up tick write read mode start stop
+at_change : requested_by (record owner { trigger = ChangeOfState; inhibit = 5 }) ≡ 0x54 ∷ 0x02 ∷ 0x20 ∷ 0x06 ∷ 0x24 ∷ 0x01 ∷ 0x0A ∷ 0x0E ∷ 0x00 ∷ 0x00 ∷ 0x00 ∷ 0x00 ∷ 0x01 ∷ 0x00 ∷ 0x00 ∷ 0x20 ∷ 0x01 ∷ 0x00 ∷ 0x34 ∷ 0x12 ∷ 0x78 ∷ 0x56 ∷ 0x34 ∷ 0x12 ∷ 0x02 ∷ 0x00 ∷ 0x00 ∷ 0x00 ∷ 0x10 ∷ 0x27 ∷ 0x00 ∷ 0x00 ∷ 0x0A ∷ 0x48 ∷ 0x10 ∷ 0x27 ∷ 0x00 ∷ 0x00 ∷ 0x06 ∷ 0x48 ∷ 0x11 ∷ 0x05 ∷ 0x43 ∷ 0x05 ∷ 0x20 ∷ 0x04 ∷ 0x24 ∷ 0x97 ∷ 0x2C ∷ 0x96 ∷ 0x2C ∷ 0x64 ∷ []
+unfolding messages.message_reading packets.packet_reading packets.behind_socket packets.are_sockets replies.open_reply_reading replies.unread_reading opens.open_text closes.close_text datagrams.datagram_reading opened ready_opened target_opened open_answer answered target_lost stream_opened stream_cut frame received produced_table all_expired all_given_up tick write read mode start stop
 at_change = refl
 
 -- an output of 505 bytes is the longest that a Forward_Open asks for
-longest : asked_by (record owner { out_len = 505 }) ≡ 0x54 ∷ 0x02 ∷ 0x20 ∷ 0x06 ∷ 0x24 ∷ 0x01 ∷ 0x0A ∷ 0x0E ∷ 0x00 ∷ 0x00 ∷ 0x00 ∷ 0x00 ∷ 0x01 ∷ 0x00 ∷ 0x00 ∷ 0x20 ∷ 0x01 ∷ 0x00 ∷ 0x34 ∷ 0x12 ∷ 0x78 ∷ 0x56 ∷ 0x34 ∷ 0x12 ∷ 0x02 ∷ 0x00 ∷ 0x00 ∷ 0x00 ∷ 0x10 ∷ 0x27 ∷ 0x00 ∷ 0x00 ∷ 0xFF ∷ 0x49 ∷ 0x10 ∷ 0x27 ∷ 0x00 ∷ 0x00 ∷ 0x06 ∷ 0x48 ∷ 0x01 ∷ 0x04 ∷ 0x20 ∷ 0x04 ∷ 0x24 ∷ 0x97 ∷ 0x2C ∷ 0x96 ∷ 0x2C ∷ 0x64 ∷ []
-unfolding messages.message_reading packets.packet_reading packets.behind_socket packets.are_sockets replies.open_reply_reading replies.unread_reading opens.open_text closes.close_text datagrams.datagram_reading opened ready_opened target_opened open_told answered target_lost stream_opened stream_cut frame received produced_table all_expired all_given_up tick write read mode start stop
+longest : requested_by (record owner { out_len = 505 }) ≡ 0x54 ∷ 0x02 ∷ 0x20 ∷ 0x06 ∷ 0x24 ∷ 0x01 ∷ 0x0A ∷ 0x0E ∷ 0x00 ∷ 0x00 ∷ 0x00 ∷ 0x00 ∷ 0x01 ∷ 0x00 ∷ 0x00 ∷ 0x20 ∷ 0x01 ∷ 0x00 ∷ 0x34 ∷ 0x12 ∷ 0x78 ∷ 0x56 ∷ 0x34 ∷ 0x12 ∷ 0x02 ∷ 0x00 ∷ 0x00 ∷ 0x00 ∷ 0x10 ∷ 0x27 ∷ 0x00 ∷ 0x00 ∷ 0xFF ∷ 0x49 ∷ 0x10 ∷ 0x27 ∷ 0x00 ∷ 0x00 ∷ 0x06 ∷ 0x48 ∷ 0x01 ∷ 0x04 ∷ 0x20 ∷ 0x04 ∷ 0x24 ∷ 0x97 ∷ 0x2C ∷ 0x96 ∷ 0x2C ∷ 0x64 ∷ []
+unfolding messages.message_reading packets.packet_reading packets.behind_socket packets.are_sockets replies.open_reply_reading replies.unread_reading opens.open_text closes.close_text datagrams.datagram_reading opened ready_opened target_opened open_answer answered target_lost stream_opened stream_cut frame received produced_table all_expired all_given_up tick write read mode start stop
 longest = refl
 
 -- one of 506 bytes takes a Large_Forward_Open
-larger : asked_by (record owner { out_len = 506 }) ≡ 0x5B ∷ 0x02 ∷ 0x20 ∷ 0x06 ∷ 0x24 ∷ 0x01 ∷ 0x0A ∷ 0x0E ∷ 0x00 ∷ 0x00 ∷ 0x00 ∷ 0x00 ∷ 0x01 ∷ 0x00 ∷ 0x00 ∷ 0x20 ∷ 0x01 ∷ 0x00 ∷ 0x34 ∷ 0x12 ∷ 0x78 ∷ 0x56 ∷ 0x34 ∷ 0x12 ∷ 0x02 ∷ 0x00 ∷ 0x00 ∷ 0x00 ∷ 0x10 ∷ 0x27 ∷ 0x00 ∷ 0x00 ∷ 0x00 ∷ 0x02 ∷ 0x00 ∷ 0x48 ∷ 0x10 ∷ 0x27 ∷ 0x00 ∷ 0x00 ∷ 0x06 ∷ 0x00 ∷ 0x00 ∷ 0x48 ∷ 0x01 ∷ 0x04 ∷ 0x20 ∷ 0x04 ∷ 0x24 ∷ 0x97 ∷ 0x2C ∷ 0x96 ∷ 0x2C ∷ 0x64 ∷ []
-unfolding messages.message_reading packets.packet_reading packets.behind_socket packets.are_sockets replies.open_reply_reading replies.unread_reading opens.open_text closes.close_text datagrams.datagram_reading opened ready_opened target_opened open_told answered target_lost stream_opened stream_cut frame received produced_table all_expired all_given_up tick write read mode start stop
+larger : requested_by (record owner { out_len = 506 }) ≡ 0x5B ∷ 0x02 ∷ 0x20 ∷ 0x06 ∷ 0x24 ∷ 0x01 ∷ 0x0A ∷ 0x0E ∷ 0x00 ∷ 0x00 ∷ 0x00 ∷ 0x00 ∷ 0x01 ∷ 0x00 ∷ 0x00 ∷ 0x20 ∷ 0x01 ∷ 0x00 ∷ 0x34 ∷ 0x12 ∷ 0x78 ∷ 0x56 ∷ 0x34 ∷ 0x12 ∷ 0x02 ∷ 0x00 ∷ 0x00 ∷ 0x00 ∷ 0x10 ∷ 0x27 ∷ 0x00 ∷ 0x00 ∷ 0x00 ∷ 0x02 ∷ 0x00 ∷ 0x48 ∷ 0x10 ∷ 0x27 ∷ 0x00 ∷ 0x00 ∷ 0x06 ∷ 0x00 ∷ 0x00 ∷ 0x48 ∷ 0x01 ∷ 0x04 ∷ 0x20 ∷ 0x04 ∷ 0x24 ∷ 0x97 ∷ 0x2C ∷ 0x96 ∷ 0x2C ∷ 0x64 ∷ []
+unfolding messages.message_reading packets.packet_reading packets.behind_socket packets.are_sockets replies.open_reply_reading replies.unread_reading opens.open_text closes.close_text datagrams.datagram_reading opened ready_opened target_opened open_answer answered target_lost stream_opened stream_cut frame received produced_table all_expired all_given_up tick write read mode start stop
 larger = refl
 
 -- and so does an input of 510 bytes
-larger_input : asked_by (record owner { in_len = 510 }) ≡ 0x5B ∷ 0x02 ∷ 0x20 ∷ 0x06 ∷ 0x24 ∷ 0x01 ∷ 0x0A ∷ 0x0E ∷ 0x00 ∷ 0x00 ∷ 0x00 ∷ 0x00 ∷ 0x01 ∷ 0x00 ∷ 0x00 ∷ 0x20 ∷ 0x01 ∷ 0x00 ∷ 0x34 ∷ 0x12 ∷ 0x78 ∷ 0x56 ∷ 0x34 ∷ 0x12 ∷ 0x02 ∷ 0x00 ∷ 0x00 ∷ 0x00 ∷ 0x10 ∷ 0x27 ∷ 0x00 ∷ 0x00 ∷ 0x0A ∷ 0x00 ∷ 0x00 ∷ 0x48 ∷ 0x10 ∷ 0x27 ∷ 0x00 ∷ 0x00 ∷ 0x00 ∷ 0x02 ∷ 0x00 ∷ 0x48 ∷ 0x01 ∷ 0x04 ∷ 0x20 ∷ 0x04 ∷ 0x24 ∷ 0x97 ∷ 0x2C ∷ 0x96 ∷ 0x2C ∷ 0x64 ∷ []
-unfolding messages.message_reading packets.packet_reading packets.behind_socket packets.are_sockets replies.open_reply_reading replies.unread_reading opens.open_text closes.close_text datagrams.datagram_reading opened ready_opened target_opened open_told answered target_lost stream_opened stream_cut frame received produced_table all_expired all_given_up tick write read mode start stop
+larger_input : requested_by (record owner { in_len = 510 }) ≡ 0x5B ∷ 0x02 ∷ 0x20 ∷ 0x06 ∷ 0x24 ∷ 0x01 ∷ 0x0A ∷ 0x0E ∷ 0x00 ∷ 0x00 ∷ 0x00 ∷ 0x00 ∷ 0x01 ∷ 0x00 ∷ 0x00 ∷ 0x20 ∷ 0x01 ∷ 0x00 ∷ 0x34 ∷ 0x12 ∷ 0x78 ∷ 0x56 ∷ 0x34 ∷ 0x12 ∷ 0x02 ∷ 0x00 ∷ 0x00 ∷ 0x00 ∷ 0x10 ∷ 0x27 ∷ 0x00 ∷ 0x00 ∷ 0x0A ∷ 0x00 ∷ 0x00 ∷ 0x48 ∷ 0x10 ∷ 0x27 ∷ 0x00 ∷ 0x00 ∷ 0x00 ∷ 0x02 ∷ 0x00 ∷ 0x48 ∷ 0x01 ∷ 0x04 ∷ 0x20 ∷ 0x04 ∷ 0x24 ∷ 0x97 ∷ 0x2C ∷ 0x96 ∷ 0x2C ∷ 0x64 ∷ []
+unfolding messages.message_reading packets.packet_reading packets.behind_socket packets.are_sockets replies.open_reply_reading replies.unread_reading opens.open_text closes.close_text datagrams.datagram_reading opened ready_opened target_opened open_answer answered target_lost stream_opened stream_cut frame received produced_table all_expired all_given_up tick write read mode start stop
 larger_input = refl
 
 -- the key of the device that is wanted goes first in the path, and the configuration last
-keyed : asked_by (record owner { key = Some (record { vendor = 1; device_type = 12; product = 7; compatible = true; major = 2; minor = 2; seven_bits = lit< tt }); config_data = 1 ∷ 2 ∷ 3 ∷ 4 ∷ [] }) ≡ 0x54 ∷ 0x02 ∷ 0x20 ∷ 0x06 ∷ 0x24 ∷ 0x01 ∷ 0x0A ∷ 0x0E ∷ 0x00 ∷ 0x00 ∷ 0x00 ∷ 0x00 ∷ 0x01 ∷ 0x00 ∷ 0x00 ∷ 0x20 ∷ 0x01 ∷ 0x00 ∷ 0x34 ∷ 0x12 ∷ 0x78 ∷ 0x56 ∷ 0x34 ∷ 0x12 ∷ 0x02 ∷ 0x00 ∷ 0x00 ∷ 0x00 ∷ 0x10 ∷ 0x27 ∷ 0x00 ∷ 0x00 ∷ 0x0A ∷ 0x48 ∷ 0x10 ∷ 0x27 ∷ 0x00 ∷ 0x00 ∷ 0x06 ∷ 0x48 ∷ 0x01 ∷ 0x0C ∷ 0x34 ∷ 0x04 ∷ 0x01 ∷ 0x00 ∷ 0x0C ∷ 0x00 ∷ 0x07 ∷ 0x00 ∷ 0x82 ∷ 0x02 ∷ 0x20 ∷ 0x04 ∷ 0x24 ∷ 0x97 ∷ 0x2C ∷ 0x96 ∷ 0x2C ∷ 0x64 ∷ 0x80 ∷ 0x02 ∷ 0x01 ∷ 0x02 ∷ 0x03 ∷ 0x04 ∷ []
-unfolding messages.message_reading packets.packet_reading packets.behind_socket packets.are_sockets replies.open_reply_reading replies.unread_reading opens.open_text closes.close_text datagrams.datagram_reading opened ready_opened target_opened open_told answered target_lost stream_opened stream_cut frame received produced_table all_expired all_given_up tick write read mode start stop
+keyed : requested_by (record owner { key = Some (record { vendor = 1; device_type = 12; product = 7; compatible = true; major = 2; minor = 2; seven_bits = lit< tt }); config_data = 1 ∷ 2 ∷ 3 ∷ 4 ∷ [] }) ≡ 0x54 ∷ 0x02 ∷ 0x20 ∷ 0x06 ∷ 0x24 ∷ 0x01 ∷ 0x0A ∷ 0x0E ∷ 0x00 ∷ 0x00 ∷ 0x00 ∷ 0x00 ∷ 0x01 ∷ 0x00 ∷ 0x00 ∷ 0x20 ∷ 0x01 ∷ 0x00 ∷ 0x34 ∷ 0x12 ∷ 0x78 ∷ 0x56 ∷ 0x34 ∷ 0x12 ∷ 0x02 ∷ 0x00 ∷ 0x00 ∷ 0x00 ∷ 0x10 ∷ 0x27 ∷ 0x00 ∷ 0x00 ∷ 0x0A ∷ 0x48 ∷ 0x10 ∷ 0x27 ∷ 0x00 ∷ 0x00 ∷ 0x06 ∷ 0x48 ∷ 0x01 ∷ 0x0C ∷ 0x34 ∷ 0x04 ∷ 0x01 ∷ 0x00 ∷ 0x0C ∷ 0x00 ∷ 0x07 ∷ 0x00 ∷ 0x82 ∷ 0x02 ∷ 0x20 ∷ 0x04 ∷ 0x24 ∷ 0x97 ∷ 0x2C ∷ 0x96 ∷ 0x2C ∷ 0x64 ∷ 0x80 ∷ 0x02 ∷ 0x01 ∷ 0x02 ∷ 0x03 ∷ 0x04 ∷ []
+unfolding messages.message_reading packets.packet_reading packets.behind_socket packets.are_sockets replies.open_reply_reading replies.unread_reading opens.open_text closes.close_text datagrams.datagram_reading opened ready_opened target_opened open_answer answered target_lost stream_opened stream_cut frame received produced_table all_expired all_given_up tick write read mode start stop
 keyed = refl

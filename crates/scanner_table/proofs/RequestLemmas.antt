@@ -82,12 +82,12 @@ less_other : (a b : ℕ) → a < b → (a == b) ≡ false
 less_other a b less = grind (arith, nat_tests)
 
 -- no state waits for a request that is not numbered yet
-state_unnumbered : (next clock : ℕ) (wanted : Bool) (state : SlotState) → FitsState next clock wanted state → waits_for next state ≡ false
-state_unnumbered next clock wanted Idle fits = refl
-state_unnumbered next clock wanted (Opening o) fits = less_other o.request next fits.1
-state_unnumbered next clock wanted (Established c) fits = refl
-state_unnumbered next clock wanted (TimedOut link) fits = refl
-state_unnumbered next clock wanted (Closing c) fits = less_other c.request next fits.1
+state_unnumbered : (next clock : ℕ) (desired_up : Bool) (state : SlotState) → FitsState next clock desired_up state → waits_for next state ≡ false
+state_unnumbered next clock desired_up Idle fits = refl
+state_unnumbered next clock desired_up (Opening o) fits = less_other o.request next fits.1
+state_unnumbered next clock desired_up (Established c) fits = refl
+state_unnumbered next clock desired_up (TimedOut link) fits = refl
+state_unnumbered next clock desired_up (Closing c) fits = less_other c.request next fits.1
 
 -- it shares the request with none that does not wait for it, and none of these with it
 new_shares : (next : ℕ) (new other : SlotState) → WaitsFor next new → waits_for next other ≡ false → states_share new other ≡ false
@@ -119,7 +119,7 @@ none_shares next clock [] [] new waits fit = refl
 none_shares next clock [] (slot ∷ slots) new waits fit = absurd fit
 none_shares next clock (config ∷ configs) [] new waits fit = absurd fit
 none_shares next clock (config ∷ configs) (slot ∷ slots) new waits fit =
-    rw (new_shares next new.state slot.state waits (state_unnumbered next clock slot.wanted slot.state fit.0.state)) (none_shares next clock configs slots new waits fit.1)
+    rw (new_shares next new.state slot.state waits (state_unnumbered next clock slot.desired_up slot.state fit.0.state)) (none_shares next clock configs slots new waits fit.1)
 
 head_shares : (next clock k : ℕ) (configs : List SlotConfig) (slots : List Slot) (head new : Slot) → WaitsFor next new.state → waits_for next head.state ≡ false → list_any (shares_request head) slots ≡ false → list_any (shares_request head) (slice_set slots k new) ≡ false
 head_shares next clock k configs [] head new waits none alone = refl
@@ -136,6 +136,6 @@ differ_numbered next clock k [] (slot ∷ slots) new waits fit differ = absurd f
 differ_numbered next clock k (config ∷ configs) [] new waits fit differ = absurd fit
 differ_numbered next clock zero (config ∷ configs) (slot ∷ slots) new waits fit differ = (none_shares next clock configs slots new waits fit.1, differ.1)
 differ_numbered next clock (suc k) (config ∷ configs) (slot ∷ slots) new waits fit differ = (
-  head_shares next clock k configs slots slot new waits (state_unnumbered next clock slot.wanted slot.state fit.0.state) differ.0,
+  head_shares next clock k configs slots slot new waits (state_unnumbered next clock slot.desired_up slot.state fit.0.state) differ.0,
   differ_numbered next clock k configs slots new waits fit.1 differ.1,
 )

@@ -79,9 +79,9 @@ left t (Err why) = t
 left t (Ok next) = next.1
 
 -- what events give, one after another
-abbrev pub told : ScannerTable → List Event → List Outcome
-told t [] = []
-told t (event ∷ events) = let now = scanner_step t event in said now ∷ told (left t now) events
+abbrev pub reported : ScannerTable → List Event → List Outcome
+reported t [] = []
+reported t (event ∷ events) = let now = scanner_step t event in said now ∷ reported (left t now) events
 
 -- the table after them
 abbrev pub after : ScannerTable → List Event → ScannerTable

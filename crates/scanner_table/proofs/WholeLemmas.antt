@@ -12,23 +12,23 @@ use Rattle.scanner_table.specs.declared.slot.SlotState.TheVariants.{Idle, Openin
 use Rattle.scanner_table.specs.declared.table.ScannerTable.{ScannerTable}
 use Rattle.scanner_table.specs.declared.table.Stage.{Stage}
 use Rattle.scanner_table.specs.declared.table.TargetStream.{TargetStream}
-use Rattle.scanner_table.specs.Slots.{Place, places_from, places, with_slot}
+use Rattle.scanner_table.specs.Slots.{IndexedSlot, indexed_from, indexed_slots, with_slot}
 use Rattle.scanner_table.specs.Sessions.{is_stream, is_to, staged_stream}
 use Rattle.scanner_table.specs.Effects.{Effect, on_each, nothing}
 use Rattle.scanner_table.specs.Whole.{FitsState, FitsSlot, SlotsFit, IdsDiffer, RequestsDiffer, StreamsDiffer, IsWhole}
 
 -- ---- later tables
 
-pub state_later : (r s k l : ℕ) (wanted : Bool) (state : SlotState) → r ≤ s → k ≤ l → FitsState r k wanted state → FitsState s l wanted state
-state_later r s k l wanted Idle up on fits = tt
-state_later r s k l wanted (Opening o) up on fits = (fits.0, omega (arith, fits.1))
-state_later r s k l wanted (Established c) up on fits =
-    (fits.0, record { opening = omega (arith, fits.1.opening); o_t_api = fits.1.o_t_api; t_o_api = fits.1.t_o_api; due = omega (arith, fits.1.due) })
-state_later r s k l wanted (TimedOut link) up on fits = fits
-state_later r s k l wanted (Closing c) up on fits = (fits.0, omega (arith, fits.1))
+pub state_later : (r s k l : ℕ) (desired_up : Bool) (state : SlotState) → r ≤ s → k ≤ l → FitsState r k desired_up state → FitsState s l desired_up state
+state_later r s k l desired_up Idle up on fits = tt
+state_later r s k l desired_up (Opening o) up on fits = (fits.0, omega (arith, fits.1))
+state_later r s k l desired_up (Established c) up on fits =
+    (fits.0, record { opening = omega (arith, fits.1.opening); o_t_api_ms = fits.1.o_t_api_ms; t_o_api_ms = fits.1.t_o_api_ms; due = omega (arith, fits.1.due) })
+state_later r s k l desired_up (TimedOut link) up on fits = fits
+state_later r s k l desired_up (Closing c) up on fits = (fits.0, omega (arith, fits.1))
 
 pub slot_later : (r s k l : ℕ) (config : SlotConfig) (slot : Slot) → r ≤ s → k ≤ l → FitsSlot r k config slot → FitsSlot s l config slot
-slot_later r s k l config slot up on fits = record { output = fits.output; image = fits.image; state = state_later r s k l slot.wanted slot.state up on fits.state }
+slot_later r s k l config slot up on fits = record { output = fits.output; image = fits.image; state = state_later r s k l slot.desired_up slot.state up on fits.state }
 
 pub slots_later : (r s k l : ℕ) (configs : List SlotConfig) (slots : List Slot) → r ≤ s → k ≤ l → SlotsFit r k configs slots → SlotsFit s l configs slots
 slots_later r s k l [] [] up on fit = tt
@@ -51,36 +51,36 @@ later_later t u v first next = record { profile = next.profile ∙ first.profile
 -- ---- places
 
 -- the place is one of the table's, or was
-pub record IsAt (t : ScannerTable) (place : Place) : Type 0 where
-  pub config : slice_get t.profile.slots place.number ≡ Some place.config
-  pub fits : FitsSlot t.next_request t.clock.0 place.config place.slot
+pub record IsAt (t : ScannerTable) (indexed : IndexedSlot) : Type 0 where
+  pub config : slice_get t.profile.slots indexed.number ≡ Some indexed.config
+  pub fits : FitsSlot t.next_request t.clock.0 indexed.config indexed.slot
 
-pub is_at_later : (t u : ScannerTable) (place : Place) → Later t u → IsAt t place → IsAt u place
-is_at_later t u place later at = record {
+pub is_at_later : (t u : ScannerTable) (indexed : IndexedSlot) → Later t u → IsAt t indexed → IsAt u indexed
+is_at_later t u indexed later at = record {
   config = rw later.profile at.config;
-  fits = rw later.clock (slot_later t.next_request u.next_request t.clock.0 t.clock.0 place.config place.slot later.requests (omega arith) at.fits);
+  fits = rw later.clock (slot_later t.next_request u.next_request t.clock.0 t.clock.0 indexed.config indexed.slot later.requests (omega arith) at.fits);
 }
 
 -- it holds of each place
-abbrev pub Each : (Place → Type 0) → List Place → Type 0
+abbrev pub Each : (IndexedSlot → Type 0) → List IndexedSlot → Type 0
 Each P [] = Unit {0}
-Each P (place ∷ rest) = P place × Each P rest
+Each P (indexed ∷ rest) = P indexed × Each P rest
 
-pub each_filter : (P : Place → Type 0) (p : Place → Bool) (rest : List Place) → Each P rest → Each P (filter p rest)
+pub each_filter : (P : IndexedSlot → Type 0) (p : IndexedSlot → Bool) (rest : List IndexedSlot) → Each P rest → Each P (filter p rest)
 each_filter P p [] all = tt
-each_filter P p (place ∷ rest) all =
-    elim (p place) as (λ b. Each P (cond b (place ∷ filter p rest) (filter p rest))) [
+each_filter P p (indexed ∷ rest) all =
+    elim (p indexed) as (λ b. Each P (cond b (indexed ∷ filter p rest) (filter p rest))) [
       | true ↦ (all.0, each_filter P p rest all.1)
       | false ↦ each_filter P p rest all.1
     ]
 
-found_step : (b : Bool) (P : Place → Type 0) (first place : Place) (rest : Option Place) → cond b (Some first) rest ≡ Some place → P first → (rest ≡ Some place → P place) → P place
-found_step true P first place rest is here more = let same : first ≡ place = cc in subst P same here
-found_step false P first place rest is here more = more is
+found_step : (b : Bool) (P : IndexedSlot → Type 0) (first indexed : IndexedSlot) (rest : Option IndexedSlot) → cond b (Some first) rest ≡ Some indexed → P first → (rest ≡ Some indexed → P indexed) → P indexed
+found_step true P first indexed rest is here more = let same : first ≡ indexed = cc in subst P same here
+found_step false P first indexed rest is here more = more is
 
-pub each_found : (P : Place → Type 0) (p : Place → Bool) (all : List Place) (place : Place) → find p all ≡ Some place → Each P all → P place
-each_found P p [] place is all = absurd cc
-each_found P p (first ∷ rest) place is all = found_step (p first) P first place (find p rest) is all.0 (λ later. each_found P p rest place later all.1)
+pub each_found : (P : IndexedSlot → Type 0) (p : IndexedSlot → Bool) (all : List IndexedSlot) (indexed : IndexedSlot) → find p all ≡ Some indexed → Each P all → P indexed
+each_found P p [] indexed is all = absurd cc
+each_found P p (first ∷ rest) indexed is all = found_step (p first) P first indexed (find p rest) is all.0 (λ later. each_found P p rest indexed later all.1)
 
 -- what stands in places from a number on stands so in all places
 abbrev StandsIn : List SlotConfig → ℕ → List SlotConfig → Type 0
@@ -94,21 +94,21 @@ tail_stands all number config configs stands = λ k other is.
     let same : number + suc k ≡ suc number + k = omega arith in
     subst (λ (n : ℕ). slice_get all n ≡ Some other) same (stands (suc k) other is)
 
-places_at : (t : ScannerTable) (number : ℕ) (configs : List SlotConfig) (slots : List Slot) → StandsIn t.profile.slots number configs → SlotsFit t.next_request t.clock.0 configs slots → Each (IsAt t) (places_from number configs slots)
-places_at t number [] slots stands fit = tt
-places_at t number (config ∷ configs) [] stands fit = tt
-places_at t number (config ∷ configs) (slot ∷ slots) stands fit =
-    (record { config = head_stands t.profile.slots number config configs stands; fits = fit.0 }, places_at t (suc number) configs slots (tail_stands t.profile.slots number config configs stands) fit.1)
+slots_at : (t : ScannerTable) (number : ℕ) (configs : List SlotConfig) (slots : List Slot) → StandsIn t.profile.slots number configs → SlotsFit t.next_request t.clock.0 configs slots → Each (IsAt t) (indexed_from number configs slots)
+slots_at t number [] slots stands fit = tt
+slots_at t number (config ∷ configs) [] stands fit = tt
+slots_at t number (config ∷ configs) (slot ∷ slots) stands fit =
+    (record { config = head_stands t.profile.slots number config configs stands; fits = fit.0 }, slots_at t (suc number) configs slots (tail_stands t.profile.slots number config configs stands) fit.1)
 
 all_stand : (configs : List SlotConfig) → StandsIn configs 0 configs
 all_stand configs = λ k config is. let same : k ≡ 0 + k = omega arith in subst (λ (n : ℕ). slice_get configs n ≡ Some config) same is
 
-pub each_at : (t : ScannerTable) → IsWhole t → Each (IsAt t) (places t)
-each_at t whole = places_at t 0 t.profile.slots t.slots (all_stand t.profile.slots) whole.slots
+pub each_at : (t : ScannerTable) → IsWhole t → Each (IsAt t) (indexed_slots t)
+each_at t whole = slots_at t 0 t.profile.slots t.slots (all_stand t.profile.slots) whole.slots
 
 -- the place is one of the table's now
-abbrev pub IsNow : ScannerTable → Place → Type 0
-IsNow t place = slice_get t.slots place.number ≡ Some place.slot
+abbrev pub IsNow : ScannerTable → IndexedSlot → Type 0
+IsNow t indexed = slice_get t.slots indexed.number ≡ Some indexed.slot
 
 abbrev SlotStands : List Slot → ℕ → List Slot → Type 0
 SlotStands all number slots = (k : ℕ) (slot : Slot) → slice_get slots k ≡ Some slot → slice_get all (number + k) ≡ Some slot
@@ -121,17 +121,17 @@ tail_now all number slot slots stands = λ k other is.
     let same : number + suc k ≡ suc number + k = omega arith in
     subst (λ (n : ℕ). slice_get all n ≡ Some other) same (stands (suc k) other is)
 
-places_now : (t : ScannerTable) (number : ℕ) (configs : List SlotConfig) (slots : List Slot) → SlotStands t.slots number slots → Each (IsNow t) (places_from number configs slots)
-places_now t number [] slots stands = tt
-places_now t number (config ∷ configs) [] stands = tt
-places_now t number (config ∷ configs) (slot ∷ slots) stands =
-    (head_now t.slots number slot slots stands, places_now t (suc number) configs slots (tail_now t.slots number slot slots stands))
+slots_now : (t : ScannerTable) (number : ℕ) (configs : List SlotConfig) (slots : List Slot) → SlotStands t.slots number slots → Each (IsNow t) (indexed_from number configs slots)
+slots_now t number [] slots stands = tt
+slots_now t number (config ∷ configs) [] stands = tt
+slots_now t number (config ∷ configs) (slot ∷ slots) stands =
+    (head_now t.slots number slot slots stands, slots_now t (suc number) configs slots (tail_now t.slots number slot slots stands))
 
 all_now : (slots : List Slot) → SlotStands slots 0 slots
 all_now slots = λ k slot is. let same : k ≡ 0 + k = omega arith in subst (λ (n : ℕ). slice_get slots n ≡ Some slot) same is
 
-pub each_now : (t : ScannerTable) → Each (IsNow t) (places t)
-each_now t = places_now t 0 t.profile.slots t.slots (all_now t.slots)
+pub each_now : (t : ScannerTable) → Each (IsNow t) (indexed_slots t)
+each_now t = slots_now t 0 t.profile.slots t.slots (all_now t.slots)
 
 -- ---- another slot
 
@@ -145,13 +145,13 @@ set_fits r c (suc k) (config ∷ configs) (first ∷ slots) slot fit new = (fit.
 some_is : (a b : SlotConfig) → Some a ≡ Some b → a ≡ b
 some_is a b is = cc
 
-pub whole_with : (t : ScannerTable) (place : Place) (slot : Slot) → IsWhole t → slice_get t.profile.slots place.number ≡ Some place.config → FitsSlot t.next_request t.clock.0 place.config slot → IdsDiffer (places_from 0 t.profile.slots (slice_set t.slots place.number slot)) → RequestsDiffer (slice_set t.slots place.number slot) → IsWhole (with_slot t place.number slot)
-whole_with t place slot whole at fits differ apart = record {
+pub whole_with : (t : ScannerTable) (indexed : IndexedSlot) (slot : Slot) → IsWhole t → slice_get t.profile.slots indexed.number ≡ Some indexed.config → FitsSlot t.next_request t.clock.0 indexed.config slot → IdsDiffer (indexed_from 0 t.profile.slots (slice_set t.slots indexed.number slot)) → RequestsDiffer (slice_set t.slots indexed.number slot) → IsWhole (with_slot t indexed.number slot)
+whole_with t indexed slot whole at fits differ apart = record {
   ids_differ = differ;
   requests_differ = apart;
   faultless = whole.faultless;
-  slots = set_fits t.next_request t.clock.0 place.number t.profile.slots t.slots slot whole.slots
-      (λ config is. subst (λ (c : SlotConfig). FitsSlot t.next_request t.clock.0 c slot) (some_is place.config config (sym at ∙ is)) fits);
+  slots = set_fits t.next_request t.clock.0 indexed.number t.profile.slots t.slots slot whole.slots
+      (λ config is. subst (λ (c : SlotConfig). FitsSlot t.next_request t.clock.0 c slot) (some_is indexed.config config (sym at ∙ is)) fits);
   clock = whole.clock;
   ids = whole.ids;
   serial_begins = whole.serial_begins;
@@ -172,36 +172,36 @@ pub keeps_nothing : (t : ScannerTable) → IsWhole t → Keeps t (nothing t)
 keeps_nothing t whole = record { whole = whole; later = same_later t }
 
 -- an effect on places of which something holds keeps a table whole
-abbrev pub KeepsAt : (Place → Type 0) → (ScannerTable → Place → Effect) → Type 0
-KeepsAt Q effect = (t : ScannerTable) (place : Place) → IsWhole t → IsAt t place → Q place → Keeps t (effect t place)
+abbrev pub KeepsAt : (IndexedSlot → Type 0) → (ScannerTable → IndexedSlot → Effect) → Type 0
+KeepsAt Q effect = (t : ScannerTable) (indexed : IndexedSlot) → IsWhole t → IsAt t indexed → Q indexed → Keeps t (effect t indexed)
 
-each_later : (t u : ScannerTable) (rest : List Place) → Later t u → Each (IsAt t) rest → Each (IsAt u) rest
+each_later : (t u : ScannerTable) (rest : List IndexedSlot) → Later t u → Each (IsAt t) rest → Each (IsAt u) rest
 each_later t u [] later all = tt
-each_later t u (place ∷ rest) later all = (is_at_later t u place later all.0, each_later t u rest later all.1)
+each_later t u (indexed ∷ rest) later all = (is_at_later t u indexed later all.0, each_later t u rest later all.1)
 
-pub keeps_each : (Q : Place → Type 0) (effect : ScannerTable → Place → Effect) → KeepsAt Q effect → (rest : List Place) (t : ScannerTable) → IsWhole t → Each (IsAt t) rest → Each Q rest → Keeps t (on_each effect rest t)
+pub keeps_each : (Q : IndexedSlot → Type 0) (effect : ScannerTable → IndexedSlot → Effect) → KeepsAt Q effect → (rest : List IndexedSlot) (t : ScannerTable) → IsWhole t → Each (IsAt t) rest → Each Q rest → Keeps t (on_each effect rest t)
 keeps_each Q effect keep [] t whole at holds = keeps_nothing t whole
-keeps_each Q effect keep (place ∷ rest) t whole at holds =
-    let first = keep t place whole at.0 holds.0 in
-    let next = keeps_each Q effect keep rest (effect t place).table first.whole (each_later t (effect t place).table rest first.later at.1) holds.1 in
-    record { whole = next.whole; later = later_later t (effect t place).table (on_each effect rest (effect t place).table).table first.later next.later }
+keeps_each Q effect keep (indexed ∷ rest) t whole at holds =
+    let first = keep t indexed whole at.0 holds.0 in
+    let next = keeps_each Q effect keep rest (effect t indexed).table first.whole (each_later t (effect t indexed).table rest first.later at.1) holds.1 in
+    record { whole = next.whole; later = later_later t (effect t indexed).table (on_each effect rest (effect t indexed).table).table first.later next.later }
 
 -- nothing more need hold
-abbrev pub Any : Place → Type 0
-Any place = Unit {0}
+abbrev pub Any : IndexedSlot → Type 0
+Any indexed = Unit {0}
 
-pub each_any : (rest : List Place) → Each Any rest
+pub each_any : (rest : List IndexedSlot) → Each Any rest
 each_any [] = tt
-each_any (place ∷ rest) = (tt, each_any rest)
+each_any (indexed ∷ rest) = (tt, each_any rest)
 
-passes_step : (p : Place → Bool) (b : Bool) (place : Place) (rest : List Place) → p place ≡ b → Each (λ other. p other ≡ true) rest → Each (λ other. p other ≡ true) (cond b (place ∷ rest) rest)
-passes_step p true place rest is all = (is, all)
-passes_step p false place rest is all = all
+passes_step : (p : IndexedSlot → Bool) (b : Bool) (indexed : IndexedSlot) (rest : List IndexedSlot) → p indexed ≡ b → Each (λ other. p other ≡ true) rest → Each (λ other. p other ≡ true) (cond b (indexed ∷ rest) rest)
+passes_step p true indexed rest is all = (is, all)
+passes_step p false indexed rest is all = all
 
 -- a filter's places pass it
-pub each_passes : (p : Place → Bool) (all : List Place) → Each (λ place. p place ≡ true) (filter p all)
+pub each_passes : (p : IndexedSlot → Bool) (all : List IndexedSlot) → Each (λ indexed. p indexed ≡ true) (filter p all)
 each_passes p [] = tt
-each_passes p (place ∷ rest) = passes_step p (p place) place (filter p rest) refl (each_passes p rest)
+each_passes p (indexed ∷ rest) = passes_step p (p indexed) indexed (filter p rest) refl (each_passes p rest)
 
 -- ---- streams
 

@@ -21,14 +21,14 @@ use Rattle.scanner_table.specs.declared.slot.SlotState.{SlotState}
 use Rattle.scanner_table.specs.declared.slot.SlotState.TheVariants.{Idle, Opening, Established, TimedOut, Closing}
 use Rattle.scanner_table.specs.declared.table.ScannerTable.{ScannerTable}
 use Rattle.scanner_table.specs.Profiles.{profile_fault}
-use Rattle.scanner_table.specs.Slots.{Place, places_from, places, place_at, is_numbered, with_slot}
+use Rattle.scanner_table.specs.Slots.{IndexedSlot, indexed_from, indexed_slots, slot_at, is_numbered, with_slot}
 use Rattle.scanner_table.specs.Effects.{Effect, and_then, done}
 use Rattle.scanner_table.specs.Opening.{ready_opened}
 use Rattle.scanner_table.specs.Replies.{failed_slot}
 use Rattle.scanner_table.specs.Closing.{given_up}
 use Rattle.scanner_table.specs.Productions.{written_connection, produced_connection, written_state, state_is_due, produced_state, produced_slot, produced_table}
-use Rattle.scanner_table.specs.Ticks.{by_deadline, has_expired, expired_places, expired_state, expired, all_expired, is_overdue, all_given_up, clocked_table, elapsed, ticked, tick}
-use Rattle.scanner_table.specs.Points.{output_slot, written_place, write_length, write_at, write, read_at, read, same_mode, moded_slot, moded_table, mode, wanted_slot, started, start_state, start_at, start}
+use Rattle.scanner_table.specs.Ticks.{by_deadline, has_expired, expired_slots, expired_state, expired, all_expired, is_overdue, all_given_up, clocked_table, advanced, ticked, tick}
+use Rattle.scanner_table.specs.Points.{output_slot, output_written, write_length, write_at, write, read_at, read, same_mode, moded_slot, moded_table, mode, desired_slot, started, start_state, start_at, start}
 use Rattle.scanner_table.specs.Step.{scanner_step, fresh_slot, scanner_table}
 use Rattle.scanner_table.specs.Whole.{RequestsDiffer, shares_request, clashes, IdsDiffer, FitsState, FitsSlot, SlotsFit, IsWhole}
 use Rattle.scanner_table.proofs.IdsLemmas.{Weaker, idle_weaker, timed_out_weaker, same_weaker, linked_weaker, AllWeaker, all_set, all_map, differ_weaker}
@@ -38,48 +38,48 @@ use Rattle.scanner_table.proofs.WholeSteps.{quiet_same, differ_same, keeps_chang
 
 -- ---- expiries and answers that do not come
 
-inserted_step : (b : Bool) (P : Place → Type 0) (before : Place → Place → Bool) (place first : Place) (rest : List Place) → P place → P first → Each P rest → Each P (inserted before place rest) → Each P (cond b (place ∷ first ∷ rest) (first ∷ inserted before place rest))
-inserted_step true P before place first rest is here all more = (is, (here, all))
-inserted_step false P before place first rest is here all more = (here, more)
+inserted_step : (b : Bool) (P : IndexedSlot → Type 0) (before : IndexedSlot → IndexedSlot → Bool) (indexed first : IndexedSlot) (rest : List IndexedSlot) → P indexed → P first → Each P rest → Each P (inserted before indexed rest) → Each P (cond b (indexed ∷ first ∷ rest) (first ∷ inserted before indexed rest))
+inserted_step true P before indexed first rest is here all more = (is, (here, all))
+inserted_step false P before indexed first rest is here all more = (here, more)
 
-each_inserted : (P : Place → Type 0) (before : Place → Place → Bool) (place : Place) (rest : List Place) → P place → Each P rest → Each P (inserted before place rest)
-each_inserted P before place [] is all = (is, tt)
-each_inserted P before place (first ∷ rest) is all =
-    inserted_step (before place first) P before place first rest is all.0 all.1 (each_inserted P before place rest is all.1)
+each_inserted : (P : IndexedSlot → Type 0) (before : IndexedSlot → IndexedSlot → Bool) (indexed : IndexedSlot) (rest : List IndexedSlot) → P indexed → Each P rest → Each P (inserted before indexed rest)
+each_inserted P before indexed [] is all = (is, tt)
+each_inserted P before indexed (first ∷ rest) is all =
+    inserted_step (before indexed first) P before indexed first rest is all.0 all.1 (each_inserted P before indexed rest is all.1)
 
-each_in_order : (P : Place → Type 0) (before : Place → Place → Bool) (rest : List Place) → Each P rest → Each P (in_order before rest)
+each_in_order : (P : IndexedSlot → Type 0) (before : IndexedSlot → IndexedSlot → Bool) (rest : List IndexedSlot) → Each P rest → Each P (in_order before rest)
 each_in_order P before [] all = tt
-each_in_order P before (place ∷ rest) all = each_inserted P before place (in_order before rest) all.0 (each_in_order P before rest all.1)
+each_in_order P before (indexed ∷ rest) all = each_inserted P before indexed (in_order before rest) all.0 (each_in_order P before rest all.1)
 
-expired_fits : (t : ScannerTable) (place : Place) (c : Connection) → place.slot.state ≡ Established c → IsAt t place → FitsSlot t.next_request t.clock.0 place.config (failed_slot t (TimedOut c.link) place.slot)
-expired_fits t place c is at = record { output = at.fits.output; image = at.fits.image; state = (state_fits t place (Established c) is at).0 }
+expired_fits : (t : ScannerTable) (indexed : IndexedSlot) (c : Connection) → indexed.slot.state ≡ Established c → IsAt t indexed → FitsSlot t.next_request t.clock.0 indexed.config (failed_slot t (TimedOut c.link) indexed.slot)
+expired_fits t indexed c is at = record { output = at.fits.output; image = at.fits.image; state = (state_fits t indexed (Established c) is at).0 }
 
-keeps_expired_state : (t : ScannerTable) (place : Place) (state : SlotState) → place.slot.state ≡ state → IsWhole t → IsAt t place → Keeps t (expired_state t place state)
-keeps_expired_state t place Idle is whole at = keeps_nothing t whole
-keeps_expired_state t place (Opening o) is whole at = keeps_nothing t whole
-keeps_expired_state t place (Established c) is whole at = keeps_changed t place (failed_slot t (TimedOut c.link) place.slot) [] whole at (expired_fits t place c is at) (λ old. timed_out_weaker old c.link) (λ old. timed_out_quieter old c.link)
-keeps_expired_state t place (TimedOut link) is whole at = keeps_nothing t whole
-keeps_expired_state t place (Closing c) is whole at = keeps_nothing t whole
+keeps_expired_state : (t : ScannerTable) (indexed : IndexedSlot) (state : SlotState) → indexed.slot.state ≡ state → IsWhole t → IsAt t indexed → Keeps t (expired_state t indexed state)
+keeps_expired_state t indexed Idle is whole at = keeps_nothing t whole
+keeps_expired_state t indexed (Opening o) is whole at = keeps_nothing t whole
+keeps_expired_state t indexed (Established c) is whole at = keeps_changed t indexed (failed_slot t (TimedOut c.link) indexed.slot) [] whole at (expired_fits t indexed c is at) (λ old. timed_out_weaker old c.link) (λ old. timed_out_quieter old c.link)
+keeps_expired_state t indexed (TimedOut link) is whole at = keeps_nothing t whole
+keeps_expired_state t indexed (Closing c) is whole at = keeps_nothing t whole
 
 keeps_expired : (t : ScannerTable) → IsWhole t → Keeps t (all_expired t)
 unfolding all_expired
 keeps_expired t whole =
-    keeps_each Any expired (λ u place is at any. keeps_expired_state u place place.slot.state refl is at) (expired_places t) t whole
-    (each_in_order (IsAt t) by_deadline (filter (has_expired t.clock) (places t)) (each_filter (IsAt t) (has_expired t.clock) (places t) (each_at t whole))) (each_any (expired_places t))
+    keeps_each Any expired (λ u indexed is at any. keeps_expired_state u indexed indexed.slot.state refl is at) (expired_slots t) t whole
+    (each_in_order (IsAt t) by_deadline (filter (has_expired t.clock) (indexed_slots t)) (each_filter (IsAt t) (has_expired t.clock) (indexed_slots t) (each_at t whole))) (each_any (expired_slots t))
 
 keeps_overdue : (t : ScannerTable) → IsWhole t → Keeps t (all_given_up t)
 unfolding all_given_up
 keeps_overdue t whole =
-    keeps_each Any given_up keeps_given (filter (is_overdue t.clock) (places t)) t whole (each_filter (IsAt t) (is_overdue t.clock) (places t) (each_at t whole))
-    (each_any (filter (is_overdue t.clock) (places t)))
+    keeps_each Any given_up keeps_given (filter (is_overdue t.clock) (indexed_slots t)) t whole (each_filter (IsAt t) (is_overdue t.clock) (indexed_slots t) (each_at t whole))
+    (each_any (filter (is_overdue t.clock) (indexed_slots t)))
 
 keeps_then : (t : ScannerTable) (first : Effect) (next : ScannerTable → Effect) → Keeps t first → ((u : ScannerTable) → IsWhole u → Keeps u (next u)) → Keeps t (and_then first next)
 keeps_then t first next kept keep =
     let more = keep first.table kept.whole in
     record { whole = more.whole; later = later_later t first.table (next first.table).table kept.later more.later }
 
-keeps_elapsed : (t : ScannerTable) → IsWhole t → Keeps t (elapsed t)
-keeps_elapsed t whole = keeps_then t (and_then (all_expired t) all_given_up) ready_opened (keeps_then t (all_expired t) all_given_up (keeps_expired t whole) keeps_overdue) keeps_ready
+keeps_advanced : (t : ScannerTable) → IsWhole t → Keeps t (advanced t)
+keeps_advanced t whole = keeps_then t (and_then (all_expired t) all_given_up) ready_opened (keeps_then t (all_expired t) all_given_up (keeps_expired t whole) keeps_overdue) keeps_ready
 
 -- ---- productions
 
@@ -94,23 +94,23 @@ again_fits ChangeOfState clock due api late short = omega arith
 is_late : (due clock : ℕ) → nat_le due clock ≡ true → due ≤ clock
 is_late due clock is = grind (arith, nat_tests)
 
-produced_fits : (r : ℕ) (clock : Ms) (wanted : Bool) (state : SlotState) → state_is_due clock state ≡ true → FitsState r clock.0 wanted state → FitsState r clock.0 wanted (produced_state clock state)
-produced_fits r clock wanted Idle due fits = tt
-produced_fits r clock wanted (Opening o) due fits = fits
-produced_fits r clock wanted (Established c) due fits = (
+produced_fits : (r : ℕ) (clock : Ms) (desired_up : Bool) (state : SlotState) → state_is_due clock state ≡ true → FitsState r clock.0 desired_up state → FitsState r clock.0 desired_up (produced_state clock state)
+produced_fits r clock desired_up Idle due fits = tt
+produced_fits r clock desired_up (Opening o) due fits = fits
+produced_fits r clock desired_up (Established c) due fits = (
   fits.0,
   record {
     opening = fits.1.opening;
-    o_t_api = fits.1.o_t_api;
-    t_o_api = fits.1.t_o_api;
-    due = again_fits c.production.trigger clock.0 c.production.due.0 c.o_t_api (is_late c.production.due.0 clock.0 due) fits.1.o_t_api;
+    o_t_api_ms = fits.1.o_t_api_ms;
+    t_o_api_ms = fits.1.t_o_api_ms;
+    due = again_fits c.production.trigger clock.0 c.production.due.0 c.o_t_api_ms (is_late c.production.due.0 clock.0 due) fits.1.o_t_api_ms;
   },
 )
-produced_fits r clock wanted (TimedOut link) due fits = fits
-produced_fits r clock wanted (Closing c) due fits = fits
+produced_fits r clock desired_up (TimedOut link) due fits = fits
+produced_fits r clock desired_up (Closing c) due fits = fits
 
 due_step : (b : Bool) (r : ℕ) (clock : Ms) (config : SlotConfig) (slot : Slot) → state_is_due clock slot.state ≡ b → FitsSlot r clock.0 config slot → FitsSlot r clock.0 config (cond b (record slot { state = produced_state clock slot.state }) slot)
-due_step true r clock config slot due fits = record { output = fits.output; image = fits.image; state = produced_fits r clock slot.wanted slot.state due fits.state }
+due_step true r clock config slot due fits = record { output = fits.output; image = fits.image; state = produced_fits r clock slot.desired_up slot.state due fits.state }
 due_step false r clock config slot due fits = fits
 
 slots_produced : (r : ℕ) (clock : Ms) (configs : List SlotConfig) (slots : List Slot) → SlotsFit r clock.0 configs slots → SlotsFit r clock.0 configs (map (produced_slot clock) slots)
@@ -187,12 +187,12 @@ clocked_whole t ms in_time whole = record {
 in_time : (now : ℕ) → nat_lt (2 ^ 48) now ≡ false → now ≤ 2 ^ 48
 in_time now is = grind (arith, nat_tests)
 
-tick_step : (a b : Bool) (t : ScannerTable) (ms : ℕ) → nat_lt clock_end (t.clock.0 + ms) ≡ b → IsWhole t → LeavesWhole (cond a (Err fault.TickTooLong) (cond b (Err fault.ClockEnd) (Ok (ticked (elapsed (clocked_table t ms))))))
+tick_step : (a b : Bool) (t : ScannerTable) (ms : ℕ) → nat_lt clock_end (t.clock.0 + ms) ≡ b → IsWhole t → LeavesWhole (cond a (Err fault.TickTooLong) (cond b (Err fault.ClockEnd) (Ok (ticked (advanced (clocked_table t ms))))))
 tick_step true b t ms ends whole = tt
 tick_step false true t ms ends whole = tt
 tick_step false false t ms ends whole =
     let clocked = clocked_whole t ms (in_time (t.clock.0 + ms) ends) whole in
-    produced_whole (elapsed (clocked_table t ms)).table (keeps_elapsed (clocked_table t ms) clocked).whole
+    produced_whole (advanced (clocked_table t ms)).table (keeps_advanced (clocked_table t ms) clocked).whole
 
 tick_whole : (t : ScannerTable) (ms : ℕ) → IsWhole t → LeavesWhole (tick t ms)
 unfolding tick
@@ -200,12 +200,12 @@ tick_whole t ms whole = tick_step (nat_lt longest_tick ms) (nat_lt clock_end (t.
 
 -- ---- outputs and modes
 
-written_fits : (r k : ℕ) (wanted : Bool) (state : SlotState) → FitsState r k wanted state → FitsState r k wanted (written_state state)
-written_fits r k wanted Idle fits = tt
-written_fits r k wanted (Opening o) fits = fits
-written_fits r k wanted (Established c) fits = (fits.0, record { opening = fits.1.opening; o_t_api = fits.1.o_t_api; t_o_api = fits.1.t_o_api; due = fits.1.due })
-written_fits r k wanted (TimedOut link) fits = fits
-written_fits r k wanted (Closing c) fits = fits
+written_fits : (r k : ℕ) (desired_up : Bool) (state : SlotState) → FitsState r k desired_up state → FitsState r k desired_up (written_state state)
+written_fits r k desired_up Idle fits = tt
+written_fits r k desired_up (Opening o) fits = fits
+written_fits r k desired_up (Established c) fits = (fits.0, record { opening = fits.1.opening; o_t_api_ms = fits.1.o_t_api_ms; t_o_api_ms = fits.1.t_o_api_ms; due = fits.1.due })
+written_fits r k desired_up (TimedOut link) fits = fits
+written_fits r k desired_up (Closing c) fits = fits
 
 long_is : (a b : ℕ) → (a == b) ≡ true → a ≡ b
 long_is a b is = grind (arith, nat_tests)
@@ -224,39 +224,39 @@ written_quieter (Established c) = established_quieter (Established c) (written_c
 written_quieter (TimedOut link) = same_quieter (TimedOut link)
 written_quieter (Closing c) = same_quieter (Closing c)
 
-length_step : (b : Bool) (t : ScannerTable) (place : Place) (bytes : List ℕ) → (length bytes == place.config.out_len) ≡ b → IsWhole t → IsAt t place → IsNow t place → LeavesWhole (cond b (Ok (written_place t place bytes)) (Err fault.WrongLength))
-length_step true t place bytes is whole at now =
-    whole_with t place (output_slot bytes place.slot) whole at.config
-    (record { output = long_is (length bytes) place.config.out_len is; image = at.fits.image; state = written_fits t.next_request t.clock.0 place.slot.wanted place.slot.state at.fits.state })
-    (differ_same t place (output_slot bytes place.slot) place.slot.state (record { now = now; stands = refl }) (written_weaker place.slot.state) whole)
-    (quiet_same t place (output_slot bytes place.slot) place.slot.state (record { now = now; stands = refl }) (written_quieter place.slot.state) whole)
-length_step false t place bytes is whole at now = tt
+length_step : (b : Bool) (t : ScannerTable) (indexed : IndexedSlot) (bytes : List ℕ) → (length bytes == indexed.config.out_len) ≡ b → IsWhole t → IsAt t indexed → IsNow t indexed → LeavesWhole (cond b (Ok (output_written t indexed bytes)) (Err fault.WrongLength))
+length_step true t indexed bytes is whole at now =
+    whole_with t indexed (output_slot bytes indexed.slot) whole at.config
+    (record { output = long_is (length bytes) indexed.config.out_len is; image = at.fits.image; state = written_fits t.next_request t.clock.0 indexed.slot.desired_up indexed.slot.state at.fits.state })
+    (differ_same t indexed (output_slot bytes indexed.slot) indexed.slot.state (record { now = now; stands = refl }) (written_weaker indexed.slot.state) whole)
+    (quiet_same t indexed (output_slot bytes indexed.slot) indexed.slot.state (record { now = now; stands = refl }) (written_quieter indexed.slot.state) whole)
+length_step false t indexed bytes is whole at now = tt
 
-owner_step : (b : Bool) (t : ScannerTable) (place : Place) (bytes : List ℕ) → IsWhole t → IsAt t place → IsNow t place → LeavesWhole (cond b (write_length t place bytes) (Err fault.NotAllowedNow))
-owner_step true t place bytes whole at now = length_step (length bytes == place.config.out_len) t place bytes refl whole at now
-owner_step false t place bytes whole at now = tt
+owner_step : (b : Bool) (t : ScannerTable) (indexed : IndexedSlot) (bytes : List ℕ) → IsWhole t → IsAt t indexed → IsNow t indexed → LeavesWhole (cond b (write_length t indexed bytes) (Err fault.NotAllowedNow))
+owner_step true t indexed bytes whole at now = length_step (length bytes == indexed.config.out_len) t indexed bytes refl whole at now
+owner_step false t indexed bytes whole at now = tt
 
-write_at_whole : (t : ScannerTable) (number : ℕ) (bytes : List ℕ) (found : Option Place) → place_at t number ≡ found → IsWhole t → LeavesWhole (write_at t bytes found)
+write_at_whole : (t : ScannerTable) (number : ℕ) (bytes : List ℕ) (found : Option IndexedSlot) → slot_at t number ≡ found → IsWhole t → LeavesWhole (write_at t bytes found)
 write_at_whole t number bytes None is whole = tt
-write_at_whole t number bytes (Some place) is whole = owner_step (is_owner place.config.kind) t place bytes whole (each_found (IsAt t) (is_numbered number) (places t) place is (each_at t whole)) (each_found (IsNow t) (is_numbered number) (places t) place is (each_now t))
+write_at_whole t number bytes (Some indexed) is whole = owner_step (is_owner indexed.config.kind) t indexed bytes whole (each_found (IsAt t) (is_numbered number) (indexed_slots t) indexed is (each_at t whole)) (each_found (IsNow t) (is_numbered number) (indexed_slots t) indexed is (each_now t))
 
 write_whole : (t : ScannerTable) (number : ℕ) (bytes : List ℕ) → IsWhole t → LeavesWhole (write t number bytes)
 unfolding write
-write_whole t number bytes whole = write_at_whole t number bytes (place_at t number) refl whole
+write_whole t number bytes whole = write_at_whole t number bytes (slot_at t number) refl whole
 
-read_at_whole : (t : ScannerTable) (found : Option Place) → IsWhole t → LeavesWhole (read_at t found)
+read_at_whole : (t : ScannerTable) (found : Option IndexedSlot) → IsWhole t → LeavesWhole (read_at t found)
 read_at_whole t None whole = tt
-read_at_whole t (Some place) whole = whole
+read_at_whole t (Some indexed) whole = whole
 
 read_whole : (t : ScannerTable) (number : ℕ) → IsWhole t → LeavesWhole (read t number)
 unfolding read
-read_whole t number whole = read_at_whole t (place_at t number) whole
+read_whole t number whole = read_at_whole t (slot_at t number) whole
 
 moded_step : (b : Bool) (r k : ℕ) (config : SlotConfig) (slot : Slot) → FitsSlot r k config slot → FitsSlot r k config (cond b (record slot { state = written_state slot.state }) slot)
-moded_step true r k config slot fits = record { output = fits.output; image = fits.image; state = written_fits r k slot.wanted slot.state fits.state }
+moded_step true r k config slot fits = record { output = fits.output; image = fits.image; state = written_fits r k slot.desired_up slot.state fits.state }
 moded_step false r k config slot fits = fits
 
-slots_moded : (r k number : ℕ) (configs : List SlotConfig) (slots : List Slot) → SlotsFit r k configs slots → SlotsFit r k configs (map moded_slot (places_from number configs slots))
+slots_moded : (r k number : ℕ) (configs : List SlotConfig) (slots : List Slot) → SlotsFit r k configs slots → SlotsFit r k configs (map moded_slot (indexed_from number configs slots))
 slots_moded r k number [] [] fit = tt
 slots_moded r k number [] (slot ∷ slots) fit = absurd fit
 slots_moded r k number (config ∷ configs) [] fit = absurd fit
@@ -266,7 +266,7 @@ moded_weaker : (b : Bool) (slot : Slot) → Weaker slot.state (cond b (record sl
 moded_weaker true slot = written_weaker slot.state
 moded_weaker false slot = same_weaker slot.state
 
-all_moded : (r k number : ℕ) (configs : List SlotConfig) (slots : List Slot) → SlotsFit r k configs slots → AllWeaker slots (map moded_slot (places_from number configs slots))
+all_moded : (r k number : ℕ) (configs : List SlotConfig) (slots : List Slot) → SlotsFit r k configs slots → AllWeaker slots (map moded_slot (indexed_from number configs slots))
 all_moded r k number [] [] fit = tt
 all_moded r k number [] (slot ∷ slots) fit = absurd fit
 all_moded r k number (config ∷ configs) [] fit = absurd fit
@@ -276,7 +276,7 @@ moded_quieter : (b : Bool) (slot : Slot) → Quieter slot.state (cond b (record 
 moded_quieter true slot = written_quieter slot.state
 moded_quieter false slot = same_quieter slot.state
 
-quiet_moded : (r k number : ℕ) (configs : List SlotConfig) (slots : List Slot) → SlotsFit r k configs slots → AllQuieter slots (map moded_slot (places_from number configs slots))
+quiet_moded : (r k number : ℕ) (configs : List SlotConfig) (slots : List Slot) → SlotsFit r k configs slots → AllQuieter slots (map moded_slot (indexed_from number configs slots))
 quiet_moded r k number [] [] fit = tt
 quiet_moded r k number [] (slot ∷ slots) fit = absurd fit
 quiet_moded r k number (config ∷ configs) [] fit = absurd fit
@@ -284,8 +284,8 @@ quiet_moded r k number (config ∷ configs) (slot ∷ slots) fit = (moded_quiete
 
 moded_whole : (t : ScannerTable) (run : Bool) → IsWhole t → IsWhole (moded_table t run)
 moded_whole t run whole = record {
-  ids_differ = differ_weaker 0 t.profile.slots t.slots (map moded_slot (places t)) (all_moded t.next_request t.clock.0 0 t.profile.slots t.slots whole.slots) whole.ids_differ;
-  requests_differ = differ_quieter t.slots (map moded_slot (places t)) (quiet_moded t.next_request t.clock.0 0 t.profile.slots t.slots whole.slots) whole.requests_differ;
+  ids_differ = differ_weaker 0 t.profile.slots t.slots (map moded_slot (indexed_slots t)) (all_moded t.next_request t.clock.0 0 t.profile.slots t.slots whole.slots) whole.ids_differ;
+  requests_differ = differ_quieter t.slots (map moded_slot (indexed_slots t)) (quiet_moded t.next_request t.clock.0 0 t.profile.slots t.slots whole.slots) whole.requests_differ;
   faultless = whole.faultless;
   slots = slots_moded t.next_request t.clock.0 0 t.profile.slots t.slots whole.slots;
   clock = whole.clock;
@@ -307,48 +307,48 @@ mode_whole t run whole = mode_step (same_mode run t.run) t run whole
 
 -- ---- starts
 
-wanted_fits : (t : ScannerTable) (place : Place) → place.slot.state ≡ Idle → IsAt t place → FitsSlot t.next_request t.clock.0 place.config (wanted_slot t place.slot)
-wanted_fits t place is at = record { output = at.fits.output; image = at.fits.image; state = rw is tt }
+desired_fits : (t : ScannerTable) (indexed : IndexedSlot) → indexed.slot.state ≡ Idle → IsAt t indexed → FitsSlot t.next_request t.clock.0 indexed.config (desired_slot t indexed.slot)
+desired_fits t indexed is at = record { output = at.fits.output; image = at.fits.image; state = rw is tt }
 
-started_differ : (t : ScannerTable) (place : Place) → place.slot.state ≡ Idle → IsWhole t → IdsDiffer (places_from 0 t.profile.slots (slice_set t.slots place.number (wanted_slot t place.slot)))
-started_differ t place is whole =
-    differ_weaker 0 t.profile.slots t.slots (slice_set t.slots place.number (wanted_slot t place.slot))
-    (all_set place.number t.slots (wanted_slot t place.slot) (λ old stands. subst (Weaker old.state) (sym is) (idle_weaker old.state))) whole.ids_differ
+started_differ : (t : ScannerTable) (indexed : IndexedSlot) → indexed.slot.state ≡ Idle → IsWhole t → IdsDiffer (indexed_from 0 t.profile.slots (slice_set t.slots indexed.number (desired_slot t indexed.slot)))
+started_differ t indexed is whole =
+    differ_weaker 0 t.profile.slots t.slots (slice_set t.slots indexed.number (desired_slot t indexed.slot))
+    (all_set indexed.number t.slots (desired_slot t indexed.slot) (λ old stands. subst (Weaker old.state) (sym is) (idle_weaker old.state))) whole.ids_differ
 
-started_quiet : (t : ScannerTable) (place : Place) → place.slot.state ≡ Idle → IsWhole t → RequestsDiffer (slice_set t.slots place.number (wanted_slot t place.slot))
-started_quiet t place is whole =
-    differ_quieter t.slots (slice_set t.slots place.number (wanted_slot t place.slot))
-    (set_quieter place.number t.slots (wanted_slot t place.slot) (λ old stands. subst (Quieter old.state) (sym is) (idle_quieter old.state))) whole.requests_differ
+started_quiet : (t : ScannerTable) (indexed : IndexedSlot) → indexed.slot.state ≡ Idle → IsWhole t → RequestsDiffer (slice_set t.slots indexed.number (desired_slot t indexed.slot))
+started_quiet t indexed is whole =
+    differ_quieter t.slots (slice_set t.slots indexed.number (desired_slot t indexed.slot))
+    (set_quieter indexed.number t.slots (desired_slot t indexed.slot) (λ old stands. subst (Quieter old.state) (sym is) (idle_quieter old.state))) whole.requests_differ
 
-started_whole : (t : ScannerTable) (place : Place) → place.slot.state ≡ Idle → IsWhole t → IsAt t place → IsWhole (started t place (wanted_slot t place.slot)).table
-started_whole t place is whole at =
-    let fits = wanted_fits t place is at in
-    let slot = wanted_slot t place.slot in
-    (keeps_opened (with_slot t place.number slot) (record place { slot = slot }) (whole_with t place slot whole at.config fits (started_differ t place is whole) (started_quiet t place is whole)) (record { config = at.config; fits = fits }) refl).whole
+started_whole : (t : ScannerTable) (indexed : IndexedSlot) → indexed.slot.state ≡ Idle → IsWhole t → IsAt t indexed → IsWhole (started t indexed (desired_slot t indexed.slot)).table
+started_whole t indexed is whole at =
+    let fits = desired_fits t indexed is at in
+    let slot = desired_slot t indexed.slot in
+    (keeps_opened (with_slot t indexed.number slot) (record indexed { slot = slot }) (whole_with t indexed slot whole at.config fits (started_differ t indexed is whole) (started_quiet t indexed is whole)) (record { config = at.config; fits = fits }) refl).whole
 
-start_step : (b : Bool) (t : ScannerTable) (place : Place) → place.slot.state ≡ Idle → IsWhole t → IsAt t place → LeavesWhole (cond b (Err fault.NotAllowedNow) (Ok (done (started t place (wanted_slot t place.slot)))))
-start_step true t place is whole at = tt
-start_step false t place is whole at = started_whole t place is whole at
+start_step : (b : Bool) (t : ScannerTable) (indexed : IndexedSlot) → indexed.slot.state ≡ Idle → IsWhole t → IsAt t indexed → LeavesWhole (cond b (Err fault.NotAllowedNow) (Ok (done (started t indexed (desired_slot t indexed.slot)))))
+start_step true t indexed is whole at = tt
+start_step false t indexed is whole at = started_whole t indexed is whole at
 
-start_state_whole : (t : ScannerTable) (place : Place) (state : SlotState) → place.slot.state ≡ state → IsWhole t → IsAt t place → LeavesWhole (start_state t place state)
-start_state_whole t place Idle is whole at = start_step place.slot.wanted t place is whole at
-start_state_whole t place (Opening o) is whole at = tt
-start_state_whole t place (Established c) is whole at = tt
-start_state_whole t place (TimedOut link) is whole at = tt
-start_state_whole t place (Closing c) is whole at = tt
+start_state_whole : (t : ScannerTable) (indexed : IndexedSlot) (state : SlotState) → indexed.slot.state ≡ state → IsWhole t → IsAt t indexed → LeavesWhole (start_state t indexed state)
+start_state_whole t indexed Idle is whole at = start_step indexed.slot.desired_up t indexed is whole at
+start_state_whole t indexed (Opening o) is whole at = tt
+start_state_whole t indexed (Established c) is whole at = tt
+start_state_whole t indexed (TimedOut link) is whole at = tt
+start_state_whole t indexed (Closing c) is whole at = tt
 
-start_at_whole : (t : ScannerTable) (number : ℕ) (found : Option Place) → place_at t number ≡ found → IsWhole t → LeavesWhole (start_at t found)
+start_at_whole : (t : ScannerTable) (number : ℕ) (found : Option IndexedSlot) → slot_at t number ≡ found → IsWhole t → LeavesWhole (start_at t found)
 start_at_whole t number None is whole = tt
-start_at_whole t number (Some place) is whole = start_state_whole t place place.slot.state refl whole (each_found (IsAt t) (is_numbered number) (places t) place is (each_at t whole))
+start_at_whole t number (Some indexed) is whole = start_state_whole t indexed indexed.slot.state refl whole (each_found (IsAt t) (is_numbered number) (indexed_slots t) indexed is (each_at t whole))
 
 start_whole : (t : ScannerTable) (number : ℕ) → IsWhole t → LeavesWhole (start t number)
 unfolding start
-start_whole t number whole = start_at_whole t number (place_at t number) refl whole
+start_whole t number whole = start_at_whole t number (slot_at t number) refl whole
 
 -- ---- a step, and a fresh table
 
-pub elapsing_whole : (t : ScannerTable) (ms : ℕ) → t.clock.0 + ms ≤ 2 ^ 48 → IsWhole t → IsWhole (elapsed (clocked_table t ms)).table
-elapsing_whole t ms in_time whole = (keeps_elapsed (clocked_table t ms) (clocked_whole t ms in_time whole)).whole
+pub advancing_whole : (t : ScannerTable) (ms : ℕ) → t.clock.0 + ms ≤ 2 ^ 48 → IsWhole t → IsWhole (advanced (clocked_table t ms)).table
+advancing_whole t ms in_time whole = (keeps_advanced (clocked_table t ms) (clocked_whole t ms in_time whole)).whole
 
 pub step_whole : (t : ScannerTable) (event : Event) → IsWhole t → LeavesWhole (scanner_step t event)
 step_whole t (Request peer bytes) whole = tt
@@ -371,11 +371,11 @@ and_none : (b : Bool) → (b && false) ≡ false
 and_none true = refl
 and_none false = refl
 
-none_fresh : (n m : ℕ) (config : SlotConfig) (configs : List SlotConfig) → list_any (clashes (record { number = n; config = config; slot = fresh_slot config })) (places_from m configs (map fresh_slot configs)) ≡ false
+none_fresh : (n m : ℕ) (config : SlotConfig) (configs : List SlotConfig) → list_any (clashes (record { number = n; config = config; slot = fresh_slot config })) (indexed_from m configs (map fresh_slot configs)) ≡ false
 none_fresh n m config [] = refl
 none_fresh n m config (c ∷ configs) = rw (and_none (c.target.0 == config.target.0)) (none_fresh n (suc m) config configs)
 
-fresh_differ : (n : ℕ) (configs : List SlotConfig) → IdsDiffer (places_from n configs (map fresh_slot configs))
+fresh_differ : (n : ℕ) (configs : List SlotConfig) → IdsDiffer (indexed_from n configs (map fresh_slot configs))
 fresh_differ n [] = tt
 fresh_differ n (config ∷ configs) = (none_fresh n (suc n) config configs, fresh_differ (suc n) configs)
 

@@ -12,62 +12,62 @@ use Rattle.cip_events.specs.declared.event.Delivery.{Delivery}
 use Rattle.cip_events.specs.declared.event.Delivery.TheVariants.{Applied, Duplicate, Old, UnknownId, WrongSize, Malformed}
 use Rattle.cip_events.specs.declared.event.Verdict.TheVariants.{Delivered}
 use Rattle.cip_events.specs.Answers.{plain_answer}
-use Rattle.cip_productions.specs.Acceptance.{is_news, is_repeated}
+use Rattle.cip_productions.specs.Acceptance.{accepts_sequence, is_duplicate}
 use Rattle.scanner_table.specs.declared.slot.Connection.{Connection}
 use Rattle.scanner_table.specs.declared.slot.SlotState.{SlotState}
 use Rattle.scanner_table.specs.declared.slot.SlotState.TheVariants.{Idle, Opening, Established, TimedOut, Closing}
 use Rattle.scanner_table.specs.declared.table.ScannerTable.{ScannerTable}
-use Rattle.scanner_table.specs.Slots.{Place, places, is_with, with_slot}
+use Rattle.scanner_table.specs.Slots.{IndexedSlot, indexed_slots, is_with, with_slot}
 use Rattle.scanner_table.specs.Effects.{Next}
 use Rattle.scanner_table.specs.Opening.{later}
 use Rattle.scanner_table.specs.Replies.{state_consumes}
 
 -- the slot's connection is established with the peer, and has this T->O id
-abbrev pub is_for : Node → ℕ → Place → Bool
-is_for peer id place = is_with peer place && state_consumes (record { 0 = id }) place.slot.state
+abbrev pub is_for : Node → ℕ → IndexedSlot → Bool
+is_for peer id indexed = is_with peer indexed && state_consumes (record { 0 = id }) indexed.slot.state
 
 -- the datagram is the last that the connection accepted, and the next one is waited for from now on
 abbrev pub accepted_connection : Ms → ℕ → DatagramFields → Connection → Connection
 accepted_connection clock mult d c = record c {
   last = Some (record { number = d.sequence; count = d.count });
-  deadline = later clock (timeout mult c.t_o_api);
+  deadline = later clock (timeout mult c.t_o_api_ms);
 }
 
 -- the image of the slot becomes these bytes, at an accepted datagram
-abbrev pub accepted_table : ScannerTable → Place → DatagramFields → Connection → List ℕ → ScannerTable
-accepted_table t place d c bytes =
-    with_slot t place.number (record place.slot { state = Established (accepted_connection t.clock place.config.mult d c); image = bytes })
+abbrev pub accepted_table : ScannerTable → IndexedSlot → DatagramFields → Connection → List ℕ → ScannerTable
+accepted_table t indexed d c bytes =
+    with_slot t indexed.number (record indexed.slot { state = Established (accepted_connection t.clock indexed.config.mult d c); image = bytes })
 
 abbrev pub delivered : Delivery → ScannerTable → Next
 delivered delivery t = (plain_answer (Delivered delivery), t)
 
 -- the count of the last accepted datagram again brings no new data
-abbrev pub accepted : ScannerTable → Place → DatagramFields → Connection → Next
-accepted t place d c =
-    if is_repeated c.last d.count then delivered Duplicate (accepted_table t place d c place.slot.image)
-    else delivered Applied (accepted_table t place d c d.payload)
+abbrev pub accepted : ScannerTable → IndexedSlot → DatagramFields → Connection → Next
+accepted t indexed d c =
+    if is_duplicate c.last d.count then delivered Duplicate (accepted_table t indexed d c indexed.slot.image)
+    else delivered Applied (accepted_table t indexed d c d.payload)
 
-abbrev pub sized : ScannerTable → Place → DatagramFields → Connection → Next
-sized t place d c = if is_news c.last d.sequence then accepted t place d c else delivered Old t
+abbrev pub sized : ScannerTable → IndexedSlot → DatagramFields → Connection → Next
+sized t indexed d c = if accepts_sequence c.last d.sequence then accepted t indexed d c else delivered Old t
 
-abbrev pub connected : ScannerTable → Place → DatagramFields → Connection → Next
-connected t place d c = if length d.payload == place.config.in_len then sized t place d c else delivered WrongSize t
+abbrev pub connected : ScannerTable → IndexedSlot → DatagramFields → Connection → Next
+connected t indexed d c = if length d.payload == indexed.config.in_len then sized t indexed d c else delivered WrongSize t
 
-abbrev pub state_received : ScannerTable → Place → DatagramFields → SlotState → Next
-state_received t place d Idle = delivered UnknownId t
-state_received t place d (Opening o) = delivered UnknownId t
-state_received t place d (Established c) = connected t place d c
-state_received t place d (TimedOut link) = delivered UnknownId t
-state_received t place d (Closing c) = delivered UnknownId t
+abbrev pub state_received : ScannerTable → IndexedSlot → DatagramFields → SlotState → Next
+state_received t indexed d Idle = delivered UnknownId t
+state_received t indexed d (Opening o) = delivered UnknownId t
+state_received t indexed d (Established c) = connected t indexed d c
+state_received t indexed d (TimedOut link) = delivered UnknownId t
+state_received t indexed d (Closing c) = delivered UnknownId t
 
 -- the same of the slot that it is for, if there is one
-abbrev pub received_at : ScannerTable → DatagramFields → Option Place → Next
+abbrev pub received_at : ScannerTable → DatagramFields → Option IndexedSlot → Next
 received_at t d None = delivered UnknownId t
-received_at t d (Some place) = state_received t place d place.slot.state
+received_at t d (Some indexed) = state_received t indexed d indexed.slot.state
 
 abbrev pub received_as : ScannerTable → Node → Result DatagramFields DatagramFault → Next
 received_as t peer (Err fault) = delivered Malformed t
-received_as t peer (Ok d) = received_at t d (find (is_for peer d.connection) (places t))
+received_as t peer (Ok d) = received_at t d (find (is_for peer d.connection) (indexed_slots t))
 
 -- a datagram of a peer
 unfoldable pub received : ScannerTable → Node → List ℕ → Next

@@ -3,14 +3,14 @@ use Rattle.std.specs.Prelude.{ℕ, ◌+◌, ◌==◌, if◌then◌else◌, List,
 use Rattle.cip_events.specs.declared.event.Answer.{Answer}
 use Rattle.cip_events.specs.declared.event.Notice.{Notice}
 use Rattle.cip_events.specs.declared.event.Notice.TheVariants as notice
-use Rattle.cip_events.specs.declared.event.Sending.{Sending}
+use Rattle.cip_events.specs.declared.event.OutgoingDatagram.{OutgoingDatagram}
 use Rattle.cip_events.specs.declared.event.Verdict.TheVariants.{Done}
 use Rattle.scanner_table.specs.declared.slot.Slot.{Slot}
 use Rattle.scanner_table.specs.declared.slot.SlotState.{SlotState}
 use Rattle.scanner_table.specs.declared.table.ScannerTable.{ScannerTable}
-use Rattle.scanner_table.specs.Slots.{Place, with_slot, number_of}
+use Rattle.scanner_table.specs.Slots.{IndexedSlot, with_slot, number_of}
 use Rattle.scanner_table.specs.declared.table.Session.{Session}
-use Rattle.scanner_table.specs.Asking.{Request, Sent, numbered, sent_frame}
+use Rattle.scanner_table.specs.Requests.{Request, Sent, numbered, sent_frame}
 
 -- an answer, and the table after it
 abbrev pub Next : Type 0
@@ -34,20 +34,20 @@ abbrev pub and_then : Effect → (ScannerTable → Effect) → Effect
 and_then first next = after first (next first.table)
 
 -- the effects on places, one after another
-abbrev pub on_each : (ScannerTable → Place → Effect) → List Place → ScannerTable → Effect
+abbrev pub on_each : (ScannerTable → IndexedSlot → Effect) → List IndexedSlot → ScannerTable → Effect
 on_each effect [] t = nothing t
-on_each effect (place ∷ rest) t = and_then (effect t place) (on_each effect rest)
+on_each effect (indexed ∷ rest) t = and_then (effect t indexed) (on_each effect rest)
 
 -- a state is told where its number is another than before
 abbrev pub state_notices : ℕ → SlotState → SlotState → List Notice
 state_notices number old new = if number_of old == number_of new then [] else notice.Slot number (number_of new) ∷ []
 
 -- another slot stands in a place; what is told of it goes before its new state
-abbrev pub changed : ScannerTable → Place → Slot → List Notice → Effect
-changed t place slot told = record {
+abbrev pub changed : ScannerTable → IndexedSlot → Slot → List Notice → Effect
+changed t indexed slot reported = record {
   sent = [];
-  notices = told ++ state_notices place.number place.slot.state slot.state;
-  table = with_slot t place.number slot;
+  notices = reported ++ state_notices indexed.number indexed.slot.state slot.state;
+  table = with_slot t indexed.number slot;
 }
 
 -- the next request is numbered
@@ -55,13 +55,13 @@ abbrev pub counted : ScannerTable → ScannerTable
 counted t = record t { next_request = t.next_request + 1 }
 
 -- the next request is sent, and another slot stands in the place
-abbrev pub asked : ScannerTable → Place → Session → Request → Slot → Effect
-asked t place session request slot = record (changed (counted t) place slot []) { sent = numbered session t.next_request request ∷ [] }
+abbrev pub request_sent : ScannerTable → IndexedSlot → Session → Request → Slot → Effect
+request_sent t indexed session request slot = record (changed (counted t) indexed slot []) { sent = numbered session t.next_request request ∷ [] }
 
 -- THE ANSWER
 
 -- an answer that is done, with datagrams
-abbrev pub sent_answer : Effect → List Sending → Answer
+abbrev pub sent_answer : Effect → List OutgoingDatagram → Answer
 sent_answer effect datagrams = record { frames = map sent_frame effect.sent; datagrams = datagrams; verdict = Done; notices = effect.notices }
 
 abbrev pub done : Effect → Next

@@ -15,12 +15,12 @@ use Rattle.scanner_table.specs.declared.table.ScannerTable.{ScannerTable}
 use Rattle.scanner_table.specs.declared.table.Stage.{Stage}
 use Rattle.scanner_table.specs.declared.table.Stage.TheVariants.{Waiting, Up, Unused}
 use Rattle.scanner_table.specs.declared.table.TargetStream.{TargetStream}
-use Rattle.scanner_table.specs.Slots.{Place, places, is_with}
+use Rattle.scanner_table.specs.Slots.{IndexedSlot, indexed_slots, is_with}
 use Rattle.scanner_table.specs.Sessions.{is_stream, is_taken, with_stream, without_stream, with_stage}
-use Rattle.scanner_table.specs.Asking.{is_large, registration}
+use Rattle.scanner_table.specs.Requests.{is_large, registration}
 use Rattle.scanner_table.specs.Effects.{Next, Effect, nothing, changed, done}
 use Rattle.scanner_table.specs.Opening.{target_opened}
-use Rattle.scanner_table.specs.Replies.{open_told, answered}
+use Rattle.scanner_table.specs.Replies.{open_answer, answered}
 use Rattle.scanner_table.specs.Closing.{idle_slot, target_lost}
 
 -- STREAMS THAT OPEN AND BREAK
@@ -73,32 +73,32 @@ waits_for number (TimedOut link) = false
 waits_for number (Closing c) = c.request == number
 
 -- the slot waits for the reply to the request of this number, from this target
-abbrev pub is_awaiting : Node → ℕ → Place → Bool
-is_awaiting target number place = is_with target place && waits_for number place.slot.state
+abbrev pub is_awaiting : Node → ℕ → IndexedSlot → Bool
+is_awaiting target number indexed = is_with target indexed && waits_for number indexed.slot.state
 
 -- a reply to a request to close ends the connection, whatever it says
-abbrev pub replied : ScannerTable → Place → MessageFields → SlotState → Next
-replied t place m Idle = ignored t
-replied t place m (Opening o) = done (answered t place o (open_told (is_large place.config) m))
-replied t place m (Established c) = ignored t
-replied t place m (TimedOut link) = ignored t
-replied t place m (Closing c) = done (changed t place (idle_slot place.slot) [])
+abbrev pub replied : ScannerTable → IndexedSlot → MessageFields → SlotState → Next
+replied t indexed m Idle = ignored t
+replied t indexed m (Opening o) = done (answered t indexed o (open_answer (is_large indexed.config) m))
+replied t indexed m (Established c) = ignored t
+replied t indexed m (TimedOut link) = ignored t
+replied t indexed m (Closing c) = done (changed t indexed (idle_slot indexed.slot) [])
 
 -- the same of the slot that waits for it, if one does
-abbrev pub replied_to : ScannerTable → MessageFields → Option Place → Next
+abbrev pub replied_to : ScannerTable → MessageFields → Option IndexedSlot → Next
 replied_to t m None = ignored t
-replied_to t m (Some place) = replied t place m place.slot.state
+replied_to t m (Some indexed) = replied t indexed m indexed.slot.state
 
 -- what becomes of a message: the reply to the registration has sender context 0, and that to a request its number
-abbrev pub told : ScannerTable → TargetStream → MessageFields → Stage → Next
-told t stream m Waiting = if m.context == 0 then done (registered t stream m) else ignored t
-told t stream m (Up handle) = replied_to t m (find (is_awaiting stream.peer m.context) (places t))
-told t stream m Unused = ignored t
+abbrev pub reported : ScannerTable → TargetStream → MessageFields → Stage → Next
+reported t stream m Waiting = if m.context == 0 then done (registered t stream m) else ignored t
+reported t stream m (Up handle) = replied_to t m (find (is_awaiting stream.peer m.context) (indexed_slots t))
+reported t stream m Unused = ignored t
 
 -- what becomes of a frame of an open stream
 abbrev pub frame_answer : ScannerTable → TargetStream → Result MessageFields EncapFault → Next
 frame_answer t stream (Err fault) = (plain_answer BadFrame, t)
-frame_answer t stream (Ok m) = told t stream m stream.stage
+frame_answer t stream (Ok m) = reported t stream m stream.stage
 
 -- the same of the stream that is found, if one is
 abbrev pub frame_of : ScannerTable → List ℕ → Option TargetStream → Result Next StepFault

@@ -1,7 +1,7 @@
 pub mod Profiles
 pub mod Slots
 pub mod Sessions
-pub mod Asking
+pub mod Requests
 pub mod Effects
 pub mod Opening
 pub mod Replies

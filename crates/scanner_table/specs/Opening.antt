@@ -8,11 +8,11 @@ use Rattle.scanner_table.specs.declared.profile.SlotConfig.{SlotConfig}
 use Rattle.scanner_table.specs.declared.slot.Slot.{Slot}
 use Rattle.scanner_table.specs.declared.slot.SlotState.TheVariants.{Idle, Opening}
 use Rattle.scanner_table.specs.declared.table.ScannerTable.{ScannerTable}
-use Rattle.scanner_table.specs.Slots.{Place, places, is_with, is_ready}
+use Rattle.scanner_table.specs.Slots.{IndexedSlot, indexed_slots, is_with, is_ready}
 use Rattle.scanner_table.specs.declared.table.Session.{Session}
 use Rattle.scanner_table.specs.Sessions.{session_with}
-use Rattle.scanner_table.specs.Asking.{opening, is_large, next_wanted, open_fields}
-use Rattle.scanner_table.specs.Effects.{Effect, nothing, on_each, changed, asked}
+use Rattle.scanner_table.specs.Requests.{opening, is_large, next_requested, open_fields}
+use Rattle.scanner_table.specs.Effects.{Effect, nothing, on_each, changed, request_sent}
 
 -- NUMBERS THAT ARE DRAWN
 
@@ -44,46 +44,46 @@ abbrev pub later : Ms → ℕ → Ms
 later clock ms = record { 0 = clock.0 + ms }
 
 -- the slot waits for the answer to its next opening
-abbrev pub opening_slot : ScannerTable → Place → Slot
-opening_slot t place = record place.slot {
-  state = Opening (record { request = t.next_request; wanted = next_wanted t place.config; deadline = later t.clock t.profile.open_timeout });
+abbrev pub opening_slot : ScannerTable → IndexedSlot → Slot
+opening_slot t indexed = record indexed.slot {
+  state = Opening (record { request = t.next_request; requested = next_requested t indexed.config; deadline = later t.clock t.profile.open_timeout });
 }
 
 -- the slot is not to be open
 abbrev pub resigned : Slot → Slot
-resigned slot = record slot { state = Idle; wanted = false }
+resigned slot = record slot { state = Idle; desired_up = false }
 
 -- no number is left for what the slot was to ask
-abbrev pub exhausted : ScannerTable → Place → Effect
-exhausted t place = changed t place (resigned place.slot) (notice.NoIds place.number ∷ [])
+abbrev pub exhausted : ScannerTable → IndexedSlot → Effect
+exhausted t indexed = changed t indexed (resigned indexed.slot) (notice.NoIds indexed.number ∷ [])
 
 -- a Forward_Open is sent
-abbrev pub open_asked : ScannerTable → Place → Session → Effect
-open_asked t place session =
-    asked (drawn t place.config) place session (opening (is_large place.config) (open_fields place.config (next_wanted t place.config))) (opening_slot t place)
+abbrev pub open_requested : ScannerTable → IndexedSlot → Session → Effect
+open_requested t indexed session =
+    request_sent (drawn t indexed.config) indexed session (opening (is_large indexed.config) (open_fields indexed.config (next_requested t indexed.config))) (opening_slot t indexed)
 
 -- the same, where numbers are left for it, within a session
-abbrev pub opened_within : ScannerTable → Place → Option Session → Effect
-opened_within t place None = nothing t
-opened_within t place (Some session) = if can_open t place.config then open_asked t place session else exhausted t place
+abbrev pub opened_within : ScannerTable → IndexedSlot → Option Session → Effect
+opened_within t indexed None = nothing t
+opened_within t indexed (Some session) = if can_open t indexed.config then open_requested t indexed session else exhausted t indexed
 
 -- a slot opens, where the session with its target is registered
-unfoldable pub opened : ScannerTable → Place → Effect
-opened t place = opened_within t place (session_with t place.config.target)
+unfoldable pub opened : ScannerTable → IndexedSlot → Effect
+opened t indexed = opened_within t indexed (session_with t indexed.config.target)
 
 -- OPENING ALL THAT MAY
 
-abbrev pub is_ready_place : Ms → Place → Bool
-is_ready_place clock place = is_ready clock place.slot
+abbrev pub is_ready_slot : Ms → IndexedSlot → Bool
+is_ready_slot clock indexed = is_ready clock indexed.slot
 
 -- the slots that may try now, in their order
-abbrev pub ready_places : ScannerTable → List Place
-ready_places t = filter (is_ready_place t.clock) (places t)
+abbrev pub ready_slots : ScannerTable → List IndexedSlot
+ready_slots t = filter (is_ready_slot t.clock) (indexed_slots t)
 
 -- all slots that may try now
 unfoldable pub ready_opened : ScannerTable → Effect
-ready_opened t = on_each opened (ready_places t) t
+ready_opened t = on_each opened (ready_slots t) t
 
 -- those among them with the target
 unfoldable pub target_opened : Node → ScannerTable → Effect
-target_opened target t = on_each opened (filter (is_with target) (ready_places t)) t
+target_opened target t = on_each opened (filter (is_with target) (ready_slots t)) t

@@ -10,7 +10,7 @@ use Rattle.scanner_table.specs.declared.slot.Slot.{Slot}
 use Rattle.scanner_table.specs.declared.slot.SlotState.{SlotState}
 use Rattle.scanner_table.specs.declared.slot.SlotState.TheVariants.{Idle, Opening, Established, TimedOut, Closing}
 use Rattle.scanner_table.specs.declared.table.ScannerTable.{ScannerTable}
-use Rattle.scanner_table.specs.Slots.{Place, places, place_at, with_slot}
+use Rattle.scanner_table.specs.Slots.{IndexedSlot, indexed_slots, slot_at, with_slot}
 use Rattle.scanner_table.specs.Effects.{Next, Effect, done}
 use Rattle.scanner_table.specs.Opening.{opened}
 use Rattle.scanner_table.specs.Closing.{stopped_at}
@@ -22,28 +22,28 @@ use Rattle.scanner_table.specs.Productions.{written_state}
 abbrev pub output_slot : List ℕ → Slot → Slot
 output_slot bytes slot = record slot { output = bytes; state = written_state slot.state }
 
-abbrev pub written_place : ScannerTable → Place → List ℕ → Next
-written_place t place bytes = (plain_answer Done, with_slot t place.number (output_slot bytes place.slot))
+abbrev pub output_written : ScannerTable → IndexedSlot → List ℕ → Next
+output_written t indexed bytes = (plain_answer Done, with_slot t indexed.number (output_slot bytes indexed.slot))
 
-abbrev pub write_length : ScannerTable → Place → List ℕ → Result Next StepFault
-write_length t place bytes = if length bytes == place.config.out_len then Ok (written_place t place bytes) else Err fault.WrongLength
+abbrev pub write_length : ScannerTable → IndexedSlot → List ℕ → Result Next StepFault
+write_length t indexed bytes = if length bytes == indexed.config.out_len then Ok (output_written t indexed bytes) else Err fault.WrongLength
 
 -- only an owner has an output
-abbrev pub write_at : ScannerTable → List ℕ → Option Place → Result Next StepFault
+abbrev pub write_at : ScannerTable → List ℕ → Option IndexedSlot → Result Next StepFault
 write_at t bytes None = Err fault.NoSuchSlot
-write_at t bytes (Some place) = if is_owner place.config.kind then write_length t place bytes else Err fault.NotAllowedNow
+write_at t bytes (Some indexed) = if is_owner indexed.config.kind then write_length t indexed bytes else Err fault.NotAllowedNow
 
 -- other bytes for an output
 unfoldable pub write : ScannerTable → ℕ → List ℕ → Result Next StepFault
-write t number bytes = write_at t bytes (place_at t number)
+write t number bytes = write_at t bytes (slot_at t number)
 
-abbrev pub read_at : ScannerTable → Option Place → Result Next StepFault
+abbrev pub read_at : ScannerTable → Option IndexedSlot → Result Next StepFault
 read_at t None = Err fault.NoSuchSlot
-read_at t (Some place) = Ok (value_answer place.slot.image, t)
+read_at t (Some indexed) = Ok (value_answer indexed.slot.image, t)
 
 -- what a slot gathered
 unfoldable pub read : ScannerTable → ℕ → Result Next StepFault
-read t number = read_at t (place_at t number)
+read t number = read_at t (slot_at t number)
 
 -- RUN AND IDLE
 
@@ -53,12 +53,12 @@ same_mode true other = other
 same_mode false other = not other
 
 -- an owner's producer has new data, since the mode goes with them
-abbrev pub moded_slot : Place → Slot
-moded_slot place = if is_owner place.config.kind then record place.slot { state = written_state place.slot.state } else place.slot
+abbrev pub moded_slot : IndexedSlot → Slot
+moded_slot indexed = if is_owner indexed.config.kind then record indexed.slot { state = written_state indexed.slot.state } else indexed.slot
 
 -- the application changes to a mode
 abbrev pub moded_table : ScannerTable → Bool → ScannerTable
-moded_table t run = record t { run = run; slots = map moded_slot (places t) }
+moded_table t run = record t { run = run; slots = map moded_slot (indexed_slots t) }
 
 -- the mode that holds already is no change
 unfoldable pub mode : ScannerTable → Bool → Next
@@ -67,28 +67,28 @@ mode t run = (plain_answer Done, if same_mode run t.run then t else moded_table 
 -- STARTS AND STOPS
 
 -- the slot is to be open, from now on
-abbrev pub wanted_slot : ScannerTable → Slot → Slot
-wanted_slot t slot = record slot { wanted = true; retry = t.clock }
+abbrev pub desired_slot : ScannerTable → Slot → Slot
+desired_slot t slot = record slot { desired_up = true; retry_at = t.clock }
 
 -- the slot opens, where it can at once
-abbrev pub started : ScannerTable → Place → Slot → Effect
-started t place slot = opened (with_slot t place.number slot) (record place { slot = slot })
+abbrev pub started : ScannerTable → IndexedSlot → Slot → Effect
+started t indexed slot = opened (with_slot t indexed.number slot) (record indexed { slot = slot })
 
 -- only an idle slot that is not to be open can be started
-abbrev pub start_state : ScannerTable → Place → SlotState → Result Next StepFault
-start_state t place Idle = if place.slot.wanted then Err fault.NotAllowedNow else Ok (done (started t place (wanted_slot t place.slot)))
-start_state t place (Opening o) = Err fault.NotAllowedNow
-start_state t place (Established c) = Err fault.NotAllowedNow
-start_state t place (TimedOut link) = Err fault.NotAllowedNow
-start_state t place (Closing c) = Err fault.NotAllowedNow
+abbrev pub start_state : ScannerTable → IndexedSlot → SlotState → Result Next StepFault
+start_state t indexed Idle = if indexed.slot.desired_up then Err fault.NotAllowedNow else Ok (done (started t indexed (desired_slot t indexed.slot)))
+start_state t indexed (Opening o) = Err fault.NotAllowedNow
+start_state t indexed (Established c) = Err fault.NotAllowedNow
+start_state t indexed (TimedOut link) = Err fault.NotAllowedNow
+start_state t indexed (Closing c) = Err fault.NotAllowedNow
 
-abbrev pub start_at : ScannerTable → Option Place → Result Next StepFault
+abbrev pub start_at : ScannerTable → Option IndexedSlot → Result Next StepFault
 start_at t None = Err fault.NoSuchSlot
-start_at t (Some place) = start_state t place place.slot.state
+start_at t (Some indexed) = start_state t indexed indexed.slot.state
 
 -- a slot is to be open
 unfoldable pub start : ScannerTable → ℕ → Result Next StepFault
-start t number = start_at t (place_at t number)
+start t number = start_at t (slot_at t number)
 
 abbrev pub stop_of : Result Effect StepFault → Result Next StepFault
 stop_of (Err why) = Err why
@@ -96,4 +96,4 @@ stop_of (Ok effect) = Ok (done effect)
 
 -- a slot is not to be open
 unfoldable pub stop : ScannerTable → ℕ → Result Next StepFault
-stop t number = stop_of (stopped_at t (place_at t number))
+stop t number = stop_of (stopped_at t (slot_at t number))

@@ -14,7 +14,7 @@ use Rattle.scanner_table.specs.declared.slot.Slot.{Slot}
 use Rattle.scanner_table.specs.declared.slot.SlotState.{SlotState}
 use Rattle.scanner_table.specs.declared.slot.SlotState.TheVariants.{Idle, Opening, Established, TimedOut, Closing}
 use Rattle.scanner_table.specs.declared.table.ScannerTable.{ScannerTable}
-use Rattle.scanner_table.specs.Slots.{Place, places}
+use Rattle.scanner_table.specs.Slots.{IndexedSlot, indexed_slots}
 
 -- NEW DATA
 
@@ -32,27 +32,27 @@ written_state (Closing c) = Closing c
 -- WHAT A SLOT PRODUCES
 
 -- what a slot sends: an owner the mode of the application and its output, another kind nothing
-abbrev pub slot_data : Bool → Place → List ℕ
-slot_data run place = if is_owner place.config.kind then to_le_bytes w32 (mode_header run) ++ place.slot.output else []
+abbrev pub slot_data : Bool → IndexedSlot → List ℕ
+slot_data run indexed = if is_owner indexed.config.kind then to_le_bytes w32 (mode_header run) ++ indexed.slot.output else []
 
 -- the producer of a slot's connection
-abbrev pub connection_producer : Place → Connection → Producer
-connection_producer place c = record { point = place.number; id = c.link.o_t_id; production = c.production }
+abbrev pub connection_producer : IndexedSlot → Connection → Producer
+connection_producer indexed c = record { point = indexed.number; id = c.link.o_t_id; production = c.production }
 
 -- what a connection produces next, for its target alone
-abbrev pub connection_production : Bool → Place → Connection → Produced
-connection_production run place c = produced_by (place.config.target ∷ []) (slot_data run place) (connection_producer place c)
+abbrev pub connection_production : Bool → IndexedSlot → Connection → Produced
+connection_production run indexed c = produced_by (indexed.config.target ∷ []) (slot_data run indexed) (connection_producer indexed c)
 
-abbrev pub state_production : Bool → Place → SlotState → Option Produced
-state_production run place Idle = None
-state_production run place (Opening o) = None
-state_production run place (Established c) = Some (connection_production run place c)
-state_production run place (TimedOut link) = None
-state_production run place (Closing c) = None
+abbrev pub state_production : Bool → IndexedSlot → SlotState → Option Produced
+state_production run indexed Idle = None
+state_production run indexed (Opening o) = None
+state_production run indexed (Established c) = Some (connection_production run indexed c)
+state_production run indexed (TimedOut link) = None
+state_production run indexed (Closing c) = None
 
 -- what a slot produces next, which one with an established connection does
-abbrev pub slot_production : Bool → Place → Option Produced
-slot_production run place = state_production run place place.slot.state
+abbrev pub slot_production : Bool → IndexedSlot → Option Produced
+slot_production run indexed = state_production run indexed indexed.slot.state
 
 -- SLOTS THAT ARE DUE
 
@@ -63,8 +63,8 @@ state_is_due clock (Established c) = is_production_due clock c.production
 state_is_due clock (TimedOut link) = false
 state_is_due clock (Closing c) = false
 
-abbrev pub is_due : Ms → Place → Bool
-is_due clock place = state_is_due clock place.slot.state
+abbrev pub is_due : Ms → IndexedSlot → Bool
+is_due clock indexed = state_is_due clock indexed.slot.state
 
 abbrev pub due_of : SlotState → ℕ
 due_of Idle = 0
@@ -74,19 +74,19 @@ due_of (TimedOut link) = 0
 due_of (Closing c) = 0
 
 -- by when they are due, and then by their numbers
-abbrev pub by_due : Place → Place → Bool
-by_due place other =
-    nat_lt (due_of place.slot.state) (due_of other.slot.state) || (due_of place.slot.state == due_of other.slot.state && nat_lt place.number other.number)
+abbrev pub by_due : IndexedSlot → IndexedSlot → Bool
+by_due indexed other =
+    nat_lt (due_of indexed.slot.state) (due_of other.slot.state) || (due_of indexed.slot.state == due_of other.slot.state && nat_lt indexed.number other.number)
 
-abbrev pub due_places : ScannerTable → List Place
-due_places t = in_order by_due (filter (is_due t.clock) (places t))
+abbrev pub due_slots : ScannerTable → List IndexedSlot
+due_slots t = in_order by_due (filter (is_due t.clock) (indexed_slots t))
 
 -- what the slots that are due produce
 abbrev pub due_productions : ScannerTable → List Produced
-due_productions t = filter_map (slot_production t.run) (due_places t)
+due_productions t = filter_map (slot_production t.run) (due_slots t)
 
 abbrev pub produced_connection : Ms → Connection → Connection
-produced_connection clock c = record c { production = produced clock c.o_t_api c.production }
+produced_connection clock c = record c { production = produced clock c.o_t_api_ms c.production }
 
 abbrev pub produced_state : Ms → SlotState → SlotState
 produced_state clock Idle = Idle

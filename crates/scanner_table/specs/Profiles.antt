@@ -20,11 +20,11 @@ abbrev pub are_few : List SlotConfig → Bool
 are_few slots = nat_le 1 (length slots) && nat_le (length slots) 64
 
 -- a listener listens to a group
-abbrev pub hears_group : SlotConfig → Bool
-hears_group slot = not (is_listener slot.kind) || slot.multicast
+abbrev pub listens_to_group : SlotConfig → Bool
+listens_to_group slot = not (is_listener slot.kind) || slot.multicast
 
 abbrev pub are_served : ScannerProfile → Bool
-are_served profile = are_few profile.slots && list_all hears_group profile.slots
+are_served profile = are_few profile.slots && list_all listens_to_group profile.slots
 
 -- two slots are multicast, for one produced point of one target
 abbrev pub shares_group : SlotConfig → SlotConfig → Bool

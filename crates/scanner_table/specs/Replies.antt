@@ -28,9 +28,9 @@ use Rattle.scanner_table.specs.declared.slot.Connection.{Connection}
 use Rattle.scanner_table.specs.declared.slot.Slot.{Slot}
 use Rattle.scanner_table.specs.declared.slot.SlotState.{SlotState}
 use Rattle.scanner_table.specs.declared.slot.SlotState.TheVariants.{Idle, Opening, Established, TimedOut, Closing}
-use Rattle.scanner_table.specs.declared.slot.Opening as asked
+use Rattle.scanner_table.specs.declared.slot.PendingOpen as pending
 use Rattle.scanner_table.specs.declared.table.ScannerTable.{ScannerTable}
-use Rattle.scanner_table.specs.Slots.{Place, places, is_numbered, is_with}
+use Rattle.scanner_table.specs.Slots.{IndexedSlot, indexed_slots, is_numbered, is_with}
 use Rattle.scanner_table.specs.Effects.{Effect, changed}
 use Rattle.scanner_table.specs.Opening.{later}
 
@@ -40,21 +40,21 @@ use Rattle.scanner_table.specs.Opening.{later}
 abbrev pub serviced : Bool → OpenReply → Result OpenAnswer Reason
 serviced large reply = if reply.service == opened_service large then Ok reply.answer else Err reason.Unreadable
 
-abbrev pub reply_told : Bool → Result OpenReply ReadFault → Result OpenAnswer Reason
-reply_told large (Err fault) = Err reason.Unreadable
-reply_told large (Ok reply) = serviced large reply
+abbrev pub reply_answer : Bool → Result OpenReply ReadFault → Result OpenAnswer Reason
+reply_answer large (Err fault) = Err reason.Unreadable
+reply_answer large (Ok reply) = serviced large reply
 
-abbrev pub packet_told : Bool → Result PacketFields ItemFault → Result OpenAnswer Reason
-packet_told large (Err fault) = Err reason.Unreadable
-packet_told large (Ok packet) = reply_told large (open_reply_reading packet.payload)
+abbrev pub packet_answer : Bool → Result PacketFields ItemFault → Result OpenAnswer Reason
+packet_answer large (Err fault) = Err reason.Unreadable
+packet_answer large (Ok packet) = reply_answer large (open_reply_reading packet.payload)
 
 -- only a message of SendRRData has items
-abbrev pub command_told : Bool → MessageFields → Result OpenAnswer Reason
-command_told large m = if m.command == 0x006F then packet_told large (packet_reading m.payload) else Err reason.Unreadable
+abbrev pub command_answer : Bool → MessageFields → Result OpenAnswer Reason
+command_answer large m = if m.command == 0x006F then packet_answer large (packet_reading m.payload) else Err reason.Unreadable
 
 -- what a message answers to a Forward_Open of either size; its status goes first
-unfoldable pub open_told : Bool → MessageFields → Result OpenAnswer Reason
-open_told large m = if m.status == 0 then command_told large m else Err (reason.Encap m.status)
+unfoldable pub open_answer : Bool → MessageFields → Result OpenAnswer Reason
+open_answer large m = if m.status == 0 then command_answer large m else Err (reason.Encap m.status)
 
 -- WHAT AN ANSWER DOES
 
@@ -66,58 +66,58 @@ state_consumes id (TimedOut link) = false
 state_consumes id (Closing c) = false
 
 -- the slot is another one, and is established with this T->O id and target
-abbrev pub uses_id : ℕ → Node → ConnId → Place → Bool
-uses_id number target id place = not (is_numbered number place) && (is_with target place && state_consumes id place.slot.state)
+abbrev pub uses_id : ℕ → Node → ConnId → IndexedSlot → Bool
+uses_id number target id indexed = not (is_numbered number indexed) && (is_with target indexed && state_consumes id indexed.slot.state)
 
 -- no other established slot of the target has the id
-abbrev pub is_id_free : ScannerTable → Place → ConnId → Bool
-is_id_free t place id = not (list_any (uses_id place.number place.config.target id) (places t))
+abbrev pub is_id_free : ScannerTable → IndexedSlot → ConnId → Bool
+is_id_free t indexed id = not (list_any (uses_id indexed.number indexed.config.target id) (indexed_slots t))
 
 -- the producer of a connection that begins: it is cyclic, its data are new, and due at once
-abbrev pub new_production : ScannerTable → Place → Production
-new_production t place = record {
-  producer = place.number;
+abbrev pub new_production : ScannerTable → IndexedSlot → Production
+new_production t indexed = record {
+  producer = indexed.number;
   sequence = 1;
   count = 0;
   written = true;
   due = t.clock;
-  address = place.config.target;
+  address = indexed.config.target;
   trigger = Cyclic;
   inhibit = 0;
   last = None;
 }
 
 -- the connection that a success opens, with the packet intervals that it tells
-abbrev pub new_connection : ScannerTable → Place → asked.Opening → made.Opened → Connection
-new_connection t place opening opened = record {
+abbrev pub new_connection : ScannerTable → IndexedSlot → pending.PendingOpen → made.Opened → Connection
+new_connection t indexed opening opened = record {
   opening = opening.request;
-  link = link_of opening.wanted opened;
-  o_t_api = interval_ms opened.o_t_api;
-  t_o_api = interval_ms opened.t_o_api;
+  link = link_of opening.requested opened;
+  o_t_api_ms = interval_ms opened.o_t_api_us;
+  t_o_api_ms = interval_ms opened.t_o_api_us;
   last = None;
-  deadline = first_deadline t.clock (timeout place.config.mult (interval_ms opened.t_o_api));
-  production = new_production t place;
+  deadline = first_deadline t.clock (timeout indexed.config.mult (interval_ms opened.t_o_api_us));
+  production = new_production t indexed;
 }
 
 -- the slot has the connection, and has gathered nothing yet
-abbrev pub established_slot : Place → Connection → Slot
-established_slot place connection = record place.slot { state = Established connection; image = replicate place.config.in_len 0 }
+abbrev pub established_slot : IndexedSlot → Connection → Slot
+established_slot indexed connection = record indexed.slot { state = Established connection; image = replicate indexed.config.in_len 0 }
 
 -- the slot may try again after a while
 abbrev pub failed_slot : ScannerTable → SlotState → Slot → Slot
-failed_slot t state slot = record slot { state = state; retry = later t.clock t.profile.retry }
+failed_slot t state slot = record slot { state = state; retry_at = later t.clock t.profile.retry }
 
 -- a reply that opens nothing
-abbrev pub refused : ScannerTable → Place → Reason → Effect
-refused t place why = changed t place (failed_slot t Idle place.slot) (notice.Refused place.number why ∷ [])
+abbrev pub refused : ScannerTable → IndexedSlot → Reason → Effect
+refused t indexed why = changed t indexed (failed_slot t Idle indexed.slot) (notice.Refused indexed.number why ∷ [])
 
-abbrev pub judged_success : ScannerTable → Place → asked.Opening → made.Opened → Option Mismatch → Effect
-judged_success t place opening opened (Some why) = refused t place (reason.Mismatch why)
-judged_success t place opening opened None = changed t place (established_slot place (new_connection t place opening opened)) []
+abbrev pub judged_success : ScannerTable → IndexedSlot → pending.PendingOpen → made.Opened → Option Mismatch → Effect
+judged_success t indexed opening opened (Some why) = refused t indexed (reason.Mismatch why)
+judged_success t indexed opening opened None = changed t indexed (established_slot indexed (new_connection t indexed opening opened)) []
 
 -- what an answer does to the slot that waits for it
-unfoldable pub answered : ScannerTable → Place → asked.Opening → Result OpenAnswer Reason → Effect
-answered t place opening (Err why) = refused t place why
-answered t place opening (Ok (answer.Refused r)) = refused t place (reason.Cip r.fault)
-answered t place opening (Ok (answer.Opened o)) =
-    judged_success t place opening o (first_case (answer_tests opening.wanted o (is_id_free t place o.t_o_id)))
+unfoldable pub answered : ScannerTable → IndexedSlot → pending.PendingOpen → Result OpenAnswer Reason → Effect
+answered t indexed opening (Err why) = refused t indexed why
+answered t indexed opening (Ok (answer.Refused r)) = refused t indexed (reason.Cip r.fault)
+answered t indexed opening (Ok (answer.Opened o)) =
+    judged_success t indexed opening o (first_case (answer_tests opening.requested o (is_id_free t indexed o.t_o_id)))

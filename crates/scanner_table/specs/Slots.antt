@@ -12,30 +12,30 @@ use Rattle.scanner_table.specs.declared.table.ScannerTable.{ScannerTable}
 -- PLACES
 
 -- a slot with its number and what the profile says of it
-pub record Place : Type 0 where
+pub record IndexedSlot : Type 0 where
   pub number : ℕ
   pub config : SlotConfig
   pub slot : Slot
 
 -- the slots in their places, from a number on
-abbrev pub places_from : ℕ → List SlotConfig → List Slot → List Place
-places_from number [] slots = []
-places_from number (config ∷ configs) [] = []
-places_from number (config ∷ configs) (slot ∷ slots) = record { number = number; config = config; slot = slot } ∷ places_from (suc number) configs slots
+abbrev pub indexed_from : ℕ → List SlotConfig → List Slot → List IndexedSlot
+indexed_from number [] slots = []
+indexed_from number (config ∷ configs) [] = []
+indexed_from number (config ∷ configs) (slot ∷ slots) = record { number = number; config = config; slot = slot } ∷ indexed_from (suc number) configs slots
 
-abbrev pub places : ScannerTable → List Place
-places t = places_from 0 t.profile.slots t.slots
+abbrev pub indexed_slots : ScannerTable → List IndexedSlot
+indexed_slots t = indexed_from 0 t.profile.slots t.slots
 
-abbrev pub is_numbered : ℕ → Place → Bool
-is_numbered number place = place.number == number
+abbrev pub is_numbered : ℕ → IndexedSlot → Bool
+is_numbered number indexed = indexed.number == number
 
 -- the place of a number, if the scanner has so many slots
-abbrev pub place_at : ScannerTable → ℕ → Option Place
-place_at t number = find (is_numbered number) (places t)
+abbrev pub slot_at : ScannerTable → ℕ → Option IndexedSlot
+slot_at t number = find (is_numbered number) (indexed_slots t)
 
 -- the place is for connections with the target
-abbrev pub is_with : Node → Place → Bool
-is_with target place = place.config.target.0 == target.0
+abbrev pub is_with : Node → IndexedSlot → Bool
+is_with target indexed = indexed.config.target.0 == target.0
 
 -- the table with another slot in a place
 abbrev pub with_slot : ScannerTable → ℕ → Slot → ScannerTable
@@ -61,4 +61,4 @@ is_resting (Closing c) = false
 
 -- the slot is to be open, is not, and may try now
 abbrev pub is_ready : Ms → Slot → Bool
-is_ready clock slot = slot.wanted && (is_resting slot.state && nat_le slot.retry.0 clock.0)
+is_ready clock slot = slot.desired_up && (is_resting slot.state && nat_le slot.retry_at.0 clock.0)

@@ -33,8 +33,8 @@ scanner_step t (Stop slot) = stop t slot
 abbrev pub fresh_slot : SlotConfig → Slot
 fresh_slot config = record {
   state = Idle;
-  wanted = false;
-  retry = record { 0 = 0 };
+  desired_up = false;
+  retry_at = record { 0 = 0 };
   output = replicate config.out_len 0;
   image = replicate config.in_len 0;
 }

@@ -12,7 +12,7 @@ use Rattle.cip_productions.specs.Productions.{sent}
 use Rattle.scanner_table.specs.declared.slot.SlotState.{SlotState}
 use Rattle.scanner_table.specs.declared.slot.SlotState.TheVariants.{Idle, Opening, Established, TimedOut, Closing}
 use Rattle.scanner_table.specs.declared.table.ScannerTable.{ScannerTable}
-use Rattle.scanner_table.specs.Slots.{Place, places}
+use Rattle.scanner_table.specs.Slots.{IndexedSlot, indexed_slots}
 use Rattle.scanner_table.specs.Effects.{Next, Effect, nothing, and_then, on_each, changed, sent_answer}
 use Rattle.scanner_table.specs.Opening.{ready_opened}
 use Rattle.scanner_table.specs.Replies.{failed_slot}
@@ -29,8 +29,8 @@ state_has_expired clock (TimedOut link) = false
 state_has_expired clock (Closing c) = false
 
 -- the slot's connection is established, and its deadline has come
-abbrev pub has_expired : Ms → Place → Bool
-has_expired clock place = state_has_expired clock place.slot.state
+abbrev pub has_expired : Ms → IndexedSlot → Bool
+has_expired clock indexed = state_has_expired clock indexed.slot.state
 
 abbrev pub deadline_of : SlotState → ℕ
 deadline_of Idle = 0
@@ -40,26 +40,26 @@ deadline_of (TimedOut link) = 0
 deadline_of (Closing c) = c.deadline.0
 
 -- by deadlines, and then by their numbers
-abbrev pub by_deadline : Place → Place → Bool
-by_deadline place other =
-    nat_lt (deadline_of place.slot.state) (deadline_of other.slot.state) || (deadline_of place.slot.state == deadline_of other.slot.state && nat_lt place.number other.number)
+abbrev pub by_deadline : IndexedSlot → IndexedSlot → Bool
+by_deadline indexed other =
+    nat_lt (deadline_of indexed.slot.state) (deadline_of other.slot.state) || (deadline_of indexed.slot.state == deadline_of other.slot.state && nat_lt indexed.number other.number)
 
-abbrev pub expired_places : ScannerTable → List Place
-expired_places t = in_order by_deadline (filter (has_expired t.clock) (places t))
+abbrev pub expired_slots : ScannerTable → List IndexedSlot
+expired_slots t = in_order by_deadline (filter (has_expired t.clock) (indexed_slots t))
 
 -- a connection times out: its image stays, and it may be tried again after a while
-abbrev pub expired_state : ScannerTable → Place → SlotState → Effect
-expired_state t place Idle = nothing t
-expired_state t place (Opening o) = nothing t
-expired_state t place (Established c) = changed t place (failed_slot t (TimedOut c.link) place.slot) []
-expired_state t place (TimedOut link) = nothing t
-expired_state t place (Closing c) = nothing t
+abbrev pub expired_state : ScannerTable → IndexedSlot → SlotState → Effect
+expired_state t indexed Idle = nothing t
+expired_state t indexed (Opening o) = nothing t
+expired_state t indexed (Established c) = changed t indexed (failed_slot t (TimedOut c.link) indexed.slot) []
+expired_state t indexed (TimedOut link) = nothing t
+expired_state t indexed (Closing c) = nothing t
 
-abbrev pub expired : ScannerTable → Place → Effect
-expired t place = expired_state t place place.slot.state
+abbrev pub expired : ScannerTable → IndexedSlot → Effect
+expired t indexed = expired_state t indexed indexed.slot.state
 
 unfoldable pub all_expired : ScannerTable → Effect
-all_expired t = on_each expired (expired_places t) t
+all_expired t = on_each expired (expired_slots t) t
 
 -- ANSWERS THAT DO NOT COME
 
@@ -71,11 +71,11 @@ state_is_overdue clock (TimedOut link) = false
 state_is_overdue clock (Closing c) = nat_le c.deadline.0 clock.0
 
 -- the slot has waited for an answer long enough
-abbrev pub is_overdue : Ms → Place → Bool
-is_overdue clock place = state_is_overdue clock place.slot.state
+abbrev pub is_overdue : Ms → IndexedSlot → Bool
+is_overdue clock indexed = state_is_overdue clock indexed.slot.state
 
 unfoldable pub all_given_up : ScannerTable → Effect
-all_given_up t = on_each given_up (filter (is_overdue t.clock) (places t)) t
+all_given_up t = on_each given_up (filter (is_overdue t.clock) (indexed_slots t)) t
 
 -- A TICK
 
@@ -83,8 +83,8 @@ abbrev pub clocked_table : ScannerTable → ℕ → ScannerTable
 clocked_table t ms = record t { clock = record { 0 = t.clock.0 + ms } }
 
 -- what becomes of connections, before productions
-abbrev pub elapsed : ScannerTable → Effect
-elapsed t = and_then (and_then (all_expired t) all_given_up) ready_opened
+abbrev pub advanced : ScannerTable → Effect
+advanced t = and_then (and_then (all_expired t) all_given_up) ready_opened
 
 -- what is sent and told, and the table after the productions
 abbrev pub ticked : Effect → Next
@@ -92,7 +92,7 @@ ticked effect = (sent_answer effect (map sent (due_productions effect.table)), p
 
 -- some milliseconds pass; not too many, and the clock does not pass its end
 unfoldable pub tick : ScannerTable → ℕ → Result Next StepFault
-tick t ms = first_case_or (Ok (ticked (elapsed (clocked_table t ms)))) (
+tick t ms = first_case_or (Ok (ticked (advanced (clocked_table t ms)))) (
     (nat_lt longest_tick ms, Err fault.TickTooLong)
     ∷ (nat_lt clock_end (t.clock.0 + ms), Err fault.ClockEnd)
     ∷ []

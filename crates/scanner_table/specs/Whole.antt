@@ -10,7 +10,7 @@ use Rattle.scanner_table.specs.declared.slot.SlotState.TheVariants.{Idle, Openin
 use Rattle.scanner_table.specs.declared.table.ScannerTable.{ScannerTable}
 use Rattle.scanner_table.specs.declared.table.TargetStream.{TargetStream}
 use Rattle.scanner_table.specs.Profiles.{profile_fault}
-use Rattle.scanner_table.specs.Slots.{Place, places, is_with}
+use Rattle.scanner_table.specs.Slots.{IndexedSlot, indexed_slots, is_with}
 use Rattle.scanner_table.specs.Replies.{state_consumes}
 use Rattle.scanner_table.specs.Encapsulation.{waits_for}
 use Rattle.scanner_table.specs.Sessions.{is_stream, is_to}
@@ -21,24 +21,24 @@ use Rattle.scanner_table.specs.Sessions.{is_stream, is_to}
 -- and is due within one of them
 pub record FitsConnection (next_request clock : ℕ) (c : Connection) : Type 0 where
   pub opening : c.opening < next_request
-  pub o_t_api : c.o_t_api ≤ 10000
-  pub t_o_api : c.t_o_api ≤ 10000
+  pub o_t_api_ms : c.o_t_api_ms ≤ 10000
+  pub t_o_api_ms : c.t_o_api_ms ≤ 10000
   pub due : c.production.due.0 ≤ clock + 10000
 
 -- A slot that is not to be open does not open: only one that is to be is opening, open or timed out, and only
 -- one that is not closes. Requests that are not answered were numbered.
 abbrev pub FitsState : ℕ → ℕ → Bool → SlotState → Type 0
-FitsState next_request clock wanted Idle = Unit {0}
-FitsState next_request clock wanted (Opening o) = (wanted ≡ true) × (o.request < next_request)
-FitsState next_request clock wanted (Established c) = (wanted ≡ true) × FitsConnection next_request clock c
-FitsState next_request clock wanted (TimedOut link) = wanted ≡ true
-FitsState next_request clock wanted (Closing c) = (wanted ≡ false) × (c.request < next_request)
+FitsState next_request clock desired_up Idle = Unit {0}
+FitsState next_request clock desired_up (Opening o) = (desired_up ≡ true) × (o.request < next_request)
+FitsState next_request clock desired_up (Established c) = (desired_up ≡ true) × FitsConnection next_request clock c
+FitsState next_request clock desired_up (TimedOut link) = desired_up ≡ true
+FitsState next_request clock desired_up (Closing c) = (desired_up ≡ false) × (c.request < next_request)
 
 -- a slot has as many bytes as its points
 pub record FitsSlot (next_request clock : ℕ) (config : SlotConfig) (slot : Slot) : Type 0 where
   pub output : length slot.output ≡ config.out_len
   pub image : length slot.image ≡ config.in_len
-  pub state : FitsState next_request clock slot.wanted slot.state
+  pub state : FitsState next_request clock slot.desired_up slot.state
 
 -- each slot of the profile stands in its place
 abbrev pub SlotsFit : ℕ → ℕ → List SlotConfig → List Slot → Type 0
@@ -58,13 +58,13 @@ states_clash (TimedOut link) other = false
 states_clash (Closing c) other = false
 
 -- two slots are established with one target, and have one T->O id
-abbrev pub clashes : Place → Place → Bool
-clashes place other = is_with place.config.target other && states_clash place.slot.state other.slot.state
+abbrev pub clashes : IndexedSlot → IndexedSlot → Bool
+clashes indexed other = is_with indexed.config.target other && states_clash indexed.slot.state other.slot.state
 
 -- no two slots are
-abbrev pub IdsDiffer : List Place → Type 0
+abbrev pub IdsDiffer : List IndexedSlot → Type 0
 IdsDiffer [] = Unit {0}
-IdsDiffer (place ∷ rest) = (list_any (clashes place) rest ≡ false) × IdsDiffer rest
+IdsDiffer (indexed ∷ rest) = (list_any (clashes indexed) rest ≡ false) × IdsDiffer rest
 
 -- REQUESTS
 
@@ -96,7 +96,7 @@ StreamsDiffer (stream ∷ streams) = (list_any (is_stream stream.number) streams
 pub record IsWhole (t : ScannerTable) : Type 0 where
   pub faultless : profile_fault t.profile ≡ None
   pub slots : SlotsFit t.next_request t.clock.0 t.profile.slots t.slots
-  pub ids_differ : IdsDiffer (places t)
+  pub ids_differ : IdsDiffer (indexed_slots t)
   pub requests_differ : RequestsDiffer t.slots
   pub clock : t.clock.0 ≤ 2 ^ 48
   pub ids : t.next_id ≤ 16777216

@@ -73,8 +73,8 @@ impl Slot {
         let image = Items::copy_of(alloc, self.image.as_slice())?;
         Ok(Slot {
             state: self.state,
-            wanted: self.wanted,
-            retry: self.retry,
+            desired_up: self.desired_up,
+            retry_at: self.retry_at,
             output,
             image,
         })

@@ -7,7 +7,7 @@ ghost use Rattle.scanner_table.specs.declared.profile.ScannerProfile.{ScannerPro
 ghost use Rattle.scanner_table.specs.declared.table.ScannerTable.{ScannerTable};
 ghost use Rattle.scanner_table.specs.Profiles.{profile_fault};
 ghost use Rattle.scanner_table.specs.Step.{scanner_step, scanner_table};
-ghost use Rattle.scanner_table.specs.Ticks.{clocked_table, elapsed};
+ghost use Rattle.scanner_table.specs.Ticks.{clocked_table, advanced};
 ghost use Rattle.scanner_table.specs.Whole.{IsWhole};
 
 /// A fresh scanner of a faultless profile has a whole table.
@@ -21,6 +21,6 @@ pub fn steps_keep_tables_whole()
 {}
 
 /// What becomes of connections within a tick, before the productions, keeps a table whole.
-pub fn elapsing_keeps_tables_whole()
-    ensures { (t : ScannerTable) (ms : ℕ) → t.clock.0 + ms ≤ 2 ^ 48 → IsWhole t → IsWhole (elapsed (clocked_table t ms)).table }
+pub fn advancing_keeps_tables_whole()
+    ensures { (t : ScannerTable) (ms : ℕ) → t.clock.0 + ms ≤ 2 ^ 48 → IsWhole t → IsWhole (advanced (clocked_table t ms)).table }
 {}

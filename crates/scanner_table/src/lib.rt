@@ -10,7 +10,7 @@ mod slot;
 mod table;
 
 pub use copy::copy_of_slots;
-pub use laws::{elapsing_keeps_tables_whole, fresh_tables_are_whole, steps_keep_tables_whole};
+pub use laws::{advancing_keeps_tables_whole, fresh_tables_are_whole, steps_keep_tables_whole};
 pub use profile::{ScannerProfile, SlotConfig};
-pub use slot::{Closing, Connection, Opening, Slot, SlotState};
+pub use slot::{Connection, PendingClose, PendingOpen, Slot, SlotState};
 pub use table::{ScannerTable, Session, Stage, TargetStream};

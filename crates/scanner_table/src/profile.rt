@@ -1,6 +1,6 @@
 //! What a scanner is made of: who it is, and the connections that it keeps open.
 
-use cip_epath::Key;
+use cip_epath::ElectronicKey;
 use cip_netparams::Trigger;
 use cip_productions::Kind;
 use cip_types::{Items, Node};
@@ -36,7 +36,7 @@ pub struct SlotConfig {
     pub t_o_rpi: u32,
     pub mult: u8,
     pub multicast: bool,
-    pub key: Option<Key>,
+    pub key: Option<ElectronicKey>,
     pub config_data: Items<u8>,
     pub trigger: Trigger,
     pub inhibit: u8,

@@ -3,7 +3,7 @@
 ghost use Rattle.std.specs.Prelude.{◌≡◌, ◌↔◌, None, Some, IsOk, IfErr};
 ghost use Rattle.std.specs.List.{list_any, list_all};
 ghost use Rattle.cip_netparams.specs.Rate.{is_interval, interval_ms};
-ghost use Rattle.scanner_table.specs.Profiles.{are_few, hears_group, are_served, shares_group, are_apart, is_point_len, is_out_len, is_config, has_lengths, is_inhibit, has_times, is_wait, keeps_time, profile_fault};
+ghost use Rattle.scanner_table.specs.Profiles.{are_few, listens_to_group, are_served, shares_group, are_apart, is_point_len, is_out_len, is_config, has_lengths, is_inhibit, has_times, is_wait, keeps_time, profile_fault};
 
 use crate::profile::{
     LONGEST_CONFIG, LONGEST_POINT, LONGEST_WAIT, MOST_SLOTS, ScannerProfile, SlotConfig,
@@ -18,22 +18,22 @@ fn are_few(slots: &[SlotConfig]) -> bool
     !slots.is_empty() && slots.len() <= MOST_SLOTS
 }
 
-fn hears_group(slot: &SlotConfig) -> bool
-    ensures { result ≡ hears_group slot.now }
+fn listens_to_group(slot: &SlotConfig) -> bool
+    ensures { result ≡ listens_to_group slot.now }
 {
     slot.kind != Kind::ListenOnly || slot.multicast
 }
 
-fn hear_groups(slots: &[SlotConfig]) -> bool
-    ensures { result ≡ list_all hears_group slots.now }
+fn listen_to_groups(slots: &[SlotConfig]) -> bool
+    ensures { result ≡ list_all listens_to_group slots.now }
 {
-    slots.iter().all(|slot| hears_group(slot))
+    slots.iter().all(|slot| listens_to_group(slot))
 }
 
 fn are_served(profile: &ScannerProfile) -> bool
     ensures { result ≡ are_served profile.now }
 {
-    are_few(profile.slots.as_slice()) && hear_groups(profile.slots.as_slice())
+    are_few(profile.slots.as_slice()) && listen_to_groups(profile.slots.as_slice())
 }
 
 fn shares_group(slot: &SlotConfig, other: &SlotConfig) -> bool

@@ -2,14 +2,14 @@
 
 use cip_productions::{Accepted, Production};
 use cip_types::{Items, Ms};
-use conn_state::{Link, Wanted};
+use conn_state::{Link, Requested};
 
 /// A Forward_Open that is not answered: the number of its request, which names the opening, what was asked
 /// for, and until when an answer counts.
 #[derive(Clone, Copy, PartialEq, Eq)]
-pub struct Opening {
+pub struct PendingOpen {
     pub request: u64,
-    pub wanted: Wanted,
+    pub requested: Requested,
     pub deadline: Ms,
 }
 
@@ -21,8 +21,8 @@ pub struct Opening {
 pub struct Connection {
     pub opening: u64,
     pub link: Link,
-    pub o_t_api: u32,
-    pub t_o_api: u32,
+    pub o_t_api_ms: u32,
+    pub t_o_api_ms: u32,
     pub last: Option<Accepted>,
     pub deadline: Ms,
     pub production: Production,
@@ -31,7 +31,7 @@ pub struct Connection {
 /// A Forward_Close that is not answered: the number of its request, what names the connection, and until
 /// when an answer is waited for.
 #[derive(Clone, Copy, PartialEq, Eq)]
-pub struct Closing {
+pub struct PendingClose {
     pub request: u64,
     pub link: Link,
     pub deadline: Ms,
@@ -45,13 +45,13 @@ pub enum SlotState {
     /// There is none.
     Idle,
     /// It was asked for.
-    Opening(Opening),
+    Opening(PendingOpen),
     /// It is open.
     Established(Connection),
     /// Its target fell silent.
     TimedOut(Link),
     /// It is to end.
-    Closing(Closing),
+    Closing(PendingClose),
 }
 
 /// A slot: how far its connection is, whether it is to be open, from when on it may be tried again, the bytes
@@ -59,8 +59,8 @@ pub enum SlotState {
 #[derive(PartialEq, Drop)]
 pub struct Slot {
     pub state: SlotState,
-    pub wanted: bool,
-    pub retry: Ms,
+    pub desired_up: bool,
+    pub retry_at: Ms,
     pub output: Items<u8>,
     pub image: Items<u8>,
 }

@@ -11,7 +11,7 @@ use std::fs::{self, Files};
 use std::io;
 use thiserror::Error;
 use trace_text::TraceFault;
-use udp_runner::{MemoryPort, Port, RunFault, Sent, SteppedClock, drive};
+use udp_runner::{MemoryPort, Port, RunFault, SentOutput, SteppedClock, drive};
 
 /// Why a trace is not driven.
 #[derive(Debug, Drop, Error)]
@@ -54,12 +54,12 @@ struct Driven {
 fn play(alloc: Global, text: &[u8], fails_at: u64) -> Result<Driven, DriveFailure> {
     let Script {
         config,
-        times,
+        times_ms,
         inputs,
         turns,
     } = read_script(alloc, text)?;
     let mut port = MemoryPort::new(alloc, inputs, fails_at);
-    let mut clock = SteppedClock { times };
+    let mut clock = SteppedClock { times_ms };
     let mut device = PlainAdapter::new(alloc, config)?;
     let outcome = drive(&mut port, &mut device, &mut clock, turns);
     Ok(Driven {
@@ -91,19 +91,19 @@ fn ends_everywhere(alloc: Global, text: &[u8], whole: &Driven) -> Result<bool, D
     Ok(last)
 }
 
-fn print_sent(rt: &impl Print, alloc: Global, sent: &Sent) -> Result<(), DriveFailure> {
+fn print_sent(rt: &impl Print, alloc: Global, sent: &SentOutput) -> Result<(), DriveFailure> {
     match sent {
-        Sent::Frame { stream, bytes } => {
+        SentOutput::Frame { stream, bytes } => {
             let digits = hex::encode(alloc, bytes.as_slice())?;
             println!(rt; "frame {stream} {digits}")?;
         }
-        Sent::Datagram { node, bytes } => {
+        SentOutput::Datagram { node, bytes } => {
             let Node(address) = *node;
             let [a, b, c, d] = address.to_be_bytes();
             let digits = hex::encode(alloc, bytes.as_slice())?;
             println!(rt; "datagram {a}.{b}.{c}.{d} {digits}")?;
         }
-        Sent::Close { stream } => println!(rt; "close {stream}")?,
+        SentOutput::Close { stream } => println!(rt; "close {stream}")?,
     }
     Ok(())
 }

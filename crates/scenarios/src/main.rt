@@ -82,7 +82,7 @@ fn is_driven<R: AllocGlobal + Files + Print>(rt: &R, name: &str) -> bool {
 }
 
 fn is_played<R: AllocGlobal + Files + Print>(rt: &R, name: &str) -> bool {
-    match held(rt, name) {
+    match engines_of(rt, name) {
         Ok(engines) => println!(rt; "{name} holds over {engines}").is_ok(),
         Err(failure) => {
             let _ = println!(rt; "{name}: {failure}");
@@ -92,7 +92,7 @@ fn is_played<R: AllocGlobal + Files + Print>(rt: &R, name: &str) -> bool {
 }
 
 /// Whether the trace of this file holds over each engine, and which they are.
-fn held<R: AllocGlobal + Files>(rt: &R, name: &str) -> Result<&'static str, Failure> {
+fn engines_of<R: AllocGlobal + Files>(rt: &R, name: &str) -> Result<&'static str, Failure> {
     let Ok(text) = fs::read(rt, name) else {
         return Err(Failure::Read);
     };

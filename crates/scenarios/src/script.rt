@@ -12,13 +12,13 @@ use udp_runner::Input;
 #[derive(Drop)]
 pub struct Script {
     pub config: Config,
-    pub times: VecDeque<u64>,
+    pub times_ms: VecDeque<u64>,
     pub inputs: VecDeque<Option<Input>>,
     pub turns: u32,
 }
 
-fn keep_time(times: &mut VecDeque<u64>, ms: u32) -> Result<(), OutOfMemory> {
-    match times.push_back(u64::from(ms)) {
+fn keep_time(times_ms: &mut VecDeque<u64>, ms: u32) -> Result<(), OutOfMemory> {
+    match times_ms.push_back(u64::from(ms)) {
         Ok(()) => Ok(()),
         Err(_) => Err(OutOfMemory),
     }
@@ -36,7 +36,7 @@ fn keep_input(
 
 impl Script {
     fn push(&mut self, ms: u32, input: Option<Input>) -> Result<(), OutOfMemory> {
-        keep_time(&mut self.times, ms)?;
+        keep_time(&mut self.times_ms, ms)?;
         keep_input(&mut self.inputs, input)?;
         self.turns = self.turns.saturating_add(1);
         Ok(())
@@ -59,7 +59,7 @@ pub fn read_script(alloc: Global, text: &[u8]) -> Result<Script, DriveFailure> {
     let trace = read_trace(alloc, text)?;
     let mut script = Script {
         config: trace.config,
-        times: VecDeque::new(alloc),
+        times_ms: VecDeque::new(alloc),
         inputs: VecDeque::new(alloc),
         turns: 0,
     };

@@ -16,16 +16,16 @@ use Rattle.cip_events.specs.declared.event.Reason.{Reason}
 use Rattle.cip_fwdopen.specs.declared.reply.OpenAnswer.{OpenAnswer}
 use Rattle.cip_fwdopen.specs.declared.reply.OpenAnswer.TheVariants as answer
 use Rattle.cip_fwdopen.specs.Reply.{open_reply_reading}
-use Rattle.cip_router.specs.Asking.{AskedFields, nothing, refused, closing, assembly, opening, asked_reading}
+use Rattle.cip_router.specs.Requests.{RouterRequestFields, nothing, refused, closing, assembly, opening, router_request_reading}
 use Rattle.scanner_table.specs.declared.slot.SlotState.{SlotState}
 use Rattle.scanner_table.specs.declared.slot.SlotState.TheVariants.{Idle, Opening, Established, TimedOut, Closing}
-use Rattle.scanner_table.specs.Replies.{reply_told}
-use Rattle.scanner_table.specs.Slots.{places}
+use Rattle.scanner_table.specs.Replies.{reply_answer}
+use Rattle.scanner_table.specs.Slots.{indexed_slots}
 use Rattle.cip_tables.specs.declared.table.DeviceTable.{DeviceTable}
 use Rattle.cip_tables.specs.declared.table.DeviceTable.TheVariants.{Adapter, Scanner}
-use Rattle.stream_queues.specs.Streams.{Item, Opening as Opens, Queued, Ending, Stream}
-use Rattle.carried_ids.specs.Ids.{AskedIds, ToldIds, PacketIds, MessageIds, FrameIds, ReadId, DatagramId, RowIds, EventIds, WantedId, StateIds}
-use Rattle.carried_ids.specs.Carrying.{Passes, PlaceIds, TableIds}
+use Rattle.stream_queues.specs.Streams.{QueueItem, Opening as Opens, Queued, Ending, Stream}
+use Rattle.device_laws.specs.Ids.{RequestIds, ReplyIds, PacketIds, MessageIds, FrameIds, ReadId, DatagramId, RowIds, EventIds, RequestedId, StateIds}
+use Rattle.device_laws.specs.Carrying.{Passes, SlotIds, TableIds}
 use Rattle.schedule_laws.specs.Ids.{ItemHolds, StreamHolds, StreamsHold}
 use Rattle.schedule_laws.proofs.Lists.{all_more}
 use Rattle.schedule_laws.proofs.Moves.{EventHolds}
@@ -34,23 +34,23 @@ use Rattle.schedule_laws.proofs.Moves.{EventHolds}
 abbrev pub More : (P Q : ℕ → Type 0) → Type 0
 More P Q = (id : ℕ) → P id → Q id
 
-asked_more : (P Q : ℕ → Type 0) → More P Q → (asked : AskedFields) → AskedIds P asked → AskedIds Q asked
-asked_more P Q more nothing ids = tt
-asked_more P Q more (refused service why) ids = tt
-asked_more P Q more (closing request) ids = tt
-asked_more P Q more (assembly service instance attribute body) ids = tt
-asked_more P Q more (opening large request) ids = more _ ids
+request_more : (P Q : ℕ → Type 0) → More P Q → (asked : RouterRequestFields) → RequestIds P asked → RequestIds Q asked
+request_more P Q more nothing ids = tt
+request_more P Q more (refused service why) ids = tt
+request_more P Q more (closing request) ids = tt
+request_more P Q more (assembly service instance attribute body) ids = tt
+request_more P Q more (opening large request) ids = more _ ids
 
-told_more : (P Q : ℕ → Type 0) → More P Q → (told : Result OpenAnswer Reason) → ToldIds P told → ToldIds Q told
-told_more P Q more (Err why) ids = tt
-told_more P Q more (Ok (answer.Refused r)) ids = tt
-told_more P Q more (Ok (answer.Opened o)) ids = (more _ ids.0, more _ ids.1)
+reported_more : (P Q : ℕ → Type 0) → More P Q → (reported : Result OpenAnswer Reason) → ReplyIds P reported → ReplyIds Q reported
+reported_more P Q more (Err why) ids = tt
+reported_more P Q more (Ok (answer.Refused r)) ids = tt
+reported_more P Q more (Ok (answer.Opened o)) ids = (more _ ids.0, more _ ids.1)
 
 packet_more : (P Q : ℕ → Type 0) → More P Q → (reading : Result PacketFields ItemFault) → PacketIds P reading → PacketIds Q reading
 packet_more P Q more (Err fault) ids = tt
 packet_more P Q more (Ok packet) ids = record {
-  asked = asked_more P Q more (asked_reading packet.payload) ids.asked;
-  told = λ large. told_more P Q more (reply_told large (open_reply_reading packet.payload)) (ids.told large);
+  asked = request_more P Q more (router_request_reading packet.payload) ids.asked;
+  reported = λ large. reported_more P Q more (reply_answer large (open_reply_reading packet.payload)) (ids.reported large);
 }
 
 message_more : (P Q : ℕ → Type 0) → More P Q → (reading : Result MessageFields EncapFault) → MessageIds P reading → MessageIds Q reading
@@ -69,13 +69,13 @@ datagram_more P Q more bytes id = read_more P Q more (datagram_reading bytes) id
 
 -- ---- tables
 
-wanted_more : (P Q : ℕ → Type 0) → More P Q → (wanted : Option ConnId) → WantedId P wanted → WantedId Q wanted
-wanted_more P Q more None id = tt
-wanted_more P Q more (Some wanted) id = more _ id
+requested_more : (P Q : ℕ → Type 0) → More P Q → (requested : Option ConnId) → RequestedId P requested → RequestedId Q requested
+requested_more P Q more None id = tt
+requested_more P Q more (Some requested) id = more _ id
 
 state_more : (P Q : ℕ → Type 0) → More P Q → (state : SlotState) → StateIds P state → StateIds Q state
 state_more P Q more Idle ids = tt
-state_more P Q more (Opening o) ids = wanted_more P Q more o.wanted.t_o_id ids
+state_more P Q more (Opening o) ids = requested_more P Q more o.requested.t_o_id ids
 state_more P Q more (Established c) ids = (more _ ids.0, more _ ids.1)
 state_more P Q more (TimedOut link) ids = (more _ ids.0, more _ ids.1)
 state_more P Q more (Closing c) ids = (more _ ids.0, more _ ids.1)
@@ -83,11 +83,11 @@ state_more P Q more (Closing c) ids = (more _ ids.0, more _ ids.1)
 pub table_more : (p q openings : ℕ → Bool) → More (Passes p) (Passes q) → (t : DeviceTable) → TableIds p openings t → TableIds q openings t
 table_more p q openings more (Adapter t) ids =
     all_more (RowIds (Passes p) (Passes openings)) (RowIds (Passes q) (Passes openings)) (λ row holds. record { o_t = more _ holds.o_t; t_o = more _ holds.t_o; opening = holds.opening }) t.rows ids
-table_more p q openings more (Scanner t) ids = all_more (PlaceIds (Passes p)) (PlaceIds (Passes q)) (λ place holds. state_more (Passes p) (Passes q) more place.slot.state holds) (places t) ids
+table_more p q openings more (Scanner t) ids = all_more (SlotIds (Passes p)) (SlotIds (Passes q)) (λ indexed holds. state_more (Passes p) (Passes q) more indexed.slot.state holds) (indexed_slots t) ids
 
 -- ---- streams and events
 
-item_more : (P Q : List ℕ → Type 0) → ((bytes : List ℕ) → P bytes → Q bytes) → (item : Item) → ItemHolds P item → ItemHolds Q item
+item_more : (P Q : List ℕ → Type 0) → ((bytes : List ℕ) → P bytes → Q bytes) → (item : QueueItem) → ItemHolds P item → ItemHolds Q item
 item_more P Q more Opens holds = tt
 item_more P Q more (Queued bytes) holds = more bytes holds
 item_more P Q more Ending holds = tt

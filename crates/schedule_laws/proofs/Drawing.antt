@@ -5,7 +5,7 @@ use Rattle.std.specs.List.{AllByRecursion}
 use Rattle.cip_types.specs.declared.names.Node.{Node}
 use Rattle.cip_events.specs.declared.event.Answer.{Answer}
 use Rattle.cip_events.specs.declared.event.Event.{Event}
-use Rattle.cip_events.specs.declared.event.Sending.{Sending}
+use Rattle.cip_events.specs.declared.event.OutgoingDatagram.{OutgoingDatagram}
 use Rattle.cip_events.specs.declared.event.StepFault.{StepFault}
 use Rattle.adapter_table.specs.declared.profile.Profile.{Profile}
 use Rattle.adapter_table.specs.declared.table.AdapterTable.{AdapterTable}
@@ -25,10 +25,10 @@ use Rattle.cip_tables.specs.Sound.{StepsCountOn}
 use Rattle.cip_tables.specs.Whole.{IsWholeDevice, next_id_of, RunsKeepWhole}
 use Rattle.segment_world.specs.declared.act.Act.{Act}
 use Rattle.segment_world.specs.declared.act.ActFault.{ActFault}
-use Rattle.segment_world.specs.World.{World, Told, Happened, node_at, sent_by, happens}
+use Rattle.segment_world.specs.World.{World, ReportedEvent, Happened, node_at, sent_by, happens}
 use Rattle.segment_world.specs.Story.{Story, goes_on, runs}
-use Rattle.carried_ids.specs.Ids.{FrameIds, HasDatagramId}
-use Rattle.carried_ids.specs.Carrying.{Passes, TableIds, StepsCarryIds}
+use Rattle.device_laws.specs.Ids.{FrameIds, HasDatagramId}
+use Rattle.device_laws.specs.Carrying.{Passes, TableIds, StepsCarryIds}
 use Rattle.schedule_laws.specs.Ids.{is_drawn, AreApart, StreamsHold, SentHolds, IdsAreDrawn, SchedulesKeepIdsDrawn}
 use Rattle.schedule_laws.proofs.Lists.{all_both, all_more}
 use Rattle.schedule_laws.proofs.Moves.{answered_holds, Came, Rests, Moves, act_moves, runs_keep}
@@ -99,61 +99,61 @@ whole_room (Scanner u) whole = whole.table.ids
 
 -- ---- an event
 
-sent_more : (node : Node) (P : ℕ → Type 0) (datagrams : List Sending) → AllByRecursion (HasDatagramId P) datagrams → AllByRecursion (SentHolds P) (map (sent_by node) datagrams)
+sent_more : (node : Node) (P : ℕ → Type 0) (datagrams : List OutgoingDatagram) → AllByRecursion (HasDatagramId P) datagrams → AllByRecursion (SentHolds P) (map (sent_by node) datagrams)
 sent_more node P [] ids = tt
-sent_more node P (sending ∷ datagrams) ids = (ids.0, sent_more node P datagrams ids.1)
+sent_more node P (outgoing ∷ datagrams) ids = (ids.0, sent_more node P datagrams ids.1)
 
-came_drawn : StepLaws → (q : Openings) (w new : World) (told : Told) → Drawn q w → Came (FrameIds (Passes (is_drawn w.tables))) w told new → Drawn q new
-came_drawn laws q w new told drawn came =
-    let d = told.device in
+came_drawn : StepLaws → (q : Openings) (w new : World) (reported : ReportedEvent) → Drawn q w → Came (FrameIds (Passes (is_drawn w.tables))) w reported new → Drawn q new
+came_drawn laws q w new reported drawn came =
+    let d = reported.device in
     let t = came.before in
     let u = came.after in
     let at = came.is in
-    let same = step_same laws came.before told.event told.answer came.after came.stepped in
-    let counts = laws.counts came.before told.event (told.answer, came.after) came.stepped in
-    let whole_t = drawn.whole told.device came.before at in
-    let whole_u = laws.whole came.before came.after (told.event ∷ []) (Ok told.answer ∷ []) whole_t (came.after, came.stepped, refl) in
-    let tables = set w.tables told.device came.after in
-    let now = Passes (is_drawn (set w.tables told.device came.after)) in
+    let same = step_same laws came.before reported.event reported.answer came.after came.stepped in
+    let counts = laws.counts came.before reported.event (reported.answer, came.after) came.stepped in
+    let whole_t = drawn.whole reported.device came.before at in
+    let whole_u = laws.whole came.before came.after (reported.event ∷ []) (Ok reported.answer ∷ []) whole_t (came.after, came.stepped, refl) in
+    let tables = set w.tables reported.device came.after in
+    let now = Passes (is_drawn (set w.tables reported.device came.after)) in
     let more : More (Passes (is_drawn w.tables)) now = λ id passes.
     let parts = drawn_parts w.tables id passes in
-    parts_drawn tables id parts.0 (any_set id w.tables told.device came.before came.after at same counts parts.1) in
+    parts_drawn tables id parts.0 (any_set id w.tables reported.device came.before came.after at same counts parts.1) in
     let begins : (e : ℕ) (x : DeviceTable) → slice_get tables e ≡ Some x → 1 ≤ incarnation_of x = λ e x there.
-    elim (set_cases w.tables told.device e came.before came.after x at there) [
-      | inl own ↦ subst (λ (y : DeviceTable). 1 ≤ incarnation_of y) (sym own.1) (let i = drawn.apart.begins told.device came.before at in omega (arith, i, same))
+    elim (set_cases w.tables reported.device e came.before came.after x at there) [
+      | inl own ↦ subst (λ (y : DeviceTable). 1 ≤ incarnation_of y) (sym own.1) (let i = drawn.apart.begins reported.device came.before at in omega (arith, i, same))
       | inr other ↦ drawn.apart.begins e x other.1
     ] in
-    let done = laws.carry (is_drawn tables) (q told.device) came.before told.event told.answer came.after came.stepped whole_t
+    let done = laws.carry (is_drawn tables) (q reported.device) came.before reported.event reported.answer came.after came.stepped whole_t
     (λ id passes. (drawn_parts tables id passes).0) (zero_drawn tables begins)
-    (λ counter from below. now_drawn w.tables told.device came.before came.after counter drawn.apart at same below (whole_room came.after whole_u))
-    (λ n from below. drawn.opens told.device came.before at n from)
-    (event_more (Passes (is_drawn w.tables)) now more told.event came.event)
-    (table_more (is_drawn w.tables) (is_drawn tables) (q told.device) more came.before (drawn.tables told.device came.before at)) in
+    (λ counter from below. now_drawn w.tables reported.device came.before came.after counter drawn.apart at same below (whole_room came.after whole_u))
+    (λ n from below. drawn.opens reported.device came.before at n from)
+    (event_more (Passes (is_drawn w.tables)) now more reported.event came.event)
+    (table_more (is_drawn w.tables) (is_drawn tables) (q reported.device) more came.before (drawn.tables reported.device came.before at)) in
     subst (Drawn q) (sym came.leaves) (record {
-      whole = λ e x there. elim (set_cases w.tables told.device e came.before came.after x at there) [
+      whole = λ e x there. elim (set_cases w.tables reported.device e came.before came.after x at there) [
         | inl own ↦ subst IsWholeDevice (sym own.1) whole_u
         | inr other ↦ drawn.whole e x other.1
       ];
       apart = record {
         begins = begins;
-        ends = λ e x there. elim (set_cases w.tables told.device e came.before came.after x at there) [
-          | inl own ↦ subst (λ (y : DeviceTable). incarnation_of y ≤ 255) (sym own.1) (let i = drawn.apart.ends told.device came.before at in omega (arith, i, same))
+        ends = λ e x there. elim (set_cases w.tables reported.device e came.before came.after x at there) [
+          | inl own ↦ subst (λ (y : DeviceTable). incarnation_of y ≤ 255) (sym own.1) (let i = drawn.apart.ends reported.device came.before at in omega (arith, i, same))
           | inr other ↦ drawn.apart.ends e x other.1
         ];
-        differ = λ a b x y at_a at_b equal. differ_set laws drawn.apart w told.device came.before came.after at same a b x y at_a at_b equal;
+        differ = λ a b x y at_a at_b equal. differ_set laws drawn.apart w reported.device came.before came.after at same a b x y at_a at_b equal;
       };
-      tables = λ e x there. elim (set_cases w.tables told.device e came.before came.after x at there) [
-        | inl own ↦ subst (λ (n : ℕ). TableIds (is_drawn tables) (q n) x) (sym own.0) (subst (TableIds (is_drawn tables) (q told.device)) (sym own.1) done.0)
+      tables = λ e x there. elim (set_cases w.tables reported.device e came.before came.after x at there) [
+        | inl own ↦ subst (λ (n : ℕ). TableIds (is_drawn tables) (q n) x) (sym own.0) (subst (TableIds (is_drawn tables) (q reported.device)) (sym own.1) done.0)
         | inr other ↦ table_more (is_drawn w.tables) (is_drawn tables) (q e) more x (drawn.tables e x other.1)
       ];
-      opens = λ e x there. elim (set_cases w.tables told.device e came.before came.after x at there) [
-        | inl own ↦ λ n from. subst (λ (k : ℕ). q k n ≡ true) (sym own.0) (drawn.opens told.device came.before at n (let e2 = ap next_id_of own.1 in omega (arith, counts, from, e2)))
+      opens = λ e x there. elim (set_cases w.tables reported.device e came.before came.after x at there) [
+        | inl own ↦ λ n from. subst (λ (k : ℕ). q k n ≡ true) (sym own.0) (drawn.opens reported.device came.before at n (let e2 = ap next_id_of own.1 in omega (arith, counts, from, e2)))
         | inr other ↦ drawn.opens e x other.1
       ];
-      sent = all_both (SentHolds now) w.sent (map (sent_by (node_at w told.device)) told.answer.datagrams)
+      sent = all_both (SentHolds now) w.sent (map (sent_by (node_at w reported.device)) reported.answer.datagrams)
           (all_more (SentHolds (Passes (is_drawn w.tables))) (SentHolds now) (λ s id. datagram_more (Passes (is_drawn w.tables)) now more s.bytes id) w.sent drawn.sent)
-          (sent_more (node_at w told.device) now told.answer.datagrams done.1.datagrams);
-      streams = answered_holds (FrameIds now) told.device told.answer came.streams done.1.frames
+          (sent_more (node_at w reported.device) now reported.answer.datagrams done.1.datagrams);
+      streams = answered_holds (FrameIds now) reported.device reported.answer came.streams done.1.frames
           (streams_more (FrameIds (Passes (is_drawn w.tables))) (FrameIds now) (frame_more (Passes (is_drawn w.tables)) now more) came.streams came.queued);
     })
   where
@@ -184,14 +184,14 @@ rests_drawn q w new drawn rests =
 
 -- ---- a schedule
 
-pub moved_drawn : StepLaws → (q : Openings) (w : World) (moved : Option Told × World) → Drawn q w → Moves (FrameIds (Passes (is_drawn w.tables))) w moved → Drawn q moved.1
+pub moved_drawn : StepLaws → (q : Openings) (w : World) (moved : Option ReportedEvent × World) → Drawn q w → Moves (FrameIds (Passes (is_drawn w.tables))) w moved → Drawn q moved.1
 moved_drawn laws q w (None, new) drawn rests = rests_drawn q w new drawn rests
-moved_drawn laws q w (Some told, new) drawn came = came_drawn laws q w new told drawn came
+moved_drawn laws q w (Some reported, new) drawn came = came_drawn laws q w new reported drawn came
 
 abbrev pub StoryDrawn : Openings → Story → Type 0
 StoryDrawn q story = Drawn q story.world
 
-act_drawn : StepLaws → (q : Openings) (story : Story) (said : Happened) → StoryDrawn q story → IfOk said (Moves (FrameIds (Passes (is_drawn story.world.tables))) story.world) → IfOk (goes_on story.told said) (StoryDrawn q)
+act_drawn : StepLaws → (q : Openings) (story : Story) (said : Happened) → StoryDrawn q story → IfOk said (Moves (FrameIds (Passes (is_drawn story.world.tables))) story.world) → IfOk (goes_on story.reported said) (StoryDrawn q)
 act_drawn laws q story (Err fault) drawn moves = tt
 act_drawn laws q story (Ok moved) drawn moves = moved_drawn laws q story.world moved drawn moves
 
@@ -210,4 +210,4 @@ drawn_all w is = record { whole = is.whole; apart = is.apart; tables = is.tables
 
 pub schedules_keep : StepLaws → SchedulesKeepIdsDrawn
 schedules_keep laws start acts story ran is =
-    drawn_all story.world (runs_drawn laws (λ device opening. true) (record { world = start; told = [] }) story acts ran (all_drawn start is))
+    drawn_all story.world (runs_drawn laws (λ device opening. true) (record { world = start; reported = [] }) story acts ran (all_drawn start is))

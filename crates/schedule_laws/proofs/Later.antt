@@ -26,10 +26,10 @@ use Rattle.cip_tables.specs.Whole.{IsWholeDevice, next_id_of}
 use Rattle.sent_log.specs.Log.{Sent}
 use Rattle.segment_world.specs.declared.act.Act.{Act}
 use Rattle.segment_world.specs.declared.act.ActFault.{ActFault}
-use Rattle.segment_world.specs.World.{World, Told, Happened, happens}
+use Rattle.segment_world.specs.World.{World, ReportedEvent, Happened, happens}
 use Rattle.segment_world.specs.Story.{Story, goes_on, runs}
-use Rattle.carried_ids.specs.Ids.{FrameIds, ReadId, RowIds}
-use Rattle.carried_ids.specs.Carrying.{Passes, TableIds}
+use Rattle.device_laws.specs.Ids.{FrameIds, ReadId, RowIds}
+use Rattle.device_laws.specs.Carrying.{Passes, TableIds}
 use Rattle.schedule_laws.specs.Ids.{is_to_come, is_drawn, any_opening, SentHolds, IdsAreDrawn, Moments, IdsToComeAreUnsent, LaterConnectionsAcceptNoneOfIt, LaterGroupsSentNoneOfIt}
 use Rattle.schedule_laws.proofs.Lists.{some_is}
 use Rattle.schedule_laws.proofs.Moves.{Moves, act_moves, runs_keep}
@@ -133,21 +133,21 @@ pub record Kept (R : DeviceTable → Type 0) (q : Openings) (device : ℕ) (stor
   pub drawn : Drawn q story.world
   pub holds : (t : DeviceTable) → slice_get story.world.tables device ≡ Some t → R t
 
-moved_kept : StepLaws → (R : DeviceTable → Type 0) → StepsKeepIt R → (q : Openings) (device : ℕ) (story : Story) (moved : Option Told × World) → Kept R q device story → Moves (FrameIds (Passes (is_drawn story.world.tables))) story.world moved → Drawn q moved.1 → (x : DeviceTable) → slice_get moved.1.tables device ≡ Some x → R x
+moved_kept : StepLaws → (R : DeviceTable → Type 0) → StepsKeepIt R → (q : Openings) (device : ℕ) (story : Story) (moved : Option ReportedEvent × World) → Kept R q device story → Moves (FrameIds (Passes (is_drawn story.world.tables))) story.world moved → Drawn q moved.1 → (x : DeviceTable) → slice_get moved.1.tables device ≡ Some x → R x
 moved_kept laws R keep q device story (None, new) kept rests drawn x there = kept.holds x (sym (ap (λ (l : List DeviceTable). slice_get l device) rests.tables) ∙ there)
-moved_kept laws R keep q device story (Some told, new) kept came drawn x there =
-    let tables : new.tables ≡ set story.world.tables told.device came.after = ap (λ (w : World). w.tables) came.leaves in
-    let now : slice_get (set story.world.tables told.device came.after) device ≡ Some x = sym (ap (λ (l : List DeviceTable). slice_get l device) tables) ∙ there in
-    elim (set_cases story.world.tables told.device device came.before came.after x came.is now) [
+moved_kept laws R keep q device story (Some reported, new) kept came drawn x there =
+    let tables : new.tables ≡ set story.world.tables reported.device came.after = ap (λ (w : World). w.tables) came.leaves in
+    let now : slice_get (set story.world.tables reported.device came.after) device ≡ Some x = sym (ap (λ (l : List DeviceTable). slice_get l device) tables) ∙ there in
+    elim (set_cases story.world.tables reported.device device came.before came.after x came.is now) [
       | inl own ↦
           let before = kept.holds came.before (ap (slice_get story.world.tables) own.0 ∙ came.is) in
-          let whole = kept.drawn.whole told.device came.before came.is in
+          let whole = kept.drawn.whole reported.device came.before came.is in
           let whole_x = drawn.whole device x there in
-          subst R (sym own.1) (keep came.before told.event told.answer came.after came.stepped whole (subst IsWholeDevice own.1 whole_x) before)
+          subst R (sym own.1) (keep came.before reported.event reported.answer came.after came.stepped whole (subst IsWholeDevice own.1 whole_x) before)
       | inr other ↦ kept.holds x other.1
     ]
 
-act_kept : StepLaws → (R : DeviceTable → Type 0) → StepsKeepIt R → (q : Openings) (device : ℕ) (story : Story) (said : Happened) → Kept R q device story → IfOk said (Moves (FrameIds (Passes (is_drawn story.world.tables))) story.world) → IfOk (goes_on story.told said) (Kept R q device)
+act_kept : StepLaws → (R : DeviceTable → Type 0) → StepsKeepIt R → (q : Openings) (device : ℕ) (story : Story) (said : Happened) → Kept R q device story → IfOk said (Moves (FrameIds (Passes (is_drawn story.world.tables))) story.world) → IfOk (goes_on story.reported said) (Kept R q device)
 act_kept laws R keep q device story (Err fault) kept moves = tt
 act_kept laws R keep q device story (Ok moved) kept moves =
     let drawn = moved_drawn laws q story.world moved kept.drawn moves in
@@ -171,7 +171,7 @@ byte_kept laws q device t u was now acts ran drawn at_was at_now =
 
 -- as an earlier moment it has what the start has
 pub at_moment : StepLaws → (start : World) (was now : Story) → IdsAreDrawn start → Moments start was now → Drawn (λ device opening. true) was.world
-at_moment laws start was now ids moments = runs_drawn laws (λ device opening. true) (record { world = start; told = [] }) was moments.early moments.first (all_drawn start ids)
+at_moment laws start was now ids moments = runs_drawn laws (λ device opening. true) (record { world = start; reported = [] }) was moments.early moments.first (all_drawn start ids)
 
 own_from : (device : ℕ) (t : AdapterTable) (n : ℕ) → t.next_id ≤ n → known_from device t device n ≡ true
 own_from device t n from = ap (λ (b : Bool). known_if t n b) (equal_is device) ∙ ap (λ (b : Bool). b || list_any (was_opened_as n) t.rows) (is_le t.next_id n from)

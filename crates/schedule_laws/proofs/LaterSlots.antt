@@ -19,7 +19,7 @@ use Rattle.scanner_table.specs.declared.table.ScannerTable.{ScannerTable}
 use Rattle.scanner_table.specs.Datagrams.{is_for}
 use Rattle.scanner_table.specs.Effects.{Next as ScannerNext}
 use Rattle.scanner_table.specs.Replies.{state_consumes}
-use Rattle.scanner_table.specs.Slots.{Place, places_from, places, is_with}
+use Rattle.scanner_table.specs.Slots.{IndexedSlot, indexed_from, indexed_slots, is_with}
 use Rattle.scanner_table.specs.Step.{scanner_step}
 use Rattle.scanner_table.specs.Whole.{FitsState, SlotsFit}
 use Rattle.cip_tables.specs.declared.table.DeviceTable.{DeviceTable}
@@ -31,12 +31,12 @@ use Rattle.adapter_table.specs.Step.{adapter_step}
 use Rattle.cip_tables.specs.Step.{DeviceNext, as_adapter, as_scanner, step}
 use Rattle.cip_tables.specs.Whole.{IsWholeDevice, next_id_of, RunsKeepWhole}
 use Rattle.segment_world.specs.Story.{is_of}
-use Rattle.carried_ids.specs.Carrying.{IsFrom, StateFrom, PlaceFrom, SlotsFrom, StepsKeepFrom, RepliesEstablish}
+use Rattle.device_laws.specs.Carrying.{IsFrom, StateFrom, SlotFrom, SlotsFrom, StepsKeepFrom, RepliesEstablish}
 use Rattle.schedule_laws.specs.Stories.{led_by, led_to}
 use Rattle.schedule_laws.specs.Ids.{LaterSlotsTakeNoneOfIt, RepliesEstablishTheirOwn}
 use Rattle.schedule_laws.proofs.Lists.{some_is}
 use Rattle.schedule_laws.proofs.Tests.{false_unless}
-use Rattle.schedule_laws.proofs.Telling.{Answers, AnswersIf, Tells, led_both, tells_rest, tells_first, is_run, outcomes_of, same_place, story_leads}
+use Rattle.schedule_laws.proofs.Reporting.{Answers, AnswersIf, Reports, led_both, reports_rest, reports_first, is_run, outcomes_of, same_slot, story_leads}
 use Rattle.schedule_laws.proofs.Drawing.{StepLaws}
 use Rattle.schedule_laws.proofs.Later.{all_contains, unsent, StepsKeepIt, runs_kept, at_moment}
 
@@ -69,18 +69,18 @@ device_stepped u v happens a is = stepped_so a v (scanner_step u happens) is
 
 -- ---- slots that are opened later
 
-fits_from : (profile : ScannerProfile) (request first clock n : ℕ) (configs : List SlotConfig) (slots : List Slot) → SlotsFit request clock configs slots → AllByRecursion (PlaceFrom profile request first) (places_from n configs slots)
+fits_from : (profile : ScannerProfile) (request first clock n : ℕ) (configs : List SlotConfig) (slots : List Slot) → SlotsFit request clock configs slots → AllByRecursion (SlotFrom profile request first) (indexed_from n configs slots)
 fits_from profile request first clock n [] slots fit = tt
 fits_from profile request first clock n (config ∷ configs) [] fit = tt
 fits_from profile request first clock n (config ∷ configs) (slot ∷ slots) fit =
-    (λ single. state_from profile request first clock slot.wanted slot.state fit.0.state, fits_from profile request first clock (suc n) configs slots fit.1)
+    (λ single. state_from profile request first clock slot.desired_up slot.state fit.0.state, fits_from profile request first clock (suc n) configs slots fit.1)
   where
-    state_from : (profile : ScannerProfile) (request first clock : ℕ) (wanted : Bool) (state : SlotState) → FitsState request clock wanted state → StateFrom profile request first state
-    state_from profile request first clock wanted Idle is = tt
-    state_from profile request first clock wanted (Opening o) is = λ over. absurd (let below = is.1 in omega (arith, below, over))
-    state_from profile request first clock wanted (Established c) is = λ over. absurd (let below = is.1.opening in omega (arith, below, over))
-    state_from profile request first clock wanted (TimedOut link) is = tt
-    state_from profile request first clock wanted (Closing c) is = tt
+    state_from : (profile : ScannerProfile) (request first clock : ℕ) (desired_up : Bool) (state : SlotState) → FitsState request clock desired_up state → StateFrom profile request first state
+    state_from profile request first clock desired_up Idle is = tt
+    state_from profile request first clock desired_up (Opening o) is = λ over. absurd (let below = is.1 in omega (arith, below, over))
+    state_from profile request first clock desired_up (Established c) is = λ over. absurd (let below = is.1.opening in omega (arith, below, over))
+    state_from profile request first clock desired_up (TimedOut link) is = tt
+    state_from profile request first clock desired_up (Closing c) is = tt
 
 -- what a scanner keeps from the moment on
 abbrev GoesOn : ScannerProfile → ℕ → ℕ → DeviceTable → Type 0
@@ -115,29 +115,29 @@ goes_device laws keeps profile request first (Adapter t) happens a (Adapter u) i
 goes_device laws keeps profile request first (Scanner t) happens a (Adapter u) is whole whole_u goes = tt
 goes_device laws keeps profile request first (Adapter t) happens a (Scanner u) is whole whole_u goes = absurd (stays_adapter t u happens a is)
 
-takes_none : (peer : Node) (id : ℕ) (place : Place) (c : Connection) → place.slot.state ≡ Established c → id ≢ c.link.t_o_id.0 → is_for peer id place ≡ false
-takes_none peer id place c is other =
-    false_unless (is_for peer id place) (λ takes.
-    let parts = and_parts (is_with peer place) (state_consumes (record { 0 = id }) place.slot.state) takes in
+takes_none : (peer : Node) (id : ℕ) (indexed : IndexedSlot) (c : Connection) → indexed.slot.state ≡ Established c → id ≢ c.link.t_o_id.0 → is_for peer id indexed ≡ false
+takes_none peer id indexed c is other =
+    false_unless (is_for peer id indexed) (λ takes.
+    let parts = and_parts (is_with peer indexed) (state_consumes (record { 0 = id }) indexed.slot.state) takes in
     let consumes : (c.link.t_o_id.0 == id) ≡ true = sym (ap (state_consumes (record { 0 = id })) is) ∙ parts.1 in
-    other (sym (same_place c.link.t_o_id.0 id consumes)))
+    other (sym (same_slot c.link.t_o_id.0 id consumes)))
 
-established_from : (profile : ScannerProfile) (request first : ℕ) (place : Place) (c : Connection) → PlaceFrom profile request first place → place.config.multicast ≡ false → place.slot.state ≡ Established c → request ≤ c.opening → IsFrom profile first c.link.t_o_id
-established_from profile request first place c from single is over = (subst (StateFrom profile request first) is (from single)) over
+established_from : (profile : ScannerProfile) (request first : ℕ) (indexed : IndexedSlot) (c : Connection) → SlotFrom profile request first indexed → indexed.config.multicast ≡ false → indexed.slot.state ≡ Established c → request ≤ c.opening → IsFrom profile first c.link.t_o_id
+established_from profile request first indexed c from single is over = (subst (StateFrom profile request first) is (from single)) over
 
 pub later_slots : StepLaws → StepsKeepFrom → LaterSlotsTakeNoneOfIt
-later_slots laws keeps start was now device t u place c s d ids moments at_was at_now among single is over there reads =
+later_slots laws keeps start was now device t u indexed c s d ids moments at_was at_now among single is over there reads =
     let drawn = at_moment laws start was now ids moments in
     let whole = drawn.whole device (Scanner t) at_was in
     let first : GoesOn t.profile t.next_request t.next_id (Scanner t) = (refl, omega arith, fits_from t.profile t.next_request t.next_id t.clock.0 0 t.profile.slots t.slots whole.table.slots) in
     let kept = runs_kept laws (GoesOn t.profile t.next_request t.next_id) (goes_device laws keeps t.profile t.next_request t.next_id) (λ e o. true) device was now moments.late moments.rest
     (record { drawn = drawn; holds = λ x at. subst (GoesOn t.profile t.next_request t.next_id) (some_is (Scanner t) x (sym at_was ∙ at)) first }) in
     let goes = kept.holds (Scanner u) at_now in
-    let from = established_from t.profile t.next_request t.next_id place c (all_contains (PlaceFrom t.profile t.next_request t.next_id) (places u) place goes.2 among) single is over in
+    let from = established_from t.profile t.next_request t.next_id indexed c (all_contains (SlotFrom t.profile t.next_request t.next_id) (indexed_slots u) indexed goes.2 among) single is over in
     let value : c.link.t_o_id.0 ≡ t.profile.incarnation * 2 ^ 24 + from.counter = ap (λ (i : ConnId). i.0) from.is in
     let begins = from.begins in
     let ends = from.ends in
-    takes_none s.from d.connection place c is (λ same. unsent was.world device (Scanner t) from.counter s d drawn.sent at_was begins (omega (arith, ends)) there reads (omega (arith, same, value)))
+    takes_none s.from d.connection indexed c is (λ same. unsent was.world device (Scanner t) from.counter s d drawn.sent at_was begins (omega (arith, ends)) there reads (omega (arith, same, value)))
 
 -- ---- replies
 
@@ -145,17 +145,17 @@ same_is : (a b : ℕ) → a ≡ b → (a == b) ≡ true
 same_is a b is = grind (arith, nat_tests)
 
 pub replies_establish_their_own : RunsKeepWhole → RepliesEstablish → RepliesEstablishTheirOwn
-replies_establish_their_own runs_whole law start acts story device t u v before after told ran at whole parts own there then_there =
+replies_establish_their_own runs_whole law start acts story device t u v before after reported ran at whole parts own there then_there =
     let leads = story_leads start acts story device t ran at in
-    let tells : Tells t device (before ++ told ∷ after) = subst (Tells t device) parts leads.tells in
-    let rest = tells_rest t device before (told ∷ after) tells in
-    let mine : is_of device told ≡ true = same_is told.device device own in
-    let answers : Answers (led_to t device before) told = subst (λ (b : Bool). AnswersIf b (led_to t device before) told) mine rest.0 in
-    let stepped : step (Scanner u) told.event ≡ Ok (told.answer, answers.next) = subst (λ (x : DeviceTable). step x told.event ≡ Ok (told.answer, answers.next)) there answers.is in
-    let left : led_to t device (before ++ told ∷ []) ≡ answers.next =
-    led_both t device before (told ∷ []) ∙ ap (λ (c : Bool). led_by c (led_to t device before) told) mine ∙ ap (table_of (led_to t device before)) answers.is in
+    let reports : Reports t device (before ++ reported ∷ after) = subst (Reports t device) parts leads.reports in
+    let rest = reports_rest t device before (reported ∷ after) reports in
+    let mine : is_of device reported ≡ true = same_is reported.device device own in
+    let answers : Answers (led_to t device before) reported = subst (λ (b : Bool). AnswersIf b (led_to t device before) reported) mine rest.0 in
+    let stepped : step (Scanner u) reported.event ≡ Ok (reported.answer, answers.next) = subst (λ (x : DeviceTable). step x reported.event ≡ Ok (reported.answer, answers.next)) there answers.is in
+    let left : led_to t device (before ++ reported ∷ []) ≡ answers.next =
+    led_both t device before (reported ∷ []) ∙ ap (λ (c : Bool). led_by c (led_to t device before) reported) mine ∙ ap (table_of (led_to t device before)) answers.is in
     let next : answers.next ≡ Scanner v = sym left ∙ then_there in
-    let so : step (Scanner u) told.event ≡ Ok (told.answer, Scanner v) = subst (λ (x : DeviceTable). step (Scanner u) told.event ≡ Ok (told.answer, x)) next stepped in
-    let run = is_run t device before (tells_first t device before (told ∷ after) tells) in
+    let so : step (Scanner u) reported.event ≡ Ok (reported.answer, Scanner v) = subst (λ (x : DeviceTable). step (Scanner u) reported.event ≡ Ok (reported.answer, x)) next stepped in
+    let run = is_run t device before (reports_first t device before (reported ∷ after) reports) in
     let whole_u : IsWholeDevice (Scanner u) = subst IsWholeDevice there (runs_whole t (led_to t device before) _ (outcomes_of device before) whole run) in
-    law u told.event told.answer v (device_stepped u v told.event told.answer so) whole_u
+    law u reported.event reported.answer v (device_stepped u v reported.event reported.answer so) whole_u

@@ -1,6 +1,6 @@
 pub mod Lists
 pub mod Moves
-pub mod Telling
+pub mod Reporting
 pub mod Openings
 pub mod OwnersFollowing
 pub mod Carrying

@@ -17,14 +17,14 @@ use Rattle.cip_tables.specs.Step.{DeviceNext, step}
 use Rattle.sent_log.specs.Log.{Sent}
 use Rattle.stream_queues.specs.declared.direction.Direction.{Direction}
 use Rattle.stream_queues.specs.declared.direction.Direction.TheVariants.{Forth, Back}
-use Rattle.stream_queues.specs.Streams.{Item, Opening, Queued, Ending, Side, Stream, side_of, taker, giver, way_from, changed, with_stream, queued, sent_so, sent_over, frame_sent, frames_sent, ended_side, cut_stream, closed_so, closed_by, notice_told, notices_told, answered, without_first, taken_from, fresh_stream}
+use Rattle.stream_queues.specs.Streams.{QueueItem, Opening, Queued, Ending, Side, Stream, side_of, receiver, sender, way_from, changed, with_stream, queued, sent_so, sent_over, frame_sent, frames_sent, ended_side, cut_stream, closed_so, closed_by, notice_applied, notices_applied, answered, without_first, taken_from, fresh_stream}
 use Rattle.segment_world.specs.declared.act.Act.{Act}
 use Rattle.segment_world.specs.declared.act.Act.TheVariants.{Local, Deliver, NextFrame, OpenStream, CutStream}
 use Rattle.segment_world.specs.declared.act.Call.{Call}
 use Rattle.segment_world.specs.declared.act.Call.TheVariants as call
 use Rattle.segment_world.specs.declared.act.ActFault.{ActFault}
-use Rattle.segment_world.specs.World.{World, Told, spread, comes, comes_to, comes_so, event_of_call, delivered, event_of_item, node_at, taken, taken_at, are_two, opened_if, cut_if, cut_at, happens}
-use Rattle.segment_world.specs.Story.{Story, goes_on, tells, runs}
+use Rattle.segment_world.specs.World.{World, ReportedEvent, fan_out, comes, comes_to, comes_so, event_of_call, delivered, event_of_item, node_at, taken, taken_at, are_two, opened_if, cut_if, cut_at, happens}
+use Rattle.segment_world.specs.Story.{Story, goes_on, reports, runs}
 use Rattle.schedule_laws.specs.Ids.{ItemHolds, SideHolds, StreamHolds, StreamsHold}
 use Rattle.schedule_laws.proofs.Lists.{all_both, all_set, all_get}
 
@@ -38,7 +38,7 @@ changed_holds Q change keeps streams n (Some s) is all =
 pub with_stream_holds : (Q : List ℕ → Type 0) (change : Stream → Stream) → ((s : Stream) → StreamHolds Q s → StreamHolds Q (change s)) → (n : ℕ) (streams : List Stream) → StreamsHold Q streams → StreamsHold Q (with_stream change n streams)
 with_stream_holds Q change keeps n streams all = changed_holds Q change keeps streams n (slice_get streams n) refl all
 
-first_taken : (Q : List ℕ → Type 0) (side : Side) (queue : List Item) → side.queue ≡ queue → AllByRecursion (ItemHolds Q) queue → SideHolds Q (without_first side queue)
+first_taken : (Q : List ℕ → Type 0) (side : Side) (queue : List QueueItem) → side.queue ≡ queue → AllByRecursion (ItemHolds Q) queue → SideHolds Q (without_first side queue)
 first_taken Q side [] is all = rw is tt
 first_taken Q side (item ∷ rest) is all = all.1
 
@@ -87,7 +87,7 @@ closed_so_holds Q s None all = all
 closed_so_holds Q s (Some Forth) all = record { forth = ended_holds Q s.forth; back = tt }
 closed_so_holds Q s (Some Back) all = record { forth = tt; back = ended_holds Q s.back }
 
-notice_holds : (Q : List ℕ → Type 0) (device : ℕ) (streams : List Stream) (told : Notice) → StreamsHold Q streams → StreamsHold Q (notice_told device streams told)
+notice_holds : (Q : List ℕ → Type 0) (device : ℕ) (streams : List Stream) (reported : Notice) → StreamsHold Q streams → StreamsHold Q (notice_applied device streams reported)
 notice_holds Q device streams (notice.StreamClosed n) all = with_stream_holds Q (closed_by device) (λ s is. closed_so_holds Q s (way_from device s) is) n streams all
 notice_holds Q device streams (notice.Opened triad id) all = all
 notice_holds Q device streams (notice.Closed triad) all = all
@@ -98,10 +98,10 @@ notice_holds Q device streams (notice.Slot slot state) all = all
 notice_holds Q device streams (notice.Refused slot reason) all = all
 notice_holds Q device streams (notice.NoIds slot) all = all
 
-notices_hold : (Q : List ℕ → Type 0) (device : ℕ) (streams : List Stream) (notices : List Notice) → StreamsHold Q streams → StreamsHold Q (notices_told device streams notices)
-unfolding notices_told
+notices_hold : (Q : List ℕ → Type 0) (device : ℕ) (streams : List Stream) (notices : List Notice) → StreamsHold Q streams → StreamsHold Q (notices_applied device streams notices)
+unfolding notices_applied
 notices_hold Q device streams [] all = all
-notices_hold Q device streams (told ∷ notices) all = notices_hold Q device (notice_told device streams told) notices (notice_holds Q device streams told all)
+notices_hold Q device streams (reported ∷ notices) all = notices_hold Q device (notice_applied device streams reported) notices (notice_holds Q device streams reported all)
 
 -- it holds of what waits after an answer, where it holds of the answer's frames
 pub answered_holds : (Q : List ℕ → Type 0) (device : ℕ) (answer : Answer) (streams : List Stream) → AllByRecursion (BytesHold Q) answer.frames → StreamsHold Q streams → StreamsHold Q (answered device answer streams)
@@ -124,15 +124,15 @@ EventHolds Q (Start slot) = Unit {0}
 EventHolds Q (Stop slot) = Unit {0}
 
 -- an event of a device, which answers it; the streams are those that the event leaves as it is taken
-pub record Came (Q : List ℕ → Type 0) (w : World) (told : Told) (new : World) : Type 0 where
+pub record Came (Q : List ℕ → Type 0) (w : World) (reported : ReportedEvent) (new : World) : Type 0 where
   pub streams : List Stream
   pub before : DeviceTable
   pub after : DeviceTable
-  pub is : slice_get w.tables told.device ≡ Some before
-  pub stepped : step before told.event ≡ Ok (told.answer, after)
-  pub leaves : new ≡ spread told.device told.answer (record w { tables = set w.tables told.device after; streams = streams })
+  pub is : slice_get w.tables reported.device ≡ Some before
+  pub stepped : step before reported.event ≡ Ok (reported.answer, after)
+  pub leaves : new ≡ fan_out reported.device reported.answer (record w { tables = set w.tables reported.device after; streams = streams })
   pub queued : StreamsHold Q streams
-  pub event : EventHolds Q told.event
+  pub event : EventHolds Q reported.event
 
 -- no event: streams alone are others
 pub record Rests (Q : List ℕ → Type 0) (w : World) (new : World) : Type 0 where
@@ -140,9 +140,9 @@ pub record Rests (Q : List ℕ → Type 0) (w : World) (new : World) : Type 0 wh
   pub sent : new.sent ≡ w.sent
   pub queued : StreamsHold Q new.streams
 
-abbrev pub Moves : (List ℕ → Type 0) → World → Option Told × World → Type 0
+abbrev pub Moves : (List ℕ → Type 0) → World → Option ReportedEvent × World → Type 0
 Moves Q w (None, new) = Rests Q w new
-Moves Q w (Some told, new) = Came Q w told new
+Moves Q w (Some reported, new) = Came Q w reported new
 
 so_moves : (Q : List ℕ → Type 0) (w : World) (streams : List Stream) (device : ℕ) (event : Event) (t : DeviceTable) (said : Result DeviceNext StepFault) → slice_get w.tables device ≡ Some t → step t event ≡ said → StreamsHold Q streams → EventHolds Q event → IfOk (comes_so device event (record w { streams = streams }) said) (Moves Q w)
 so_moves Q w streams device event t (Err fault) at is queued holds = tt
@@ -169,16 +169,16 @@ delivered_moves Q device w None sent queued = tt
 delivered_moves Q device w (Some t) None queued = tt
 delivered_moves Q device w (Some t) (Some sent) queued = comes_moves Q w w.streams device (Datagram sent.from sent.bytes) queued tt
 
-item_holds : (Q : List ℕ → Type 0) (n : ℕ) (peer : Node) (item : Item) → ItemHolds Q item → EventHolds Q (event_of_item n peer item)
+item_holds : (Q : List ℕ → Type 0) (n : ℕ) (peer : Node) (item : QueueItem) → ItemHolds Q item → EventHolds Q (event_of_item n peer item)
 item_holds Q n peer Opening holds = tt
 item_holds Q n peer (Queued bytes) holds = holds
 item_holds Q n peer Ending holds = tt
 
-taken_moves : (Q : List ℕ → Type 0) (n : ℕ) (d : Direction) (w : World) (s : Stream) (queue : List Item) → StreamsHold Q w.streams → AllByRecursion (ItemHolds Q) queue → IfOk (taken n d w s queue) (Moves Q w)
+taken_moves : (Q : List ℕ → Type 0) (n : ℕ) (d : Direction) (w : World) (s : Stream) (queue : List QueueItem) → StreamsHold Q w.streams → AllByRecursion (ItemHolds Q) queue → IfOk (taken n d w s queue) (Moves Q w)
 taken_moves Q n d w s [] queued all = tt
 taken_moves Q n d w s (item ∷ rest) queued all =
-    comes_moves Q w (with_stream (taken_from d) n w.streams) (taker d s) (event_of_item n (node_at w (giver d s)) item)
-    (with_stream_holds Q (taken_from d) (taken_holds Q d) n w.streams queued) (item_holds Q n (node_at w (giver d s)) item all.0)
+    comes_moves Q w (with_stream (taken_from d) n w.streams) (receiver d s) (event_of_item n (node_at w (sender d s)) item)
+    (with_stream_holds Q (taken_from d) (taken_holds Q d) n w.streams queued) (item_holds Q n (node_at w (sender d s)) item all.0)
 
 taken_at_moves : (Q : List ℕ → Type 0) (n : ℕ) (d : Direction) (w : World) (o : Option Stream) → slice_get w.streams n ≡ o → StreamsHold Q w.streams → IfOk (taken_at n d w o) (Moves Q w)
 taken_at_moves Q n d w None is queued = tt
@@ -210,13 +210,13 @@ act_moves Q w (CutStream stream) queued = cut_at_moves Q stream w (slice_get w.s
 
 -- what each act keeps of a story
 abbrev pub ActsKeep : (Story → Type 0) → Type 0
-ActsKeep I = (story : Story) (act : Act) → I story → IfOk (goes_on story.told (happens story.world act)) I
+ActsKeep I = (story : Story) (act : Act) → I story → IfOk (goes_on story.reported (happens story.world act)) I
 
-told_keeps : (I : Story → Type 0) → ActsKeep I → (so_far : Result Story ActFault) (act : Act) → IfOk so_far I → IfOk (tells so_far act) I
-told_keeps I keeps (Err fault) act holds = tt
-told_keeps I keeps (Ok story) act holds = keeps story act holds
+reported_keeps : (I : Story → Type 0) → ActsKeep I → (so_far : Result Story ActFault) (act : Act) → IfOk so_far I → IfOk (reports so_far act) I
+reported_keeps I keeps (Err fault) act holds = tt
+reported_keeps I keeps (Ok story) act holds = keeps story act holds
 
 pub runs_keep : (I : Story → Type 0) → ActsKeep I → (acts : List Act) (so_far : Result Story ActFault) → IfOk so_far I → IfOk (runs so_far acts) I
 unfolding runs
 runs_keep I keeps [] so_far holds = holds
-runs_keep I keeps (act ∷ acts) so_far holds = runs_keep I keeps acts (tells so_far act) (told_keeps I keeps so_far act holds)
+runs_keep I keeps (act ∷ acts) so_far holds = runs_keep I keeps acts (reports so_far act) (reported_keeps I keeps so_far act holds)

@@ -7,16 +7,16 @@ use Rattle.adapter_table.specs.Profiles as adapter_profiles
 use Rattle.adapter_table.specs.Shaping.{all_pass}
 use Rattle.scanner_table.specs.declared.profile.SlotConfig.{SlotConfig}
 use Rattle.scanner_table.specs.Profiles as scanner_profiles
-use Rattle.scanner_table.specs.Slots.{places_from}
+use Rattle.scanner_table.specs.Slots.{indexed_from}
 use Rattle.scanner_table.specs.Step.{fresh_slot}
 use Rattle.cip_tables.specs.declared.table.Config.{Config}
 use Rattle.cip_tables.specs.declared.table.Config.TheVariants as config
 use Rattle.cip_tables.specs.declared.table.DeviceTable.{DeviceTable}
 use Rattle.cip_tables.specs.Step.{opening_table, config_fault, incarnation_of}
 use Rattle.cip_tables.specs.Whole.{FreshDevicesAreWhole}
-use Rattle.segment_world.specs.declared.configs.Key.TheVariants.{Incarnation}
+use Rattle.segment_world.specs.declared.configs.DeviceKey.TheVariants.{Incarnation}
 use Rattle.segment_world.specs.Configs.{key_in, any_twice, first_fault}
-use Rattle.carried_ids.specs.Carrying.{Passes, PlaceIds, TableIds}
+use Rattle.device_laws.specs.Carrying.{Passes, SlotIds, TableIds}
 use Rattle.schedule_laws.specs.Ids.{is_drawn, any_opening, AreBytes, OpeningWorldsHaveIdsDrawn}
 use Rattle.schedule_laws.proofs.Lists.{some_is}
 use Rattle.schedule_laws.proofs.Openings.{faultless, both_none, opens_whole}
@@ -71,13 +71,13 @@ differ_all (made ∷ configs) (suc a) (suc b) t u once at_a at_b same =
 
 -- ---- fresh tables
 
-fresh_places : (P : ℕ → Type 0) (n : ℕ) (configs : List SlotConfig) → AllByRecursion (PlaceIds P) (places_from n configs (map fresh_slot configs))
-fresh_places P n [] = tt
-fresh_places P n (slot ∷ configs) = (tt, fresh_places P (suc n) configs)
+fresh_slots : (P : ℕ → Type 0) (n : ℕ) (configs : List SlotConfig) → AllByRecursion (SlotIds P) (indexed_from n configs (map fresh_slot configs))
+fresh_slots P n [] = tt
+fresh_slots P n (slot ∷ configs) = (tt, fresh_slots P (suc n) configs)
 
 fresh_ids : (test : ℕ → Bool) (made : Config) → TableIds test any_opening (opening_table made)
 fresh_ids test (config.Adapter profile) = tt
-fresh_ids test (config.Scanner profile) = fresh_places (Passes test) 0 profile.slots
+fresh_ids test (config.Scanner profile) = fresh_slots (Passes test) 0 profile.slots
 
 fresh_all : (test : ℕ → Bool) (configs : List Config) (device : ℕ) (t : DeviceTable) → slice_get (map opening_table configs) device ≡ Some t → TableIds test any_opening t
 fresh_all test [] device t at = absurd (let e = at in cc)

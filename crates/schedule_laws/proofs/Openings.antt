@@ -5,7 +5,7 @@ use Rattle.cip_tables.specs.declared.table.Config.{Config}
 use Rattle.cip_tables.specs.declared.table.DeviceTable.{DeviceTable}
 use Rattle.cip_tables.specs.Step.{opening_table, config_fault}
 use Rattle.cip_tables.specs.Whole.{IsWholeDevice, FreshDevicesAreWhole}
-use Rattle.segment_world.specs.declared.configs.Key.TheVariants.{Incarnation, Address}
+use Rattle.segment_world.specs.declared.configs.DeviceKey.TheVariants.{Incarnation, Address}
 use Rattle.segment_world.specs.declared.fault.WorldFault.{WorldFault}
 use Rattle.segment_world.specs.declared.fault.WorldFault.TheVariants.{SameIncarnation, SameNode}
 use Rattle.segment_world.specs.Configs.{any_twice, fault_or, first_fault, profile_fault_of, world_fault}

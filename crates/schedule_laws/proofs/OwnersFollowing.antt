@@ -24,44 +24,44 @@ use Rattle.cip_tables.specs.declared.table.DeviceTable.{DeviceTable}
 use Rattle.cip_tables.specs.declared.table.DeviceTable.TheVariants.{Adapter, Scanner}
 use Rattle.cip_tables.specs.Step.{step, as_adapter, DeviceNext}
 use Rattle.cip_tables.specs.Whole.{IsWholeDevice, FreshDevicesAreWhole}
-use Rattle.owner_laws.specs.Turns.{Turn, brought, ended, brought_found, brought_read, brought_at, has_ended, ended_turn, ended_at, told, turns_at, turns, EndsStandBetween}
-use Rattle.segment_world.specs.World.{Told}
+use Rattle.device_laws.specs.Turns.{Turn, brought, ended, brought_found, brought_read, brought_at, has_ended, ended_turn, ended_at, reported, turns_at, turns, EndsStandBetween}
+use Rattle.segment_world.specs.World.{ReportedEvent}
 use Rattle.segment_world.specs.Story.{is_of, events_of}
 use Rattle.schedule_laws.specs.Stories.{led_by, led_to}
 use Rattle.schedule_laws.specs.Owners.{Brings, Ends, EndsWithin, EndsBetween, OwnersFollow, OpenedOwnersFollow}
-use Rattle.schedule_laws.proofs.Telling.{Answers, AnswersIf, Tells, led_both, tells_rest, tells_first, is_run, is_performed, outcomes_of, same_place, story_leads}
+use Rattle.schedule_laws.proofs.Reporting.{Answers, AnswersIf, Reports, led_both, reports_rest, reports_first, is_run, is_performed, outcomes_of, same_slot, story_leads}
 use Rattle.schedule_laws.proofs.Openings.{faultless, opens_whole}
 
 -- TURNS OF WHAT WAS TOLD
 
 -- what an event tells of the output, where it is the device's
-abbrev turns_if : Bool → ℕ → DeviceTable → Told → List Turn
+abbrev turns_if : Bool → ℕ → DeviceTable → ReportedEvent → List Turn
 turns_if true point t x = turns_at point t x.event
 turns_if false point t x = []
 
-abbrev turns_told : ℕ → DeviceTable → ℕ → List Told → List Turn
-turns_told point t device [] = []
-turns_told point t device (x ∷ rest) = turns_if (is_of device x) point t x ++ turns_told point (led_by (is_of device x) t x) device rest
+abbrev turns_reported : ℕ → DeviceTable → ℕ → List ReportedEvent → List Turn
+turns_reported point t device [] = []
+turns_reported point t device (x ∷ rest) = turns_if (is_of device x) point t x ++ turns_reported point (led_by (is_of device x) t x) device rest
 
-turns_step : (b : Bool) (point : ℕ) (t : DeviceTable) (x : Told) (rest : List Told) (told_events : List Event) (others : List Turn) → turns point (led_by b t x) told_events ≡ others → turns point t (cond b (x.event ∷ told_events) told_events) ≡ turns_if b point t x ++ others
-turns_step true point t x rest told_events others is = ap (λ (l : List Turn). turns_at point t x.event ++ l) is
-turns_step false point t x rest told_events others is = is
+turns_step : (b : Bool) (point : ℕ) (t : DeviceTable) (x : ReportedEvent) (rest : List ReportedEvent) (reported_events : List Event) (others : List Turn) → turns point (led_by b t x) reported_events ≡ others → turns point t (cond b (x.event ∷ reported_events) reported_events) ≡ turns_if b point t x ++ others
+turns_step true point t x rest reported_events others is = ap (λ (l : List Turn). turns_at point t x.event ++ l) is
+turns_step false point t x rest reported_events others is = is
 
 -- they are those of the run
-turns_are : (point : ℕ) (t : DeviceTable) (device : ℕ) (xs : List Told) → turns point t (events_of device xs) ≡ turns_told point t device xs
+turns_are : (point : ℕ) (t : DeviceTable) (device : ℕ) (xs : List ReportedEvent) → turns point t (events_of device xs) ≡ turns_reported point t device xs
 turns_are point t device [] = refl
 turns_are point t device (x ∷ rest) =
     let own = turns_step (is_of device x) point t x rest (events_of device rest) _ (turns_are point (led_by (is_of device x) t x) device rest) in
     ap (turns point t) (map_event (is_of device x)) ∙ own where
-      map_event : (b : Bool) → map (λ (y : Told). y.event) (cond b (x ∷ filter (is_of device) rest) (filter (is_of device) rest)) ≡ cond b (x.event ∷ events_of device rest) (events_of device rest)
+      map_event : (b : Bool) → map (λ (y : ReportedEvent). y.event) (cond b (x ∷ filter (is_of device) rest) (filter (is_of device) rest)) ≡ cond b (x.event ∷ events_of device rest) (events_of device rest)
       map_event true = refl
       map_event false = refl
 
-turns_both : (point : ℕ) (t : DeviceTable) (device : ℕ) (first rest : List Told) → turns_told point t device (first ++ rest) ≡ turns_told point t device first ++ turns_told point (led_to t device first) device rest
+turns_both : (point : ℕ) (t : DeviceTable) (device : ℕ) (first rest : List ReportedEvent) → turns_reported point t device (first ++ rest) ≡ turns_reported point t device first ++ turns_reported point (led_to t device first) device rest
 turns_both point t device [] rest = refl
 turns_both point t device (x ∷ first) rest =
     ap (λ (l : List Turn). turns_if (is_of device x) point t x ++ l) (turns_both point (led_by (is_of device x) t x) device first rest)
-    ∙ sym (append_assoc (turns_if (is_of device x) point t x) (turns_told point (led_by (is_of device x) t x) device first) (turns_told point (led_to (led_by (is_of device x) t x) device first) device rest))
+    ∙ sym (append_assoc (turns_if (is_of device x) point t x) (turns_reported point (led_by (is_of device x) t x) device first) (turns_reported point (led_to (led_by (is_of device x) t x) device first) device rest))
 
 -- A DATAGRAM TELLS NO END
 
@@ -101,7 +101,7 @@ alone point t event opening is = absurd cc
 same_is : (a b : ℕ) → a ≡ b → (a == b) ≡ true
 same_is a b is = grind (arith, nat_tests)
 
-brings_turn : (point : ℕ) (t : DeviceTable) (device opening : ℕ) (x : Told) (adapter : AdapterTable) → x.device ≡ device → t ≡ Adapter adapter → brought_at point adapter x.event ≡ brought opening ∷ [] → turns_if (is_of device x) point t x ≡ brought opening ∷ []
+brings_turn : (point : ℕ) (t : DeviceTable) (device opening : ℕ) (x : ReportedEvent) (adapter : AdapterTable) → x.device ≡ device → t ≡ Adapter adapter → brought_at point adapter x.event ≡ brought opening ∷ [] → turns_if (is_of device x) point t x ≡ brought opening ∷ []
 brings_turn point t device opening x adapter own there brings =
     ap (λ (b : Bool). turns_if b point t x) (same_is x.device device own)
     ∙ ap (λ (y : DeviceTable). turns_at point y x.event) there
@@ -134,57 +134,57 @@ brought_no_end point t (Datagram peer bytes) opening there = read_no_end point t
 brought_no_end point t event opening there = nothing_there (ended opening) there
 
 -- an end that is told is the answer's
-told_end : (point : ℕ) (t : AdapterTable) (x : Told) (opening : ℕ) (next : DeviceTable) (said : Result Next StepFault) → as_adapter said ≡ Ok (x.answer, next) → Contains (told point t x.event said) (ended opening) → Contains (ended_at point t.rows x.answer.notices) (ended opening)
-told_end point t x opening next (Err fault) is there = nothing_there (ended opening) there
-told_end point t x opening next (Ok n) is there =
+reported_end : (point : ℕ) (t : AdapterTable) (x : ReportedEvent) (opening : ℕ) (next : DeviceTable) (said : Result Next StepFault) → as_adapter said ≡ Ok (x.answer, next) → Contains (reported point t x.event said) (ended opening) → Contains (ended_at point t.rows x.answer.notices) (ended opening)
+reported_end point t x opening next (Err fault) is there = nothing_there (ended opening) there
+reported_end point t x opening next (Ok n) is there =
     let answer : n.0 ≡ x.answer = answer_same n.0 x.answer (Adapter n.1) next is in
     elim (Contains-append_cases (brought_at point t x.event) (ended_at point t.rows n.0.notices) (ended opening) there) [
       | inl early ↦ absurd (brought_no_end point t x.event opening early)
       | inr end ↦ subst (λ (a : Answer). Contains (ended_at point t.rows a.notices) (ended opening)) answer end
     ]
 
-device_end : (point : ℕ) (t : DeviceTable) (x : Told) (device opening : ℕ) → x.device ≡ device → Answers t x → Contains (turns_at point t x.event) (ended opening) → Ends t device point opening [] x
+device_end : (point : ℕ) (t : DeviceTable) (x : ReportedEvent) (device opening : ℕ) → x.device ≡ device → Answers t x → Contains (turns_at point t x.event) (ended opening) → Ends t device point opening [] x
 unfolding step
 device_end point (Adapter adapter) x device opening own answers there =
-    record { own = own; adapter = adapter; there = refl; ends = told_end point adapter x opening answers.next (adapter_step adapter x.event) answers.is there }
+    record { own = own; adapter = adapter; there = refl; ends = reported_end point adapter x opening answers.next (adapter_step adapter x.event) answers.is there }
 device_end point (Scanner scanner) x device opening own answers there = nothing_there (ended opening) there
 
 -- where it stands among what was told
-record Located (t : DeviceTable) (device point opening : ℕ) (xs : List Told) : Type 0 where
-  front : List Told
-  last : Told
-  back : List Told
+record Located (t : DeviceTable) (device point opening : ℕ) (xs : List ReportedEvent) : Type 0 where
+  front : List ReportedEvent
+  last : ReportedEvent
+  back : List ReportedEvent
   parts : xs ≡ front ++ last ∷ back
   ends : Ends t device point opening front last
 
-here : (b : Bool) (point : ℕ) (t : DeviceTable) (device opening : ℕ) (x : Told) (rest : List Told) → is_of device x ≡ b → AnswersIf b t x → Contains (turns_if b point t x) (ended opening) → Located t device point opening (x ∷ rest)
+here : (b : Bool) (point : ℕ) (t : DeviceTable) (device opening : ℕ) (x : ReportedEvent) (rest : List ReportedEvent) → is_of device x ≡ b → AnswersIf b t x → Contains (turns_if b point t x) (ended opening) → Located t device point opening (x ∷ rest)
 here true point t device opening x rest is answers there =
-    record { front = []; last = x; back = rest; parts = refl; ends = device_end point t x device opening (same_place x.device device is) answers there }
+    record { front = []; last = x; back = rest; parts = refl; ends = device_end point t x device opening (same_slot x.device device is) answers there }
 here false point t device opening x rest is answers there = nothing_there (ended opening) there
 
-behind : (t : DeviceTable) (device point opening : ℕ) (x : Told) (rest : List Told) → Located (led_by (is_of device x) t x) device point opening rest → Located t device point opening (x ∷ rest)
+behind : (t : DeviceTable) (device point opening : ℕ) (x : ReportedEvent) (rest : List ReportedEvent) → Located (led_by (is_of device x) t x) device point opening rest → Located t device point opening (x ∷ rest)
 behind t device point opening x rest found =
     let e = found.ends in
     record {
       front = x ∷ found.front;
       last = found.last;
       back = found.back;
-      parts = ap (λ (l : List Told). x ∷ l) found.parts;
+      parts = ap (λ (l : List ReportedEvent). x ∷ l) found.parts;
       ends = record { own = e.own; adapter = e.adapter; there = e.there; ends = e.ends };
     }
 
-locate : (point opening : ℕ) (t : DeviceTable) (device : ℕ) (xs : List Told) → Tells t device xs → Contains (turns_told point t device xs) (ended opening) → Located t device point opening xs
-locate point opening t device [] tells there = nothing_there (ended opening) there
-locate point opening t device (x ∷ rest) tells there =
-    elim (Contains-append_cases (turns_if (is_of device x) point t x) (turns_told point (led_by (is_of device x) t x) device rest) (ended opening) there) [
-      | inl now ↦ here (is_of device x) point t device opening x rest refl tells.0 now
-      | inr later ↦ behind t device point opening x rest (locate point opening (led_by (is_of device x) t x) device rest tells.1 later)
+locate : (point opening : ℕ) (t : DeviceTable) (device : ℕ) (xs : List ReportedEvent) → Reports t device xs → Contains (turns_reported point t device xs) (ended opening) → Located t device point opening xs
+locate point opening t device [] reports there = nothing_there (ended opening) there
+locate point opening t device (x ∷ rest) reports there =
+    elim (Contains-append_cases (turns_if (is_of device x) point t x) (turns_reported point (led_by (is_of device x) t x) device rest) (ended opening) there) [
+      | inl now ↦ here (is_of device x) point t device opening x rest refl reports.0 now
+      | inr later ↦ behind t device point opening x rest (locate point opening (led_by (is_of device x) t x) device rest reports.1 later)
     ]
 
 -- THE LAW
 
 -- the turns of a story between whose parts two datagrams stand
-parted : (point : ℕ) (t : DeviceTable) (device a b : ℕ) (before middle after : List Told) (first second : Told) → Brings t device point a before first → Brings t device point b (before ++ first ∷ middle) second → turns_told point t device (before ++ first ∷ (middle ++ second ∷ after)) ≡ turns_told point t device before ++ brought a ∷ (turns_told point (led_to t device (before ++ first ∷ [])) device middle ++ brought b ∷ turns_told point (led_to t device (before ++ first ∷ (middle ++ second ∷ []))) device after)
+parted : (point : ℕ) (t : DeviceTable) (device a b : ℕ) (before middle after : List ReportedEvent) (first second : ReportedEvent) → Brings t device point a before first → Brings t device point b (before ++ first ∷ middle) second → turns_reported point t device (before ++ first ∷ (middle ++ second ∷ after)) ≡ turns_reported point t device before ++ brought a ∷ (turns_reported point (led_to t device (before ++ first ∷ [])) device middle ++ brought b ∷ turns_reported point (led_to t device (before ++ first ∷ (middle ++ second ∷ []))) device after)
 parted point t device a b before middle after first second one other =
     let t1 = led_to t device before in
     let t2 : DeviceTable = led_by (is_of device first) (led_to t device before) first in
@@ -195,15 +195,15 @@ parted point t device a b before middle after first second one other =
     let turn_a = brings_turn point (led_to t device before) device a first one.adapter one.own one.there one.brings in
     let turn_b = brings_turn point t3 device b second other.adapter other.own (sym at3 ∙ other.there) other.brings in
     turns_both point t device before (first ∷ (middle ++ second ∷ after))
-    ∙ ap (λ (l : List Turn). turns_told point t device before ++ l)
-    (ap (λ (l : List Turn). l ++ turns_told point t2 device (middle ++ second ∷ after)) turn_a
+    ∙ ap (λ (l : List Turn). turns_reported point t device before ++ l)
+    (ap (λ (l : List Turn). l ++ turns_reported point t2 device (middle ++ second ∷ after)) turn_a
     ∙ ap (λ (l : List Turn). brought a ∷ l)
     (turns_both point t2 device middle (second ∷ after)
-    ∙ ap (λ (l : List Turn). turns_told point t2 device middle ++ l) (ap (λ (l : List Turn). l ++ turns_told point (led_by (is_of device second) t3 second) device after) turn_b)
-    ∙ ap (λ (x : DeviceTable). turns_told point x device middle ++ brought b ∷ turns_told point (led_by (is_of device second) t3 second) device after) (sym at2)
-    ∙ ap (λ (x : DeviceTable). turns_told point (led_to t device (before ++ first ∷ [])) device middle ++ brought b ∷ turns_told point x device after) (sym at4)))
+    ∙ ap (λ (l : List Turn). turns_reported point t2 device middle ++ l) (ap (λ (l : List Turn). l ++ turns_reported point (led_by (is_of device second) t3 second) device after) turn_b)
+    ∙ ap (λ (x : DeviceTable). turns_reported point x device middle ++ brought b ∷ turns_reported point (led_by (is_of device second) t3 second) device after) (sym at2)
+    ∙ ap (λ (x : DeviceTable). turns_reported point (led_to t device (before ++ first ∷ [])) device middle ++ brought b ∷ turns_reported point x device after) (sym at4)))
 
-within : (t : DeviceTable) (device point opening : ℕ) (before middle : List Told) → Located (led_to t device before) device point opening middle → EndsWithin t device point opening before middle
+within : (t : DeviceTable) (device point opening : ℕ) (before middle : List ReportedEvent) → Located (led_to t device before) device point opening middle → EndsWithin t device point opening before middle
 within t device point opening before middle found =
     let e = found.ends in
     record {
@@ -214,28 +214,28 @@ within t device point opening before middle found =
       ends = record { own = e.own; adapter = e.adapter; there = led_both t device before found.front ∙ e.there; ends = e.ends };
     }
 
-regroup : (before middle : List Told) (first : Told) (rest : List Told) → before ++ first ∷ (middle ++ rest) ≡ (before ++ first ∷ []) ++ (middle ++ rest)
+regroup : (before middle : List ReportedEvent) (first : ReportedEvent) (rest : List ReportedEvent) → before ++ first ∷ (middle ++ rest) ≡ (before ++ first ∷ []) ++ (middle ++ rest)
 regroup before middle first rest = sym (append_assoc before (first ∷ []) (middle ++ rest))
 
-tells_middle : (t : DeviceTable) (device : ℕ) (before middle after : List Told) (first second : Told) → Tells t device (before ++ first ∷ (middle ++ second ∷ after)) → Tells (led_to t device (before ++ first ∷ [])) device middle
-tells_middle t device before middle after first second tells =
-    let rest = tells_rest t device (before ++ first ∷ []) (middle ++ second ∷ after) (subst (Tells t device) (regroup before middle first (second ∷ after)) tells) in
-    tells_first (led_to t device (before ++ first ∷ [])) device middle (second ∷ after) rest
+reports_middle : (t : DeviceTable) (device : ℕ) (before middle after : List ReportedEvent) (first second : ReportedEvent) → Reports t device (before ++ first ∷ (middle ++ second ∷ after)) → Reports (led_to t device (before ++ first ∷ [])) device middle
+reports_middle t device before middle after first second reports =
+    let rest = reports_rest t device (before ++ first ∷ []) (middle ++ second ∷ after) (subst (Reports t device) (regroup before middle first (second ∷ after)) reports) in
+    reports_first (led_to t device (before ++ first ∷ [])) device middle (second ∷ after) rest
 
-ends_between_told : EndsStandBetween → (t : DeviceTable) (device : ℕ) (xs : List Told) → IsWholeDevice t → Tells t device xs → EndsBetween t device xs
-ends_between_told law t device xs whole tells = λ point a b before middle after first second is one other differ.
-    let parts = sym (ap (turns point t) (sym (is_performed device xs))) ∙ turns_are point t device xs ∙ ap (turns_told point t device) is ∙ parted point t device a b before middle after first second one other in
-    let end = law point t (led_to t device xs) (events_of device xs) (outcomes_of device xs) (turns_told point t device before)
-    (turns_told point (led_to t device (before ++ first ∷ [])) device middle) (turns_told point (led_to t device (before ++ first ∷ (middle ++ second ∷ []))) device after)
-    a b whole (is_run t device xs tells) parts differ in
+ends_between_reported : EndsStandBetween → (t : DeviceTable) (device : ℕ) (xs : List ReportedEvent) → IsWholeDevice t → Reports t device xs → EndsBetween t device xs
+ends_between_reported law t device xs whole reports = λ point a b before middle after first second is one other differ.
+    let parts = sym (ap (turns point t) (sym (is_performed device xs))) ∙ turns_are point t device xs ∙ ap (turns_reported point t device) is ∙ parted point t device a b before middle after first second one other in
+    let end = law point t (led_to t device xs) (events_of device xs) (outcomes_of device xs) (turns_reported point t device before)
+    (turns_reported point (led_to t device (before ++ first ∷ [])) device middle) (turns_reported point (led_to t device (before ++ first ∷ (middle ++ second ∷ []))) device after)
+    a b whole (is_run t device xs reports) parts differ in
     within t device point a (before ++ first ∷ []) middle
-    (locate point a (led_to t device (before ++ first ∷ [])) device middle (tells_middle t device before middle after first second (subst (Tells t device) is tells)) end)
+    (locate point a (led_to t device (before ++ first ∷ [])) device middle (reports_middle t device before middle after first second (subst (Reports t device) is reports)) end)
 
 pub owners_follow : EndsStandBetween → OwnersFollow
 owners_follow law start acts story device t ran at whole =
-    ends_between_told law t device story.told whole (story_leads start acts story device t ran at).tells
+    ends_between_reported law t device story.reported whole (story_leads start acts story device t ran at).reports
 
 pub opened_owners_follow : FreshDevicesAreWhole → EndsStandBetween → OpenedOwnersFollow
 opened_owners_follow fresh law configs acts story device t none ran at =
     let whole = opens_whole fresh configs device t (faultless configs none).profiles at in
-    ends_between_told law t device story.told whole (story_leads _ acts story device t ran at).tells
+    ends_between_reported law t device story.reported whole (story_leads _ acts story device t ran at).reports

@@ -6,7 +6,7 @@ use Rattle.cip_fwdopen.specs.Close.{close_reading}
 use Rattle.cip_fwdopen.specs.Open.{open_reading}
 use Rattle.cip_fwdopen.specs.Request.{request_reading}
 use Rattle.cip_netparams.specs.Word.{params16}
-use Rattle.cip_router.specs.Asking.{asked_reading}
+use Rattle.cip_router.specs.Requests.{router_request_reading}
 use Rattle.cip_events.specs.declared.event.Event.{Event}
 use Rattle.cip_events.specs.declared.event.Event.TheVariants.{Datagram, Tick}
 use Rattle.cip_events.specs.declared.event.Notice.TheVariants.{Closed}
@@ -24,7 +24,7 @@ use Rattle.table_samples.specs.Devices.{common, fresh, own, peer}
 use Rattle.table_samples.specs.Hex.{hex}
 use Rattle.table_samples.specs.Requests.{owner}
 use Rattle.table_samples.specs.Runs.{closes, id, opens}
-use Rattle.segment_world.specs.World.{Told}
+use Rattle.segment_world.specs.World.{ReportedEvent}
 use Rattle.schedule_laws.specs.Stories.{led_to}
 use Rattle.schedule_laws.specs.Ids.{is_to_come, is_drawn}
 use Rattle.schedule_laws.specs.Owners.{Brings, Ends}
@@ -45,7 +45,7 @@ others_are_drawn = refl
 
 -- ---- what is told
 
-abbrev happened : ℕ → Event → Told
+abbrev happened : ℕ → Event → ReportedEvent
 happened device event = record { device = device; event = event; answer = plain_answer Done }
 
 -- events of another device are not its own
@@ -57,15 +57,15 @@ its_own = refl
 
 -- ---- an owner
 
-abbrev before : List Told
+abbrev before : List ReportedEvent
 before = happened 0 (opens owner) ∷ happened 1 (Tick 5) ∷ []
 
 -- data of the connection that was opened as 1 are applied to the output 150
 brings : Brings (fresh common) 0 150 1 before (happened 0 (Datagram peer (datagram (id 1) 1 1 (running (hex "01 02 03 04")))))
-unfolding datagram_reading paths.path_reading paths.target_reading paths.segments_at paths.segment_at paths.logical_at paths.value_at paths.key_at paths.key_fields_at paths.data_at close_reading open_reading request_reading params16 asked_reading verdict closed_table accepted_table received opened_row opened_table admitted_open served_open served_close requested step
+unfolding datagram_reading paths.path_reading paths.target_reading paths.segments_at paths.segment_at paths.logical_at paths.value_at paths.key_at paths.key_fields_at paths.data_at close_reading open_reading request_reading params16 router_request_reading verdict closed_table accepted_table received opened_row opened_table admitted_open served_open served_close requested step
 brings = record { own = refl; adapter = _; there = refl; brings = refl }
 
 -- and its close ends it
 ends : Ends (fresh common) 0 150 1 before (record { device = 0; event = closes peer owner; answer = record (plain_answer Done) { notices = Closed (own 1) ∷ [] } })
-unfolding datagram_reading paths.path_reading paths.target_reading paths.segments_at paths.segment_at paths.logical_at paths.value_at paths.key_at paths.key_fields_at paths.data_at close_reading open_reading request_reading params16 asked_reading verdict closed_table accepted_table received opened_row opened_table admitted_open served_open served_close requested step
+unfolding datagram_reading paths.path_reading paths.target_reading paths.segments_at paths.segment_at paths.logical_at paths.value_at paths.key_at paths.key_fields_at paths.data_at close_reading open_reading request_reading params16 router_request_reading verdict closed_table accepted_table received opened_row opened_table admitted_open served_open served_close requested step
 ends = record { own = refl; adapter = _; there = refl; ends = (0, omega arith, refl) }

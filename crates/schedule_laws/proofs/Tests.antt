@@ -6,7 +6,7 @@ use Rattle.std.proofs.lemmas.Bool.Decides.{nat_tests}
 use Rattle.cip_tables.specs.declared.table.DeviceTable.{DeviceTable}
 use Rattle.cip_tables.specs.Step.{incarnation_of}
 use Rattle.cip_tables.specs.Whole.{next_id_of}
-use Rattle.carried_ids.specs.Carrying.{Passes}
+use Rattle.device_laws.specs.Carrying.{Passes}
 use Rattle.schedule_laws.specs.Ids.{is_to_come, is_drawn, AreApart}
 use Rattle.schedule_laws.proofs.Lists.{some_is, set_own, set_other}
 

@@ -15,20 +15,20 @@ use Rattle.scanner_table.specs.declared.slot.Connection.{Connection}
 use Rattle.scanner_table.specs.declared.slot.SlotState.TheVariants.{Established}
 use Rattle.scanner_table.specs.declared.table.ScannerTable.{ScannerTable}
 use Rattle.scanner_table.specs.Datagrams.{is_for}
-use Rattle.scanner_table.specs.Slots.{Place, places}
+use Rattle.scanner_table.specs.Slots.{IndexedSlot, indexed_slots}
 use Rattle.cip_tables.specs.declared.table.Config.{Config}
 use Rattle.cip_tables.specs.declared.table.DeviceTable.{DeviceTable}
 use Rattle.cip_tables.specs.declared.table.DeviceTable.TheVariants.{Adapter, Scanner}
 use Rattle.cip_tables.specs.Step.{incarnation_of, opening_table}
 use Rattle.cip_tables.specs.Whole.{IsWholeDevice, next_id_of}
 use Rattle.sent_log.specs.Log.{Sent}
-use Rattle.stream_queues.specs.Streams.{Item, Opening, Queued, Ending, Side, Stream}
+use Rattle.stream_queues.specs.Streams.{QueueItem, Opening, Queued, Ending, Side, Stream}
 use Rattle.segment_world.specs.declared.act.Act.{Act}
-use Rattle.segment_world.specs.World.{World, Told}
+use Rattle.segment_world.specs.World.{World, ReportedEvent}
 use Rattle.segment_world.specs.Story.{Story, runs, begins}
 use Rattle.segment_world.specs.Configs.{opening_world, world_fault}
-use Rattle.carried_ids.specs.Ids.{FrameIds, DatagramId}
-use Rattle.carried_ids.specs.Carrying.{Passes, TableIds, PlaceCame}
+use Rattle.device_laws.specs.Ids.{FrameIds, DatagramId}
+use Rattle.device_laws.specs.Carrying.{Passes, TableIds, SlotCame}
 use Rattle.schedule_laws.specs.Stories.{led_to}
 
 -- IDS TO COME
@@ -50,7 +50,7 @@ pub record AreApart (tables : List DeviceTable) : Type 0 where
 -- WHERE IDS STAND
 
 -- it holds of each frame that waits
-abbrev pub ItemHolds : (List ℕ → Type 0) → Item → Type 0
+abbrev pub ItemHolds : (List ℕ → Type 0) → QueueItem → Type 0
 ItemHolds Q Opening = Unit {0}
 ItemHolds Q (Queued bytes) = Q bytes
 ItemHolds Q Ending = Unit {0}
@@ -124,12 +124,12 @@ LaterConnectionsAcceptNoneOfIt =
 -- by then is for it.
 abbrev pub LaterSlotsTakeNoneOfIt : Type 0
 LaterSlotsTakeNoneOfIt =
-    (start : World) (was now : Story) (device : ℕ) (t u : ScannerTable) (place : Place) (c : Connection) (s : Sent) (d : DatagramFields) →
+    (start : World) (was now : Story) (device : ℕ) (t u : ScannerTable) (indexed : IndexedSlot) (c : Connection) (s : Sent) (d : DatagramFields) →
     IdsAreDrawn start → Moments start was now →
     slice_get was.world.tables device ≡ Some (Scanner t) → slice_get now.world.tables device ≡ Some (Scanner u) →
-    Contains (places u) place → place.config.multicast ≡ false → place.slot.state ≡ Established c → t.next_request ≤ c.opening →
+    Contains (indexed_slots u) indexed → indexed.config.multicast ≡ false → indexed.slot.state ≡ Established c → t.next_request ≤ c.opening →
     Contains was.world.sent s → datagram_reading s.bytes ≡ Ok d →
-    is_for s.from d.connection place ≡ false
+    is_for s.from d.connection indexed ≡ false
 
 -- A group of multicast connections that began after the moment, by the number of its producer, has a T->O id that is on no
 -- datagram sent by then: who joins it accepts what the group sent before, and nothing of a producer before it.
@@ -149,8 +149,8 @@ LaterGroupsSentNoneOfIt =
 -- taken late belongs to the earlier opening.
 abbrev pub RepliesEstablishTheirOwn : Type 0
 RepliesEstablishTheirOwn =
-    (start : World) (acts : List Act) (story : Story) (device : ℕ) (t : DeviceTable) (u v : ScannerTable) (before after : List Told) (told : Told) →
+    (start : World) (acts : List Act) (story : Story) (device : ℕ) (t : DeviceTable) (u v : ScannerTable) (before after : List ReportedEvent) (reported : ReportedEvent) →
     runs (begins start) acts ≡ Ok story → slice_get start.tables device ≡ Some t → IsWholeDevice t →
-    story.told ≡ before ++ told ∷ after → told.device ≡ device →
-    led_to t device before ≡ Scanner u → led_to t device (before ++ told ∷ []) ≡ Scanner v →
-    AllByRecursion (PlaceCame u told.event) (places v)
+    story.reported ≡ before ++ reported ∷ after → reported.device ≡ device →
+    led_to t device before ≡ Scanner u → led_to t device (before ++ reported ∷ []) ≡ Scanner v →
+    AllByRecursion (SlotCame u reported.event) (indexed_slots v)

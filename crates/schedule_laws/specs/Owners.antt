@@ -9,42 +9,42 @@ use Rattle.cip_tables.specs.declared.table.Config.{Config}
 use Rattle.cip_tables.specs.declared.table.DeviceTable.{DeviceTable}
 use Rattle.cip_tables.specs.declared.table.DeviceTable.TheVariants.{Adapter}
 use Rattle.cip_tables.specs.Whole.{IsWholeDevice}
-use Rattle.owner_laws.specs.Turns.{brought, ended, brought_at, ended_at}
+use Rattle.device_laws.specs.Turns.{brought, ended, brought_at, ended_at}
 use Rattle.segment_world.specs.declared.act.Act.{Act}
-use Rattle.segment_world.specs.World.{World, Told}
+use Rattle.segment_world.specs.World.{World, ReportedEvent}
 use Rattle.segment_world.specs.Story.{Story, runs, begins}
 use Rattle.segment_world.specs.Configs.{opening_world, world_fault}
 use Rattle.schedule_laws.specs.Stories.{led_to}
 
 -- what was told is an event of the device, after the events before it: a datagram whose data were applied to the output
 -- through the connection of this opening number
-pub record Brings (t : DeviceTable) (device point opening : ℕ) (before : List Told) (told : Told) : Type 0 where
-  pub own : told.device ≡ device
+pub record Brings (t : DeviceTable) (device point opening : ℕ) (before : List ReportedEvent) (reported : ReportedEvent) : Type 0 where
+  pub own : reported.device ≡ device
   pub adapter : AdapterTable
   pub there : led_to t device before ≡ Adapter adapter
-  pub brings : brought_at point adapter told.event ≡ brought opening ∷ []
+  pub brings : brought_at point adapter reported.event ≡ brought opening ∷ []
 
 -- what was told is an event of the device, after the events before it, whose answer tells that the connection of this
 -- opening number, the owner of the output, was closed or timed out
-pub record Ends (t : DeviceTable) (device point opening : ℕ) (before : List Told) (told : Told) : Type 0 where
-  pub own : told.device ≡ device
+pub record Ends (t : DeviceTable) (device point opening : ℕ) (before : List ReportedEvent) (reported : ReportedEvent) : Type 0 where
+  pub own : reported.device ≡ device
   pub adapter : AdapterTable
   pub there : led_to t device before ≡ Adapter adapter
-  pub ends : Contains (ended_at point adapter.rows told.answer.notices) (ended opening)
+  pub ends : Contains (ended_at point adapter.rows reported.answer.notices) (ended opening)
 
 -- such an end stands among what was told in the middle
-pub record EndsWithin (t : DeviceTable) (device point opening : ℕ) (before middle : List Told) : Type 0 where
-  pub front : List Told
-  pub last : Told
-  pub back : List Told
+pub record EndsWithin (t : DeviceTable) (device point opening : ℕ) (before middle : List ReportedEvent) : Type 0 where
+  pub front : List ReportedEvent
+  pub last : ReportedEvent
+  pub back : List ReportedEvent
   pub parts : middle ≡ front ++ last ∷ back
   pub ends : Ends t device point opening (before ++ front) last
 
 -- between data of two connections stands the end of the first, in what was told from this table of the device on
-abbrev pub EndsBetween : DeviceTable → ℕ → List Told → Type 0
-EndsBetween t device told =
-    (point a b : ℕ) (before middle after : List Told) (first second : Told) →
-    told ≡ before ++ first ∷ (middle ++ second ∷ after) →
+abbrev pub EndsBetween : DeviceTable → ℕ → List ReportedEvent → Type 0
+EndsBetween t device reported =
+    (point a b : ℕ) (before middle after : List ReportedEvent) (first second : ReportedEvent) →
+    reported ≡ before ++ first ∷ (middle ++ second ∷ after) →
     Brings t device point a before first → Brings t device point b (before ++ first ∷ middle) second → a ≢ b →
     EndsWithin t device point a (before ++ first ∷ []) middle
 
@@ -53,11 +53,11 @@ abbrev pub OwnersFollow : Type 0
 OwnersFollow =
     (start : World) (acts : List Act) (story : Story) (device : ℕ) (t : DeviceTable) →
     runs (begins start) acts ≡ Ok story → slice_get start.tables device ≡ Some t → IsWholeDevice t →
-    EndsBetween t device story.told
+    EndsBetween t device story.reported
 
 -- and so of each device of a world that begins from configurations with nothing wrong
 abbrev pub OpenedOwnersFollow : Type 0
 OpenedOwnersFollow =
     (configs : List Config) (acts : List Act) (story : Story) (device : ℕ) (t : DeviceTable) →
     world_fault configs ≡ None → runs (begins (opening_world configs)) acts ≡ Ok story →
-    slice_get (opening_world configs).tables device ≡ Some t → EndsBetween t device story.told
+    slice_get (opening_world configs).tables device ≡ Some t → EndsBetween t device story.reported

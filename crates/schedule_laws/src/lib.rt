@@ -6,12 +6,11 @@ ghost use Rattle.schedule_laws.specs.Owners.{OwnersFollow, OpenedOwnersFollow};
 ghost use Rattle.schedule_laws.specs.Ids.{SchedulesKeepIdsDrawn, OpeningWorldsHaveIdsDrawn, IdsToComeAreUnsent, LaterConnectionsAcceptNoneOfIt, LaterSlotsTakeNoneOfIt, LaterGroupsSentNoneOfIt, RepliesEstablishTheirOwn};
 
 use adapter_table::laws as adapters;
-use carried_ids::{
-    ids_are_carried, ids_are_drawn_with_openings,
+use cip_tables::laws as tables;
+use device_laws::{
+    ids_are_carried, ids_are_drawn_with_openings, owners_follow_one_another as owners_of_runs,
     replies_establish_their_own_slot as replies_of_steps,
 };
-use cip_tables::laws as tables;
-use owner_laws::owners_follow_one_another as owners_of_runs;
 use scanner_laws::counters_never_fall;
 
 /// Between data of two connections that were applied to one output of an adapter, the first connection was closed or

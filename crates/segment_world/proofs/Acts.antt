@@ -18,14 +18,14 @@ use Rattle.cip_tables.specs.Step.{DeviceNext, step}
 use Rattle.sent_log.specs.Log.{Sent}
 use Rattle.stream_queues.specs.declared.direction.Direction.{Direction}
 use Rattle.stream_queues.specs.declared.direction.Direction.TheVariants.{Forth, Back}
-use Rattle.stream_queues.specs.declared.links.Ends.{Ends}
-use Rattle.stream_queues.specs.Fronts.{ends_of, is_open, front_of}
-use Rattle.stream_queues.specs.Streams.{Item, Stream, side_of, taker, giver, with_stream, frames_sent, notices_told, answered, cut_stream}
+use Rattle.stream_queues.specs.declared.links.Endpoints.{Endpoints}
+use Rattle.stream_queues.specs.Fronts.{endpoints_of, is_open, front_of}
+use Rattle.stream_queues.specs.Streams.{QueueItem, Stream, side_of, receiver, sender, with_stream, frames_sent, notices_applied, answered, cut_stream}
 use Rattle.segment_world.specs.declared.act.ActFault.TheVariants.{NoSuchDevice, NeverSent, NoSuchStream, Step}
-use Rattle.segment_world.specs.World.{World, Happened, node_at, sent_by, spread, comes, comes_to, comes_so, delivered, event_of_item, without_front, taken, taken_at, cut_if, cut_at}
-use Rattle.segment_world.specs.Comings.{taker_in, giver_in}
+use Rattle.segment_world.specs.World.{World, Happened, node_at, sent_by, fan_out, comes, comes_to, comes_so, delivered, event_of_item, without_front, taken, taken_at, cut_if, cut_at}
+use Rattle.segment_world.specs.Arrivals.{receiver_in, sender_in}
 use Rattle.segment_world.specs.Follows.{IsPossible, ActFollows}
-use Rattle.segment_world.specs.Rooms.{CameTo, WasDelivered}
+use Rattle.segment_world.specs.AnswerSpace.{CameTo, WasDelivered}
 
 -- PLACES
 
@@ -73,12 +73,12 @@ came_is : (device : ℕ) (event : Event) (w : World) (t : DeviceTable) (said : R
 came_is device event w t said at is = ap (comes_to device event w) at ∙ ap (comes_so device event w) is
 
 -- the device answered
-pub answered_so : (said : Happened) (old mid : World) (device : ℕ) (event : Event) (answer : Answer) (tables : List DeviceTable) → said ≡ comes device event mid → CameTo mid.tables device event (Ok answer) tables → ActFollows said old (Ok (Some answer)) (spread device answer (record mid { tables = tables }))
+pub answered_so : (said : Happened) (old mid : World) (device : ℕ) (event : Event) (answer : Answer) (tables : List DeviceTable) → said ≡ comes device event mid → CameTo mid.tables device event (Ok answer) tables → ActFollows said old (Ok (Some answer)) (fan_out device answer (record mid { tables = tables }))
 answered_so said old mid device event answer tables so came = (
   Some (record { device = device; event = event; answer = answer }),
   so
       ∙ came_is device event mid came.before (Ok (answer, came.after)) came.is came.follows
-      ∙ ap (λ (ts : List DeviceTable). Ok (Some (record { device = device; event = event; answer = answer }), spread device answer (record mid { tables = ts }))) (sym came.leaves),
+      ∙ ap (λ (ts : List DeviceTable). Ok (Some (record { device = device; event = event; answer = answer }), fan_out device answer (record mid { tables = ts }))) (sym came.leaves),
   refl,
 )
 
@@ -126,9 +126,9 @@ done_so said old mid device event answer node tables sent streams so came at sen
 
 -- DELIVERIES
 
-plain_spread : (device : ℕ) (w : World) (delivery : Delivery) → spread device (plain_answer (Delivered delivery)) w ≡ w
-unfolding frames_sent notices_told
-plain_spread device w delivery = ap (λ (sent : List Sent). record w { sent = sent }) (append-nil w.sent)
+plain_fan_out : (device : ℕ) (w : World) (delivery : Delivery) → fan_out device (plain_answer (Delivered delivery)) w ≡ w
+unfolding frames_sent notices_applied
+plain_fan_out device w delivery = ap (λ (sent : List Sent). record w { sent = sent }) (append-nil w.sent)
 
 pub delivered_so : (old w : World) (device index : ℕ) (sent : Sent) (delivery : Delivery) (answer : Answer) (tables : List DeviceTable) → w ≡ old → slice_get w.sent index ≡ Some sent → WasDelivered w.tables device sent.from sent.bytes delivery tables → answer ≡ plain_answer (Delivered delivery) → ActFollows (delivered device old (slice_get old.tables device) (slice_get old.sent index)) old (Ok (Some answer)) (record w { tables = tables })
 delivered_so old w device index sent delivery answer tables seen found was plain =
@@ -138,8 +138,8 @@ delivered_so old w device index sent delivery answer tables seen found was plain
     ap (λ (t : Option DeviceTable). delivered device w t (slice_get w.sent index)) was.is
     ∙ ap (delivered device w (Some was.before)) found
     ∙ came_is device event w was.before (Ok (said, was.after)) was.is was.follows
-    ∙ ap (λ (ts : List DeviceTable). Ok (Some (record { device = device; event = event; answer = said }), spread device said (record w { tables = ts }))) (sym was.leaves)
-    ∙ ap (λ (v : World). Ok (Some (record { device = device; event = event; answer = said }), v)) (plain_spread device (record w { tables = tables }) delivery) in
+    ∙ ap (λ (ts : List DeviceTable). Ok (Some (record { device = device; event = event; answer = said }), fan_out device said (record w { tables = ts }))) (sym was.leaves)
+    ∙ ap (λ (v : World). Ok (Some (record { device = device; event = event; answer = said }), v)) (plain_fan_out device (record w { tables = tables }) delivery) in
     (Some (record { device = device; event = event; answer = said }), sym (ap (λ (v : World). delivered device v (slice_get v.tables device) (slice_get v.sent index)) seen) ∙ happened, ap Some plain)
 
 pub delivered_nowhere : (w : World) (device : ℕ) (found : Option Sent) → length w.tables ≤ device → delivered device w (slice_get w.tables device) found ≡ Err NoSuchDevice
@@ -159,40 +159,40 @@ stands nodes tables sent streams w device node seen long is =
     let within : device < length tables = omega arith in
     (subst (λ (v : World). device < length v.tables) seen within, subst (λ (v : World). slice_get v.nodes device ≡ Some node) seen is)
 
-takes : (d : Direction) (s : Stream) (ends : Ends) → Some ends ≡ Some (ends_of s) → taker d s ≡ taker_in d ends
-takes Forth s ends is = let e = is in cc
-takes Back s ends is = let e = is in cc
+takes : (d : Direction) (s : Stream) (endpoints : Endpoints) → Some endpoints ≡ Some (endpoints_of s) → receiver d s ≡ receiver_in d endpoints
+takes Forth s endpoints is = let e = is in cc
+takes Back s endpoints is = let e = is in cc
 
-gives : (d : Direction) (s : Stream) (ends : Ends) → Some ends ≡ Some (ends_of s) → giver d s ≡ giver_in d ends
-gives Forth s ends is = let e = is in cc
-gives Back s ends is = let e = is in cc
+gives : (d : Direction) (s : Stream) (endpoints : Endpoints) → Some endpoints ≡ Some (endpoints_of s) → sender d s ≡ sender_in d endpoints
+gives Forth s endpoints is = let e = is in cc
+gives Back s endpoints is = let e = is in cc
 
-front_is : (n : ℕ) (d : Direction) (w : World) (s : Stream) (queue : List Item) (item : Item) → Some item ≡ slice_get queue 0 → taken n d w s queue ≡ comes (taker d s) (event_of_item n (node_at w (giver d s)) item) (without_front n d w)
+front_is : (n : ℕ) (d : Direction) (w : World) (s : Stream) (queue : List QueueItem) (item : QueueItem) → Some item ≡ slice_get queue 0 → taken n d w s queue ≡ comes (receiver d s) (event_of_item n (node_at w (sender d s)) item) (without_front n d w)
 front_is n d w s [] item is = absurd (let e = is in cc)
-front_is n d w s (first ∷ rest) item is = ap (λ (i : Item). comes (taker d s) (event_of_item n (node_at w (giver d s)) i) (without_front n d w)) (let e = is in let same : first ≡ item = cc in same)
+front_is n d w s (first ∷ rest) item is = ap (λ (i : QueueItem). comes (receiver d s) (event_of_item n (node_at w (sender d s)) i) (without_front n d w)) (let e = is in let same : first ≡ item = cc in same)
 
-pub taken_is : (n : ℕ) (d : Direction) (w : World) (o : Option Stream) (ends : Ends) (item : Item) → Some ends ≡ option_map ends_of o → Some item ≡ front_of d o → taken_at n d w o ≡ comes (taker_in d ends) (event_of_item n (node_at w (giver_in d ends)) item) (without_front n d w)
-taken_is n d w None ends item there first = absurd (let e = there in cc)
-taken_is n d w (Some s) ends item there first =
+pub taken_is : (n : ℕ) (d : Direction) (w : World) (o : Option Stream) (endpoints : Endpoints) (item : QueueItem) → Some endpoints ≡ option_map endpoints_of o → Some item ≡ front_of d o → taken_at n d w o ≡ comes (receiver_in d endpoints) (event_of_item n (node_at w (sender_in d endpoints)) item) (without_front n d w)
+taken_is n d w None endpoints item there first = absurd (let e = there in cc)
+taken_is n d w (Some s) endpoints item there first =
     front_is n d w s (side_of d s).queue item first
-    ∙ ap (λ (i : ℕ). comes i (event_of_item n (node_at w (giver d s)) item) (without_front n d w)) (takes d s ends there)
-    ∙ ap (λ (i : ℕ). comes (taker_in d ends) (event_of_item n (node_at w i) item) (without_front n d w)) (gives d s ends there)
+    ∙ ap (λ (i : ℕ). comes i (event_of_item n (node_at w (sender d s)) item) (without_front n d w)) (takes d s endpoints there)
+    ∙ ap (λ (i : ℕ). comes (receiver_in d endpoints) (event_of_item n (node_at w i) item) (without_front n d w)) (gives d s endpoints there)
 
 -- the same in the world as it is seen, with what the code looked up
-pub comes_over : (n : ℕ) (d : Direction) (v w : World) (ends : Ends) (item : Item) (device giver : ℕ) (peer : Node) (event : Event) → v ≡ w → Some ends ≡ option_map ends_of (slice_get v.streams n) → Some item ≡ front_of d (slice_get v.streams n) → device ≡ taker_in d ends → giver ≡ giver_in d ends → peer ≡ node_at v giver → event ≡ event_of_item n peer item → taken_at n d w (slice_get w.streams n) ≡ comes device event (without_front n d w)
-comes_over n d v w ends item device giver peer event seen there first taker_is giver_is peer_is event_is =
-    let known : peer ≡ node_at v (giver_in d ends) = peer_is ∙ ap (node_at v) giver_is in
-    let same : event ≡ event_of_item n (node_at v (giver_in d ends)) item = event_is ∙ ap (λ (p : Node). event_of_item n p item) known in
+pub comes_over : (n : ℕ) (d : Direction) (v w : World) (endpoints : Endpoints) (item : QueueItem) (device sender : ℕ) (peer : Node) (event : Event) → v ≡ w → Some endpoints ≡ option_map endpoints_of (slice_get v.streams n) → Some item ≡ front_of d (slice_get v.streams n) → device ≡ receiver_in d endpoints → sender ≡ sender_in d endpoints → peer ≡ node_at v sender → event ≡ event_of_item n peer item → taken_at n d w (slice_get w.streams n) ≡ comes device event (without_front n d w)
+comes_over n d v w endpoints item device sender peer event seen there first taker_is giver_is peer_is event_is =
+    let known : peer ≡ node_at v (sender_in d endpoints) = peer_is ∙ ap (node_at v) giver_is in
+    let same : event ≡ event_of_item n (node_at v (sender_in d endpoints)) item = event_is ∙ ap (λ (p : Node). event_of_item n p item) known in
     let so : taken_at n d v (slice_get v.streams n) ≡ comes device event (without_front n d v) =
-    taken_is n d v (slice_get v.streams n) ends item there first
-    ∙ ap (λ (i : ℕ). comes i (event_of_item n (node_at v (giver_in d ends)) item) (without_front n d v)) (sym taker_is)
+    taken_is n d v (slice_get v.streams n) endpoints item there first
+    ∙ ap (λ (i : ℕ). comes i (event_of_item n (node_at v (sender_in d endpoints)) item) (without_front n d v)) (sym taker_is)
     ∙ ap (λ (e : Event). comes device e (without_front n d v)) (sym same) in
     subst (λ (u : World). taken_at n d u (slice_get u.streams n) ≡ comes device event (without_front n d u)) seen so
 
-pub comes_over_possibly : (n : ℕ) (d : Direction) (v w : World) (ends : Ends) (item : Item) (device : ℕ) → v ≡ w → Some ends ≡ option_map ends_of (slice_get v.streams n) → Some item ≡ front_of d (slice_get v.streams n) → device ≡ taker_in d ends → device < length w.tables → IsPossible (taken_at n d w (slice_get w.streams n))
-comes_over_possibly n d v w ends item device seen there first taker_is within =
-    let event : Event = event_of_item n (node_at v (giver_in d ends)) item in
-    let so = comes_over n d v w ends item device (giver_in d ends) (node_at v (giver_in d ends)) event seen there first taker_is refl refl refl in
+pub comes_over_possibly : (n : ℕ) (d : Direction) (v w : World) (endpoints : Endpoints) (item : QueueItem) (device : ℕ) → v ≡ w → Some endpoints ≡ option_map endpoints_of (slice_get v.streams n) → Some item ≡ front_of d (slice_get v.streams n) → device ≡ receiver_in d endpoints → device < length w.tables → IsPossible (taken_at n d w (slice_get w.streams n))
+comes_over_possibly n d v w endpoints item device seen there first taker_is within =
+    let event : Event = event_of_item n (node_at v (sender_in d endpoints)) item in
+    let so = comes_over n d v w endpoints item device (sender_in d endpoints) (node_at v (sender_in d endpoints)) event seen there first taker_is refl refl refl in
     subst (λ (r : Happened). IsPossible r) (sym so) (comes_possibly device event (without_front n d w) within)
 
 -- A STREAM THAT IS CUT

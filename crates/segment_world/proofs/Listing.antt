@@ -6,28 +6,28 @@ use Rattle.cip_events.specs.declared.profile_fault.ProfileFault.{ProfileFault}
 use Rattle.cip_tables.specs.declared.table.Config.{Config}
 use Rattle.cip_tables.specs.declared.table.DeviceTable.{DeviceTable}
 use Rattle.cip_tables.specs.Step.{opening_table, config_fault}
-use Rattle.segment_world.specs.declared.configs.Key.{Key}
+use Rattle.segment_world.specs.declared.configs.DeviceKey.{DeviceKey}
 use Rattle.segment_world.specs.Configs.{key_in, any_twice, fault_or, first_fault}
 
 -- TWICE
 
-twice_at : (key : Key) (configs : List Config) (i : ℕ) (config : Config) → i < length configs → config ≡ get_or configs i config → any_twice key (drop i configs) ≡ (list_any (λ other. key_in key other == key_in key config) (drop (i + 1) configs) || any_twice key (drop (i + 1) configs))
+twice_at : (key : DeviceKey) (configs : List Config) (i : ℕ) (config : Config) → i < length configs → config ≡ get_or configs i config → any_twice key (drop i configs) ≡ (list_any (λ other. key_in key other == key_in key config) (drop (i + 1) configs) || any_twice key (drop (i + 1) configs))
 unfolding any_twice
 twice_at key configs i config lt is =
     at_drop_more (any_twice key) configs i config lt
     ∙ ap (λ (c : Config). list_any (λ other. key_in key other == key_in key c) (drop (i + 1) configs) || any_twice key (drop (i + 1) configs)) (sym is)
 
-pub twice_here : (key : Key) (configs : List Config) (i : ℕ) (config : Config) (value : ℕ) (found : Bool) → i < length configs → config ≡ get_or configs i config → value ≡ key_in key config → found ≡ list_any (λ other. key_in key other == value) (drop (i + 1) configs) → any_twice key (drop i configs) ≡ any_twice key configs → found ≡ true → true ≡ any_twice key configs
+pub twice_here : (key : DeviceKey) (configs : List Config) (i : ℕ) (config : Config) (value : ℕ) (found : Bool) → i < length configs → config ≡ get_or configs i config → value ≡ key_in key config → found ≡ list_any (λ other. key_in key other == value) (drop (i + 1) configs) → any_twice key (drop i configs) ≡ any_twice key configs → found ≡ true → true ≡ any_twice key configs
 twice_here key configs i config value found lt is value_is found_is so_far here_is =
     let here : list_any (λ other. key_in key other == key_in key config) (drop (i + 1) configs) ≡ true = ap (λ (v : ℕ). list_any (λ other. key_in key other == v) (drop (i + 1) configs)) (sym value_is) ∙ sym found_is ∙ here_is in
     sym (ap (λ b. b || any_twice key (drop (i + 1) configs)) here) ∙ sym (twice_at key configs i config lt is) ∙ so_far
 
-pub twice_later : (key : Key) (configs : List Config) (i : ℕ) (config : Config) (value : ℕ) (found : Bool) → i < length configs → config ≡ get_or configs i config → value ≡ key_in key config → found ≡ list_any (λ other. key_in key other == value) (drop (i + 1) configs) → any_twice key (drop i configs) ≡ any_twice key configs → found ≡ false → any_twice key (drop (i + 1) configs) ≡ any_twice key configs
+pub twice_later : (key : DeviceKey) (configs : List Config) (i : ℕ) (config : Config) (value : ℕ) (found : Bool) → i < length configs → config ≡ get_or configs i config → value ≡ key_in key config → found ≡ list_any (λ other. key_in key other == value) (drop (i + 1) configs) → any_twice key (drop i configs) ≡ any_twice key configs → found ≡ false → any_twice key (drop (i + 1) configs) ≡ any_twice key configs
 twice_later key configs i config value found lt is value_is found_is so_far here_is =
     let here : list_any (λ other. key_in key other == key_in key config) (drop (i + 1) configs) ≡ false = ap (λ (v : ℕ). list_any (λ other. key_in key other == v) (drop (i + 1) configs)) (sym value_is) ∙ sym found_is ∙ here_is in
     sym (ap (λ b. b || any_twice key (drop (i + 1) configs)) here) ∙ sym (twice_at key configs i config lt is) ∙ so_far
 
-pub twice_nowhere : (key : Key) (configs : List Config) (i : ℕ) → length configs ≤ i → any_twice key (drop i configs) ≡ any_twice key configs → false ≡ any_twice key configs
+pub twice_nowhere : (key : DeviceKey) (configs : List Config) (i : ℕ) → length configs ≤ i → any_twice key (drop i configs) ≡ any_twice key configs → false ≡ any_twice key configs
 unfolding any_twice
 twice_nowhere key configs i le so_far = sym (at_drop_all (any_twice key) configs i le) ∙ so_far
 

@@ -5,8 +5,8 @@ use Rattle.cip_types.specs.declared.names.Node.{Node}
 use Rattle.cip_events.specs.declared.profile_fault.ProfileFault.{ProfileFault}
 use Rattle.cip_tables.specs.declared.table.Config.{Config}
 use Rattle.cip_tables.specs.Step.{opening_table, config_fault, node_of, incarnation_of}
-use Rattle.segment_world.specs.declared.configs.Key.{Key}
-use Rattle.segment_world.specs.declared.configs.Key.TheVariants.{Incarnation, Address}
+use Rattle.segment_world.specs.declared.configs.DeviceKey.{DeviceKey}
+use Rattle.segment_world.specs.declared.configs.DeviceKey.TheVariants.{Incarnation, Address}
 use Rattle.segment_world.specs.declared.fault.WorldFault.{WorldFault}
 use Rattle.segment_world.specs.declared.fault.WorldFault.TheVariants.{SameIncarnation, SameNode, Profile, OutOfMemory}
 use Rattle.segment_world.specs.World.{World}
@@ -15,7 +15,7 @@ abbrev pub node_of_config : Config → Node
 node_of_config config = node_of (opening_table config)
 
 -- the byte that the ids of a device begin with, or the number that its address is
-abbrev pub key_in : Key → Config → ℕ
+abbrev pub key_in : DeviceKey → Config → ℕ
 key_in Incarnation config = incarnation_of (opening_table config)
 key_in Address config = (node_of_config config).0
 
@@ -24,7 +24,7 @@ abbrev pub opening_world : List Config → World
 opening_world configs = record { nodes = map node_of_config configs; tables = map opening_table configs; sent = []; streams = [] }
 
 -- two configurations have one key
-unfoldable pub any_twice : Key → List Config → Bool
+unfoldable pub any_twice : DeviceKey → List Config → Bool
 any_twice key [] = false
 any_twice key (config ∷ configs) = list_any (λ other. key_in key other == key_in key config) configs || any_twice key configs
 

@@ -7,10 +7,10 @@ use Rattle.segment_world.specs.declared.act.Act.{Act}
 use Rattle.segment_world.specs.declared.act.Act.TheVariants.{Local, Deliver, NextFrame, OpenStream, CutStream}
 use Rattle.segment_world.specs.declared.act.ActFault.{ActFault}
 use Rattle.segment_world.specs.declared.act.ActFault.TheVariants.{NoSuchDevice, NeverSent, StreamEmpty, NoSuchStream, Step, OutOfMemory}
-use Rattle.segment_world.specs.World.{World, Told, Happened}
+use Rattle.segment_world.specs.World.{World, ReportedEvent, Happened}
 
-abbrev pub answer_of : Told → Answer
-answer_of told = told.answer
+abbrev pub answer_of : ReportedEvent → Answer
+answer_of reported = reported.answer
 
 -- the act can be done but for what a device's step says
 abbrev pub IsPossible : Happened → Type 0
@@ -26,7 +26,7 @@ IsPossible (Err OutOfMemory) = ⊥
 -- where the act can be done but for the step; the device's where the step has an answer to give. After any fault the
 -- world stays.
 abbrev pub ActFollows : Happened → World → Result (Option Answer) ActFault → World → Type 0
-ActFollows said old (Ok answer) new = (told : Option Told) × (said ≡ Ok (told, new)) × (answer ≡ option_map answer_of told)
+ActFollows said old (Ok answer) new = (reported : Option ReportedEvent) × (said ≡ Ok (reported, new)) × (answer ≡ option_map answer_of reported)
 ActFollows said old (Err OutOfMemory) new = IsPossible said × (new ≡ old)
 ActFollows said old (Err (Step step_fault.OutOfMemory)) new = IsOk said × (new ≡ old)
 ActFollows said old (Err fault) new = (said ≡ Err fault) × (new ≡ old)
@@ -40,5 +40,5 @@ takes_no_memory (OpenStream from to) = false
 takes_no_memory (CutStream stream) = true
 
 -- no memory was wanted, the world's own or a device's
-abbrev pub WantsNone : Result (Option Answer) ActFault → Type 0
-WantsNone answered = (answered ≢ Err OutOfMemory) × (answered ≢ Err (Step step_fault.OutOfMemory))
+abbrev pub NeverOutOfMemory : Result (Option Answer) ActFault → Type 0
+NeverOutOfMemory answered = (answered ≢ Err OutOfMemory) × (answered ≢ Err (Step step_fault.OutOfMemory))

@@ -1,7 +1,7 @@
-pub mod Members
+pub mod Devices
 pub mod World
 pub mod Follows
-pub mod Rooms
-pub mod Comings
+pub mod AnswerSpace
+pub mod Arrivals
 pub mod Configs
 pub mod Story

@@ -8,13 +8,13 @@ use Rattle.cip_types.specs.declared.names.Node.{Node}
 use Rattle.cip_events.specs.declared.event.Answer.{Answer}
 use Rattle.cip_events.specs.declared.event.Event.{Event}
 use Rattle.cip_events.specs.declared.event.Event.TheVariants as event
-use Rattle.cip_events.specs.declared.event.Sending.{Sending}
+use Rattle.cip_events.specs.declared.event.OutgoingDatagram.{OutgoingDatagram}
 use Rattle.cip_events.specs.declared.event.StepFault.{StepFault}
 use Rattle.cip_tables.specs.declared.table.DeviceTable.{DeviceTable}
 use Rattle.cip_tables.specs.Step.{DeviceNext, step}
 use Rattle.sent_log.specs.Log.{Sent}
 use Rattle.stream_queues.specs.declared.direction.Direction.{Direction}
-use Rattle.stream_queues.specs.Streams.{Item, Opening, Queued, Ending, Stream, side_of, taker, giver, with_stream, answered, taken_from, fresh_stream, cut_stream}
+use Rattle.stream_queues.specs.Streams.{QueueItem, Opening, Queued, Ending, Stream, side_of, receiver, sender, with_stream, answered, taken_from, fresh_stream, cut_stream}
 use Rattle.segment_world.specs.declared.act.Act.{Act}
 use Rattle.segment_world.specs.declared.act.Act.TheVariants.{Local, Deliver, NextFrame, OpenStream, CutStream}
 use Rattle.segment_world.specs.declared.act.Call.{Call}
@@ -30,14 +30,14 @@ pub record World : Type 0 where
   pub streams : List Stream
 
 -- an event of a device, with its answer
-pub record Told : Type 0 where
+pub record ReportedEvent : Type 0 where
   pub device : ℕ
   pub event : Event
   pub answer : Answer
 
 -- what an act tells, if it is an event of a device, and the world after it; or why it is none
 abbrev pub Happened : Type 0
-Happened = Result (Option Told × World) ActFault
+Happened = Result (Option ReportedEvent × World) ActFault
 
 abbrev pub node_at : World → ℕ → Node
 node_at w device = slice_index_or w.nodes device (record { 0 = 0 })
@@ -45,19 +45,19 @@ node_at w device = slice_index_or w.nodes device (record { 0 = 0 })
 -- AN EVENT COMES TO A DEVICE
 
 -- a datagram of an answer is sent once, whoever consumes it
-abbrev pub sent_by : Node → Sending → Sent
-sent_by node sending = record { from = node; bytes = sending.bytes }
+abbrev pub sent_by : Node → OutgoingDatagram → Sent
+sent_by node outgoing = record { from = node; bytes = outgoing.bytes }
 
 -- what the device sends is there from now on
-abbrev pub spread : ℕ → Answer → World → World
-spread device answer w = record w {
+abbrev pub fan_out : ℕ → Answer → World → World
+fan_out device answer w = record w {
   sent = w.sent ++ map (sent_by (node_at w device)) answer.datagrams;
   streams = answered device answer w.streams;
 }
 
 abbrev pub comes_so : ℕ → Event → World → Result DeviceNext StepFault → Happened
 comes_so device event w (Err fault) = Err (Step fault)
-comes_so device event w (Ok next) = Ok (Some (record { device = device; event = event; answer = next.0 }), spread device next.0 (record w { tables = set w.tables device next.1 }))
+comes_so device event w (Ok next) = Ok (Some (record { device = device; event = event; answer = next.0 }), fan_out device next.0 (record w { tables = set w.tables device next.1 }))
 
 abbrev pub comes_to : ℕ → Event → World → Option DeviceTable → Happened
 comes_to device event w None = Err NoSuchDevice
@@ -82,7 +82,7 @@ delivered device w (Some t) None = Err NeverSent
 delivered device w (Some t) (Some sent) = comes device (event.Datagram sent.from sent.bytes) w
 
 -- what an end of a stream takes, as its event
-abbrev pub event_of_item : ℕ → Node → Item → Event
+abbrev pub event_of_item : ℕ → Node → QueueItem → Event
 event_of_item n peer Opening = event.StreamOpened n peer
 event_of_item n peer (Queued bytes) = event.Frame n bytes
 event_of_item n peer Ending = event.StreamCut n
@@ -91,9 +91,9 @@ abbrev pub without_front : ℕ → Direction → World → World
 without_front n direction w = record w { streams = with_stream (taken_from direction) n w.streams }
 
 -- the first that waits is taken, and stays where the device does not answer it
-abbrev pub taken : ℕ → Direction → World → Stream → List Item → Happened
+abbrev pub taken : ℕ → Direction → World → Stream → List QueueItem → Happened
 taken n direction w s [] = Err StreamEmpty
-taken n direction w s (item ∷ rest) = comes (taker direction s) (event_of_item n (node_at w (giver direction s)) item) (without_front n direction w)
+taken n direction w s (item ∷ rest) = comes (receiver direction s) (event_of_item n (node_at w (sender direction s)) item) (without_front n direction w)
 
 abbrev pub taken_at : ℕ → Direction → World → Option Stream → Happened
 taken_at n direction w None = Err NoSuchStream
@@ -106,8 +106,8 @@ abbrev pub are_two : ℕ → ℕ → World → Bool
 are_two from to w = nat_lt from (length w.tables) && nat_lt to (length w.tables) && not (from == to)
 
 -- a stream's number has 16 bits
-abbrev pub most_streams : ℕ
-most_streams = 65536
+abbrev pub most_stream_numbers : ℕ
+most_stream_numbers = 65536
 
 abbrev pub opened_if : ℕ → ℕ → World → Bool → Bool → Happened
 opened_if from to w false numbered = Err NoSuchDevice
@@ -128,5 +128,5 @@ abbrev pub happens : World → Act → Happened
 happens w (Local device call) = comes device (event_of_call call) w
 happens w (Deliver index device) = delivered device w (slice_get w.tables device) (slice_get w.sent index)
 happens w (NextFrame stream direction) = taken_at stream direction w (slice_get w.streams stream)
-happens w (OpenStream from to) = opened_if from to w (are_two from to w) (nat_lt (length w.streams) most_streams)
+happens w (OpenStream from to) = opened_if from to w (are_two from to w) (nat_lt (length w.streams) most_stream_numbers)
 happens w (CutStream stream) = cut_at stream w (slice_get w.streams stream)

@@ -6,7 +6,7 @@ ghost use Rattle.cip_tables.specs.Step.{opening_table, config_fault};
 ghost use Rattle.segment_world.specs.Configs.{key_in, any_twice, first_fault, world_fault, node_of_config};
 
 use crate::fault::WorldFault;
-use crate::member::Member;
+use crate::world_device::WorldDevice;
 use cip_events::ProfileFault;
 use cip_tables::{Config, Device};
 use cip_types::{Node, OutOfMemory};
@@ -14,7 +14,7 @@ use std::alloc::Global;
 
 /// What tells a device from all others.
 #[derive(Clone, Copy)]
-pub enum Key {
+pub enum DeviceKey {
     /// The byte that its connection ids begin with.
     Incarnation,
     /// Its address.
@@ -30,19 +30,19 @@ fn node_of(config: &Config) -> Node
     }
 }
 
-fn key_of(key: Key, config: &Config) -> u32
+fn key_of(key: DeviceKey, config: &Config) -> u32
     ensures { result ≡ key_in key config.now }
 {
     match key {
-        Key::Incarnation => match config {
+        DeviceKey::Incarnation => match config {
             Config::Adapter(profile) => u32::from(profile.incarnation),
             Config::Scanner(profile) => u32::from(profile.incarnation),
         },
-        Key::Address => node_of(config).0,
+        DeviceKey::Address => node_of(config).0,
     }
 }
 
-fn has_key(key: Key, configs: &[Config], value: u32) -> bool
+fn has_key(key: DeviceKey, configs: &[Config], value: u32) -> bool
     ensures { result ≡ list_any (λ config. key_in key config == value) configs.now }
 {
     configs.iter().any(|config| key_of(key, config) == value)
@@ -57,7 +57,7 @@ fn later(configs: &[Config], place: usize) -> &[Config]
 }
 
 /// Whether two configurations have one key.
-fn any_twice(key: Key, configs: &[Config]) -> bool
+fn any_twice(key: DeviceKey, configs: &[Config]) -> bool
     ensures { result ≡ any_twice key configs.now }
 {
     for (place, config) in configs.iter().enumerate() {
@@ -93,10 +93,10 @@ fn first_fault(configs: &[Config]) -> Option<ProfileFault>
 pub fn world_fault(configs: &[Config]) -> Option<WorldFault>
     ensures { result ≡ world_fault configs.now }
 {
-    if any_twice(Key::Incarnation, configs) {
+    if any_twice(DeviceKey::Incarnation, configs) {
         return Some(WorldFault::SameIncarnation);
     }
-    if any_twice(Key::Address, configs) {
+    if any_twice(DeviceKey::Address, configs) {
         return Some(WorldFault::SameNode);
     }
     match first_fault(configs) {
@@ -117,19 +117,19 @@ pub fn nodes_of(alloc: Global, configs: &[Config]) -> Result<Vec<Node>, OutOfMem
 }
 
 /// Fresh devices of configurations none of which has a fault, in order.
-pub fn members_of<A: Device + Drop, S: Device + Drop>(
+pub fn devices_of<A: Device + Drop, S: Device + Drop>(
     alloc: Global,
     configs: Vec<Config>,
-) -> Result<Vec<Member<A, S>>, OutOfMemory>
+) -> Result<Vec<WorldDevice<A, S>>, OutOfMemory>
     requires adapter { A.ADAPTER ≡ true }
     requires scanner { S.ADAPTER ≡ false }
     requires good { first_fault configs.items ≡ None }
-    ensures { IfOk result (λ members. members.items ≡ map opening_table configs.items) }
+    ensures { IfOk result (λ devices. devices.items ≡ map opening_table configs.items) }
 {
-    let mut members = Vec::new(alloc);
+    let mut devices = Vec::new(alloc);
     for config in configs {
-        let member = Member::new(alloc, config)?;
-        members.push(member)?;
+        let world_device = WorldDevice::new(alloc, config)?;
+        devices.push(world_device)?;
     }
-    Ok(members)
+    Ok(devices)
 }

@@ -3,16 +3,16 @@
 #![tactic(auto)]
 
 mod act;
-mod coming;
+mod arrival;
 mod configs;
+mod devices;
+mod fanning_out;
 mod fault;
 pub mod laws;
-mod member;
-mod members;
-mod spreading;
 mod world;
+mod world_device;
 
 pub use act::{Act, ActFault, Call};
 pub use fault::WorldFault;
-pub use stream_queues::{Direction, Ends, Front};
+pub use stream_queues::{Direction, Endpoints, QueueFront};
 pub use world::World;

@@ -1,30 +1,30 @@
 //! A world, and one act in it.
 
 ghost use Rattle.std.specs.Prelude.{◌≡◌, true, false, Err, None, Some, IfOk, IfErr, IfSome, IfNone, length, slice_get, nat_lt};
-ghost use Rattle.segment_world.specs.World.{World as Segment, comes, event_of_call, delivered, taken_at, happens, are_two, opened_if, cut_at, most_streams};
-ghost use Rattle.segment_world.specs.Follows.{ActFollows, takes_no_memory, WantsNone};
+ghost use Rattle.segment_world.specs.World.{World as Segment, comes, event_of_call, delivered, taken_at, happens, are_two, opened_if, cut_at, most_stream_numbers};
+ghost use Rattle.segment_world.specs.Follows.{ActFollows, takes_no_memory, NeverOutOfMemory};
 ghost use Rattle.std.specs.Option.{option_map};
-ghost use Rattle.stream_queues.specs.Fronts.{ends_of, view_front, front_of};
-ghost use Rattle.segment_world.specs.Comings.{IsComing};
+ghost use Rattle.stream_queues.specs.Fronts.{endpoints_of, view_front, front_of};
+ghost use Rattle.segment_world.specs.Arrivals.{IsArrival};
 ghost use Rattle.segment_world.specs.Configs.{opening_world, world_fault, IsRefused};
 
 use crate::act::{Act, ActFault, Call};
-use crate::coming::{Coming, event_of_front, giver_of, known_node, node_of, taker_of};
-use crate::configs::{members_of, nodes_of, world_fault};
+use crate::arrival::{Arrival, event_of_front, known_node, node_of, receiver_of, sender_of};
+use crate::configs::{devices_of, nodes_of, world_fault};
+use crate::devices::{call_at, deliver_at, step_at};
+use crate::fanning_out::{fan_out, plain_answer, reserve_answer};
 use crate::fault::WorldFault;
-use crate::member::Member;
-use crate::members::{call_at, deliver_at, step_at};
-use crate::spreading::{make_room, plain_answer, spread};
+use crate::world_device::WorldDevice;
 use cip_events::{Answer, Verdict};
 use cip_tables::{Config, Device, TableCopy};
 use cip_types::{Node, OutOfMemory};
 use sent_log::SentLog;
 use std::alloc::Global;
 use std::marker::Model;
-use stream_queues::{Direction, Ends, Front, Streams};
+use stream_queues::{Direction, Endpoints, QueueFront, Streams};
 
 /// How many streams can be numbered.
-const MOST_STREAMS: usize = 65_536;
+const MOST_STREAM_NUMBERS: usize = 65_536;
 
 /// Devices on a segment, what they ever sent, and the streams between them.
 ///
@@ -32,7 +32,7 @@ const MOST_STREAMS: usize = 65_536;
 #[derive(Drop)]
 pub struct World<A: Device, S: Device> {
     alloc: Global,
-    members: Vec<Member<A, S>>,
+    devices: Vec<WorldDevice<A, S>>,
     nodes: Vec<Node>,
     log: SentLog,
     streams: Streams,
@@ -44,9 +44,9 @@ impl<A: Device, S: Device> Model for World<A, S> {
 
     ghost Value = { Segment };
 
-    ghost view = { λ w. record { nodes = w.nodes.items; tables = w.members.items; sent = w.log.sent; streams = w.streams.streams } };
+    ghost view = { λ w. record { nodes = w.nodes.items; tables = w.devices.items; sent = w.log.sent; streams = w.streams.streams } };
 
-    ghost invariant = { λ w. length w.nodes.items ≡ length w.members.items };
+    ghost invariant = { λ w. length w.nodes.items ≡ length w.devices.items };
 }
 
 impl<A: Device + Drop, S: Device + Drop> World<A, S> {
@@ -68,12 +68,12 @@ impl<A: Device + Drop, S: Device + Drop> World<A, S> {
         let Ok(nodes) = nodes_of(alloc, &configs) else {
             return Err(WorldFault::OutOfMemory);
         };
-        let Ok(members) = members_of(alloc, configs) else {
+        let Ok(devices) = devices_of(alloc, configs) else {
             return Err(WorldFault::OutOfMemory);
         };
         Ok(World {
             alloc,
-            members,
+            devices,
             nodes,
             log: SentLog::new(alloc),
             streams: Streams::new(alloc),
@@ -90,7 +90,7 @@ impl<A: Device, S: Device> World<A, S> {
     /// cut of a stream take no memory.
     pub fn act(&mut self, act: &Act) -> Result<Option<Answer>, ActFault>
         ensures follows { ActFollows (happens self.old act.now) self.old result self.new }
-        ensures no_memory { takes_no_memory act.now ≡ true → WantsNone result }
+        ensures no_memory { takes_no_memory act.now ≡ true → NeverOutOfMemory result }
     {
         match act {
             Act::Local { device, call } => self.local(*device, call),
@@ -107,12 +107,12 @@ impl<A: Device, S: Device> World<A, S> {
         let Some(node) = node_of(&self.nodes, device) else {
             return Err(ActFault::NoSuchDevice);
         };
-        let Ok(()) = make_room(&mut self.log, &mut self.streams) else {
+        let Ok(()) = reserve_answer(&mut self.log, &mut self.streams) else {
             return Err(ActFault::OutOfMemory);
         };
-        match call_at(&mut self.members, device as usize, call) {
+        match call_at(&mut self.devices, device as usize, call) {
             Ok(answer) => {
-                spread(&mut self.log, &mut self.streams, device, node, &answer);
+                fan_out(&mut self.log, &mut self.streams, device, node, &answer);
                 Ok(Some(answer))
             }
             Err(fault) => Err(ActFault::Step(fault)),
@@ -121,36 +121,36 @@ impl<A: Device, S: Device> World<A, S> {
 
     fn deliver(&mut self, index: usize, device: u32) -> Result<Option<Answer>, ActFault>
         ensures follows { ActFollows (delivered device self.old (slice_get self.old.tables device) (slice_get self.old.sent index)) self.old result self.new }
-        ensures no_memory { WantsNone result }
+        ensures no_memory { NeverOutOfMemory result }
     {
-        if device as usize >= self.members.len() {
+        if device as usize >= self.devices.len() {
             return Err(ActFault::NoSuchDevice);
         }
         let Some((from, bytes)) = self.log.get(index) else {
             return Err(ActFault::NeverSent);
         };
-        let delivery = deliver_at(&mut self.members, device as usize, from, bytes);
+        let delivery = deliver_at(&mut self.devices, device as usize, from, bytes);
         Ok(Some(plain_answer(self.alloc, Verdict::Delivered(delivery))))
     }
 
     /// The event that the first is which waits in a direction, and whose it is.
-    fn coming(&self, stream: u16, direction: Direction) -> Result<Coming, ActFault>
-        ensures coming { IfOk result (IsComing self.now stream direction) }
+    fn arrival(&self, stream: u16, direction: Direction) -> Result<Arrival, ActFault>
+        ensures arrival { IfOk result (IsArrival self.now stream direction) }
         ensures fault { IfErr result (λ fault. ActFollows (taken_at stream direction self.now (slice_get self.now.streams stream)) self.now (Err fault) self.now) }
     {
-        let Some(ends) = self.streams.ends(stream) else {
+        let Some(endpoints) = self.streams.endpoints(stream) else {
             return Err(ActFault::NoSuchStream);
         };
         let Some(front) = self.streams.front(stream, direction) else {
             return Err(ActFault::StreamEmpty);
         };
-        let device = taker_of(ends, direction);
+        let device = receiver_of(endpoints, direction);
         let Some(node) = node_of(&self.nodes, device) else {
             return Err(ActFault::NoSuchDevice);
         };
-        let peer = known_node(&self.nodes, giver_of(ends, direction));
+        let peer = known_node(&self.nodes, sender_of(endpoints, direction));
         match event_of_front(self.alloc, stream, peer, front) {
-            Ok(event) => Ok(Coming {
+            Ok(event) => Ok(Arrival {
                 device,
                 node,
                 event,
@@ -162,22 +162,22 @@ impl<A: Device, S: Device> World<A, S> {
     fn next_frame(&mut self, stream: u16, direction: Direction) -> Result<Option<Answer>, ActFault>
         ensures { ActFollows (taken_at stream direction self.old (slice_get self.old.streams stream)) self.old result self.new }
     {
-        let coming = match self.coming(stream, direction) {
-            Ok(coming) => coming,
+        let arrival = match self.arrival(stream, direction) {
+            Ok(arrival) => arrival,
             Err(fault) => return Err(fault),
         };
-        let Ok(()) = make_room(&mut self.log, &mut self.streams) else {
+        let Ok(()) = reserve_answer(&mut self.log, &mut self.streams) else {
             return Err(ActFault::OutOfMemory);
         };
-        let device = coming.device;
-        match step_at(&mut self.members, device as usize, &coming.event) {
+        let device = arrival.device;
+        match step_at(&mut self.devices, device as usize, &arrival.event) {
             Ok(answer) => {
                 self.streams.take_front(stream, direction);
-                spread(
+                fan_out(
                     &mut self.log,
                     &mut self.streams,
                     device,
-                    coming.node,
+                    arrival.node,
                     &answer,
                 );
                 Ok(Some(answer))
@@ -187,13 +187,13 @@ impl<A: Device, S: Device> World<A, S> {
     }
 
     fn open_stream(&mut self, from: u32, to: u32) -> Result<Option<Answer>, ActFault>
-        ensures { ActFollows (opened_if from to self.old (are_two from to self.old) (nat_lt (length self.old.streams) most_streams)) self.old result self.new }
+        ensures { ActFollows (opened_if from to self.old (are_two from to self.old) (nat_lt (length self.old.streams) most_stream_numbers)) self.old result self.new }
     {
-        let count = self.members.len();
+        let count = self.devices.len();
         if from as usize >= count || to as usize >= count || from == to {
             return Err(ActFault::NoSuchDevice);
         }
-        if self.streams.len() >= MOST_STREAMS {
+        if self.streams.len() >= MOST_STREAM_NUMBERS {
             return Err(ActFault::NoSuchStream);
         }
         match self.streams.open(from, to) {
@@ -204,7 +204,7 @@ impl<A: Device, S: Device> World<A, S> {
 
     fn cut_stream(&mut self, stream: u16) -> Result<Option<Answer>, ActFault>
         ensures follows { ActFollows (cut_at stream self.old (slice_get self.old.streams stream)) self.old result self.new }
-        ensures no_memory { WantsNone result }
+        ensures no_memory { NeverOutOfMemory result }
     {
         if self.streams.cut(stream) {
             return Ok(None);
@@ -220,7 +220,7 @@ impl<A: Device, S: Device> World<A, S> {
     pub fn len(&self) -> usize
         ensures { result ≡ length self.now.tables }
     {
-        self.members.len()
+        self.devices.len()
     }
 
     /// The address of a device.
@@ -235,10 +235,10 @@ impl<A: Device, S: Device> World<A, S> {
         ensures none { IfNone result (slice_get self.now.tables device ≡ None) }
         ensures table { IfSome result (λ copied. IfOk copied (λ copy. slice_get self.now.tables device ≡ Some copy)) }
     {
-        let Some(member) = self.members.get(device as usize) else {
+        let Some(world_device) = self.devices.get(device as usize) else {
             return None;
         };
-        Some(member.copy())
+        Some(world_device.copy())
     }
 
     /// How many datagrams were ever sent.
@@ -263,14 +263,14 @@ impl<A: Device, S: Device> World<A, S> {
     }
 
     /// The ends of a stream.
-    pub fn ends(&self, stream: u16) -> Option<Ends>
-        ensures { result ≡ option_map ends_of (slice_get self.now.streams stream) }
+    pub fn endpoints(&self, stream: u16) -> Option<Endpoints>
+        ensures { result ≡ option_map endpoints_of (slice_get self.now.streams stream) }
     {
-        self.streams.ends(stream)
+        self.streams.endpoints(stream)
     }
 
     /// What waits first in a direction of a stream.
-    pub fn front(&self, stream: u16, direction: Direction) -> Option<Front<'_>>
+    pub fn front(&self, stream: u16, direction: Direction) -> Option<QueueFront<'_>>
         ensures { option_map view_front result ≡ front_of direction (slice_get self.now.streams stream) }
     {
         self.streams.front(stream, direction)

@@ -11,7 +11,7 @@ use std::marker::Model;
 
 /// Whose datagram it is, and where its bytes lie in the buffer.
 #[derive(Clone, Copy)]
-struct Place {
+struct SentSpan {
     from: Node,
     start: usize,
     end: usize,
@@ -20,7 +20,7 @@ struct Place {
 /// Datagrams in the order in which they were sent, which contracts see as their list, with the room for more.
 #[derive(Drop)]
 pub struct SentLog {
-    places: Vec<Place>,
+    spans: Vec<SentSpan>,
     bytes: Vec<u8>,
 }
 
@@ -31,20 +31,20 @@ impl Model for SentLog {
 
     ghost Value = { Log };
 
-    ghost use Rattle.sent_log.specs.Places.{sent_in, AreWithin};
+    ghost use Rattle.sent_log.specs.Spans.{sent_in, AreWithin};
 
-    ghost view = { λ l. record { sent = sent_in l.bytes.items l.places.items; texts = vec_capacity l.places - vec_len l.places; bytes = vec_capacity l.bytes - vec_len l.bytes } };
+    ghost view = { λ l. record { sent = sent_in l.bytes.items l.spans.items; texts = vec_capacity l.spans - vec_len l.spans; bytes = vec_capacity l.bytes - vec_len l.bytes } };
 
-    ghost invariant = { λ l. AreWithin (length l.bytes.items) l.places.items };
+    ghost invariant = { λ l. AreWithin (length l.bytes.items) l.spans.items };
 }
 
 /// The bytes of a place that lies within the buffer.
-fn part<'a>(bytes: &'a [u8], place: &Place) -> &'a [u8]
-    requires start { place.now.start ≤ place.now.end }
-    requires end { place.now.end ≤ length bytes.now }
-    ensures { result.now ≡ slice_range bytes.now place.now.start place.now.end }
+fn part<'a>(bytes: &'a [u8], span: &SentSpan) -> &'a [u8]
+    requires start { span.now.start ≤ span.now.end }
+    requires end { span.now.end ≤ length bytes.now }
+    ensures { result.now ≡ slice_range bytes.now span.now.start span.now.end }
 {
-    &bytes[place.start..place.end]
+    &bytes[span.start..span.end]
 }
 
 impl SentLog {
@@ -53,7 +53,7 @@ impl SentLog {
         ensures { result.sent ≡ [] }
     {
         SentLog {
-            places: Vec::new(alloc),
+            spans: Vec::new(alloc),
             bytes: Vec::new(alloc),
         }
     }
@@ -62,15 +62,15 @@ impl SentLog {
     pub fn len(&self) -> usize
         ensures { result ≡ length self.now.sent }
     {
-        self.places.len()
+        self.spans.len()
     }
 
-    /// The datagram of this place in the order, with its sender's node.
+    /// The datagram of this index, with its sender's node.
     pub fn get(&self, index: usize) -> Option<(Node, &[u8])>
         ensures { option_map (λ found. record { from = found.0; bytes = found.1.now }) result ≡ slice_get self.now.sent index }
     {
-        let place = self.places.get(index)?;
-        Some((place.from, part(&self.bytes, place)))
+        let span = self.spans.get(index)?;
+        Some((span.from, part(&self.bytes, span)))
     }
 
     /// Makes room for so many datagrams that have so many bytes together. After want of memory nothing was
@@ -80,7 +80,7 @@ impl SentLog {
         ensures texts { OnOk result (texts ≤ self.new.texts) }
         ensures bytes { OnOk result (bytes ≤ self.new.bytes) }
     {
-        self.places.reserve(texts)?;
+        self.spans.reserve(texts)?;
         self.bytes.reserve(bytes)?;
         Ok(())
     }
@@ -98,6 +98,6 @@ impl SentLog {
             unreachable!()
         };
         let end = self.bytes.len();
-        self.places.push_reserved(Place { from, start, end });
+        self.spans.push_reserved(SentSpan { from, start, end });
     }
 }

@@ -3,7 +3,7 @@ use Rattle.std.proofs.Common.{◌≡◌, ◌<◌, ◌≤◌, ℕ, suc, ◌+◌, 
 use Rattle.std.specs.List.{filter_map, cons_option}
 use Rattle.std.proofs.lemmas.List.{append-nil, map-append}
 use Rattle.std.proofs.lemmas.List.Elements.{filter_map-append}
-use Rattle.cip_events.specs.declared.event.Sending.{Sending}
+use Rattle.cip_events.specs.declared.event.OutgoingDatagram.{OutgoingDatagram}
 use Rattle.cip_productions.specs.Productions.{sent}
 use Rattle.scanner_table.specs.Productions.{written_state, connection_production, state_production, slot_production}
 use Rattle.std.proofs.lemmas.Grind.{common_steps}
@@ -12,47 +12,47 @@ use Rattle.cip_events.specs.declared.event.Delivery.{Delivery}
 use Rattle.cip_events.specs.declared.event.Delivery.TheVariants.{Applied, Duplicate}
 use Rattle.cip_events.specs.declared.event.Verdict.TheVariants.{Delivered, Done}
 use Rattle.cip_events.specs.Answers.{plain_answer}
-use Rattle.cip_productions.specs.Acceptance.{is_repeated}
+use Rattle.cip_productions.specs.Acceptance.{is_duplicate}
 use Rattle.scanner_table.specs.declared.profile.SlotConfig.{SlotConfig}
 use Rattle.scanner_table.specs.declared.slot.Connection.{Connection}
 use Rattle.scanner_table.specs.declared.slot.Slot.{Slot}
 use Rattle.scanner_table.specs.declared.slot.SlotState.{SlotState}
 use Rattle.scanner_table.specs.declared.slot.SlotState.TheVariants.{Established}
 use Rattle.scanner_table.specs.declared.table.ScannerTable.{ScannerTable}
-use Rattle.scanner_table.specs.Slots.{Place, places_from, places, with_slot, is_numbered}
+use Rattle.scanner_table.specs.Slots.{IndexedSlot, indexed_from, indexed_slots, with_slot, is_numbered}
 use Rattle.scanner_table.specs.Effects.{Next}
 use Rattle.scanner_table.specs.Datagrams.{accepted_connection, accepted, received_at, state_received}
 use Rattle.scanner_table.specs.Points.{moded_slot, output_slot, write_at, write}
 use Rattle.cip_productions.specs.Kinds.{is_owner}
 use Rattle.cip_events.specs.declared.event.StepFault.{StepFault}
-use Rattle.slot_data.specs.Told.{judged}
+use Rattle.slot_data.specs.Results.{judged}
 
 -- ---- one slot
 
 -- the slot that has accepted a datagram, by whether its count was that of the last
-abbrev gathered_slot : Bool → ScannerTable → Place → DatagramFields → Connection → Slot
-gathered_slot repeated t place d c = record place.slot {
-  state = Established (accepted_connection t.clock place.config.mult d c);
-  image = cond repeated place.slot.image d.payload;
+abbrev gathered_slot : Bool → ScannerTable → IndexedSlot → DatagramFields → Connection → Slot
+gathered_slot duplicate t indexed d c = record indexed.slot {
+  state = Established (accepted_connection t.clock indexed.config.mult d c);
+  image = cond duplicate indexed.slot.image d.payload;
 }
 
-accepted_by : (b : Bool) (t : ScannerTable) (place : Place) (d : DatagramFields) (c : Connection) → is_repeated c.last d.count ≡ b → accepted t place d c ≡ (plain_answer (Delivered (cond b Duplicate Applied)), with_slot t place.number (gathered_slot b t place d c))
-accepted_by true t place d c is = rw is refl
-accepted_by false t place d c is = rw is refl
+accepted_by : (b : Bool) (t : ScannerTable) (indexed : IndexedSlot) (d : DatagramFields) (c : Connection) → is_duplicate c.last d.count ≡ b → accepted t indexed d c ≡ (plain_answer (Delivered (cond b Duplicate Applied)), with_slot t indexed.number (gathered_slot b t indexed d c))
+accepted_by true t indexed d c is = rw is refl
+accepted_by false t indexed d c is = rw is refl
 
 -- what a datagram is to the place that is found for it
-pub received_is : (t : ScannerTable) (place : Place) (d : DatagramFields) (c : Connection) (found : Option Place) (old new : Slot) (delivery : Delivery) → Some place ≡ found → state_received t place d place.slot.state ≡ judged t place d (Ok c) → old ≡ place.slot → delivery ≡ cond (is_repeated c.last d.count) Duplicate Applied → new ≡ record old { state = Established (accepted_connection t.clock place.config.mult d c); image = cond (is_repeated c.last d.count) old.image d.payload } → ◌≡◌ {A = Next} (plain_answer (Delivered delivery), with_slot t place.number new) (received_at t d found)
-received_is t place d c found old new delivery at is same told changed =
-    sym (ap (received_at t d) (sym at) ∙ is ∙ accepted_by (is_repeated c.last d.count) t place d c refl ∙ step (sym told) (changed ∙ ap (λ (s : Slot). record s { state = Established (accepted_connection t.clock place.config.mult d c); image = cond (is_repeated c.last d.count) s.image d.payload }) same)) where
-      step : cond (is_repeated c.last d.count) Duplicate Applied ≡ delivery → new ≡ gathered_slot (is_repeated c.last d.count) t place d c → ◌≡◌ {A = Next} (plain_answer (Delivered (cond (is_repeated c.last d.count) Duplicate Applied)), with_slot t place.number (gathered_slot (is_repeated c.last d.count) t place d c)) (plain_answer (Delivered delivery), with_slot t place.number new)
-      step told is = rw (told, is) refl
+pub received_is : (t : ScannerTable) (indexed : IndexedSlot) (d : DatagramFields) (c : Connection) (found : Option IndexedSlot) (old new : Slot) (delivery : Delivery) → Some indexed ≡ found → state_received t indexed d indexed.slot.state ≡ judged t indexed d (Ok c) → old ≡ indexed.slot → delivery ≡ cond (is_duplicate c.last d.count) Duplicate Applied → new ≡ record old { state = Established (accepted_connection t.clock indexed.config.mult d c); image = cond (is_duplicate c.last d.count) old.image d.payload } → ◌≡◌ {A = Next} (plain_answer (Delivered delivery), with_slot t indexed.number new) (received_at t d found)
+received_is t indexed d c found old new delivery at is same reported changed =
+    sym (ap (received_at t d) (sym at) ∙ is ∙ accepted_by (is_duplicate c.last d.count) t indexed d c refl ∙ step (sym reported) (changed ∙ ap (λ (s : Slot). record s { state = Established (accepted_connection t.clock indexed.config.mult d c); image = cond (is_duplicate c.last d.count) s.image d.payload }) same)) where
+      step : cond (is_duplicate c.last d.count) Duplicate Applied ≡ delivery → new ≡ gathered_slot (is_duplicate c.last d.count) t indexed d c → ◌≡◌ {A = Next} (plain_answer (Delivered (cond (is_duplicate c.last d.count) Duplicate Applied)), with_slot t indexed.number (gathered_slot (is_duplicate c.last d.count) t indexed d c)) (plain_answer (Delivered delivery), with_slot t indexed.number new)
+      step reported is = rw (reported, is) refl
 
 -- what a write is to the place that is found for it
-pub written_is : (t : ScannerTable) (number : ℕ) (place : Place) (bytes : List ℕ) (old new : Slot) → Some place ≡ find (is_numbered number) (places t) → place.number ≡ number → is_owner place.config.kind ≡ true → (length bytes == place.config.out_len) ≡ true → old ≡ place.slot → new ≡ output_slot bytes old → ◌≡◌ {A = Result Next StepFault} (Ok (plain_answer Done, with_slot t number new)) (write t number bytes)
+pub written_is : (t : ScannerTable) (number : ℕ) (indexed : IndexedSlot) (bytes : List ℕ) (old new : Slot) → Some indexed ≡ find (is_numbered number) (indexed_slots t) → indexed.number ≡ number → is_owner indexed.config.kind ≡ true → (length bytes == indexed.config.out_len) ≡ true → old ≡ indexed.slot → new ≡ output_slot bytes old → ◌≡◌ {A = Result Next StepFault} (Ok (plain_answer Done, with_slot t number new)) (write t number bytes)
 unfolding write
-written_is t number place bytes old new at same owner long stood changed =
+written_is t number indexed bytes old new at same owner long stood changed =
     sym (ap (write_at t bytes) (sym at) ∙ step owner long same (sym (changed ∙ ap (output_slot bytes) stood))) where
-      step : is_owner place.config.kind ≡ true → (length bytes == place.config.out_len) ≡ true → place.number ≡ number → output_slot bytes place.slot ≡ new → ◌≡◌ {A = Result Next StepFault} (write_at t bytes (Some place)) (Ok (plain_answer Done, with_slot t number new))
+      step : is_owner indexed.config.kind ≡ true → (length bytes == indexed.config.out_len) ≡ true → indexed.number ≡ number → output_slot bytes indexed.slot ≡ new → ◌≡◌ {A = Result Next StepFault} (write_at t bytes (Some indexed)) (Ok (plain_answer Done, with_slot t number new))
       step owner long same is = rw (owner, long, same, is) refl
 
 -- ---- each slot
@@ -77,12 +77,12 @@ map_more f xs ys i d y lt same mapped is =
     record { front = grind (arith, common_steps); rest = grind (arith, common_steps) }
 
 -- the places from a number on begin with the place of that number
-pub rest_begins : (index : ℕ) (configs : List SlotConfig) (slots : List Slot) (d : SlotConfig) (e : Slot) → index < length configs → index < length slots → places_from index (drop index configs) (drop index slots) ≡ record { number = index; config = get_or configs index d; slot = get_or slots index e } ∷ places_from (suc index) (drop (suc index) configs) (drop (suc index) slots)
+pub rest_begins : (index : ℕ) (configs : List SlotConfig) (slots : List Slot) (d : SlotConfig) (e : Slot) → index < length configs → index < length slots → indexed_from index (drop index configs) (drop index slots) ≡ record { number = index; config = get_or configs index d; slot = get_or slots index e } ∷ indexed_from (suc index) (drop (suc index) configs) (drop (suc index) slots)
 rest_begins index configs slots d e lt lt' = rw (drop-cons configs index d lt, drop-cons slots index e lt') refl
 
 -- a loop over places that has changed the slots up to i
 abbrev pub Renewed : List SlotConfig → List Slot → List Slot → ℕ → Type 0
-Renewed configs old new i = map moded_slot (places_from 0 configs old) ≡ take i new ++ map moded_slot (places_from i (drop i configs) (drop i new))
+Renewed configs old new i = map moded_slot (indexed_from 0 configs old) ≡ take i new ++ map moded_slot (indexed_from i (drop i configs) (drop i new))
 
 -- a slot whose state is that after a change of mode
 moded_by : (b : Bool) (slot : Slot) → record slot { state = cond b (written_state slot.state) slot.state } ≡ cond b (record slot { state = written_state slot.state }) slot
@@ -97,21 +97,21 @@ renewed_more configs old slots i config d slot new e lt lt' so_far is stood chan
     let up : suc i ≡ i + 1 = omega arith in
     so_far
     ∙ ap (λ l. take i slots ++ map moded_slot l) (rest_begins i configs slots d e lt lt')
-    ∙ ap (λ s. take i slots ++ s ∷ map moded_slot (places_from (suc i) (drop (suc i) configs) (drop (suc i) slots))) (sym moded)
-    ∙ ap (λ n. take i slots ++ new ∷ map moded_slot (places_from n (drop n configs) (drop n slots))) up
-    ∙ sym (append_assoc (take i slots) (new ∷ []) (map moded_slot (places_from (i + 1) (drop (i + 1) configs) (drop (i + 1) slots))))
-    ∙ ap (λ l. l ++ map moded_slot (places_from (i + 1) (drop (i + 1) configs) (drop (i + 1) slots))) (sym front)
-    ∙ ap (λ l. take (i + 1) (set slots i new) ++ map moded_slot (places_from (i + 1) (drop (i + 1) configs) l)) (sym behind)
+    ∙ ap (λ s. take i slots ++ s ∷ map moded_slot (indexed_from (suc i) (drop (suc i) configs) (drop (suc i) slots))) (sym moded)
+    ∙ ap (λ n. take i slots ++ new ∷ map moded_slot (indexed_from n (drop n configs) (drop n slots))) up
+    ∙ sym (append_assoc (take i slots) (new ∷ []) (map moded_slot (indexed_from (i + 1) (drop (i + 1) configs) (drop (i + 1) slots))))
+    ∙ ap (λ l. l ++ map moded_slot (indexed_from (i + 1) (drop (i + 1) configs) (drop (i + 1) slots))) (sym front)
+    ∙ ap (λ l. take (i + 1) (set slots i new) ++ map moded_slot (indexed_from (i + 1) (drop (i + 1) configs) l)) (sym behind)
 
-no_slots : (number : ℕ) (configs : List SlotConfig) → places_from number configs [] ≡ []
+no_slots : (number : ℕ) (configs : List SlotConfig) → indexed_from number configs [] ≡ []
 no_slots number [] = refl
 no_slots number (config ∷ configs) = refl
 
-pub renewed_all : (configs : List SlotConfig) (old slots : List Slot) (i : ℕ) → length slots ≤ i → Renewed configs old slots i → slots ≡ map moded_slot (places_from 0 configs old)
+pub renewed_all : (configs : List SlotConfig) (old slots : List Slot) (i : ℕ) → length slots ≤ i → Renewed configs old slots i → slots ≡ map moded_slot (indexed_from 0 configs old)
 renewed_all configs old slots i le so_far =
     let all : take i slots ≡ slots = grind (arith, common_steps) in
     let none : drop i slots ≡ [] = grind (arith, common_steps) in
-    sym (so_far ∙ ap (λ l. l ++ map moded_slot (places_from i (drop i configs) (drop i slots))) all ∙ ap (λ l. slots ++ map moded_slot (places_from i (drop i configs) l)) none ∙ ap (λ l. slots ++ map moded_slot l) (no_slots i (drop i configs)) ∙ append-nil slots)
+    sym (so_far ∙ ap (λ l. l ++ map moded_slot (indexed_from i (drop i configs) (drop i slots))) all ∙ ap (λ l. slots ++ map moded_slot (indexed_from i (drop i configs) l)) none ∙ ap (λ l. slots ++ map moded_slot l) (no_slots i (drop i configs)) ∙ append-nil slots)
 
 -- one more place's production is sent
 pub sent_more : {A B C D : Type 0} (view : A → B) (f : B → Option C) (g : C → D) (xs : List A) (i : ℕ) (x d : A) (sent more : List D) → i < length xs → x ≡ get_or xs i d → sent ≡ map g (filter_map f (map view (take i xs))) → more ≡ sent ++ map g (filter_map f (view x ∷ [])) → more ≡ map g (filter_map f (map view (take (i + 1) xs)))
@@ -125,6 +125,6 @@ sent_more view f g xs i x d sent more lt is so_far grown =
     ∙ ap (λ l. map g (filter_map f (map view l))) (sym one)
 
 -- what an established connection produces is sent
-pub pushed_is : (run : Bool) (place : Place) (c : Connection) (old new : List Sending) (one : Sending) → place.slot.state ≡ Established c → one ≡ sent (connection_production run place c) → new ≡ old ++ one ∷ [] → new ≡ old ++ map sent (filter_map (slot_production run) (place ∷ []))
-pushed_is run place c old new one is made grown =
-    grown ∙ ap (λ (s : Sending). old ++ s ∷ []) made ∙ ap (λ (s : SlotState). old ++ map sent (cons_option (state_production run place s) [])) (sym is)
+pub pushed_is : (run : Bool) (indexed : IndexedSlot) (c : Connection) (old new : List OutgoingDatagram) (one : OutgoingDatagram) → indexed.slot.state ≡ Established c → one ≡ sent (connection_production run indexed c) → new ≡ old ++ one ∷ [] → new ≡ old ++ map sent (filter_map (slot_production run) (indexed ∷ []))
+pushed_is run indexed c old new one is made grown =
+    grown ∙ ap (λ (s : OutgoingDatagram). old ++ s ∷ []) made ∙ ap (λ (s : SlotState). old ++ map sent (cons_option (state_production run indexed s) [])) (sym is)

@@ -5,22 +5,22 @@ ghost use Rattle.cip_datagram.specs.Datagram.{view_datagram};
 ghost use Rattle.cip_events.specs.Answers.{plain_answer};
 ghost use Rattle.cip_events.specs.declared.event.Verdict.TheVariants.{Delivered};
 ghost use Rattle.cip_events.specs.declared.event.Delivery.TheVariants as delivery;
-ghost use Rattle.cip_productions.specs.Acceptance.{is_repeated};
+ghost use Rattle.cip_productions.specs.Acceptance.{is_duplicate};
 ghost use Rattle.scanner_table.specs.declared.table.ScannerTable.{ScannerTable};
 ghost use Rattle.scanner_table.specs.declared.slot.SlotState.TheVariants as state;
-ghost use Rattle.scanner_table.specs.Slots.{places};
+ghost use Rattle.scanner_table.specs.Slots.{indexed_slots};
 ghost use Rattle.scanner_table.specs.Datagrams.{is_for, accepted_connection, state_received, received_at, received};
 ghost use Rattle.scanner_table.specs.Whole.{IsWhole};
-ghost use Rattle.slot_places.specs.Places.{view_place, table_of};
-ghost use Rattle.slot_data.specs.Told.{judged};
+ghost use Rattle.slot_places.specs.Views.{view_slot, table_of};
+ghost use Rattle.slot_data.specs.Results.{judged};
 
 use cip_datagram::{Datagram, read_datagram};
 use cip_events::Delivery;
 use cip_netparams::timeout_of;
-use cip_productions::{Accepted, is_news, is_repeated};
+use cip_productions::{Accepted, accepts_sequence, is_duplicate};
 use cip_types::{Ms, Node};
 use scanner_table::{Connection, ScannerProfile, Slot, SlotState};
-use slot_places::{PlaceTest, PlaceView, Present, find_place};
+use slot_places::{ScannerState, SlotTest, SlotView, find_slot};
 
 /// A connection that has accepted a datagram: its number and count are the last ones, and the next datagram
 /// is waited for from now on.
@@ -31,11 +31,11 @@ fn accepted_connection(
     datagram: &Datagram<'_>,
 ) -> Connection
     requires waits { mult ≤ 7 }
-    requires interval { connection.t_o_api ≤ 10000 }
+    requires interval { connection.t_o_api_ms ≤ 10000 }
     requires time { clock.0 ≤ 2 ^ 48 }
     ensures { result ≡ accepted_connection clock mult (view_datagram datagram.now) connection }
 {
-    let timeout = timeout_of(mult, connection.t_o_api).unwrap();
+    let timeout = timeout_of(mult, connection.t_o_api_ms).unwrap();
     Connection {
         last: Some(Accepted {
             number: datagram.sequence,
@@ -48,18 +48,18 @@ fn accepted_connection(
 
 /// The connection that accepts a datagram which is for a place: the datagram has the size of the input, and
 /// its number is newer than the last accepted one.
-fn accepting(place: PlaceView<'_>, datagram: &Datagram<'_>) -> Result<Connection, Delivery>
-    ensures judged { (t : ScannerTable) → state_received t (view_place place.entry) (view_datagram datagram.now) place.entry.slot.now.state ≡ judged t (view_place place.entry) (view_datagram datagram.now) result }
-    ensures established { IfOk result (λ connection. place.entry.slot.now.state ≡ state.Established connection) }
-    ensures size { IfOk result (λ _. length datagram.now.«data».now ≡ place.entry.config.now.in_len) }
+fn accepting(indexed: SlotView<'_>, datagram: &Datagram<'_>) -> Result<Connection, Delivery>
+    ensures judged { (t : ScannerTable) → state_received t (view_slot indexed.entry) (view_datagram datagram.now) indexed.entry.slot.now.state ≡ judged t (view_slot indexed.entry) (view_datagram datagram.now) result }
+    ensures established { IfOk result (λ connection. indexed.entry.slot.now.state ≡ state.Established connection) }
+    ensures size { IfOk result (λ _. length datagram.now.«data».now ≡ indexed.entry.config.now.in_len) }
 {
-    let SlotState::Established(connection) = place.slot.state else {
+    let SlotState::Established(connection) = indexed.slot.state else {
         return Err(Delivery::UnknownId);
     };
-    if datagram.data.len() as u64 != place.config.in_len {
+    if datagram.data.len() as u64 != indexed.config.in_len {
         return Err(Delivery::WrongSize);
     }
-    if !is_news(connection.last, datagram.sequence) {
+    if !accepts_sequence(connection.last, datagram.sequence) {
         return Err(Delivery::Old);
     }
     Ok(connection)
@@ -74,14 +74,14 @@ fn gather(
     datagram: &Datagram<'_>,
 ) -> Delivery
     requires waits { mult ≤ 7 }
-    requires interval { connection.t_o_api ≤ 10000 }
+    requires interval { connection.t_o_api_ms ≤ 10000 }
     requires time { clock.0 ≤ 2 ^ 48 }
     requires size { length slot.old.image ≡ length (view_datagram datagram.now).payload }
-    ensures delivery { result ≡ (if is_repeated connection.last datagram.now.count then delivery.Duplicate else delivery.Applied) }
-    ensures slot { slot.new ≡ record slot.old { state = state.Established (accepted_connection clock mult (view_datagram datagram.now) connection); image = if is_repeated connection.last datagram.now.count then slot.old.image else (view_datagram datagram.now).payload } }
+    ensures delivery { result ≡ (if is_duplicate connection.last datagram.now.count then delivery.Duplicate else delivery.Applied) }
+    ensures slot { slot.new ≡ record slot.old { state = state.Established (accepted_connection clock mult (view_datagram datagram.now) connection); image = if is_duplicate connection.last datagram.now.count then slot.old.image else (view_datagram datagram.now).payload } }
 {
     slot.state = SlotState::Established(accepted_connection(connection, clock, mult, datagram));
-    if is_repeated(connection.last, datagram.count) {
+    if is_duplicate(connection.last, datagram.count) {
         return Delivery::Duplicate;
     }
     slot.image.overwrite(datagram.data);
@@ -91,25 +91,25 @@ fn gather(
 /// The same of the place that a datagram is for, if there is one.
 fn receive_read(
     profile: &ScannerProfile,
-    present: &mut Present,
+    scanner: &mut ScannerState,
     peer: Node,
     datagram: &Datagram<'_>,
 ) -> Delivery
-    requires whole { IsWhole (table_of profile.now present.old) }
-    ensures { (plain_answer (Delivered result), table_of profile.now present.new) ≡ received_at (table_of profile.now present.old) (view_datagram datagram.now) (find (is_for peer datagram.now.connection.0) (places (table_of profile.now present.old))) }
+    requires whole { IsWhole (table_of profile.now scanner.old) }
+    ensures { (plain_answer (Delivered result), table_of profile.now scanner.new) ≡ received_at (table_of profile.now scanner.old) (view_datagram datagram.now) (find (is_for peer datagram.now.connection.0) (indexed_slots (table_of profile.now scanner.old))) }
 {
-    let test = PlaceTest::For(peer, datagram.connection);
-    let Some(place) = find_place(profile.slots.as_slice(), &present.slots, test) else {
+    let test = SlotTest::For(peer, datagram.connection);
+    let Some(indexed) = find_slot(profile.slots.as_slice(), &scanner.slots, test) else {
         return Delivery::UnknownId;
     };
-    let number = place.number as usize;
-    let mult = place.config.mult;
-    match accepting(place, datagram) {
+    let number = indexed.number as usize;
+    let mult = indexed.config.mult;
+    match accepting(indexed, datagram) {
         Err(delivery) => delivery,
         Ok(connection) => gather(
-            &mut present.slots[number],
+            &mut scanner.slots[number],
             connection,
-            present.clock,
+            scanner.clock,
             mult,
             datagram,
         ),
@@ -125,15 +125,15 @@ fn receive_read(
 #[tactic(auto, unfolding(scanner_table::specs::Datagrams::received))]
 pub fn receive(
     profile: &ScannerProfile,
-    present: &mut Present,
+    scanner: &mut ScannerState,
     peer: Node,
     bytes: &[u8],
 ) -> Delivery
-    requires whole { IsWhole (table_of profile.now present.old) }
-    ensures { (plain_answer (Delivered result), table_of profile.now present.new) ≡ received (table_of profile.now present.old) peer bytes.now }
+    requires whole { IsWhole (table_of profile.now scanner.old) }
+    ensures { (plain_answer (Delivered result), table_of profile.now scanner.new) ≡ received (table_of profile.now scanner.old) peer bytes.now }
 {
     match read_datagram(bytes) {
         Err(_) => Delivery::Malformed,
-        Ok(datagram) => receive_read(profile, present, peer, &datagram),
+        Ok(datagram) => receive_read(profile, scanner, peer, &datagram),
     }
 }

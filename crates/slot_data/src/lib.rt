@@ -12,5 +12,5 @@ mod quiet;
 
 pub use deliveries::receive;
 pub use outputs::{set_mode, write};
-pub use productions::{produce, sendings};
+pub use productions::{due_datagrams, produce};
 pub use quiet::is_quiet;

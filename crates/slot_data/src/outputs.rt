@@ -5,17 +5,17 @@ ghost use Rattle.cip_events.specs.Answers.{plain_answer};
 ghost use Rattle.cip_events.specs.declared.event.Verdict.TheVariants.{Done};
 ghost use Rattle.cip_productions.specs.Kinds.{is_owner};
 ghost use Rattle.scanner_table.specs.declared.profile.ScannerProfile.{ScannerProfile};
-ghost use Rattle.scanner_table.specs.Slots.{places_from};
+ghost use Rattle.scanner_table.specs.Slots.{indexed_from};
 ghost use Rattle.scanner_table.specs.Productions.{written_state};
 ghost use Rattle.scanner_table.specs.Points.{output_slot, moded_slot, write, mode};
 ghost use Rattle.scanner_table.specs.Whole.{IsWhole};
-ghost use Rattle.slot_places.specs.Places.{table_of};
-ghost use Rattle.slot_data.specs.Told.{done_or};
+ghost use Rattle.slot_places.specs.Views.{table_of};
+ghost use Rattle.slot_data.specs.Results.{done_or};
 
 use cip_events::StepFault;
 use cip_productions::{Kind, Production};
 use scanner_table::{Connection, ScannerProfile, Slot, SlotConfig, SlotState};
-use slot_places::{Present, place_at};
+use slot_places::{ScannerState, slot_at};
 
 /// A state whose established connection's producer has new data.
 fn written_state(state: SlotState) -> SlotState
@@ -61,24 +61,24 @@ fn set_output(slot: &mut Slot, bytes: &[u8])
 #[tactic(auto, unfolding(scanner_table::specs::Points::write))]
 pub fn write(
     profile: &ScannerProfile,
-    present: &mut Present,
+    scanner: &mut ScannerState,
     number: u32,
     bytes: &[u8],
 ) -> Result<(), StepFault>
-    requires whole { IsWhole (table_of profile.now present.old) }
-    ensures said { done_or result (table_of profile.now present.new) ≡ write (table_of profile.now present.old) number bytes.now }
-    ensures same { IfErr result (λ _. present.new ≡ present.old) }
+    requires whole { IsWhole (table_of profile.now scanner.old) }
+    ensures said { done_or result (table_of profile.now scanner.new) ≡ write (table_of profile.now scanner.old) number bytes.now }
+    ensures same { IfErr result (λ _. scanner.new ≡ scanner.old) }
 {
-    let Some(place) = place_at(profile.slots.as_slice(), &present.slots, number) else {
+    let Some(indexed) = slot_at(profile.slots.as_slice(), &scanner.slots, number) else {
         return Err(StepFault::NoSuchSlot);
     };
-    if !is_owner(place.config.kind) {
+    if !is_owner(indexed.config.kind) {
         return Err(StepFault::NotAllowedNow);
     }
-    if bytes.len() as u64 != place.config.out_len {
+    if bytes.len() as u64 != indexed.config.out_len {
         return Err(StepFault::WrongLength);
     }
-    set_output(&mut present.slots[number as usize], bytes);
+    set_output(&mut scanner.slots[number as usize], bytes);
     Ok(())
 }
 
@@ -95,7 +95,7 @@ fn moded_state(kind: Kind, state: SlotState) -> SlotState
 
 fn renew(configs: &[SlotConfig], slots: &mut [Slot])
     requires { length slots.old ≤ length configs.now }
-    ensures { slots.new ≡ map moded_slot (places_from 0 configs.now slots.old) }
+    ensures { slots.new ≡ map moded_slot (indexed_from 0 configs.now slots.old) }
 {
     for index in 0..slots.len() {
         slots[index].state = moded_state(configs[index].kind, slots[index].state);
@@ -105,7 +105,7 @@ fn renew(configs: &[SlotConfig], slots: &mut [Slot])
 /// Each owner's producer has new data.
 fn renew_all(configs: &[SlotConfig], slots: &mut Vec<Slot>)
     requires { length slots.old.items ≤ length configs.now }
-    ensures { slots.new.items ≡ map moded_slot (places_from 0 configs.now slots.old.items) }
+    ensures { slots.new.items ≡ map moded_slot (indexed_from 0 configs.now slots.old.items) }
 {
     renew(configs, slots);
 }
@@ -115,13 +115,13 @@ fn renew_all(configs: &[SlotConfig], slots: &mut Vec<Slot>)
 ///
 /// Volume 1, chapter 3, real time formats and run/idle.
 #[tactic(auto, unfolding(scanner_table::specs::Points::mode))]
-pub fn set_mode(profile: &ScannerProfile, present: &mut Present, run: bool)
-    requires whole { IsWhole (table_of profile.now present.old) }
-    ensures { (plain_answer Done, table_of profile.now present.new) ≡ mode (table_of profile.now present.old) run }
+pub fn set_mode(profile: &ScannerProfile, scanner: &mut ScannerState, run: bool)
+    requires whole { IsWhole (table_of profile.now scanner.old) }
+    ensures { (plain_answer Done, table_of profile.now scanner.new) ≡ mode (table_of profile.now scanner.old) run }
 {
-    if run == present.run {
+    if run == scanner.run {
         return;
     }
-    present.run = run;
-    renew_all(profile.slots.as_slice(), &mut present.slots);
+    scanner.run = run;
+    renew_all(profile.slots.as_slice(), &mut scanner.slots);
 }

@@ -7,20 +7,20 @@ ghost use Rattle.cip_datagram.specs.Header.{mode_header};
 ghost use Rattle.cip_types.specs.Order.{in_order};
 ghost use Rattle.cip_productions.specs.Productions.{sent};
 ghost use Rattle.scanner_table.specs.declared.profile.ScannerProfile.{ScannerProfile};
-ghost use Rattle.scanner_table.specs.Slots.{places_from};
+ghost use Rattle.scanner_table.specs.Slots.{indexed_from};
 ghost use Rattle.scanner_table.specs.Productions.{slot_data, state_is_due, produced_state, connection_producer, connection_production, slot_production, is_due, due_of, by_due, due_productions, produced_connection, produced_slot, produced_table};
 ghost use Rattle.scanner_table.specs.Whole.{IsWhole};
-ghost use Rattle.slot_places.specs.declared.places.PlaceView.{PlaceView};
-ghost use Rattle.slot_places.specs.Places.{view_place, table_of};
-ghost use Rattle.slot_data.specs.Told.{at_time};
+ghost use Rattle.slot_places.specs.declared.indexed_slots.SlotView.{SlotView};
+ghost use Rattle.slot_places.specs.Views.{view_slot, table_of};
+ghost use Rattle.slot_data.specs.Results.{at_time};
 
 use cip_datagram::header;
-use cip_events::{Nodes, Sending};
+use cip_events::{Consumers, OutgoingDatagram};
 use cip_productions::{Kind, Producer, is_production_due, produced, sent_by};
 use cip_types::{Ms, OutOfMemory};
 use list_order::{Order, sorted};
 use scanner_table::{Connection, ScannerProfile, Slot, SlotConfig, SlotState};
-use slot_places::{PlaceTest, PlaceView, Present, places_that};
+use slot_places::{ScannerState, SlotTest, SlotView, slots_that};
 use std::alloc::Global;
 
 /// The bytes of a run/idle header.
@@ -39,10 +39,10 @@ fn due_of(state: &SlotState) -> u64
 /// Places by when they are due, and then by their numbers.
 struct ByDue;
 
-impl<'a> Order<PlaceView<'a>> for ByDue {
-    ghost before = { λ _ place other. by_due (view_place place) (view_place other) };
+impl<'a> Order<SlotView<'a>> for ByDue {
+    ghost before = { λ _ indexed other. by_due (view_slot indexed) (view_slot other) };
 
-    fn is_before(&self, item: &PlaceView<'a>, other: &PlaceView<'a>) -> bool {
+    fn is_before(&self, item: &SlotView<'a>, other: &SlotView<'a>) -> bool {
         let (due, later) = (due_of(&item.slot.state), due_of(&other.slot.state));
         due < later || (due == later && item.number < other.number)
     }
@@ -61,93 +61,102 @@ fn owned_data(alloc: Global, run: bool, slot: &Slot) -> Result<Vec<u8>, OutOfMem
 }
 
 /// What a slot sends: an owner the mode of the application and its output, another kind nothing.
-fn slot_data(alloc: Global, run: bool, place: PlaceView<'_>) -> Result<Vec<u8>, OutOfMemory>
-    requires { length place.slot.now.output ≤ 65529 }
-    ensures data { IfOk result (λ bytes. bytes.items ≡ slot_data run (view_place place.entry)) }
+fn slot_data(alloc: Global, run: bool, indexed: SlotView<'_>) -> Result<Vec<u8>, OutOfMemory>
+    requires { length indexed.slot.now.output ≤ 65529 }
+    ensures data { IfOk result (λ bytes. bytes.items ≡ slot_data run (view_slot indexed.entry)) }
     ensures short { IfOk result (λ bytes. length bytes.items ≤ 65533) }
 {
-    match place.config.kind {
-        Kind::ExclusiveOwner => owned_data(alloc, run, place.slot),
+    match indexed.config.kind {
+        Kind::ExclusiveOwner => owned_data(alloc, run, indexed.slot),
         Kind::InputOnly | Kind::ListenOnly => Ok(Vec::new(alloc)),
     }
 }
 
 /// What the connection of a place produces next, for its target alone.
-fn sending(
+fn outgoing(
     alloc: Global,
     run: bool,
-    place: PlaceView<'_>,
+    indexed: SlotView<'_>,
     connection: &Connection,
-) -> Result<Sending, OutOfMemory>
-    requires { length place.slot.now.output ≤ 65529 }
-    ensures { IfOk result (λ sending. sending ≡ sent (connection_production run (view_place place.entry) connection.now)) }
+) -> Result<OutgoingDatagram, OutOfMemory>
+    requires { length indexed.slot.now.output ≤ 65529 }
+    ensures { IfOk result (λ outgoing. outgoing ≡ sent (connection_production run (view_slot indexed.entry) connection.now)) }
 {
-    let bytes = slot_data(alloc, run, place)?;
+    let bytes = slot_data(alloc, run, indexed)?;
     let producer = Producer {
-        point: place.number,
+        point: indexed.number,
         id: connection.link.o_t_id,
         production: connection.production,
     };
-    sent_by(alloc, Nodes::one(place.config.target), &bytes, &producer)
+    sent_by(
+        alloc,
+        Consumers::one(indexed.config.target),
+        &bytes,
+        &producer,
+    )
 }
 
 /// The places that are due, by when they are and then by their numbers.
-fn due_places<'a>(
+fn due_slots<'a>(
     alloc: Global,
     configs: &'a [SlotConfig],
     slots: &'a [Slot],
     clock: Ms,
-) -> Result<Vec<PlaceView<'a>>, OutOfMemory>
+) -> Result<Vec<SlotView<'a>>, OutOfMemory>
     requires { length configs.now ≤ 2 ^ 32 }
-    ensures { IfOk result (λ due. map view_place due.items ≡ in_order by_due (filter (is_due clock) (places_from 0 configs.now slots.now))) }
+    ensures { IfOk result (λ due. map view_slot due.items ≡ in_order by_due (filter (is_due clock) (indexed_from 0 configs.now slots.now))) }
 {
-    let due = places_that(alloc, configs, slots, PlaceTest::Due(clock))?;
+    let due = slots_that(alloc, configs, slots, SlotTest::Due(clock))?;
     sorted(alloc, &due, &ByDue)
 }
 
 /// Adds what the connection of a place produces next, if it has one.
-fn push_sending(
+fn push_outgoing(
     alloc: Global,
     run: bool,
-    place: PlaceView<'_>,
-    sendings: &mut Vec<Sending>,
+    indexed: SlotView<'_>,
+    due_datagrams: &mut Vec<OutgoingDatagram>,
 ) -> Result<(), OutOfMemory>
-    requires { length place.slot.now.output ≤ 65529 }
-    ensures { OnOk result (sendings.new.items ≡ sendings.old.items ++ map sent (filter_map (slot_production run) (view_place place.entry ∷ []))) }
+    requires { length indexed.slot.now.output ≤ 65529 }
+    ensures { OnOk result (due_datagrams.new.items ≡ due_datagrams.old.items ++ map sent (filter_map (slot_production run) (view_slot indexed.entry ∷ []))) }
 {
-    let SlotState::Established(connection) = place.slot.state else {
+    let SlotState::Established(connection) = indexed.slot.state else {
         return Ok(());
     };
-    sendings.push(sending(alloc, run, place, &connection)?)?;
+    due_datagrams.push(outgoing(alloc, run, indexed, &connection)?)?;
     Ok(())
 }
 
 /// What the connections of these places produce next.
-fn sent_of(alloc: Global, run: bool, places: &[PlaceView<'_>]) -> Result<Vec<Sending>, OutOfMemory>
-    requires { All (λ (place : PlaceView). length place.slot.now.output ≤ 65529) places.now }
-    ensures { IfOk result (λ sendings. sendings.items ≡ map sent (filter_map (slot_production run) (map view_place places.now))) }
+fn datagrams_of(
+    alloc: Global,
+    run: bool,
+    indexed_slots: &[SlotView<'_>],
+) -> Result<Vec<OutgoingDatagram>, OutOfMemory>
+    requires { All (λ (indexed : SlotView). length indexed.slot.now.output ≤ 65529) indexed_slots.now }
+    ensures { IfOk result (λ due_datagrams. due_datagrams.items ≡ map sent (filter_map (slot_production run) (map view_slot indexed_slots.now))) }
 {
-    let mut sendings = Vec::new(alloc);
-    for place in places {
-        push_sending(alloc, run, *place, &mut sendings)?;
+    let mut due_datagrams = Vec::new(alloc);
+    for indexed in indexed_slots {
+        push_outgoing(alloc, run, *indexed, &mut due_datagrams)?;
     }
-    Ok(sendings)
+    Ok(due_datagrams)
 }
 
 /// What the slots that are due at a time send: one datagram each, to its target.
 ///
 /// Volume 1, chapter 3, class 1 transport and real time formats; Volume 2, chapter 2, sequenced address item.
-pub fn sendings(
+pub fn due_datagrams(
     alloc: Global,
     profile: &ScannerProfile,
-    present: &Present,
+    scanner: &ScannerState,
     clock: Ms,
-) -> Result<Vec<Sending>, OutOfMemory>
-    requires whole { IsWhole (table_of profile.now present.now) }
-    ensures { IfOk result (λ sendings. sendings.items ≡ map sent (due_productions (at_time (table_of profile.now present.now) clock))) }
+) -> Result<Vec<OutgoingDatagram>, OutOfMemory>
+    requires whole { IsWhole (table_of profile.now scanner.now) }
+    ensures { IfOk result (λ due_datagrams. due_datagrams.items ≡ map sent (due_productions (at_time (table_of profile.now scanner.now) clock))) }
 {
-    let due = due_places(alloc, profile.slots.as_slice(), &present.slots, clock)?;
-    sent_of(alloc, present.run, &due)
+    let due = due_slots(alloc, profile.slots.as_slice(), &scanner.slots, clock)?;
+    datagrams_of(alloc, scanner.run, &due)
 }
 
 fn produced_connection(connection: Connection, clock: Ms) -> Connection
@@ -156,7 +165,7 @@ fn produced_connection(connection: Connection, clock: Ms) -> Connection
     ensures { result ≡ produced_connection clock connection }
 {
     Connection {
-        production: produced(connection.production, clock, connection.o_t_api),
+        production: produced(connection.production, clock, connection.o_t_api_ms),
         ..connection
     }
 }
@@ -202,10 +211,10 @@ fn produce_all(slots: &mut Vec<Slot>, clock: Ms)
 ///
 /// Volume 1, chapter 3, class 1 transport.
 #[tactic(auto, unfolding(scanner_table::specs::Productions::produced_table))]
-pub fn produce(present: &mut Present, clock: Ms)
+pub fn produce(scanner: &mut ScannerState, clock: Ms)
     requires { clock.0 ≤ 2 ^ 48 }
-    ensures { (profile : ScannerProfile) → table_of profile present.new ≡ produced_table (at_time (table_of profile present.old) clock) }
+    ensures { (profile : ScannerProfile) → table_of profile scanner.new ≡ produced_table (at_time (table_of profile scanner.old) clock) }
 {
-    present.clock = clock;
-    produce_all(&mut present.slots, clock);
+    scanner.clock = clock;
+    produce_all(&mut scanner.slots, clock);
 }

@@ -4,14 +4,14 @@
 //! Volume 1, chapter 3, connection object state.
 #![tactic(auto)]
 
+mod indexed_slots;
 mod laws;
-mod places;
-mod present;
+mod scanner;
 mod search;
 mod states;
 
-pub use laws::{found_places_stand, one_place_changes, places_go_on};
-pub use places::{PlaceView, place_at};
-pub use present::{Present, session_with};
-pub use search::{PlaceTest, any_passes, find_place, places_that};
+pub use indexed_slots::{SlotView, slot_at};
+pub use laws::{found_slots_match, one_slot_changes, slots_go_on};
+pub use scanner::{ScannerState, session_with};
+pub use search::{SlotTest, any_passes, find_slot, slots_that};
 pub use states::{consumes, has_expired, is_due, is_overdue, is_ready, number_of, waits_for};

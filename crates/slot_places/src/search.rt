@@ -3,11 +3,11 @@
 ghost use Rattle.std.specs.Prelude.{◌≡◌, ◌≤◌, ◌^◌, ◌==◌, find, filter, map, length, IfOk};
 ghost use Rattle.std.specs.Option.{option_map};
 ghost use Rattle.std.specs.List.{list_any};
-ghost use Rattle.scanner_table.specs.Slots.{is_with, is_numbered, places_from};
+ghost use Rattle.scanner_table.specs.Slots.{is_with, is_numbered, indexed_from};
 ghost use Rattle.scanner_table.specs.Replies.{uses_id};
-ghost use Rattle.slot_places.specs.Places.{view_place, passes};
+ghost use Rattle.slot_places.specs.Views.{view_slot, passes};
 
-use crate::places::PlaceView;
+use crate::indexed_slots::SlotView;
 use crate::states::{consumes, has_expired, is_due, is_overdue, is_ready, waits_for};
 use cip_types::{ConnId, Ms, Node, OutOfMemory};
 use scanner_table::{Slot, SlotConfig};
@@ -15,7 +15,7 @@ use std::alloc::Global;
 
 /// What is asked of places.
 #[derive(Clone, Copy)]
-pub enum PlaceTest {
+pub enum SlotTest {
     /// Its connection is established with this peer, and has this T->O id.
     For(Node, ConnId),
     /// It waits for the reply to the request of this number, from this target.
@@ -32,88 +32,88 @@ pub enum PlaceTest {
     Due(Ms),
 }
 
-fn is_with(place: PlaceView<'_>, target: Node) -> bool
-    ensures { result ≡ is_with target (view_place place.entry) }
+fn is_with(indexed: SlotView<'_>, target: Node) -> bool
+    ensures { result ≡ is_with target (view_slot indexed.entry) }
 {
-    place.config.target.0 == target.0
+    indexed.config.target.0 == target.0
 }
 
-fn uses_id(place: PlaceView<'_>, number: u32, target: Node, id: ConnId) -> bool
-    ensures { result ≡ uses_id number target id (view_place place.entry) }
+fn uses_id(indexed: SlotView<'_>, number: u32, target: Node, id: ConnId) -> bool
+    ensures { result ≡ uses_id number target id (view_slot indexed.entry) }
 {
-    place.number != number && is_with(place, target) && consumes(&place.slot.state, id)
+    indexed.number != number && is_with(indexed, target) && consumes(&indexed.slot.state, id)
 }
 
-impl PlaceTest {
+impl SlotTest {
     /// Whether a place passes. Takes no memory.
-    pub fn passes(self, place: PlaceView<'_>) -> bool
-        ensures { result ≡ passes self (view_place place.entry) }
+    pub fn passes(self, indexed: SlotView<'_>) -> bool
+        ensures { result ≡ passes self (view_slot indexed.entry) }
     {
-        let state = &place.slot.state;
+        let state = &indexed.slot.state;
         match self {
-            PlaceTest::For(peer, id) => is_with(place, peer) && consumes(state, id),
-            PlaceTest::Awaiting(target, number) => {
-                is_with(place, target) && waits_for(state, number)
+            SlotTest::For(peer, id) => is_with(indexed, peer) && consumes(state, id),
+            SlotTest::Awaiting(target, number) => {
+                is_with(indexed, target) && waits_for(state, number)
             }
-            PlaceTest::UsesId(number, target, id) => uses_id(place, number, target, id),
-            PlaceTest::Ready(clock) => is_ready(place.slot, clock),
-            PlaceTest::Expired(clock) => has_expired(state, clock),
-            PlaceTest::Overdue(clock) => is_overdue(state, clock),
-            PlaceTest::Due(clock) => is_due(state, clock),
+            SlotTest::UsesId(number, target, id) => uses_id(indexed, number, target, id),
+            SlotTest::Ready(clock) => is_ready(indexed.slot, clock),
+            SlotTest::Expired(clock) => has_expired(state, clock),
+            SlotTest::Overdue(clock) => is_overdue(state, clock),
+            SlotTest::Due(clock) => is_due(state, clock),
         }
     }
 }
 
 /// The first place that passes. Takes no memory.
-pub fn find_place<'a>(
+pub fn find_slot<'a>(
     configs: &'a [SlotConfig],
     slots: &'a [Slot],
-    test: PlaceTest,
-) -> Option<PlaceView<'a>>
+    test: SlotTest,
+) -> Option<SlotView<'a>>
     requires { length configs.now ≤ 2 ^ 32 }
-    ensures { option_map view_place result ≡ find (passes test) (places_from 0 configs.now slots.now) }
+    ensures { option_map view_slot result ≡ find (passes test) (indexed_from 0 configs.now slots.now) }
 {
     for index in 0..configs.len().min(slots.len()) {
-        let place = PlaceView {
+        let indexed = SlotView {
             number: index as u32,
             config: &configs[index],
             slot: &slots[index],
         };
-        if test.passes(place) {
-            return Some(place);
+        if test.passes(indexed) {
+            return Some(indexed);
         }
     }
     None
 }
 
 /// The places that pass, in their order.
-pub fn places_that<'a>(
+pub fn slots_that<'a>(
     alloc: Global,
     configs: &'a [SlotConfig],
     slots: &'a [Slot],
-    test: PlaceTest,
-) -> Result<Vec<PlaceView<'a>>, OutOfMemory>
+    test: SlotTest,
+) -> Result<Vec<SlotView<'a>>, OutOfMemory>
     requires { length configs.now ≤ 2 ^ 32 }
-    ensures { IfOk result (λ found. map view_place found.items ≡ filter (passes test) (places_from 0 configs.now slots.now)) }
+    ensures { IfOk result (λ found. map view_slot found.items ≡ filter (passes test) (indexed_from 0 configs.now slots.now)) }
 {
     let mut found = Vec::new(alloc);
     for index in 0..configs.len().min(slots.len()) {
-        let place = PlaceView {
+        let indexed = SlotView {
             number: index as u32,
             config: &configs[index],
             slot: &slots[index],
         };
-        if test.passes(place) {
-            found.push(place)?;
+        if test.passes(indexed) {
+            found.push(indexed)?;
         }
     }
     Ok(found)
 }
 
 /// Whether a place passes. Takes no memory.
-pub fn any_passes(configs: &[SlotConfig], slots: &[Slot], test: PlaceTest) -> bool
+pub fn any_passes(configs: &[SlotConfig], slots: &[Slot], test: SlotTest) -> bool
     requires { length configs.now ≤ 2 ^ 32 }
-    ensures { result ≡ list_any (passes test) (places_from 0 configs.now slots.now) }
+    ensures { result ≡ list_any (passes test) (indexed_from 0 configs.now slots.now) }
 {
-    find_place(configs, slots, test).is_some()
+    find_slot(configs, slots, test).is_some()
 }

@@ -39,7 +39,7 @@ fn is_resting(state: &SlotState) -> bool
 pub fn is_ready(slot: &Slot, clock: Ms) -> bool
     ensures { result ≡ is_ready clock slot.now }
 {
-    slot.wanted && is_resting(&slot.state) && slot.retry.0 <= clock.0
+    slot.desired_up && is_resting(&slot.state) && slot.retry_at.0 <= clock.0
 }
 
 /// Whether a slot's connection is established, and its deadline has come.

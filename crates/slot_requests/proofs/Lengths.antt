@@ -8,14 +8,14 @@ use Rattle.std.proofs.lemmas.List.{length-append}
 use Rattle.std.proofs.lemmas.List.Concat.{flat_map-cons}
 use Rattle.cip_epath.specs.declared.segment.LogicalType.{LogicalType}
 use Rattle.cip_epath.specs.declared.segment.LogicalType.TheVariants.{Class, Instance, ConnectionPoint}
-use Rattle.cip_epath.specs.Key.{KeyFields}
+use Rattle.cip_epath.specs.ElectronicKey.{KeyFields}
 use Rattle.cip_epath.specs.Path.{PathFields}
 use Rattle.cip_epath.specs.Segment.{SegmentValue, logical, key, bytes, inhibit, logical_byte}
 use Rattle.cip_epath.specs.Written.{segment_text, path_segments, path_text, AreWords}
 use Rattle.cip_productions.specs.declared.kind.Kind.{Kind}
 use Rattle.cip_productions.specs.declared.kind.Kind.TheVariants.{ExclusiveOwner, InputOnly, ListenOnly}
 use Rattle.scanner_table.specs.declared.profile.SlotConfig.{SlotConfig}
-use Rattle.scanner_table.specs.Asking.{segment_of, slot_path}
+use Rattle.scanner_table.specs.Requests.{segment_of, slot_path}
 use Rattle.scanner_table.specs.Profiles.{is_out_len, is_config, has_lengths}
 
 -- ---- what a profile allows

@@ -5,7 +5,7 @@ use Rattle.cip_encap.specs.Packet.{packet_text}
 use Rattle.cip_events.specs.declared.event.Frame.{Frame}
 use Rattle.cip_events.specs.declared.event.Recipient.TheVariants as recipient
 use Rattle.scanner_table.specs.declared.table.Session.{Session}
-use Rattle.scanner_table.specs.Asking.{manager_text}
+use Rattle.scanner_table.specs.Requests.{manager_text}
 
 -- a request with a service and its data, within a session
 abbrev pub manager_frame : Session → ℕ → ℕ → List ℕ → Frame

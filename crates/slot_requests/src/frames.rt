@@ -7,7 +7,7 @@ ghost use Rattle.cip_events.specs.declared.event.Frame.{Frame};
 ghost use Rattle.cip_events.specs.declared.event.Recipient.TheVariants as recipient;
 ghost use Rattle.cip_fwdopen.specs.Open.{view_open, open_text};
 ghost use Rattle.cip_fwdopen.specs.Close.{close_text};
-ghost use Rattle.scanner_table.specs.Asking.{id_or_zero, is_large, open_fields, close_fields, manager_text, open_service, opening, closing, registration, numbered, sent_frame};
+ghost use Rattle.scanner_table.specs.Requests.{id_or_zero, is_large, open_fields, close_fields, manager_text, open_service, opening, closing, registration, numbered, sent_frame};
 ghost use Rattle.scanner_table.specs.Profiles.{has_lengths};
 ghost use Rattle.slot_requests.specs.Requests.{manager_frame};
 
@@ -18,7 +18,7 @@ use cip_events::{Frame, Recipient};
 use cip_fwdopen::{CloseRequest, OpenRequest, write_close, write_open};
 use cip_types::fields::put_bytes;
 use cip_types::{ConnId, Items, OutOfMemory, Triad};
-use conn_state::Wanted;
+use conn_state::Requested;
 use scanner_table::{Session, SlotConfig};
 use std::alloc::Global;
 
@@ -122,16 +122,16 @@ fn id_or_zero(id: Option<ConnId>) -> ConnId
 }
 
 /// What a slot asks for.
-fn open_request<'a>(config: &SlotConfig, wanted: &Wanted, path: &'a [u8]) -> OpenRequest<'a>
+fn open_request<'a>(config: &SlotConfig, requested: &Requested, path: &'a [u8]) -> OpenRequest<'a>
     requires { IsTrue (has_lengths config.now) }
-    ensures { view_open result ≡ record (open_fields config.now wanted.now) { path = path.now } }
+    ensures { view_open result ≡ record (open_fields config.now requested.now) { path = path.now } }
 {
     OpenRequest {
         priority_tick: PRIORITY_TICK,
         ticks: TICKS,
         o_t_id: ConnId(0),
-        t_o_id: id_or_zero(wanted.t_o_id),
-        triad: wanted.triad,
+        t_o_id: id_or_zero(requested.t_o_id),
+        triad: requested.triad,
         multiplier: config.mult,
         o_t_rpi: config.o_t_rpi,
         o_t_params: o_t_params(config),
@@ -143,13 +143,17 @@ fn open_request<'a>(config: &SlotConfig, wanted: &Wanted, path: &'a [u8]) -> Ope
 }
 
 /// The data of the request that asks for a slot's connection.
-fn open_body(alloc: Global, config: &SlotConfig, wanted: &Wanted) -> Result<Vec<u8>, OutOfMemory>
+fn open_body(
+    alloc: Global,
+    config: &SlotConfig,
+    requested: &Requested,
+) -> Result<Vec<u8>, OutOfMemory>
     requires { IsTrue (has_lengths config.now) }
-    ensures text { IfOk result (λ v. v.items ≡ open_text (is_large config.now) (open_fields config.now wanted.now)) }
+    ensures text { IfOk result (λ v. v.items ≡ open_text (is_large config.now) (open_fields config.now requested.now)) }
     ensures short { IfOk result (λ v. length v.items ≤ 1000) }
 {
     let path = write_slot_path(alloc, config)?;
-    let request = open_request(config, wanted, &path);
+    let request = open_request(config, requested, &path);
     write_open(alloc, is_large(config), &request)
 }
 
@@ -160,14 +164,14 @@ fn open_body(alloc: Global, config: &SlotConfig, wanted: &Wanted) -> Result<Vec<
 pub fn open_frame(
     alloc: Global,
     config: &SlotConfig,
-    wanted: &Wanted,
+    requested: &Requested,
     session: Session,
     number: u64,
 ) -> Result<Frame, OutOfMemory>
     requires { IsTrue (has_lengths config.now) }
-    ensures { IfOk result (λ frame. frame ≡ sent_frame (numbered session number (opening (is_large config.now) (open_fields config.now wanted.now)))) }
+    ensures { IfOk result (λ frame. frame ≡ sent_frame (numbered session number (opening (is_large config.now) (open_fields config.now requested.now)))) }
 {
-    let body = open_body(alloc, config, wanted)?;
+    let body = open_body(alloc, config, requested)?;
     let service = open_service(is_large(config));
     manager_frame(alloc, session, number, service, &body)
 }

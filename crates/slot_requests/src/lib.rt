@@ -9,5 +9,5 @@ mod replies;
 mod sizes;
 
 pub use frames::{close_frame, open_frame, registration_frame};
-pub use replies::{is_registered, open_told};
+pub use replies::{is_registered, open_answer};
 pub use sizes::is_large;

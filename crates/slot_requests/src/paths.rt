@@ -4,7 +4,7 @@ ghost use Rattle.std.specs.Prelude.{◌≡◌, ◌≤◌, ◌%◌, length, IfOk,
 ghost use Rattle.std.specs.Option.{option_map};
 ghost use Rattle.cip_epath.specs.Path.{view_path};
 ghost use Rattle.cip_epath.specs.Written.{path_text};
-ghost use Rattle.scanner_table.specs.Asking.{inhibit_of, segment_of, slot_path};
+ghost use Rattle.scanner_table.specs.Requests.{inhibit_of, segment_of, slot_path};
 ghost use Rattle.scanner_table.specs.Profiles.{has_lengths};
 
 use cip_epath::{ConnPath, write_path};

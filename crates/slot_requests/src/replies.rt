@@ -4,7 +4,7 @@ ghost use Rattle.std.specs.Prelude.{◌≡◌};
 ghost use Rattle.cip_encap.specs.Message.{view_message};
 ghost use Rattle.cip_fwdopen.specs.Reply.{opened_service};
 ghost use Rattle.scanner_table.specs.Encapsulation.{is_registered};
-ghost use Rattle.scanner_table.specs.Replies.{open_told};
+ghost use Rattle.scanner_table.specs.Replies.{open_answer};
 
 use crate::frames::{REGISTER_SESSION, SEND_RR_DATA};
 use cip_encap::{MessageView, read_items};
@@ -25,9 +25,9 @@ fn opened_service(large: bool) -> u8
 ///
 /// Volume 1, chapter 3, Forward_Open service, successful and unsuccessful response; Volume 2, chapter 2,
 /// SendRRData.
-#[tactic(auto, unfolding(scanner_table::specs::Replies::open_told))]
-pub fn open_told(large: bool, message: &MessageView<'_>) -> Result<OpenAnswer, Reason>
-    ensures { result ≡ open_told large (view_message message.now) }
+#[tactic(auto, unfolding(scanner_table::specs::Replies::open_answer))]
+pub fn open_answer(large: bool, message: &MessageView<'_>) -> Result<OpenAnswer, Reason>
+    ensures { result ≡ open_answer large (view_message message.now) }
 {
     if message.status != 0 {
         return Err(Reason::Encap(message.status));

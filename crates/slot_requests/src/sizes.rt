@@ -2,7 +2,7 @@
 
 ghost use Rattle.std.specs.Prelude.{◌≡◌, IsTrue, nat_lt};
 ghost use Rattle.cip_netparams.specs.declared.ConnectionType.TheVariants.{PointToPoint};
-ghost use Rattle.scanner_table.specs.Asking.{o_t_size, t_o_size, is_large, t_o_type, slot_params};
+ghost use Rattle.scanner_table.specs.Requests.{o_t_size, t_o_size, is_large, t_o_type, slot_params};
 ghost use Rattle.scanner_table.specs.Profiles.{has_lengths};
 
 use cip_netparams::{ConnectionType, NetParams, Priority};

@@ -1,7 +1,7 @@
 mod Tame
 pub mod Few
-pub mod Chosen
+pub mod Selected
 pub mod Remaining
-pub mod Standing
+pub mod SlotNumbers
 pub mod Ordered
 pub mod Answering

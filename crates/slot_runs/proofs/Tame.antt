@@ -7,14 +7,14 @@ use Rattle.scanner_table.specs.declared.slot.SlotState.{SlotState}
 use Rattle.scanner_table.specs.declared.slot.SlotState.TheVariants.{Idle, Opening, Established, TimedOut, Closing}
 use Rattle.scanner_table.specs.declared.table.ScannerTable.{ScannerTable}
 use Rattle.scanner_table.specs.declared.table.Session.{Session}
-use Rattle.scanner_table.specs.Slots.{Place, with_slot}
+use Rattle.scanner_table.specs.Slots.{IndexedSlot, with_slot}
 use Rattle.scanner_table.specs.Sessions.{session_with}
 use Rattle.scanner_table.specs.Effects.{Effect}
-use Rattle.scanner_table.specs.Opening.{can_open, open_asked, exhausted, opened_within, opened}
+use Rattle.scanner_table.specs.Opening.{can_open, open_requested, exhausted, opened_within, opened}
 use Rattle.scanner_table.specs.Closing.{given_up_state}
 use Rattle.scanner_table.specs.Ticks.{expired_state}
-use Rattle.slot_runs.specs.declared.choice.Move.{Move}
-use Rattle.slot_runs.specs.declared.choice.Move.TheVariants as move
+use Rattle.slot_runs.specs.declared.slot_filter.SlotAction.{SlotAction}
+use Rattle.slot_runs.specs.declared.slot_filter.SlotAction.TheVariants as slot_action
 use Rattle.slot_runs.specs.Runs.{effect_of}
 
 -- the table has the profile, and but for the slot of a number the slots, of another
@@ -23,8 +23,8 @@ pub record Changes (number : ℕ) (old new : ScannerTable) : Type 0 where
   pub others : (n : ℕ) → (n == number) ≡ false → slice_get new.slots n ≡ slice_get old.slots n
   pub later : (n : ℕ) → number < n → drop n new.slots ≡ drop n old.slots
 
-abbrev pub IsTame : (ScannerTable → Place → Effect) → Type 0
-IsTame effect = (t : ScannerTable) (place : Place) → Changes place.number t (effect t place).table
+abbrev pub IsTame : (ScannerTable → IndexedSlot → Effect) → Type 0
+IsTame effect = (t : ScannerTable) (indexed : IndexedSlot) → Changes indexed.number t (effect t indexed).table
 
 nothing_changes : (number : ℕ) (t : ScannerTable) → Changes number t t
 nothing_changes number t = record { profile = refl; others = λ n other. refl; later = λ n less. refl }
@@ -47,31 +47,31 @@ either_changes : (b : Bool) (number : ℕ) (t : ScannerTable) (x y : Effect) →
 either_changes true number t x y first second = first
 either_changes false number t x y first second = second
 
-tame_within : (t : ScannerTable) (place : Place) (session : Option Session) → Changes place.number t (opened_within t place session).table
-tame_within t place None = nothing_changes place.number t
-tame_within t place (Some session) =
-    either_changes (can_open t place.config) place.number t (open_asked t place session) (exhausted t place) (set_changes place.number t _ _ refl refl) (set_changes place.number t _ _ refl refl)
+tame_within : (t : ScannerTable) (indexed : IndexedSlot) (session : Option Session) → Changes indexed.number t (opened_within t indexed session).table
+tame_within t indexed None = nothing_changes indexed.number t
+tame_within t indexed (Some session) =
+    either_changes (can_open t indexed.config) indexed.number t (open_requested t indexed session) (exhausted t indexed) (set_changes indexed.number t _ _ refl refl) (set_changes indexed.number t _ _ refl refl)
 
 tame_opened : IsTame opened
 unfolding opened
-tame_opened t place = tame_within t place (session_with t place.config.target)
+tame_opened t indexed = tame_within t indexed (session_with t indexed.config.target)
 
-tame_given : (t : ScannerTable) (place : Place) (state : SlotState) → Changes place.number t (given_up_state t place state).table
-tame_given t place Idle = nothing_changes place.number t
-tame_given t place (Opening o) = set_changes place.number t _ _ refl refl
-tame_given t place (Established c) = nothing_changes place.number t
-tame_given t place (TimedOut link) = nothing_changes place.number t
-tame_given t place (Closing c) = set_changes place.number t _ _ refl refl
+tame_given : (t : ScannerTable) (indexed : IndexedSlot) (state : SlotState) → Changes indexed.number t (given_up_state t indexed state).table
+tame_given t indexed Idle = nothing_changes indexed.number t
+tame_given t indexed (Opening o) = set_changes indexed.number t _ _ refl refl
+tame_given t indexed (Established c) = nothing_changes indexed.number t
+tame_given t indexed (TimedOut link) = nothing_changes indexed.number t
+tame_given t indexed (Closing c) = set_changes indexed.number t _ _ refl refl
 
-tame_expired : (t : ScannerTable) (place : Place) (state : SlotState) → Changes place.number t (expired_state t place state).table
-tame_expired t place Idle = nothing_changes place.number t
-tame_expired t place (Opening o) = nothing_changes place.number t
-tame_expired t place (Established c) = set_changes place.number t _ _ refl refl
-tame_expired t place (TimedOut link) = nothing_changes place.number t
-tame_expired t place (Closing c) = nothing_changes place.number t
+tame_expired : (t : ScannerTable) (indexed : IndexedSlot) (state : SlotState) → Changes indexed.number t (expired_state t indexed state).table
+tame_expired t indexed Idle = nothing_changes indexed.number t
+tame_expired t indexed (Opening o) = nothing_changes indexed.number t
+tame_expired t indexed (Established c) = set_changes indexed.number t _ _ refl refl
+tame_expired t indexed (TimedOut link) = nothing_changes indexed.number t
+tame_expired t indexed (Closing c) = nothing_changes indexed.number t
 
 -- each move changes one slot
-pub moves_are_tame : (moved : Move) → IsTame (effect_of moved)
-moves_are_tame move.Open t place = tame_opened t place
-moves_are_tame move.GiveUp t place = tame_given t place place.slot.state
-moves_are_tame move.Expire t place = tame_expired t place place.slot.state
+pub actions_are_tame : (action : SlotAction) → IsTame (effect_of action)
+actions_are_tame slot_action.Open t indexed = tame_opened t indexed
+actions_are_tame slot_action.GiveUp t indexed = tame_given t indexed indexed.slot.state
+actions_are_tame slot_action.Expire t indexed = tame_expired t indexed indexed.slot.state

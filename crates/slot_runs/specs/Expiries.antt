@@ -1,12 +1,12 @@
 -- Connections that time out, and their order.
 use Rattle.std.specs.Prelude.{◌==◌, ◌&&◌, ◌||◌, nat_lt, Bool}
-use Rattle.scanner_table.specs.Slots.{Place}
+use Rattle.scanner_table.specs.Slots.{IndexedSlot}
 use Rattle.scanner_table.specs.Ticks.{deadline_of}
 use Rattle.slot_runs.specs.declared.expiries.Expiry.{Expiry}
 
 -- the deadline of a place, and its number
-abbrev pub expiry_of : Place → Expiry
-expiry_of place = record { deadline = record { 0 = deadline_of place.slot.state }; number = place.number }
+abbrev pub expiry_of : IndexedSlot → Expiry
+expiry_of indexed = record { deadline = record { 0 = deadline_of indexed.slot.state }; number = indexed.number }
 
 -- by deadlines, and then by numbers
 abbrev pub expires_before : Expiry → Expiry → Bool

@@ -1,3 +1,3 @@
 pub mod Runs
 pub mod Expiries
-pub mod Hearing
+pub mod FrameOutcomes

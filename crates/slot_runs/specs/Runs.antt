@@ -1,34 +1,34 @@
 -- What is done to which slots.
 use Rattle.std.specs.Prelude.{◌&&◌, Bool, false, Option, Some, None, filter}
 use Rattle.scanner_table.specs.declared.table.ScannerTable.{ScannerTable}
-use Rattle.scanner_table.specs.Slots.{Place, places, is_with}
+use Rattle.scanner_table.specs.Slots.{IndexedSlot, indexed_slots, is_with}
 use Rattle.scanner_table.specs.Effects.{Effect, on_each}
-use Rattle.scanner_table.specs.Opening.{is_ready_place, opened}
+use Rattle.scanner_table.specs.Opening.{is_ready_slot, opened}
 use Rattle.scanner_table.specs.Closing.{given_up}
 use Rattle.scanner_table.specs.Ticks.{is_overdue, expired}
-use Rattle.slot_runs.specs.declared.choice.Choice.{Choice}
-use Rattle.slot_runs.specs.declared.choice.Choice.TheVariants as choice
-use Rattle.slot_runs.specs.declared.choice.Move.{Move}
-use Rattle.slot_runs.specs.declared.choice.Move.TheVariants as move
+use Rattle.slot_runs.specs.declared.slot_filter.SlotFilter.{SlotFilter}
+use Rattle.slot_runs.specs.declared.slot_filter.SlotFilter.TheVariants as slot_filter
+use Rattle.slot_runs.specs.declared.slot_filter.SlotAction.{SlotAction}
+use Rattle.slot_runs.specs.declared.slot_filter.SlotAction.TheVariants as slot_action
 
 -- what a move does to a place
-abbrev pub effect_of : Move → ScannerTable → Place → Effect
-effect_of move.Open = opened
-effect_of move.GiveUp = given_up
-effect_of move.Expire = expired
+abbrev pub effect_of : SlotAction → ScannerTable → IndexedSlot → Effect
+effect_of slot_action.Open = opened
+effect_of slot_action.GiveUp = given_up
+effect_of slot_action.Expire = expired
 
 -- the place is one of those that are chosen
-abbrev pub chosen : Choice → Place → Bool
-chosen (choice.Ready clock) place = is_ready_place clock place
-chosen (choice.ReadyWith target clock) place = is_ready_place clock place && is_with target place
-chosen (choice.With target) place = is_with target place
-chosen (choice.Overdue clock) place = is_overdue clock place
+abbrev pub selected : SlotFilter → IndexedSlot → Bool
+selected (slot_filter.Ready clock) indexed = is_ready_slot clock indexed
+selected (slot_filter.ReadyWith target clock) indexed = is_ready_slot clock indexed && is_with target indexed
+selected (slot_filter.With target) indexed = is_with target indexed
+selected (slot_filter.Overdue clock) indexed = is_overdue clock indexed
 
 -- a place is there, and passes
-abbrev pub at_passes : (Place → Bool) → Option Place → Bool
+abbrev pub at_passes : (IndexedSlot → Bool) → Option IndexedSlot → Bool
 at_passes test None = false
-at_passes test (Some place) = test place
+at_passes test (Some indexed) = test indexed
 
 -- a move on each of the chosen places, one after another
-abbrev pub run : Move → Choice → ScannerTable → Effect
-run moved which t = on_each (effect_of moved) (filter (chosen which) (places t)) t
+abbrev pub run : SlotAction → SlotFilter → ScannerTable → Effect
+run action which t = on_each (effect_of action) (filter (selected which) (indexed_slots t)) t

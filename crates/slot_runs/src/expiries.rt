@@ -2,19 +2,19 @@
 
 ghost use Rattle.std.specs.Prelude.{◌≡◌, ◌≤◌, ◌^◌, None, IfOk, filter, map};
 ghost use Rattle.scanner_table.specs.Profiles.{profile_fault};
-ghost use Rattle.scanner_table.specs.Slots.{places};
-ghost use Rattle.scanner_table.specs.Ticks.{has_expired, deadline_of, all_expired, elapsed};
-ghost use Rattle.slot_places.specs.Places.{view_place, table_of};
-ghost use Rattle.slot_drafts.specs.Drafts.{view_draft, followed};
+ghost use Rattle.scanner_table.specs.Slots.{indexed_slots};
+ghost use Rattle.scanner_table.specs.Ticks.{has_expired, deadline_of, all_expired, advanced};
+ghost use Rattle.slot_places.specs.Views.{view_slot, table_of};
+ghost use Rattle.slot_transactions.specs.Transactions.{view_transaction, followed};
 ghost use Rattle.slot_runs.specs.Expiries.{expiry_of, expires_before};
 
-use crate::choice::Move;
-use crate::running::{give_up_overdue, move_slot, open_ready};
+use crate::running::{act_on_slot, give_up_overdue, open_ready};
+use crate::slot_filter::SlotAction;
 use cip_types::{Ms, OutOfMemory};
 use list_order::{Order, sorted};
 use scanner_table::{ScannerProfile, SlotState};
-use slot_drafts::Draft;
-use slot_places::{PlaceTest, PlaceView, Present, places_that};
+use slot_places::{ScannerState, SlotTest, SlotView, slots_that};
+use slot_transactions::Transaction;
 use std::alloc::Global;
 
 /// A connection that times out: its deadline, and the number of its slot.
@@ -48,21 +48,21 @@ fn deadline_of(state: &SlotState) -> Ms
     }
 }
 
-fn expiry_of(place: PlaceView<'_>) -> Expiry
-    ensures { result ≡ expiry_of (view_place place.entry) }
+fn expiry_of(indexed: SlotView<'_>) -> Expiry
+    ensures { result ≡ expiry_of (view_slot indexed.entry) }
 {
     Expiry {
-        deadline: deadline_of(&place.slot.state),
-        number: place.number,
+        deadline: deadline_of(&indexed.slot.state),
+        number: indexed.number,
     }
 }
 
-fn expiries_of(alloc: Global, places: &[PlaceView<'_>]) -> Result<Vec<Expiry>, OutOfMemory>
-    ensures { IfOk result (λ found. found.items ≡ map expiry_of (map view_place places.now)) }
+fn expiries_of(alloc: Global, indexed_slots: &[SlotView<'_>]) -> Result<Vec<Expiry>, OutOfMemory>
+    ensures { IfOk result (λ found. found.items ≡ map expiry_of (map view_slot indexed_slots.now)) }
 {
     let mut found = Vec::new(alloc);
-    for place in places {
-        found.push(expiry_of(*place))?;
+    for indexed in indexed_slots {
+        found.push(expiry_of(*indexed))?;
     }
     Ok(found)
 }
@@ -72,30 +72,33 @@ fn expiries_of(alloc: Global, places: &[PlaceView<'_>]) -> Result<Vec<Expiry>, O
 fn expiries(
     alloc: Global,
     profile: &ScannerProfile,
-    present: &Present,
+    scanner: &ScannerState,
 ) -> Result<Vec<Expiry>, OutOfMemory>
     requires { profile_fault profile.now ≡ None }
-    ensures { let t = table_of profile.now present.now in IfOk result (λ found. found.items ≡ map expiry_of (filter (has_expired t.clock) (places t))) }
+    ensures { let t = table_of profile.now scanner.now in IfOk result (λ found. found.items ≡ map expiry_of (filter (has_expired t.clock) (indexed_slots t))) }
 {
-    let test = PlaceTest::Expired(present.clock);
-    let found = places_that(alloc, profile.slots.as_slice(), &present.slots, test)?;
+    let test = SlotTest::Expired(scanner.clock);
+    let found = slots_that(alloc, profile.slots.as_slice(), &scanner.slots, test)?;
     expiries_of(alloc, &found)
 }
 
 /// The connections whose deadline has come time out, by their deadlines. Want of memory is the only fault.
 ///
 /// Volume 1, chapter 3, connection timeouts.
-pub fn expire_all(draft: &mut Draft, profile: &ScannerProfile) -> Result<(), OutOfMemory>
+pub fn expire_all(
+    transaction: &mut Transaction,
+    profile: &ScannerProfile,
+) -> Result<(), OutOfMemory>
     requires faultless { profile_fault profile.now ≡ None }
-    requires time { draft.old.present.clock.0 ≤ 2 ^ 48 }
-    ensures effect { let d = view_draft profile.now draft.old in IfOk result (λ _. view_draft profile.now draft.new ≡ followed d (all_expired d.table)) }
-    ensures clock { draft.new.present.clock ≡ draft.old.present.clock }
+    requires time { transaction.old.scanner.clock.0 ≤ 2 ^ 48 }
+    ensures effect { let d = view_transaction profile.now transaction.old in IfOk result (λ _. view_transaction profile.now transaction.new ≡ followed d (all_expired d.table)) }
+    ensures clock { transaction.new.scanner.clock ≡ transaction.old.scanner.clock }
 {
-    let alloc = draft.alloc();
-    let found = expiries(alloc, profile, &draft.present)?;
+    let alloc = transaction.alloc();
+    let found = expiries(alloc, profile, &transaction.scanner)?;
     let ordered = sorted(alloc, &found, &Deadlines)?;
     for expiry in &ordered {
-        move_slot(draft, profile, Move::Expire, expiry.number)?;
+        act_on_slot(transaction, profile, SlotAction::Expire, expiry.number)?;
     }
     Ok(())
 }
@@ -103,13 +106,13 @@ pub fn expire_all(draft: &mut Draft, profile: &ScannerProfile) -> Result<(), Out
 /// What becomes of connections as time passes, before the productions: connections whose deadline has come
 /// time out, then slots give up answers that did not come, then slots that may try open. Want of memory is the
 /// only fault.
-pub fn elapse(draft: &mut Draft, profile: &ScannerProfile) -> Result<(), OutOfMemory>
+pub fn advance(transaction: &mut Transaction, profile: &ScannerProfile) -> Result<(), OutOfMemory>
     requires faultless { profile_fault profile.now ≡ None }
-    requires time { draft.old.present.clock.0 ≤ 2 ^ 48 }
-    ensures effect { let d = view_draft profile.now draft.old in IfOk result (λ _. view_draft profile.now draft.new ≡ followed d (elapsed d.table)) }
-    ensures clock { draft.new.present.clock ≡ draft.old.present.clock }
+    requires time { transaction.old.scanner.clock.0 ≤ 2 ^ 48 }
+    ensures effect { let d = view_transaction profile.now transaction.old in IfOk result (λ _. view_transaction profile.now transaction.new ≡ followed d (advanced d.table)) }
+    ensures clock { transaction.new.scanner.clock ≡ transaction.old.scanner.clock }
 {
-    expire_all(draft, profile)?;
-    give_up_overdue(draft, profile)?;
-    open_ready(draft, profile)
+    expire_all(transaction, profile)?;
+    give_up_overdue(transaction, profile)?;
+    open_ready(transaction, profile)
 }

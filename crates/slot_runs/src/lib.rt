@@ -4,13 +4,13 @@
 //! Volume 1, chapter 3, connection timeouts and Forward_Open service; Volume 2, chapter 2, encapsulation messages.
 #![tactic(auto)]
 
-mod choice;
 mod expiries;
 mod messages;
 mod running;
 mod sessions;
+mod slot_filter;
 
-pub use expiries::{elapse, expire_all};
-pub use messages::{Heard, hear};
+pub use expiries::{advance, expire_all};
+pub use messages::{FrameOutcome, receive_frame};
 pub use running::{give_up_overdue, lose_target, open_ready, open_target};
 pub use sessions::{cut_stream, register};

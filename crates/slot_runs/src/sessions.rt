@@ -6,38 +6,38 @@ ghost use Rattle.scanner_table.specs.Sessions.{without_stream};
 ghost use Rattle.scanner_table.specs.Encapsulation.{registered, session_begun, session_failed};
 ghost use Rattle.scanner_table.specs.Closing.{target_lost};
 ghost use Rattle.cip_encap.specs.Message.{view_message};
-ghost use Rattle.slot_drafts.specs.Drafts.{view_draft, followed};
+ghost use Rattle.slot_transactions.specs.Transactions.{view_transaction, followed};
 
 use crate::running::{lose_target, open_target};
 use cip_encap::MessageView;
 use cip_types::OutOfMemory;
 use scanner_table::{ScannerProfile, Stage, TargetStream};
-use slot_drafts::Draft;
 use slot_requests::is_registered;
+use slot_transactions::Transaction;
 
 /// A session is registered on a stream, and the slots of its target that may try now open.
 fn begin_session(
-    draft: &mut Draft,
+    transaction: &mut Transaction,
     profile: &ScannerProfile,
     stream: TargetStream,
     handle: u32,
 ) -> Result<(), OutOfMemory>
     requires faultless { profile_fault profile.now ≡ None }
-    requires time { draft.old.present.clock.0 ≤ 2 ^ 48 }
-    ensures effect { let d = view_draft profile.now draft.old in IfOk result (λ _. view_draft profile.now draft.new ≡ followed d (session_begun d.table stream handle)) }
-    ensures clock { draft.new.present.clock ≡ draft.old.present.clock }
+    requires time { transaction.old.scanner.clock.0 ≤ 2 ^ 48 }
+    ensures effect { let d = view_transaction profile.now transaction.old in IfOk result (λ _. view_transaction profile.now transaction.new ≡ followed d (session_begun d.table stream handle)) }
+    ensures clock { transaction.new.scanner.clock ≡ transaction.old.scanner.clock }
 {
-    draft.set_stage(stream.number, Stage::Up(handle));
-    open_target(draft, profile, stream.peer)
+    transaction.set_stage(stream.number, Stage::Up(handle));
+    open_target(transaction, profile, stream.peer)
 }
 
 /// The registration on a stream failed.
 #[tactic(auto, using(crate::proofs::Remaining::adds_nothing))]
-fn fail_session(draft: &mut Draft, profile: &ScannerProfile, stream: TargetStream)
-    ensures effect { let d = view_draft profile.now draft.old in view_draft profile.now draft.new ≡ followed d (session_failed d.table stream) }
-    ensures clock { draft.new.present.clock ≡ draft.old.present.clock }
+fn fail_session(transaction: &mut Transaction, profile: &ScannerProfile, stream: TargetStream)
+    ensures effect { let d = view_transaction profile.now transaction.old in view_transaction profile.now transaction.new ≡ followed d (session_failed d.table stream) }
+    ensures clock { transaction.new.scanner.clock ≡ transaction.old.scanner.clock }
 {
-    draft.set_stage(stream.number, Stage::Unused);
+    transaction.set_stage(stream.number, Stage::Unused);
 }
 
 /// The reply to a registration says whether the session is registered. Want of memory is the only fault, and
@@ -45,35 +45,35 @@ fn fail_session(draft: &mut Draft, profile: &ScannerProfile, stream: TargetStrea
 ///
 /// Volume 2, chapter 2, RegisterSession.
 pub fn register(
-    draft: &mut Draft,
+    transaction: &mut Transaction,
     profile: &ScannerProfile,
     stream: TargetStream,
     message: &MessageView<'_>,
 ) -> Result<(), OutOfMemory>
     requires faultless { profile_fault profile.now ≡ None }
-    requires time { draft.old.present.clock.0 ≤ 2 ^ 48 }
-    ensures effect { let d = view_draft profile.now draft.old in IfOk result (λ _. view_draft profile.now draft.new ≡ followed d (registered d.table stream (view_message message.now))) }
-    ensures clock { draft.new.present.clock ≡ draft.old.present.clock }
+    requires time { transaction.old.scanner.clock.0 ≤ 2 ^ 48 }
+    ensures effect { let d = view_transaction profile.now transaction.old in IfOk result (λ _. view_transaction profile.now transaction.new ≡ followed d (registered d.table stream (view_message message.now))) }
+    ensures clock { transaction.new.scanner.clock ≡ transaction.old.scanner.clock }
 {
     if is_registered(message) {
-        return begin_session(draft, profile, stream, message.session);
+        return begin_session(transaction, profile, stream, message.session);
     }
-    fail_session(draft, profile, stream);
+    fail_session(transaction, profile, stream);
     Ok(())
 }
 
 /// A stream is not open any more, and the slots of its target wait for no answer. Want of memory is the only
 /// fault, and the draft is then to be thrown away.
 pub fn cut_stream(
-    draft: &mut Draft,
+    transaction: &mut Transaction,
     profile: &ScannerProfile,
     stream: TargetStream,
 ) -> Result<(), OutOfMemory>
     requires faultless { profile_fault profile.now ≡ None }
-    requires time { draft.old.present.clock.0 ≤ 2 ^ 48 }
-    ensures effect { let d = view_draft profile.now draft.old in IfOk result (λ _. view_draft profile.now draft.new ≡ followed d (target_lost stream.peer (without_stream d.table stream.number))) }
-    ensures clock { draft.new.present.clock ≡ draft.old.present.clock }
+    requires time { transaction.old.scanner.clock.0 ≤ 2 ^ 48 }
+    ensures effect { let d = view_transaction profile.now transaction.old in IfOk result (λ _. view_transaction profile.now transaction.new ≡ followed d (target_lost stream.peer (without_stream d.table stream.number))) }
+    ensures clock { transaction.new.scanner.clock ≡ transaction.old.scanner.clock }
 {
-    draft.cut_stream(stream.number);
-    lose_target(draft, profile, stream.peer)
+    transaction.cut_stream(stream.number);
+    lose_target(transaction, profile, stream.peer)
 }

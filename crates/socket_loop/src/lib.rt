@@ -3,10 +3,10 @@
 
 mod fault;
 mod line;
+mod loop_device;
 mod profiles;
-mod station;
 
 pub use fault::LoopFault;
 pub use line::{LoopLine, run_loop};
+pub use loop_device::LoopDevice;
 pub use profiles::{adapter, scanner};
-pub use station::Station;

@@ -5,8 +5,8 @@ ghost use Rattle.cip_tables.specs.Run.{table_after};
 ghost use Rattle.socket_loop.specs.Ends.{adapter_begins, scanner_begins};
 
 use crate::fault::LoopFault;
+use crate::loop_device::LoopDevice;
 use crate::profiles;
-use crate::station::Station;
 use cip_tables::{Config, Device, Event};
 use socket_port::{SocketPort, SystemClock};
 use std::alloc::Global;
@@ -16,8 +16,8 @@ use std::rt::Clock as System;
 /// An adapter and a scanner on this host, each at a port of its own.
 #[derive(Drop)]
 pub struct LoopLine<R: System + Drop, A, S> {
-    pub adapter: Station<R, A>,
-    pub scanner: Station<R, S>,
+    pub adapter: LoopDevice<R, A>,
+    pub scanner: LoopDevice<R, S>,
 }
 
 impl<R: System + Drop, A: Device + Drop, S: Device + Drop> LoopLine<R, A, S> {
@@ -36,12 +36,12 @@ impl<R: System + Drop, A: Device + Drop, S: Device + Drop> LoopLine<R, A, S> {
         let owned: A = fresh_adapter(alloc)?;
         let owner: S = started_scanner(alloc)?;
         Ok(LoopLine {
-            adapter: Station {
+            adapter: LoopDevice {
                 port: adapter,
                 device: owned,
                 clock: SystemClock::new(rt),
             },
-            scanner: Station {
+            scanner: LoopDevice {
                 port: scanner,
                 device: owner,
                 clock: SystemClock::new(rt),

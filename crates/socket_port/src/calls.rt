@@ -1,7 +1,7 @@
 //! The calls of sockets. None of them waits, once the sockets are prepared.
 
 ghost use Rattle.std.specs.Prelude.{◌≤◌, length, IfOk, IfSome};
-ghost use Rattle.socket_port.specs.Arrivals.{Fits};
+ghost use Rattle.socket_port.specs.ReadOutcomes.{Fits};
 
 use std::io::{self, ErrorKind, Read, Write};
 use std::net::{SocketAddr, TcpListener, TcpStream, UdpSocket};
@@ -9,7 +9,7 @@ use udp_runner::PortFault;
 
 /// What a read of a stream brought.
 #[derive(Clone, Copy)]
-pub enum Arrival {
+pub enum ReadOutcome {
     /// Nothing yet.
     Nothing,
     /// So many bytes.
@@ -46,15 +46,15 @@ pub fn accept(listener: &TcpListener) -> Result<Option<(TcpStream, SocketAddr)>,
 }
 
 /// Reads what came over a connection.
-pub fn read(mut socket: &TcpStream, buffer: &mut [u8]) -> Arrival
+pub fn read(mut socket: &TcpStream, buffer: &mut [u8]) -> ReadOutcome
     ensures { Fits result (length buffer.new) }
 {
     match socket.read(buffer) {
-        Ok(0) => Arrival::End,
-        Ok(count) => Arrival::Bytes(count),
+        Ok(0) => ReadOutcome::End,
+        Ok(count) => ReadOutcome::Bytes(count),
         Err(error) => match error.kind() {
-            ErrorKind::WouldBlock | ErrorKind::Interrupted => Arrival::Nothing,
-            _ => Arrival::End,
+            ErrorKind::WouldBlock | ErrorKind::Interrupted => ReadOutcome::Nothing,
+            _ => ReadOutcome::End,
         },
     }
 }

@@ -33,7 +33,7 @@ impl<R: System + Drop> SystemClock<R> {
 impl<R: System + Drop> Clock for SystemClock<R> {
     ghost use Rattle.std.specs.Prelude.{false, []};
 
-    ghost tells = { false };
+    ghost is_scripted = { false };
 
     ghost coming = { λ clock. [] };
 

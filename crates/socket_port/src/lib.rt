@@ -4,8 +4,8 @@
 mod addresses;
 mod calls;
 mod clock;
-mod links;
 mod port;
+mod sockets;
 
 pub use addresses::{LOOPBACK, loopback, node_of};
 pub use clock::SystemClock;

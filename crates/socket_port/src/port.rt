@@ -4,9 +4,9 @@ ghost use Rattle.std.specs.Prelude.{◌≡◌, IfOk};
 
 use crate::addresses::{LOOPBACK, loopback, node_of};
 use crate::calls;
-use crate::links::Links;
+use crate::sockets::PortSockets;
 use cip_types::OutOfMemory;
-use port_streams::{Destination, Routes};
+use port_streams::{DatagramRoutes, Destination};
 use std::alloc::Global;
 use std::io::ErrorKind;
 use std::net::{Net, TcpListener, TcpStream, UdpSocket};
@@ -43,7 +43,7 @@ impl From<OutOfMemory> for OpenFault {
 #[derive(Drop)]
 pub struct SocketPort<R: System + Drop> {
     rt: R,
-    links: Links,
+    sockets: PortSockets,
     failures: u64,
 }
 
@@ -54,16 +54,16 @@ impl<R: System + Drop> SocketPort<R> {
         rt: R,
         listener: TcpListener,
         udp: UdpSocket,
-        routes: Routes,
+        routes: DatagramRoutes,
     ) -> Result<Self, OpenFault>
         ensures { IfOk result (λ port. port.failures ≡ 0) }
     {
         listener.set_nonblocking(true)?;
         udp.set_nonblocking(true)?;
-        let links = Links::new(alloc, Some(listener), udp, routes)?;
+        let sockets = PortSockets::new(alloc, Some(listener), udp, routes)?;
         Ok(SocketPort {
             rt,
-            links,
+            sockets,
             failures: 0,
         })
     }
@@ -74,18 +74,18 @@ impl<R: System + Drop> SocketPort<R> {
         rt: R,
         stream: TcpStream,
         udp: UdpSocket,
-        routes: Routes,
+        routes: DatagramRoutes,
     ) -> Result<Self, OpenFault>
         ensures { IfOk result (λ port. port.failures ≡ 0) }
     {
         let peer = node_of(stream.peer_addr()?).ok_or(OpenFault::Socket)?;
         calls::prepare(&stream)?;
         udp.set_nonblocking(true)?;
-        let mut links = Links::new(alloc, None, udp, routes)?;
-        links.welcome(peer, stream);
+        let mut sockets = PortSockets::new(alloc, None, udp, routes)?;
+        sockets.welcome(peer, stream);
         Ok(SocketPort {
             rt,
-            links,
+            sockets,
             failures: 0,
         })
     }
@@ -96,7 +96,7 @@ impl<R: System + Drop> SocketPort<R> {
     pub fn join(&mut self) -> Result<(), OpenFault>
         ensures { self.new.failures ≡ self.old.failures }
     {
-        self.links.join()?;
+        self.sockets.join()?;
         Ok(())
     }
 
@@ -104,11 +104,11 @@ impl<R: System + Drop> SocketPort<R> {
     fn next_input(&mut self) -> Result<Option<Input>, PortFault>
         ensures { self.new.failures ≡ self.old.failures }
     {
-        if let Some(input) = self.links.poll_again()? {
+        if let Some(input) = self.sockets.poll_again()? {
             return Ok(Some(input));
         }
         thread::sleep(&self.rt, Duration::from_millis(1));
-        self.links.poll()
+        self.sockets.poll()
     }
 }
 
@@ -135,8 +135,8 @@ impl<R: System + Net<Listener = TcpListener, Stream = TcpStream> + Drop> SocketP
 }
 
 /// All datagrams go to this port of this host.
-fn to_loopback(port: u16) -> Routes {
-    Routes::One(Destination {
+fn to_loopback(port: u16) -> DatagramRoutes {
+    DatagramRoutes::One(Destination {
         node: LOOPBACK,
         port,
     })
@@ -145,7 +145,7 @@ fn to_loopback(port: u16) -> Routes {
 impl<R: System + Drop> Port for SocketPort<R> {
     ghost use Rattle.std.specs.Prelude.{false, []};
 
-    ghost tells = { false };
+    ghost is_scripted = { false };
 
     ghost tape = { λ port. record { coming = []; sent = [] } };
 
@@ -164,7 +164,7 @@ impl<R: System + Drop> Port for SocketPort<R> {
     }
 
     fn send(&mut self, output: &Output<'_>) -> Result<(), PortFault> {
-        let sent = self.links.send(output);
+        let sent = self.sockets.send(output);
         if sent.is_err() {
             self.failures += 1;
         }

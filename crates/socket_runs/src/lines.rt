@@ -121,18 +121,18 @@ where
     Ok(is_refused(rt, tcp, udp) && is_refused(rt, tcp, udp.saturating_sub(1)))
 }
 
-fn tell<R: Print>(rt: &R, what: &str, is_so: bool) -> io::Result<()> {
-    let told = if is_so { "yes" } else { "no" };
-    println!(rt; "{what}: {told}")
+fn print_answer<R: Print>(rt: &R, what: &str, is_so: bool) -> io::Result<()> {
+    let answer = if is_so { "yes" } else { "no" };
+    println!(rt; "{what}: {answer}")
 }
 
-fn tell_of_lines<R>(rt: R) -> Result<(), SocketFault>
+fn print_lines<R>(rt: R) -> Result<(), SocketFault>
 where
     R: AllocGlobal + Clock + Print + Net<Listener = TcpListener, Stream = TcpStream> + Copy + Drop,
 {
     write_and_drive(&mut line(rt)?, &mut line(rt)?)?;
     let what = "slot 0 established, output applied, on two lines at once";
-    Ok(tell(&rt, what, true)?)
+    Ok(print_answer(&rt, what, true)?)
 }
 
 /// Two lines at once, and then lines at ports that are in use.
@@ -140,9 +140,9 @@ pub fn run<R>(rt: R) -> Result<(), SocketFault>
 where
     R: AllocGlobal + Clock + Print + Net<Listener = TcpListener, Stream = TcpStream> + Copy + Drop,
 {
-    tell_of_lines(rt)?;
+    print_lines(rt)?;
     let what = "a port of TCP in use is a fault of the port";
-    tell(&rt, what, tcp_in_use(rt)?)?;
+    print_answer(&rt, what, tcp_in_use(rt)?)?;
     let what = "a port of UDP in use is a fault of the port";
-    Ok(tell(&rt, what, udp_in_use(rt)?)?)
+    Ok(print_answer(&rt, what, udp_in_use(rt)?)?)
 }

@@ -6,7 +6,7 @@
 #![tactic(auto)]
 
 mod fault;
-mod hall;
+mod host;
 mod lines;
 mod peers;
 

@@ -1,7 +1,7 @@
 //! Peers that do what no peer should.
 
 use crate::fault::SocketFault;
-use crate::hall::{Hall, Heard, write};
+use crate::host::{AdapterHost, Received, write};
 use std::net::{Net, TcpListener, TcpStream};
 use std::rt::Clock;
 
@@ -25,183 +25,190 @@ const NOTHING: [u8; 240] = [0; 240];
 const MOST_REQUESTS: u32 = 40_000;
 
 /// Whether the peer gets a session.
-fn registers<R: Clock + Drop>(hall: &mut Hall<R>, peer: &TcpStream) -> Result<bool, SocketFault> {
+fn registers<R: Clock + Drop>(
+    host: &mut AdapterHost<R>,
+    peer: &TcpStream,
+) -> Result<bool, SocketFault> {
     if write(peer, &REGISTER) != Some(REGISTER.len()) {
         return Ok(false);
     }
-    Ok(hall.heard(peer, REGISTER.len())? == Heard::Enough)
+    Ok(host.received(peer, REGISTER.len())? == Received::Enough)
 }
 
 /// Half a message, and then the end: the next peer gets a session.
-pub fn half_message<R>(hall: &mut Hall<R>) -> Result<bool, SocketFault>
+pub fn half_message<R>(host: &mut AdapterHost<R>) -> Result<bool, SocketFault>
 where
     R: AllocGlobal + Clock + Net<Listener = TcpListener, Stream = TcpStream> + Copy + Drop,
 {
-    let half = hall.peer()?;
+    let half = host.peer()?;
     let written = write(&half, &REGISTER[..10]);
-    hall.turns(20)?;
+    host.turns(20)?;
     drop(half);
-    let next = hall.peer()?;
-    Ok(written == Some(10) && registers(hall, &next)?)
+    let next = host.peer()?;
+    Ok(written == Some(10) && registers(host, &next)?)
 }
 
 /// A message in pieces of one byte gets its answer.
-pub fn single_bytes<R>(hall: &mut Hall<R>) -> Result<bool, SocketFault>
+pub fn single_bytes<R>(host: &mut AdapterHost<R>) -> Result<bool, SocketFault>
 where
     R: AllocGlobal + Clock + Net<Listener = TcpListener, Stream = TcpStream> + Copy + Drop,
 {
-    let peer = hall.peer()?;
+    let peer = host.peer()?;
     for byte in REGISTER {
         if write(&peer, &[byte]) != Some(1) {
             return Ok(false);
         }
-        hall.turns(1)?;
+        host.turns(1)?;
     }
-    Ok(hall.heard(&peer, REGISTER.len())? == Heard::Enough)
+    Ok(host.received(&peer, REGISTER.len())? == Received::Enough)
 }
 
 /// A message that is too long ends its stream.
-pub fn message_too_long<R>(hall: &mut Hall<R>) -> Result<bool, SocketFault>
+pub fn message_too_long<R>(host: &mut AdapterHost<R>) -> Result<bool, SocketFault>
 where
     R: AllocGlobal + Clock + Net<Listener = TcpListener, Stream = TcpStream> + Copy + Drop,
 {
-    let peer = hall.peer()?;
+    let peer = host.peer()?;
     let written = write(&peer, &TOO_LONG);
-    Ok(written == Some(4) && hall.heard(&peer, 1)? == Heard::End)
+    Ok(written == Some(4) && host.received(&peer, 1)? == Received::End)
 }
 
 /// As many messages as a peer can write do not keep another one from its session.
-pub fn flood_of_messages<R>(hall: &mut Hall<R>) -> Result<bool, SocketFault>
+pub fn flood_of_messages<R>(host: &mut AdapterHost<R>) -> Result<bool, SocketFault>
 where
     R: AllocGlobal + Clock + Net<Listener = TcpListener, Stream = TcpStream> + Copy + Drop,
 {
-    let flood = hall.peer()?;
+    let flood = host.peer()?;
     for _ in 0..300 {
         let Some(_) = write(&flood, &NOTHING) else {
             return Ok(false);
         };
-        hall.turns(1)?;
+        host.turns(1)?;
     }
-    let next = hall.peer()?;
-    let registered = registers(hall, &next)?;
-    hall.turns(3_000)?;
+    let next = host.peer()?;
+    let registered = registers(host, &next)?;
+    host.turns(3_000)?;
     Ok(registered)
 }
 
 /// As many datagrams as a peer can throw do not keep another one from its session.
-pub fn flood_of_datagrams<R>(hall: &mut Hall<R>) -> Result<bool, SocketFault>
+pub fn flood_of_datagrams<R>(host: &mut AdapterHost<R>) -> Result<bool, SocketFault>
 where
     R: AllocGlobal + Clock + Net<Listener = TcpListener, Stream = TcpStream> + Copy + Drop,
 {
-    let thrower = hall.thrower()?;
+    let thrower = host.thrower()?;
     for _ in 0..2_000 {
-        hall.throw(&thrower, &NOTHING);
-        hall.throw(&thrower, &[]);
-        hall.turns(1)?;
+        host.throw(&thrower, &NOTHING);
+        host.throw(&thrower, &[]);
+        host.turns(1)?;
     }
-    let next = hall.peer()?;
-    registers(hall, &next)
+    let next = host.peer()?;
+    registers(host, &next)
 }
 
 /// A peer ends without reading its answer, which resets its connection: the next one gets a session.
-pub fn reset<R>(hall: &mut Hall<R>) -> Result<bool, SocketFault>
+pub fn reset<R>(host: &mut AdapterHost<R>) -> Result<bool, SocketFault>
 where
     R: AllocGlobal + Clock + Net<Listener = TcpListener, Stream = TcpStream> + Copy + Drop,
 {
-    let gone = hall.peer()?;
-    let written = write(&gone, &REGISTER);
-    hall.turns(20)?;
-    drop(gone);
-    hall.turns(20)?;
-    let next = hall.peer()?;
-    Ok(written == Some(REGISTER.len()) && registers(hall, &next)?)
+    let closed = host.peer()?;
+    let written = write(&closed, &REGISTER);
+    host.turns(20)?;
+    drop(closed);
+    host.turns(20)?;
+    let next = host.peer()?;
+    Ok(written == Some(REGISTER.len()) && registers(host, &next)?)
 }
 
 /// The first peer asks, and never reads an answer: its stream ends.
-pub fn never_reads<R>(hall: &mut Hall<R>) -> Result<bool, SocketFault>
+pub fn never_reads<R>(host: &mut AdapterHost<R>) -> Result<bool, SocketFault>
 where
     R: AllocGlobal + Clock + Net<Listener = TcpListener, Stream = TcpStream> + Copy + Drop,
 {
-    let peer = hall.peer()?;
-    if !registers(hall, &peer)? {
+    let peer = host.peer()?;
+    if !registers(host, &peer)? {
         return Ok(false);
     }
     for _ in 0..MOST_REQUESTS {
         let Some(_) = write(&peer, &READ) else {
             return Ok(true);
         };
-        hall.turns(1)?;
+        host.turns(1)?;
     }
     Ok(false)
 }
 
 /// Sixteen peers get a session, the next one is closed unheard, and once one of them ends, another one gets one.
-pub fn seventeen<R>(hall: &mut Hall<R>) -> Result<bool, SocketFault>
+pub fn seventeen<R>(host: &mut AdapterHost<R>) -> Result<bool, SocketFault>
 where
     R: AllocGlobal + Clock + Net<Listener = TcpListener, Stream = TcpStream> + Copy + Drop,
 {
-    hall.turns(40)?;
-    let first = hall.peer()?;
-    if !registers(hall, &first)? {
+    host.turns(40)?;
+    let first = host.peer()?;
+    if !registers(host, &first)? {
         return Ok(false);
     }
-    let mut others = Vec::new(hall.alloc());
+    let mut others = Vec::new(host.alloc());
     for _ in 0..15 {
-        let peer = hall.peer()?;
-        if !registers(hall, &peer)? || others.push(peer).is_err() {
+        let peer = host.peer()?;
+        if !registers(host, &peer)? || others.push(peer).is_err() {
             return Ok(false);
         }
     }
-    let one_more = hall.peer()?;
-    if hall.heard(&one_more, 1)? != Heard::End {
+    let one_more = host.peer()?;
+    if host.received(&one_more, 1)? != Received::End {
         return Ok(false);
     }
     drop(first);
-    hall.turns(40)?;
-    let another = hall.peer()?;
-    registers(hall, &another)
+    host.turns(40)?;
+    let another = host.peer()?;
+    registers(host, &another)
 }
 
-fn tell<R: Print>(rt: &R, what: &str, as_wanted: bool) -> Result<(), SocketFault> {
-    let told = if as_wanted { "as wanted" } else { "otherwise" };
-    Ok(println!(rt; "{what}: {told}")?)
+fn print_answer<R: Print>(rt: &R, what: &str, as_expected: bool) -> Result<(), SocketFault> {
+    let answer = if as_expected {
+        "as wanted"
+    } else {
+        "otherwise"
+    };
+    Ok(println!(rt; "{what}: {answer}")?)
 }
 
-fn tell_of_messages<R>(rt: &R, hall: &mut Hall<R>) -> Result<(), SocketFault>
+fn print_messages<R>(rt: &R, host: &mut AdapterHost<R>) -> Result<(), SocketFault>
 where
     R: AllocGlobal + Clock + Print + Net<Listener = TcpListener, Stream = TcpStream> + Copy + Drop,
 {
-    tell(rt, "a peer that never reads", never_reads(hall)?)?;
-    tell(rt, "half a message", half_message(hall)?)?;
-    tell(rt, "single bytes", single_bytes(hall)?)?;
-    tell(rt, "a message too long", message_too_long(hall)?)
+    print_answer(rt, "a peer that never reads", never_reads(host)?)?;
+    print_answer(rt, "half a message", half_message(host)?)?;
+    print_answer(rt, "single bytes", single_bytes(host)?)?;
+    print_answer(rt, "a message too long", message_too_long(host)?)
 }
 
-fn tell_of_floods<R>(rt: &R, hall: &mut Hall<R>) -> Result<(), SocketFault>
+fn print_floods<R>(rt: &R, host: &mut AdapterHost<R>) -> Result<(), SocketFault>
 where
     R: AllocGlobal + Clock + Print + Net<Listener = TcpListener, Stream = TcpStream> + Copy + Drop,
 {
-    tell(rt, "a flood of messages", flood_of_messages(hall)?)?;
-    tell(rt, "a flood of datagrams", flood_of_datagrams(hall)?)
+    print_answer(rt, "a flood of messages", flood_of_messages(host)?)?;
+    print_answer(rt, "a flood of datagrams", flood_of_datagrams(host)?)
 }
 
-fn tell_of_connections<R>(rt: &R, hall: &mut Hall<R>) -> Result<(), SocketFault>
+fn print_connections<R>(rt: &R, host: &mut AdapterHost<R>) -> Result<(), SocketFault>
 where
     R: AllocGlobal + Clock + Print + Net<Listener = TcpListener, Stream = TcpStream> + Copy + Drop,
 {
-    tell(rt, "a reset", reset(hall)?)?;
-    tell(rt, "seventeen connections", seventeen(hall)?)?;
-    hall.turns(60)?;
-    tell(rt, "the next peer", single_bytes(hall)?)
+    print_answer(rt, "a reset", reset(host)?)?;
+    print_answer(rt, "seventeen connections", seventeen(host)?)?;
+    host.turns(60)?;
+    print_answer(rt, "the next peer", single_bytes(host)?)
 }
 
-fn tell_of_all<R>(rt: &R, hall: &mut Hall<R>) -> Result<(), SocketFault>
+fn print_all<R>(rt: &R, host: &mut AdapterHost<R>) -> Result<(), SocketFault>
 where
     R: AllocGlobal + Clock + Print + Net<Listener = TcpListener, Stream = TcpStream> + Copy + Drop,
 {
-    tell_of_messages(rt, hall)?;
-    tell_of_floods(rt, hall)?;
-    tell_of_connections(rt, hall)
+    print_messages(rt, host)?;
+    print_floods(rt, host)?;
+    print_connections(rt, host)
 }
 
 /// An adapter, and one such peer after another.
@@ -209,5 +216,5 @@ pub fn run<R>(rt: R) -> Result<(), SocketFault>
 where
     R: AllocGlobal + Clock + Print + Net<Listener = TcpListener, Stream = TcpStream> + Copy + Drop,
 {
-    tell_of_all(&rt, &mut Hall::open(rt)?)
+    print_all(&rt, &mut AdapterHost::open(rt)?)
 }

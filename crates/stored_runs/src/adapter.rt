@@ -3,7 +3,7 @@
 ghost use Rattle.std.specs.Prelude.{◌≡◌, true, None, IfOk};
 ghost use Rattle.cip_tables.specs.Step.{config_fault, makes_adapter};
 
-use crate::fault::RunFault;
+use crate::fault::StoredRunFault;
 use adapter_engine::FastAdapter;
 use cip_tables::{Action, Config, Device, Event, InputPoint, Outcome, OutputPoint, Profile};
 use cip_types::{Identity, Items, Node, OutOfMemory};
@@ -58,7 +58,7 @@ fn profile(alloc: Global) -> Result<Profile, OutOfMemory> {
 }
 
 /// What the adapter is made of.
-pub fn config(alloc: Global) -> Result<Config, RunFault>
+pub fn config(alloc: Global) -> Result<Config, StoredRunFault>
     ensures valid { IfOk result (λ config. config_fault config ≡ None) }
     ensures kind { IfOk result (λ config. makes_adapter config ≡ true) }
 {
@@ -68,7 +68,7 @@ pub fn config(alloc: Global) -> Result<Config, RunFault>
 }
 
 /// A book of the fresh adapter.
-pub fn book(alloc: Global) -> Result<Book<FastAdapter>, RunFault> {
+pub fn book(alloc: Global) -> Result<Book<FastAdapter>, StoredRunFault> {
     let device = FastAdapter::new(alloc, config(alloc)?)?;
     Ok(Book::new(alloc, device)?)
 }
@@ -95,15 +95,15 @@ pub const fn tick(ms: u32) -> Event {
 }
 
 /// The present segment of a book.
-pub fn rotated<D: Device + Drop>(book: &mut Book<D>) -> Result<Segment, RunFault> {
+pub fn rotated<D: Device + Drop>(book: &mut Book<D>) -> Result<Segment, StoredRunFault> {
     if book.segment() == u16::MAX {
-        return Err(RunFault::Rotated);
+        return Err(StoredRunFault::Rotated);
     }
     Ok(book.rotate()?)
 }
 
 // Prints where an event stands, and what the device answered.
-fn print_receipt(rt: &impl Print, alloc: Global, receipt: Receipt) -> Result<(), RunFault> {
+fn print_receipt(rt: &impl Print, alloc: Global, receipt: Receipt) -> Result<(), StoredRunFault> {
     let (device, segment, index) = (receipt.device, receipt.segment, receipt.index);
     println!(rt; "device {device} segment {segment} index {index}")?;
     print_answer(rt, alloc, u64::from(index), &Ok(receipt.answer))
@@ -115,7 +115,7 @@ pub fn print_answer(
     alloc: Global,
     number: u64,
     outcome: &Outcome,
-) -> Result<(), RunFault> {
+) -> Result<(), StoredRunFault> {
     let text = write_outcome(alloc, number, outcome)?;
     for line in text.lines() {
         println!(rt; "{line}")?;
@@ -124,10 +124,10 @@ pub fn print_answer(
 }
 
 /// The receipt for an event that a book takes.
-pub fn take<D: Device + Drop>(book: &mut Book<D>, event: Event) -> Result<Receipt, RunFault> {
+pub fn take<D: Device + Drop>(book: &mut Book<D>, event: Event) -> Result<Receipt, StoredRunFault> {
     match book.step(event) {
         Ok(receipt) => Ok(receipt),
-        Err(fault) => Err(RunFault::Book(fault)),
+        Err(fault) => Err(StoredRunFault::Book(fault)),
     }
 }
 
@@ -137,6 +137,6 @@ pub fn step<D: Device + Drop>(
     alloc: Global,
     book: &mut Book<D>,
     event: Event,
-) -> Result<(), RunFault> {
+) -> Result<(), StoredRunFault> {
     print_receipt(rt, alloc, take(book, event)?)
 }

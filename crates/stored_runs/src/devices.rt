@@ -1,6 +1,6 @@
 //! The devices: an adapter with one output and one input, and two scanners that want them.
 
-use crate::fault::RunFault;
+use crate::fault::StoredRunFault;
 use cip_tables::Config;
 use cip_types::OutOfMemory;
 use std::alloc::Global;
@@ -19,7 +19,7 @@ pub const SECOND: &[u8] =
     b"scanner 33 192.168.1.21 4660 305419897 2000 3000\nslot 192.168.1.10 exclusive 151 150 100 4 4 10000 10000 2 p2p - -\n";
 
 /// What a device is made of, by the lines of its profile.
-pub fn config(alloc: Global, lines: &[u8]) -> Result<Config, RunFault> {
+pub fn config(alloc: Global, lines: &[u8]) -> Result<Config, StoredRunFault> {
     Ok(read_trace(alloc, lines)?.config)
 }
 
@@ -29,7 +29,7 @@ fn keep(configs: &mut Vec<Config>, config: Config) -> Result<(), OutOfMemory> {
 }
 
 /// What the devices are made of, in order.
-pub fn configs(alloc: Global, texts: &[&[u8]]) -> Result<Vec<Config>, RunFault> {
+pub fn configs(alloc: Global, texts: &[&[u8]]) -> Result<Vec<Config>, StoredRunFault> {
     let mut configs = Vec::new(alloc);
     for text in texts {
         keep(&mut configs, config(alloc, text)?)?;

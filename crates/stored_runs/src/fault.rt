@@ -12,7 +12,7 @@ use trace_words::LineFault;
 
 /// Why the program ends early.
 #[derive(Debug, Drop, Error)]
-pub enum RunFault {
+pub enum StoredRunFault {
     #[error("no memory")]
     OutOfMemory,
     #[error("another fault than was wanted")]
@@ -35,29 +35,29 @@ pub enum RunFault {
     Io(#[from] io::Error),
 }
 
-impl From<OutOfMemory> for RunFault {
-    fn from(_error: OutOfMemory) -> RunFault {
-        RunFault::OutOfMemory
+impl From<OutOfMemory> for StoredRunFault {
+    fn from(_error: OutOfMemory) -> StoredRunFault {
+        StoredRunFault::OutOfMemory
     }
 }
 
-impl From<AllocError> for RunFault {
-    fn from(_error: AllocError) -> RunFault {
-        RunFault::OutOfMemory
+impl From<AllocError> for StoredRunFault {
+    fn from(_error: AllocError) -> StoredRunFault {
+        StoredRunFault::OutOfMemory
     }
 }
 
-impl From<ProfileFault> for RunFault {
-    fn from(first: ProfileFault) -> RunFault {
-        RunFault::Profile(first)
+impl From<ProfileFault> for StoredRunFault {
+    fn from(first: ProfileFault) -> StoredRunFault {
+        StoredRunFault::Profile(first)
     }
 }
 
-impl From<LineFault> for RunFault {
-    fn from(fault: LineFault) -> RunFault {
+impl From<LineFault> for StoredRunFault {
+    fn from(fault: LineFault) -> StoredRunFault {
         match fault {
-            LineFault::Bad => RunFault::Line,
-            LineFault::OutOfMemory => RunFault::OutOfMemory,
+            LineFault::Bad => StoredRunFault::Line,
+            LineFault::OutOfMemory => StoredRunFault::OutOfMemory,
         }
     }
 }

@@ -1,25 +1,25 @@
 //! A segment with as many events as one holds.
 
 use crate::adapter::{book, rotated, step, take, tick};
-use crate::fault::RunFault;
+use crate::fault::StoredRunFault;
 use cip_tables::Device;
 use device_lock::{Book, MOST_EVENTS, Segment};
 use std::alloc::Global;
 
 // One event more.
-fn one<D: Device + Drop>(book: &mut Book<D>) -> Result<(), RunFault> {
+fn one<D: Device + Drop>(book: &mut Book<D>) -> Result<(), StoredRunFault> {
     let _index = take(book, tick(0))?.index;
     Ok(())
 }
 
-fn fill<D: Device + Drop>(book: &mut Book<D>) -> Result<(), RunFault> {
+fn fill<D: Device + Drop>(book: &mut Book<D>) -> Result<(), StoredRunFault> {
     for _ in 0..MOST_EVENTS {
         one(book)?;
     }
     Ok(())
 }
 
-fn print_refusal(rt: &impl Print, taken: Result<(), RunFault>) -> Result<(), RunFault> {
+fn print_refusal(rt: &impl Print, taken: Result<(), StoredRunFault>) -> Result<(), StoredRunFault> {
     match taken {
         Ok(()) => println!(rt; "the segment takes one event more")?,
         Err(fault) => println!(rt; "{fault}")?,
@@ -27,7 +27,7 @@ fn print_refusal(rt: &impl Print, taken: Result<(), RunFault>) -> Result<(), Run
     Ok(())
 }
 
-fn print_length(rt: &impl Print, segment: &Segment) -> Result<(), RunFault> {
+fn print_length(rt: &impl Print, segment: &Segment) -> Result<(), StoredRunFault> {
     println!(rt; "{} events", segment.events.as_slice().len())?;
     Ok(())
 }
@@ -36,7 +36,7 @@ fn overfill<D: Device + Drop>(
     rt: &impl Print,
     alloc: Global,
     book: &mut Book<D>,
-) -> Result<(), RunFault> {
+) -> Result<(), StoredRunFault> {
     fill(book)?;
     print_refusal(rt, one(book))?;
     print_length(rt, &rotated(book)?)?;
@@ -44,6 +44,6 @@ fn overfill<D: Device + Drop>(
 }
 
 /// Fills a segment, and prints what the book answers to one event more, before it is rotated and after.
-pub fn tell(rt: &impl Print, alloc: Global) -> Result<(), RunFault> {
+pub fn print_run(rt: &impl Print, alloc: Global) -> Result<(), StoredRunFault> {
     overfill(rt, alloc, &mut book(alloc)?)
 }

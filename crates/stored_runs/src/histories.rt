@@ -1,7 +1,7 @@
 //! Segments that follow on one another, and some that do not.
 
 use crate::adapter::{book, config, datagram, opening, rotated, take, tick};
-use crate::fault::RunFault;
+use crate::fault::StoredRunFault;
 use adapter_engine::FastAdapter;
 use cip_tables::{Device, Event};
 use cip_types::OutOfMemory;
@@ -18,7 +18,7 @@ fn end<D: Device + Drop>(
     book: &mut Book<D>,
     segments: &mut Vec<Segment>,
     event: Event,
-) -> Result<(), RunFault> {
+) -> Result<(), StoredRunFault> {
     let _index = take(book, event)?.index;
     Ok(keep(segments, rotated(book)?)?)
 }
@@ -29,7 +29,7 @@ fn begin<D: Device + Drop>(
     book: &mut Book<D>,
     segments: &mut Vec<Segment>,
     apart: bool,
-) -> Result<(), RunFault> {
+) -> Result<(), StoredRunFault> {
     let event = opening(alloc)?;
     if apart {
         end(book, segments, event)
@@ -44,7 +44,7 @@ fn feed<D: Device + Drop>(
     alloc: Global,
     book: &mut Book<D>,
     segments: &mut Vec<Segment>,
-) -> Result<(), RunFault> {
+) -> Result<(), StoredRunFault> {
     end(book, segments, datagram(alloc)?)
 }
 
@@ -54,7 +54,7 @@ fn store<D: Device + Drop>(
     book: &mut Book<D>,
     segments: &mut Vec<Segment>,
     apart: bool,
-) -> Result<(), RunFault> {
+) -> Result<(), StoredRunFault> {
     begin(alloc, book, segments, apart)?;
     feed(alloc, book, segments)?;
     end(book, segments, tick(1))
@@ -65,7 +65,7 @@ fn print_history(
     name: &str,
     follow: bool,
     history: Option<&History>,
-) -> Result<(), RunFault> {
+) -> Result<(), StoredRunFault> {
     match history {
         Some(history) => {
             println!(rt;
@@ -84,14 +84,14 @@ fn judge(
     alloc: Global,
     name: &str,
     segments: Vec<Segment>,
-) -> Result<(), RunFault> {
+) -> Result<(), StoredRunFault> {
     let follow = History::follow::<FastAdapter>(alloc, &config(alloc)?, segments.as_slice())?;
     let history = History::new::<FastAdapter>(alloc, config(alloc)?, segments);
     print_history(rt, name, follow, history.as_ref())
 }
 
 // Where the events of two segments stand, and that there are no others.
-fn print_places(rt: &impl Print, history: &History) -> Result<(), RunFault> {
+fn print_places(rt: &impl Print, history: &History) -> Result<(), StoredRunFault> {
     for (segment, index) in [(0, 0), (0, 1), (0, 2), (1, 0), (1, 1), (2, 0)] {
         match history.place_of(segment, index) {
             Some(place) => println!(rt; "segment {segment} index {index} at {place}")?,
@@ -104,24 +104,24 @@ fn print_places(rt: &impl Print, history: &History) -> Result<(), RunFault> {
 }
 
 // The segments of a fresh adapter's book: the first event stands in one of its own, or with the second.
-fn stored(alloc: Global, apart: bool) -> Result<Vec<Segment>, RunFault> {
+fn stored(alloc: Global, apart: bool) -> Result<Vec<Segment>, StoredRunFault> {
     let mut segments = Vec::new(alloc);
     store(alloc, &mut book(alloc)?, &mut segments, apart)?;
     Ok(segments)
 }
 
 // Two segments: the first two events, and the third.
-fn two(alloc: Global) -> Result<Vec<Segment>, RunFault> {
+fn two(alloc: Global) -> Result<Vec<Segment>, StoredRunFault> {
     stored(alloc, false)
 }
 
 // Three segments of one event each.
-fn three(alloc: Global) -> Result<Vec<Segment>, RunFault> {
+fn three(alloc: Global) -> Result<Vec<Segment>, StoredRunFault> {
     stored(alloc, true)
 }
 
 // The three without one of them.
-fn without(alloc: Global, place: usize) -> Result<Vec<Segment>, RunFault> {
+fn without(alloc: Global, place: usize) -> Result<Vec<Segment>, StoredRunFault> {
     let mut segments = three(alloc)?;
     if place < segments.len() {
         let _left_out = segments.remove(place);
@@ -129,15 +129,15 @@ fn without(alloc: Global, place: usize) -> Result<Vec<Segment>, RunFault> {
     Ok(segments)
 }
 
-fn places(rt: &impl Print, alloc: Global) -> Result<(), RunFault> {
+fn places(rt: &impl Print, alloc: Global) -> Result<(), StoredRunFault> {
     match History::new::<FastAdapter>(alloc, config(alloc)?, two(alloc)?) {
         Some(history) => print_places(rt, &history),
-        None => Err(RunFault::OutOfMemory),
+        None => Err(StoredRunFault::OutOfMemory),
     }
 }
 
 /// Prints which segments give histories, and the places of the events of one.
-pub fn tell(rt: &impl Print, alloc: Global) -> Result<(), RunFault> {
+pub fn print_run(rt: &impl Print, alloc: Global) -> Result<(), StoredRunFault> {
     places(rt, alloc)?;
     judge(rt, alloc, "two segments", two(alloc)?)?;
     judge(rt, alloc, "three segments", three(alloc)?)?;

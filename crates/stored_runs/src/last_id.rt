@@ -2,7 +2,7 @@
 
 use crate::adapter::print_answer;
 use crate::devices::{FIRST, config};
-use crate::fault::RunFault;
+use crate::fault::StoredRunFault;
 use cip_tables::{Device, Event};
 use cip_types::{Items, Node};
 use plain_engine::PlainScanner;
@@ -19,19 +19,19 @@ const REGISTERED: [u8; 28] = [
     0x65, 0, 4, 0, 1, 0, 0, 0, 0, 0, 0, 0, 0, 0, 0, 0, 0, 0, 0, 0, 0, 0, 0, 0, 1, 0, 0, 0,
 ];
 
-fn registered(alloc: Global) -> Result<Event, RunFault> {
+fn registered(alloc: Global) -> Result<Event, StoredRunFault> {
     Ok(Event::Frame {
         stream: 0,
         bytes: Items::copy_of(alloc, &REGISTERED)?,
     })
 }
 
-fn fresh(alloc: Global) -> Result<PlainScanner, RunFault> {
+fn fresh(alloc: Global) -> Result<PlainScanner, StoredRunFault> {
     Ok(PlainScanner::new(alloc, config(alloc, FIRST)?)?)
 }
 
 /// The same scanner with the counter at its end.
-fn used_up(alloc: Global, scanner: &PlainScanner) -> Result<PlainScanner, RunFault> {
+fn used_up(alloc: Global, scanner: &PlainScanner) -> Result<PlainScanner, StoredRunFault> {
     scanner.is_whole();
     let copy = scanner.copy()?.with_next_id(NO_ID);
     Ok(PlainScanner::from_copy(alloc, &copy)?)
@@ -43,12 +43,16 @@ fn step(
     scanner: &mut PlainScanner,
     number: u64,
     event: Event,
-) -> Result<(), RunFault> {
+) -> Result<(), StoredRunFault> {
     print_answer(rt, alloc, number, &scanner.step(&event))
 }
 
 /// A session between the scanner and its target.
-fn register(rt: &impl Print, alloc: Global, scanner: &mut PlainScanner) -> Result<(), RunFault> {
+fn register(
+    rt: &impl Print,
+    alloc: Global,
+    scanner: &mut PlainScanner,
+) -> Result<(), StoredRunFault> {
     let opened = Event::StreamOpened {
         stream: 0,
         peer: TARGET,
@@ -57,17 +61,21 @@ fn register(rt: &impl Print, alloc: Global, scanner: &mut PlainScanner) -> Resul
     step(rt, alloc, scanner, 2, registered(alloc)?)
 }
 
-fn start(rt: &impl Print, alloc: Global, mut scanner: PlainScanner) -> Result<(), RunFault> {
+fn start(rt: &impl Print, alloc: Global, mut scanner: PlainScanner) -> Result<(), StoredRunFault> {
     step(rt, alloc, &mut scanner, 3, Event::Start { slot: 0 })
 }
 
-fn tell_of(rt: &impl Print, alloc: Global, mut scanner: PlainScanner) -> Result<(), RunFault> {
+fn print_start(
+    rt: &impl Print,
+    alloc: Global,
+    mut scanner: PlainScanner,
+) -> Result<(), StoredRunFault> {
     register(rt, alloc, &mut scanner)?;
     start(rt, alloc, used_up(alloc, &scanner)?)
 }
 
 /// A scanner whose session is registered goes on from a copy with the counter at its end, and cannot start its slot.
-pub fn tell(rt: &impl Print, alloc: Global) -> Result<(), RunFault> {
+pub fn print_run(rt: &impl Print, alloc: Global) -> Result<(), StoredRunFault> {
     println!(rt; "# a scanner with no connection id left")?;
-    tell_of(rt, alloc, fresh(alloc)?)
+    print_start(rt, alloc, fresh(alloc)?)
 }

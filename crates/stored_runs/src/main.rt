@@ -23,15 +23,15 @@ mod stories;
 mod text;
 
 use devices::{ADAPTER, FIRST, SECOND};
-use fault::RunFault;
+use fault::StoredRunFault;
 
-fn main(rt: HostRuntime) -> Result<(), RunFault> {
-    stories::tell(&rt, "race.story", &[ADAPTER, FIRST, SECOND])?;
-    stories::tell(&rt, "late_reply.story", &[ADAPTER, FIRST])?;
+fn main(rt: HostRuntime) -> Result<(), StoredRunFault> {
+    stories::print_run(&rt, "race.story", &[ADAPTER, FIRST, SECOND])?;
+    stories::print_run(&rt, "late_reply.story", &[ADAPTER, FIRST])?;
     refusals::no_worlds(&rt, rt.alloc())?;
-    last_id::tell(&rt, rt.alloc())?;
-    rotations::tell(&rt, rt.alloc())?;
-    histories::tell(&rt, rt.alloc())?;
-    full::tell(&rt, rt.alloc())?;
-    shared::tell(&rt, rt.alloc())
+    last_id::print_run(&rt, rt.alloc())?;
+    rotations::print_run(&rt, rt.alloc())?;
+    histories::print_run(&rt, rt.alloc())?;
+    full::print_run(&rt, rt.alloc())?;
+    shared::print_run(&rt, rt.alloc())
 }

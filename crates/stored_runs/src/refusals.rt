@@ -1,7 +1,7 @@
 //! Devices of which no segment is made.
 
 use crate::devices::{ADAPTER, FIRST, config, configs};
-use crate::fault::RunFault;
+use crate::fault::StoredRunFault;
 use adapter_engine::FastAdapter;
 use cip_tables::{Config, Profile};
 use cip_types::OutOfMemory;
@@ -14,9 +14,9 @@ const NEIGHBOUR: &[u8] =
     b"scanner 33 192.168.1.20 4660 305419897 2000 3000\nslot 192.168.1.10 exclusive 151 150 100 4 4 10000 10000 2 p2p - -\n";
 
 /// Prints why no segment is made of these devices.
-fn tell(rt: &impl Print, alloc: Global, configs: Vec<Config>) -> Result<(), RunFault> {
+fn print_fault(rt: &impl Print, alloc: Global, configs: Vec<Config>) -> Result<(), StoredRunFault> {
     match World::<FastAdapter, PlainScanner>::new(alloc, configs) {
-        Ok(_) => Err(RunFault::Differs),
+        Ok(_) => Err(StoredRunFault::Differs),
         Err(fault) => Ok(println!(rt; "{fault}")?),
     }
 }
@@ -39,11 +39,11 @@ fn one(alloc: Global, config: Config) -> Result<Vec<Config>, OutOfMemory> {
 }
 
 /// Each fault of the making of a segment, but want of memory.
-pub fn no_worlds(rt: &impl Print, alloc: Global) -> Result<(), RunFault> {
+pub fn no_worlds(rt: &impl Print, alloc: Global) -> Result<(), StoredRunFault> {
     println!(rt; "# one scanner twice")?;
-    tell(rt, alloc, configs(alloc, &[ADAPTER, FIRST, FIRST])?)?;
+    print_fault(rt, alloc, configs(alloc, &[ADAPTER, FIRST, FIRST])?)?;
     println!(rt; "# another scanner at its address")?;
-    tell(rt, alloc, configs(alloc, &[ADAPTER, FIRST, NEIGHBOUR])?)?;
+    print_fault(rt, alloc, configs(alloc, &[ADAPTER, FIRST, NEIGHBOUR])?)?;
     println!(rt; "# an adapter of incarnation 0")?;
-    tell(rt, alloc, one(alloc, nameless(config(alloc, ADAPTER)?))?)
+    print_fault(rt, alloc, one(alloc, nameless(config(alloc, ADAPTER)?))?)
 }

@@ -1,16 +1,16 @@
 //! A book that is rotated twice: its segments, and the replay of the first.
 
 use crate::adapter::{book, datagram, opening, rotated, step, tick};
-use crate::fault::RunFault;
+use crate::fault::StoredRunFault;
 use adapter_engine::FastAdapter;
 use cip_tables::{Device, Event, TableCopy, run};
 use device_lock::{Book, Segment};
 use std::alloc::Global;
 
-fn play(alloc: Global, device: &mut impl Device, events: &[Event]) -> Result<(), RunFault> {
+fn play(alloc: Global, device: &mut impl Device, events: &[Event]) -> Result<(), StoredRunFault> {
     match run(alloc, device, events) {
         Ok(_) => Ok(()),
-        Err(_) => Err(RunFault::OutOfMemory),
+        Err(_) => Err(StoredRunFault::OutOfMemory),
     }
 }
 
@@ -19,13 +19,13 @@ fn table_after(
     alloc: Global,
     device: &mut impl Device,
     events: &[Event],
-) -> Result<TableCopy, RunFault> {
+) -> Result<TableCopy, StoredRunFault> {
     play(alloc, device, events)?;
     Ok(device.copy()?)
 }
 
 // The table that a segment's events lead to from its opening table.
-fn replayed(alloc: Global, segment: &Segment) -> Result<TableCopy, RunFault> {
+fn replayed(alloc: Global, segment: &Segment) -> Result<TableCopy, StoredRunFault> {
     table_after(
         alloc,
         &mut FastAdapter::from_copy(alloc, &segment.opening)?,
@@ -38,7 +38,7 @@ fn print_end(
     end: &TableCopy,
     first: &Segment,
     second: &Segment,
-) -> Result<(), RunFault> {
+) -> Result<(), StoredRunFault> {
     let (next, same) = (end.same(&second.opening), end.same(&first.opening));
     println!(rt; "the first leads to the second: {next}, to itself: {same}")?;
     Ok(())
@@ -49,7 +49,7 @@ fn print_segments(
     alloc: Global,
     first: &Segment,
     second: &Segment,
-) -> Result<(), RunFault> {
+) -> Result<(), StoredRunFault> {
     let (events, more) = (first.events.as_slice(), second.events.as_slice());
     println!(rt; "segments of {} events and {}", events.len(), more.len())?;
     print_end(rt, &replayed(alloc, first)?, first, second)
@@ -60,7 +60,7 @@ fn step_on<D: Device + Drop>(
     alloc: Global,
     first: &Segment,
     book: &mut Book<D>,
-) -> Result<(), RunFault> {
+) -> Result<(), StoredRunFault> {
     step(rt, alloc, book, tick(1))?;
     print_segments(rt, alloc, first, &rotated(book)?)
 }
@@ -69,7 +69,7 @@ fn rotate_twice<D: Device + Drop>(
     rt: &impl Print,
     alloc: Global,
     book: &mut Book<D>,
-) -> Result<(), RunFault> {
+) -> Result<(), StoredRunFault> {
     step(rt, alloc, book, opening(alloc)?)?;
     step(rt, alloc, book, datagram(alloc)?)?;
     step_on(rt, alloc, &rotated(book)?, book)
@@ -77,6 +77,6 @@ fn rotate_twice<D: Device + Drop>(
 
 /// A connection is opened and data come; then, in the next segment, the adapter produces. Prints the receipts,
 /// and whether the first segment leads to where the next one opens.
-pub fn tell(rt: &impl Print, alloc: Global) -> Result<(), RunFault> {
+pub fn print_run(rt: &impl Print, alloc: Global) -> Result<(), StoredRunFault> {
     rotate_twice(rt, alloc, &mut book(alloc)?)
 }

@@ -1,7 +1,7 @@
 //! Devices on a segment, and the story of what happens to them.
 
 use crate::devices::configs;
-use crate::fault::RunFault;
+use crate::fault::StoredRunFault;
 use crate::text::{push_fault, push_line, push_lines};
 use adapter_engine::FastAdapter;
 use cip_tables::{Answer, Outcome};
@@ -56,7 +56,7 @@ fn lines_of(alloc: Global, number: u64, answer: Answer) -> Result<String, OutOfM
 
 impl Scene {
     /// A segment of devices of these profiles, at most three.
-    pub fn new(alloc: Global, texts: &[&[u8]]) -> Result<Scene, RunFault> {
+    pub fn new(alloc: Global, texts: &[&[u8]]) -> Result<Scene, StoredRunFault> {
         let world = World::new(alloc, configs(alloc, texts)?)?;
         Ok(Scene {
             alloc,

@@ -1,7 +1,7 @@
 //! One adapter that two threads step.
 
 use crate::adapter::{book, rotated};
-use crate::fault::RunFault;
+use crate::fault::StoredRunFault;
 use cip_tables::{Device, Event};
 use cip_types::{Items, OutOfMemory};
 use device_lock::{BookFault, LockedDevice, Receipt};
@@ -57,7 +57,7 @@ fn run<D: Device + Drop + Send, R: Threads + Wait + Sync>(
     rt: &R,
     alloc: Global,
     device: &LockedDevice<D>,
-) -> Result<Vec<Result<Vec<Receipt>, BookFault>>, RunFault> {
+) -> Result<Vec<Result<Vec<Receipt>, BookFault>>, StoredRunFault> {
     let threads = Vec::from_slice(alloc, &THREADS)?;
     Ok(thread::map_vec(
         rt,
@@ -67,7 +67,7 @@ fn run<D: Device + Drop + Send, R: Threads + Wait + Sync>(
 }
 
 // Whether the writes of a thread are all among the events, in order.
-fn has_all(alloc: Global, events: &[Event], thread: u8) -> Result<bool, RunFault> {
+fn has_all(alloc: Global, events: &[Event], thread: u8) -> Result<bool, StoredRunFault> {
     let mut number: u16 = 0;
     for event in events {
         if is_of(event, thread) {
@@ -98,7 +98,7 @@ fn print_account(
     events: &[Event],
     thread: u8,
     receipts: &[Receipt],
-) -> Result<(), RunFault> {
+) -> Result<(), StoredRunFault> {
     let (all, stand) = (has_all(alloc, events, thread)?, all_stand(events, receipts));
     println!(rt;
         "thread {thread}: {} receipts, in order {all}, in place {stand}",
@@ -112,12 +112,12 @@ fn print_accounts(
     alloc: Global,
     events: &[Event],
     accounts: &[Result<Vec<Receipt>, BookFault>],
-) -> Result<(), RunFault> {
+) -> Result<(), StoredRunFault> {
     println!(rt; "{} events of {} threads", events.len(), accounts.len())?;
     for (thread, account) in THREADS.iter().zip(accounts) {
         match account {
             Ok(receipts) => print_account(rt, alloc, events, *thread, receipts)?,
-            Err(fault) => return Err(RunFault::Book(*fault)),
+            Err(fault) => return Err(StoredRunFault::Book(*fault)),
         }
     }
     Ok(())
@@ -125,7 +125,10 @@ fn print_accounts(
 
 /// Two threads write 1,000 times each. Prints what holds of the book whoever came first: how many events it has,
 /// whether those of each thread are there in order, and whether its receipts stand where they say.
-pub fn tell<R: Print + Threads + Wait + Sync>(rt: &R, alloc: Global) -> Result<(), RunFault> {
+pub fn print_run<R: Print + Threads + Wait + Sync>(
+    rt: &R,
+    alloc: Global,
+) -> Result<(), StoredRunFault> {
     let device = LockedDevice::new(book(alloc)?);
     let accounts = run(rt, alloc, &device)?;
     let segment = rotated(&mut device.into_book())?;

@@ -10,7 +10,7 @@
 //!
 //! A line that begins with `# ` is told as it stands.
 
-use crate::fault::RunFault;
+use crate::fault::StoredRunFault;
 use crate::scene::Scene;
 use segment_world::{Act, Call, Direction};
 use std::alloc::Global;
@@ -73,16 +73,16 @@ fn act_of(alloc: Global, device: u32, words: &mut Words<'_>) -> Result<Act, Line
     }
 }
 
-fn act(scene: &mut Scene, alloc: Global, line: &str) -> Result<(), RunFault> {
+fn act(scene: &mut Scene, alloc: Global, line: &str) -> Result<(), StoredRunFault> {
     let mut words = Words::of(line);
     let name = words.word()?;
     let act = act_of(alloc, place_of(name), &mut words)?;
     Ok(scene.act(name, place_of(name), &act)?)
 }
 
-fn play(scene: &mut Scene, alloc: Global, text: &[u8]) -> Result<(), RunFault> {
+fn play(scene: &mut Scene, alloc: Global, text: &[u8]) -> Result<(), StoredRunFault> {
     let Ok(text) = str::from_utf8(text) else {
-        return Err(RunFault::Line);
+        return Err(StoredRunFault::Line);
     };
     for line in text.lines() {
         match line.strip_prefix("# ") {
@@ -98,17 +98,17 @@ fn print_story(
     alloc: Global,
     scene: &mut Scene,
     text: &[u8],
-) -> Result<(), RunFault> {
+) -> Result<(), StoredRunFault> {
     play(scene, alloc, text)?;
     Ok(print!(rt; "{}", scene.story())?)
 }
 
 /// Plays the story of this file with devices of these profiles, at most three, and prints what each answers.
-pub fn tell<R: AllocGlobal + Files + Print>(
+pub fn print_run<R: AllocGlobal + Files + Print>(
     rt: &R,
     name: &str,
     profiles: &[&[u8]],
-) -> Result<(), RunFault> {
+) -> Result<(), StoredRunFault> {
     let text = fs::read(rt, name)?;
     let mut scene = Scene::new(rt.alloc(), profiles)?;
     print_story(rt, rt.alloc(), &mut scene, text.as_slice())

@@ -3,8 +3,8 @@ use Rattle.std.proofs.Common.{◌≡◌, ◌≢◌, ◌<◌, ◌≤◌, ℕ, zer
 use Rattle.std.specs.List.{remove}
 use Rattle.std.proofs.lemmas.Bool.Decides.{nat_tests}
 use Rattle.stream_queues.specs.declared.direction.Direction.{Direction}
-use Rattle.stream_queues.specs.declared.waiting.Waiting.{Waiting}
-use Rattle.stream_queues.specs.Streams.{Item, Queued}
+use Rattle.stream_queues.specs.declared.waiting.QueuedFrame.{QueuedFrame}
+use Rattle.stream_queues.specs.Streams.{QueueItem, Queued}
 use Rattle.stream_queues.specs.Queues.{is_in, is_elsewhere, frames_of, AreKnown}
 
 eq_false : (a b : ℕ) → a ≢ b → (a == b) ≡ false
@@ -14,23 +14,23 @@ eq_true : (a b : ℕ) → (a == b) ≡ true → a ≡ b
 eq_true a b h = grind (arith, nat_tests)
 
 -- the frame, where it waits there
-abbrev pub frame_if : Bool → Waiting → List Item
+abbrev pub frame_if : Bool → QueuedFrame → List QueueItem
 frame_if b w = cond b (Queued w.bytes ∷ []) []
 
 -- A FRAME MORE
 
-push_step : (b : Bool) (w : Waiting) (old new more : List Item) → new ≡ old ++ more → cond b (Queued w.bytes ∷ new) new ≡ cond b (Queued w.bytes ∷ old) old ++ more
+push_step : (b : Bool) (w : QueuedFrame) (old new more : List QueueItem) → new ≡ old ++ more → cond b (Queued w.bytes ∷ new) new ≡ cond b (Queued w.bytes ∷ old) old ++ more
 push_step true w old new more is = ap (λ l. Queued w.bytes ∷ l) is
 push_step false w old new more is = is
 
-pub frames_push : (n : ℕ) (d : Direction) (ws : List Waiting) (w : Waiting) → frames_of n d (ws ++ w ∷ []) ≡ frames_of n d ws ++ frame_if (is_in n d w) w
+pub frames_push : (n : ℕ) (d : Direction) (ws : List QueuedFrame) (w : QueuedFrame) → frames_of n d (ws ++ w ∷ []) ≡ frames_of n d ws ++ frame_if (is_in n d w) w
 unfolding frames_of
 frames_push n d [] w = refl
 frames_push n d (x ∷ ws) w = push_step (is_in n d x) x (frames_of n d ws) (frames_of n d (ws ++ w ∷ [])) (frame_if (is_in n d w) w) (frames_push n d ws w)
 
 -- FRAMES OF ANOTHER STREAM
 
-drop_step : (b : Bool) (n j : ℕ) (d : Direction) (w : Waiting) (ws : List Waiting) → (w.stream == n) ≡ b → j ≢ n → frames_of j d (filter (is_elsewhere n) ws) ≡ frames_of j d ws → frames_of j d (cond (not b) (w ∷ filter (is_elsewhere n) ws) (filter (is_elsewhere n) ws)) ≡ frames_of j d (w ∷ ws)
+drop_step : (b : Bool) (n j : ℕ) (d : Direction) (w : QueuedFrame) (ws : List QueuedFrame) → (w.stream == n) ≡ b → j ≢ n → frames_of j d (filter (is_elsewhere n) ws) ≡ frames_of j d ws → frames_of j d (cond (not b) (w ∷ filter (is_elsewhere n) ws) (filter (is_elsewhere n) ws)) ≡ frames_of j d (w ∷ ws)
 unfolding frames_of
 drop_step true n j d w ws is ne same =
     let here : w.stream ≡ n = eq_true w.stream n is in
@@ -38,7 +38,7 @@ drop_step true n j d w ws is ne same =
     rw there same
 drop_step false n j d w ws is ne same = ap (λ l. cond (is_in j d w) (Queued w.bytes ∷ l) l) same
 
-pub frames_elsewhere : (n j : ℕ) (d : Direction) (ws : List Waiting) → j ≢ n → frames_of j d (filter (is_elsewhere n) ws) ≡ frames_of j d ws
+pub frames_elsewhere : (n j : ℕ) (d : Direction) (ws : List QueuedFrame) → j ≢ n → frames_of j d (filter (is_elsewhere n) ws) ≡ frames_of j d ws
 unfolding frames_of
 frames_elsewhere n j d [] ne = refl
 frames_elsewhere n j d (w ∷ ws) ne = drop_step (w.stream == n) n j d w ws refl ne (frames_elsewhere n j d ws ne)
@@ -46,7 +46,7 @@ frames_elsewhere n j d (w ∷ ws) ne = drop_step (w.stream == n) n j d w ws refl
 -- KNOWN STREAMS
 
 -- on a stream that is not known nothing waits
-pub frames_unknown : (count n : ℕ) (d : Direction) (ws : List Waiting) → AreKnown count ws → count ≤ n → frames_of n d ws ≡ []
+pub frames_unknown : (count n : ℕ) (d : Direction) (ws : List QueuedFrame) → AreKnown count ws → count ≤ n → frames_of n d ws ≡ []
 unfolding AreKnown frames_of
 frames_unknown count n d [] known le = refl
 frames_unknown count n d (w ∷ ws) known le =
@@ -56,18 +56,18 @@ frames_unknown count n d (w ∷ ws) known le =
 
 -- THE FIRST FRAME
 
-first_step : (b : Bool) (w : Waiting) (rest more : List Item) (item : Item) → b ≡ false → rest ≡ item ∷ more → cond b (Queued w.bytes ∷ rest) rest ≡ item ∷ cond b (Queued w.bytes ∷ more) more
+first_step : (b : Bool) (w : QueuedFrame) (rest more : List QueueItem) (item : QueueItem) → b ≡ false → rest ≡ item ∷ more → cond b (Queued w.bytes ∷ rest) rest ≡ item ∷ cond b (Queued w.bytes ∷ more) more
 first_step true w rest more item is same = absurd (let e = is in cc)
 first_step false w rest more item is same = same
 
 -- what waits at this place is the first that passes the test
-pub record IsFirst (n : ℕ) (d : Direction) (ws : List Waiting) (k : ℕ) (w : Waiting) : Type 0 where
+pub record IsFirst (n : ℕ) (d : Direction) (ws : List QueuedFrame) (k : ℕ) (w : QueuedFrame) : Type 0 where
   pub within : k < length ws
   pub is : get_or ws k w ≡ w
   pub passes : is_in n d w ≡ true
   pub before : (i : ℕ) → i < k → is_in n d (get_or ws i w) ≡ false
 
-next_first : (n : ℕ) (d : Direction) (x : Waiting) (ws : List Waiting) (k : ℕ) (w : Waiting) → IsFirst n d (x ∷ ws) (suc k) w → IsFirst n d ws k w
+next_first : (n : ℕ) (d : Direction) (x : QueuedFrame) (ws : List QueuedFrame) (k : ℕ) (w : QueuedFrame) → IsFirst n d (x ∷ ws) (suc k) w → IsFirst n d ws k w
 next_first n d x ws k w first = record {
   within = omega (arith, first.within);
   is = first.is;
@@ -75,18 +75,18 @@ next_first n d x ws k w first = record {
   before = λ i lt. first.before (suc i) (omega arith);
 }
 
-pub frames_first : (n : ℕ) (d : Direction) (ws : List Waiting) (k : ℕ) (w : Waiting) → IsFirst n d ws k w → frames_of n d ws ≡ Queued w.bytes ∷ frames_of n d (remove ws k)
+pub frames_first : (n : ℕ) (d : Direction) (ws : List QueuedFrame) (k : ℕ) (w : QueuedFrame) → IsFirst n d ws k w → frames_of n d ws ≡ Queued w.bytes ∷ frames_of n d (remove ws k)
 unfolding frames_of
 frames_first n d [] k w first = absurd (omega (arith, first.within))
 frames_first n d (x ∷ ws) zero w first =
     let same : x ≡ w = first.is in
     let here : is_in n d x ≡ true = ap (is_in n d) same ∙ first.passes in
-    ap (λ b. cond b (Queued x.bytes ∷ frames_of n d ws) (frames_of n d ws)) here ∙ ap (λ (y : Waiting). Queued y.bytes ∷ frames_of n d ws) same
+    ap (λ b. cond b (Queued x.bytes ∷ frames_of n d ws) (frames_of n d ws)) here ∙ ap (λ (y : QueuedFrame). Queued y.bytes ∷ frames_of n d ws) same
 frames_first n d (x ∷ ws) (suc k) w first =
     first_step (is_in n d x) x (frames_of n d ws) (frames_of n d (remove ws k)) (Queued w.bytes) (first.before zero (omega arith)) (frames_first n d ws k w (next_first n d x ws k w first))
 
 -- frames that wait elsewhere still wait
-pub frames_rest : (n j : ℕ) (d e : Direction) (ws : List Waiting) (k : ℕ) (w : Waiting) → IsFirst n d ws k w → is_in j e w ≡ false → frames_of j e (remove ws k) ≡ frames_of j e ws
+pub frames_rest : (n j : ℕ) (d e : Direction) (ws : List QueuedFrame) (k : ℕ) (w : QueuedFrame) → IsFirst n d ws k w → is_in j e w ≡ false → frames_of j e (remove ws k) ≡ frames_of j e ws
 unfolding frames_of
 frames_rest n j d e [] k w first other = absurd (omega (arith, first.within))
 frames_rest n j d e (x ∷ ws) zero w first other =
@@ -95,7 +95,7 @@ frames_rest n j d e (x ∷ ws) zero w first other =
 frames_rest n j d e (x ∷ ws) (suc k) w first other =
     ap (λ l. cond (is_in j e x) (Queued x.bytes ∷ l) l) (frames_rest n j d e ws k w (next_first n d x ws k w first) other)
 
-pub frames_none : (n : ℕ) (d : Direction) (ws : List Waiting) → ((i : ℕ) (w : Waiting) → i < length ws → is_in n d (get_or ws i w) ≡ false) → frames_of n d ws ≡ []
+pub frames_none : (n : ℕ) (d : Direction) (ws : List QueuedFrame) → ((i : ℕ) (w : QueuedFrame) → i < length ws → is_in n d (get_or ws i w) ≡ false) → frames_of n d ws ≡ []
 unfolding frames_of
 frames_none n d [] none = refl
 frames_none n d (x ∷ ws) none =

@@ -4,21 +4,21 @@ use Rattle.std.specs.List.{remove}
 use Rattle.std.proofs.lemmas.Bool.Decides.{nat_tests}
 use Rattle.stream_queues.specs.declared.direction.Direction.{Direction}
 use Rattle.stream_queues.specs.declared.direction.Direction.TheVariants.{Forth, Back}
-use Rattle.stream_queues.specs.declared.links.End.{End}
-use Rattle.stream_queues.specs.declared.links.Link.{Link}
-use Rattle.stream_queues.specs.declared.waiting.Waiting.{Waiting}
+use Rattle.stream_queues.specs.declared.links.StreamEnd.{StreamEnd}
+use Rattle.stream_queues.specs.declared.links.StreamLink.{StreamLink}
+use Rattle.stream_queues.specs.declared.waiting.QueuedFrame.{QueuedFrame}
 use Rattle.stream_queues.specs.Streams.{way_between}
 use Rattle.stream_queues.specs.Links.{with_end}
 use Rattle.stream_queues.specs.Queues.{is_elsewhere, is_living, AreKnown, AreLive}
 
 -- A STREAM THAT IS LOOKED UP
 
-living_within : (links : List Link) (i : ℕ) → is_living (slice_get links i) ≡ true → i < length links
+living_within : (links : List StreamLink) (i : ℕ) → is_living (slice_get links i) ≡ true → i < length links
 living_within [] i living = absurd (let e = living in cc)
 living_within (link ∷ links) zero living = omega arith
 living_within (link ∷ links) (suc i) living = let lt = living_within links i living in omega arith
 
-pub live_known : (links : List Link) (ws : List Waiting) → AreLive links ws → AreKnown (length links) ws
+pub live_known : (links : List StreamLink) (ws : List QueuedFrame) → AreLive links ws → AreKnown (length links) ws
 unfolding AreLive AreKnown
 live_known links [] live = tt
 live_known links (w ∷ ws) live = (living_within links w.stream live.0, live_known links ws live.1)
@@ -28,17 +28,17 @@ way_open device from to true d is = absurd (let e = is in cc)
 way_open device from to false d is = refl
 
 -- a device sends over a stream that has not ended
-pub way_living : (links : List Link) (n device : ℕ) (link : Link) (d : Direction) → slice_get links n ≡ Some link → way_between device link.ended link.from link.to ≡ Some d → is_living (slice_get links n) ≡ true
+pub way_living : (links : List StreamLink) (n device : ℕ) (link : StreamLink) (d : Direction) → slice_get links n ≡ Some link → way_between device link.ended link.from link.to ≡ Some d → is_living (slice_get links n) ≡ true
 way_living links n device link d is way = ap is_living is ∙ ap not (way_open device link.from link.to link.ended d way)
 
 -- A FRAME MORE, OR LESS
 
-pub live_push : (links : List Link) (ws : List Waiting) (w : Waiting) → AreLive links ws → is_living (slice_get links w.stream) ≡ true → AreLive links (ws ++ w ∷ [])
+pub live_push : (links : List StreamLink) (ws : List QueuedFrame) (w : QueuedFrame) → AreLive links ws → is_living (slice_get links w.stream) ≡ true → AreLive links (ws ++ w ∷ [])
 unfolding AreLive
 live_push links [] w live here = (here, tt)
 live_push links (x ∷ ws) w live here = (live.0, live_push links ws w live.1 here)
 
-pub live_remove : (links : List Link) (ws : List Waiting) (k : ℕ) → AreLive links ws → AreLive links (remove ws k)
+pub live_remove : (links : List StreamLink) (ws : List QueuedFrame) (k : ℕ) → AreLive links ws → AreLive links (remove ws k)
 unfolding AreLive
 live_remove links [] zero live = tt
 live_remove links [] (suc k) live = tt
@@ -47,19 +47,19 @@ live_remove links (w ∷ ws) (suc k) live = (live.0, live_remove links ws k live
 
 -- A STREAM MORE
 
-living_more : (links : List Link) (link : Link) (i : ℕ) → is_living (slice_get links i) ≡ true → is_living (slice_get (links ++ link ∷ []) i) ≡ true
+living_more : (links : List StreamLink) (link : StreamLink) (i : ℕ) → is_living (slice_get links i) ≡ true → is_living (slice_get (links ++ link ∷ []) i) ≡ true
 living_more [] link i living = absurd (let e = living in cc)
 living_more (first ∷ links) link zero living = living
 living_more (first ∷ links) link (suc i) living = living_more links link i living
 
-pub live_more : (links : List Link) (link : Link) (ws : List Waiting) → AreLive links ws → AreLive (links ++ link ∷ []) ws
+pub live_more : (links : List StreamLink) (link : StreamLink) (ws : List QueuedFrame) → AreLive links ws → AreLive (links ++ link ∷ []) ws
 unfolding AreLive
 live_more links link [] live = tt
 live_more links link (w ∷ ws) live = (living_more links link w.stream live.0, live_more links link ws live.1)
 
 -- A STREAM THAT ENDS, WHOSE FRAMES ARE DROPPED
 
-set_elsewhere : (links : List Link) (n i : ℕ) (link : Link) → i ≢ n → slice_get (set links n link) i ≡ slice_get links i
+set_elsewhere : (links : List StreamLink) (n i : ℕ) (link : StreamLink) → i ≢ n → slice_get (set links n link) i ≡ slice_get links i
 set_elsewhere [] zero i link ne = refl
 set_elsewhere [] (suc n) i link ne = refl
 set_elsewhere (first ∷ links) zero zero link ne = absurd (ne refl)
@@ -70,36 +70,36 @@ set_elsewhere (first ∷ links) (suc n) (suc i) link ne = set_elsewhere links n 
 are_two : (a b : ℕ) → (a == b) ≡ false → a ≢ b
 are_two a b is = grind (arith, nat_tests)
 
-drop_step : (b : Bool) (links : List Link) (n : ℕ) (link : Link) (w : Waiting) (ws : List Waiting) → (w.stream == n) ≡ b → is_living (slice_get links w.stream) ≡ true → AreLive (set links n link) ws → AreLive (set links n link) (cond (not b) (w ∷ ws) ws)
+drop_step : (b : Bool) (links : List StreamLink) (n : ℕ) (link : StreamLink) (w : QueuedFrame) (ws : List QueuedFrame) → (w.stream == n) ≡ b → is_living (slice_get links w.stream) ≡ true → AreLive (set links n link) ws → AreLive (set links n link) (cond (not b) (w ∷ ws) ws)
 unfolding AreLive
 drop_step true links n link w ws is living live = live
 drop_step false links n link w ws is living live = (ap is_living (set_elsewhere links n w.stream link (are_two w.stream n is)) ∙ living, live)
 
-pub live_drop : (links : List Link) (n : ℕ) (link : Link) (ws : List Waiting) → AreLive links ws → AreLive (set links n link) (filter (is_elsewhere n) ws)
+pub live_drop : (links : List StreamLink) (n : ℕ) (link : StreamLink) (ws : List QueuedFrame) → AreLive links ws → AreLive (set links n link) (filter (is_elsewhere n) ws)
 unfolding AreLive
 live_drop links n link [] live = tt
 live_drop links n link (w ∷ ws) live = drop_step (w.stream == n) links n link w (filter (is_elsewhere n) ws) refl live.0 (live_drop links n link ws live.1)
 
 -- A STREAM THAT GOES ON
 
-ended_kept : (d : Direction) (link : Link) (end : End) → (with_end d link end).ended ≡ link.ended
+ended_kept : (d : Direction) (link : StreamLink) (end : StreamEnd) → (with_end d link end).ended ≡ link.ended
 ended_kept Forth link end = refl
 ended_kept Back link end = refl
 
-same_link : (link other : Link) → Some link ≡ Some other → link ≡ other
+same_link : (link other : StreamLink) → Some link ≡ Some other → link ≡ other
 same_link link other is = let e = is in cc
 
-living_after : (links : List Link) (n i : ℕ) (link new : Link) → slice_get links n ≡ Some link → new.ended ≡ link.ended → is_living (slice_get links i) ≡ true → is_living (slice_get (set links n new) i) ≡ true
+living_after : (links : List StreamLink) (n i : ℕ) (link new : StreamLink) → slice_get links n ≡ Some link → new.ended ≡ link.ended → is_living (slice_get links i) ≡ true → is_living (slice_get (set links n new) i) ≡ true
 living_after [] n i link new is same living = absurd (let e = living in cc)
-living_after (first ∷ links) zero zero link new is same living = ap not (same ∙ ap (λ (l : Link). l.ended) (sym (same_link first link is))) ∙ living
+living_after (first ∷ links) zero zero link new is same living = ap not (same ∙ ap (λ (l : StreamLink). l.ended) (sym (same_link first link is))) ∙ living
 living_after (first ∷ links) zero (suc i) link new is same living = living
 living_after (first ∷ links) (suc n) zero link new is same living = living
 living_after (first ∷ links) (suc n) (suc i) link new is same living = living_after links n i link new is same living
 
-live_set : (links : List Link) (n : ℕ) (link new : Link) (ws : List Waiting) → slice_get links n ≡ Some link → new.ended ≡ link.ended → AreLive links ws → AreLive (set links n new) ws
+live_set : (links : List StreamLink) (n : ℕ) (link new : StreamLink) (ws : List QueuedFrame) → slice_get links n ≡ Some link → new.ended ≡ link.ended → AreLive links ws → AreLive (set links n new) ws
 unfolding AreLive
 live_set links n link new [] is same live = tt
 live_set links n link new (w ∷ ws) is same live = (living_after links n w.stream link new is same live.0, live_set links n link new ws is same live.1)
 
-pub live_after : (links : List Link) (n : ℕ) (d : Direction) (link : Link) (end : End) (ws : List Waiting) → slice_get links n ≡ Some link → AreLive links ws → AreLive (set links n (with_end d link end)) ws
+pub live_after : (links : List StreamLink) (n : ℕ) (d : Direction) (link : StreamLink) (end : StreamEnd) (ws : List QueuedFrame) → slice_get links n ≡ Some link → AreLive links ws → AreLive (set links n (with_end d link end)) ws
 live_after links n d link end ws is live = live_set links n link (with_end d link end) ws is (ended_kept d link end) live

@@ -3,7 +3,7 @@ use Rattle.std.proofs.Common.{◌≡◌, ◌<◌, ◌≤◌, ℕ, ◌+◌, List,
 use Rattle.std.proofs.lemmas.List.{at_drop_more, at_drop_all}
 use Rattle.cip_events.specs.declared.event.Frame.{Frame}
 use Rattle.cip_events.specs.declared.event.Notice.{Notice}
-use Rattle.stream_queues.specs.Streams.{Stream, frame_sent, frames_sent, notice_told, notices_told}
+use Rattle.stream_queues.specs.Streams.{Stream, frame_sent, frames_sent, notice_applied, notices_applied}
 use Rattle.stream_queues.specs.Queues.{AreShort}
 
 dropped : {X : Type 0} (xs : List X) (i : ℕ) (x : X) → i < length xs → x ≡ get_or xs i x → drop i xs ≡ x ∷ drop (i + 1) xs
@@ -24,11 +24,11 @@ pub sent_all : (device : ℕ) (streams all : List Stream) (frames : List Frame) 
 unfolding frames_sent
 sent_all device streams all frames i le so_far = sym (at_drop_all (frames_sent device streams) frames i le) ∙ so_far
 
-pub told_more : (device : ℕ) (streams new all : List Stream) (notices : List Notice) (i : ℕ) (d : Notice) → i < length notices → notices_told device streams (drop i notices) ≡ all → new ≡ notice_told device streams (get_or notices i d) → notices_told device new (drop (i + 1) notices) ≡ all
-unfolding notices_told
-told_more device streams new all notices i d lt so_far more =
-    ap (λ ss. notices_told device ss (drop (i + 1) notices)) more ∙ sym (at_drop_more (notices_told device streams) notices i d lt) ∙ so_far
+pub applied_more : (device : ℕ) (streams new all : List Stream) (notices : List Notice) (i : ℕ) (d : Notice) → i < length notices → notices_applied device streams (drop i notices) ≡ all → new ≡ notice_applied device streams (get_or notices i d) → notices_applied device new (drop (i + 1) notices) ≡ all
+unfolding notices_applied
+applied_more device streams new all notices i d lt so_far more =
+    ap (λ ss. notices_applied device ss (drop (i + 1) notices)) more ∙ sym (at_drop_more (notices_applied device streams) notices i d lt) ∙ so_far
 
-pub told_all : (device : ℕ) (streams all : List Stream) (notices : List Notice) (i : ℕ) → length notices ≤ i → notices_told device streams (drop i notices) ≡ all → streams ≡ all
-unfolding notices_told
-told_all device streams all notices i le so_far = sym (at_drop_all (notices_told device streams) notices i le) ∙ so_far
+pub applied_all : (device : ℕ) (streams all : List Stream) (notices : List Notice) (i : ℕ) → length notices ≤ i → notices_applied device streams (drop i notices) ≡ all → streams ≡ all
+unfolding notices_applied
+applied_all device streams all notices i le so_far = sym (at_drop_all (notices_applied device streams) notices i le) ∙ so_far

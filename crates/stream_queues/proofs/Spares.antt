@@ -5,8 +5,8 @@ use Rattle.std.specs.Global.{Vec}
 use Rattle.stream_queues.specs.Spares.{AreSpare}
 
 pub spare_push : (spares : List (Vec ℕ)) (spare : Vec ℕ) → AreSpare spares → spare.items ≡ [] → 2048 ≤ vec_capacity spare → AreSpare (spares ++ spare ∷ [])
-spare_push [] spare kept empty room = (empty, room, tt)
-spare_push (x ∷ spares) spare kept empty room = (kept.0, kept.1, spare_push spares spare kept.2 empty room)
+spare_push [] spare kept empty space = (empty, space, tt)
+spare_push (x ∷ spares) spare kept empty space = (kept.0, kept.1, spare_push spares spare kept.2 empty space)
 
 pub spare_last : (spares : List (Vec ℕ)) (spare : Vec ℕ) → AreSpare (spares ++ spare ∷ []) → AreSpare spares × (spare.items ≡ []) × (2048 ≤ vec_capacity spare)
 spare_last [] spare kept = (tt, kept.0, kept.1)

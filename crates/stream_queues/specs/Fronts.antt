@@ -1,26 +1,26 @@
 -- What is read of a stream: its ends, whether it has not ended, and what waits first.
 use Rattle.std.specs.Prelude.{not, Bool, false, slice_get, Option, Some, None}
 use Rattle.stream_queues.specs.declared.direction.Direction.{Direction}
-use Rattle.stream_queues.specs.declared.front.Front.{Front}
-use Rattle.stream_queues.specs.declared.front.Front.TheVariants as front
-use Rattle.stream_queues.specs.declared.links.Ends.{Ends}
-use Rattle.stream_queues.specs.Streams.{Item, Opening, Queued, Ending, Stream, side_of}
+use Rattle.stream_queues.specs.declared.front.QueueFront.{QueueFront}
+use Rattle.stream_queues.specs.declared.front.QueueFront.TheVariants as front
+use Rattle.stream_queues.specs.declared.links.Endpoints.{Endpoints}
+use Rattle.stream_queues.specs.Streams.{QueueItem, Opening, Queued, Ending, Stream, side_of}
 
 -- the ends of a stream
-abbrev pub ends_of : Stream → Ends
-ends_of s = record { from = s.from; to = s.to; ended = s.ended }
+abbrev pub endpoints_of : Stream → Endpoints
+endpoints_of s = record { from = s.from; to = s.to; ended = s.ended }
 
 -- there is such a stream, and it has not ended
 abbrev pub is_open : Option Stream → Bool
 is_open None = false
 is_open (Some s) = not s.ended
 
-abbrev pub view_front : Front → Item
+abbrev pub view_front : QueueFront → QueueItem
 view_front front.Opening = Opening
 view_front (front.Frame bytes) = Queued bytes.now
 view_front front.Ending = Ending
 
 -- what waits first in a direction of a stream
-abbrev pub front_of : Direction → Option Stream → Option Item
+abbrev pub front_of : Direction → Option Stream → Option QueueItem
 front_of direction None = None
 front_of direction (Some s) = slice_get (side_of direction s).queue 0

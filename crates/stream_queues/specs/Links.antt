@@ -2,39 +2,39 @@
 use Rattle.std.specs.Prelude.{ℕ, not, Bool, true, false}
 use Rattle.stream_queues.specs.declared.direction.Direction.{Direction}
 use Rattle.stream_queues.specs.declared.direction.Direction.TheVariants.{Forth, Back}
-use Rattle.stream_queues.specs.declared.links.End.{End}
-use Rattle.stream_queues.specs.declared.links.Link.{Link}
+use Rattle.stream_queues.specs.declared.links.StreamEnd.{StreamEnd}
+use Rattle.stream_queues.specs.declared.links.StreamLink.{StreamLink}
 
-abbrev pub fresh_end : End
+abbrev pub fresh_end : StreamEnd
 fresh_end = record { taken = false; ending = false }
 
-abbrev pub fresh_link : ℕ → ℕ → Link
+abbrev pub fresh_link : ℕ → ℕ → StreamLink
 fresh_link from to = record { from = from; to = to; ended = false; forth = fresh_end; back = fresh_end }
 
-abbrev pub end_of : Direction → Link → End
+abbrev pub end_of : Direction → StreamLink → StreamEnd
 end_of Forth link = link.forth
 end_of Back link = link.back
 
-abbrev pub with_end : Direction → Link → End → Link
+abbrev pub with_end : Direction → StreamLink → StreamEnd → StreamLink
 with_end Forth link end = record link { forth = end }
 with_end Back link end = record link { back = end }
 
 -- the mark that the stream is cut waits for an end that has taken the one that it opens
-abbrev pub ending_end : End → End
+abbrev pub ending_end : StreamEnd → StreamEnd
 ending_end end = record { taken = end.taken; ending = end.taken }
 
-abbrev pub quiet_end : End → End
+abbrev pub quiet_end : StreamEnd → StreamEnd
 quiet_end end = record { taken = end.taken; ending = false }
 
-abbrev pub cut_link : Link → Link
+abbrev pub cut_link : StreamLink → StreamLink
 cut_link link = record link { ended = true; forth = ending_end link.forth; back = ending_end link.back }
 
-abbrev pub closed_link : Link → Direction → Link
+abbrev pub closed_link : StreamLink → Direction → StreamLink
 closed_link link Forth = record link { ended = true; forth = ending_end link.forth; back = quiet_end link.back }
 closed_link link Back = record link { ended = true; forth = quiet_end link.forth; back = ending_end link.back }
 
 -- the first that waits was taken: the mark that the stream is cut, or the one that it opens
-abbrev pub end_after : Bool → End → End
+abbrev pub end_after : Bool → StreamEnd → StreamEnd
 end_after true end = quiet_end end
 end_after false end = record { taken = true; ending = end.ending }
 

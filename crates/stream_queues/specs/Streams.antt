@@ -10,15 +10,15 @@ use Rattle.stream_queues.specs.declared.direction.Direction.{Direction}
 use Rattle.stream_queues.specs.declared.direction.Direction.TheVariants.{Forth, Back}
 
 -- what waits in one direction of a stream: the mark that it opens, a frame, or the mark that it is cut
-pub data Item : Type 0 where
-  Opening : Item
-  Queued : List ℕ → Item
-  Ending : Item
+pub data QueueItem : Type 0 where
+  Opening : QueueItem
+  Queued : List ℕ → QueueItem
+  Ending : QueueItem
 
 -- one direction: whether its end has taken the mark that the stream opens, and what waits for that end, in order
 pub record Side : Type 0 where
   pub taken : Bool
-  pub queue : List Item
+  pub queue : List QueueItem
 
 -- A stream from one device to another, both told by their places. `forth` runs to the device that accepted it,
 -- `back` to the one that opened it.
@@ -40,13 +40,13 @@ with_side Forth s side = record s { forth = side }
 with_side Back s side = record s { back = side }
 
 -- the device that takes what runs in a direction, and the one that sends it
-abbrev pub taker : Direction → Stream → ℕ
-taker Forth s = s.to
-taker Back s = s.from
+abbrev pub receiver : Direction → Stream → ℕ
+receiver Forth s = s.to
+receiver Back s = s.from
 
-abbrev pub giver : Direction → Stream → ℕ
-giver Forth s = s.from
-giver Back s = s.to
+abbrev pub sender : Direction → Stream → ℕ
+sender Forth s = s.from
+sender Back s = s.to
 
 -- The direction in which a device sends over a stream: none where the stream has ended, or where it is no stream
 -- of the device.
@@ -68,7 +68,7 @@ with_stream change n streams = changed change streams n (slice_get streams n)
 
 -- WHAT A DEVICE SENDS
 
-abbrev pub queued : Item → Side → Side
+abbrev pub queued : QueueItem → Side → Side
 queued item side = record side { queue = side.queue ++ item ∷ [] }
 
 abbrev pub sent_so : List ℕ → Stream → Option Direction → Stream
@@ -111,34 +111,34 @@ abbrev pub closed_by : ℕ → Stream → Stream
 closed_by device s = closed_so s (way_from device s)
 
 -- of what a device tells, the end of a stream alone changes streams
-abbrev pub notice_told : ℕ → List Stream → Notice → List Stream
-notice_told device streams (StreamClosed n) = with_stream (closed_by device) n streams
-notice_told device streams (Opened triad id) = streams
-notice_told device streams (Closed triad) = streams
-notice_told device streams (Expired triad) = streams
-notice_told device streams (Dropped triad) = streams
-notice_told device streams (Replaced triad) = streams
-notice_told device streams (Slot slot state) = streams
-notice_told device streams (Refused slot reason) = streams
-notice_told device streams (NoIds slot) = streams
+abbrev pub notice_applied : ℕ → List Stream → Notice → List Stream
+notice_applied device streams (StreamClosed n) = with_stream (closed_by device) n streams
+notice_applied device streams (Opened triad id) = streams
+notice_applied device streams (Closed triad) = streams
+notice_applied device streams (Expired triad) = streams
+notice_applied device streams (Dropped triad) = streams
+notice_applied device streams (Replaced triad) = streams
+notice_applied device streams (Slot slot state) = streams
+notice_applied device streams (Refused slot reason) = streams
+notice_applied device streams (NoIds slot) = streams
 
-unfoldable pub notices_told : ℕ → List Stream → List Notice → List Stream
-notices_told device streams [] = streams
-notices_told device streams (notice ∷ notices) = notices_told device (notice_told device streams notice) notices
+unfoldable pub notices_applied : ℕ → List Stream → List Notice → List Stream
+notices_applied device streams [] = streams
+notices_applied device streams (notice ∷ notices) = notices_applied device (notice_applied device streams notice) notices
 
 -- the streams after a device's answer: first its frames are sent, then what it tells ends streams
 abbrev pub answered : ℕ → Answer → List Stream → List Stream
-answered device answer streams = notices_told device (frames_sent device streams answer.frames) answer.notices
+answered device answer streams = notices_applied device (frames_sent device streams answer.frames) answer.notices
 
 -- WHAT IS TAKEN
 
-abbrev pub is_opening : Item → Bool
+abbrev pub is_opening : QueueItem → Bool
 is_opening Opening = true
 is_opening (Queued bytes) = false
 is_opening Ending = false
 
 -- the first that waits is taken
-abbrev pub without_first : Side → List Item → Side
+abbrev pub without_first : Side → List QueueItem → Side
 without_first side [] = side
 without_first side (item ∷ rest) = record side { taken = side.taken || is_opening item; queue = rest }
 

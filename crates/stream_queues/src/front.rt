@@ -2,7 +2,7 @@
 
 /// What an end of a stream takes next.
 #[derive(Clone, Copy)]
-pub enum Front<'a> {
+pub enum QueueFront<'a> {
     /// The mark that the stream opens.
     Opening,
     /// The bytes of a frame.

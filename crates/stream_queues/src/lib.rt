@@ -9,6 +9,6 @@ mod streams;
 mod waiting;
 
 pub use direction::Direction;
-pub use front::Front;
-pub use links::Ends;
+pub use front::QueueFront;
+pub use links::Endpoints;
 pub use streams::Streams;

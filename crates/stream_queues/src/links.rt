@@ -9,50 +9,50 @@ use crate::direction::Direction;
 /// What is known of a direction's end: whether it has taken the mark that the stream opens, and whether the mark
 /// that the stream is cut waits for it.
 #[derive(Clone, Copy)]
-pub struct End {
+pub struct StreamEnd {
     pub taken: bool,
     pub ending: bool,
 }
 
 /// A stream between two devices, told by their places.
 #[derive(Clone, Copy)]
-pub struct Link {
+pub struct StreamLink {
     pub from: u32,
     pub to: u32,
     pub ended: bool,
-    pub forth: End,
-    pub back: End,
+    pub forth: StreamEnd,
+    pub back: StreamEnd,
 }
 
-impl End {
+impl StreamEnd {
     /// It is to learn that the stream is cut, if it has taken the mark that the stream opens.
-    pub fn ending(self) -> End
+    pub fn ending(self) -> StreamEnd
         ensures { result ≡ ending_end self }
     {
-        End {
+        StreamEnd {
             taken: self.taken,
             ending: self.taken,
         }
     }
 
     /// It is to learn nothing.
-    pub fn quiet(self) -> End
+    pub fn quiet(self) -> StreamEnd
         ensures { result ≡ quiet_end self }
     {
-        End {
+        StreamEnd {
             taken: self.taken,
             ending: false,
         }
     }
 
     /// It took the mark that waits for it: that the stream is cut, or that it opens.
-    pub fn after(self, ended: bool) -> End
+    pub fn after(self, ended: bool) -> StreamEnd
         ensures { result ≡ end_after ended self }
     {
         if ended {
             self.quiet()
         } else {
-            End {
+            StreamEnd {
                 taken: true,
                 ending: self.ending,
             }
@@ -62,7 +62,7 @@ impl End {
 
 /// The devices at the ends of a stream, told by their places, and whether the stream has ended.
 #[derive(Clone, Copy, PartialEq, Eq)]
-pub struct Ends {
+pub struct Endpoints {
     /// The device that opened the stream.
     pub from: u32,
     /// The device that accepted it.
@@ -70,17 +70,17 @@ pub struct Ends {
     pub ended: bool,
 }
 
-const FRESH: End = End {
+const FRESH: StreamEnd = StreamEnd {
     taken: false,
     ending: false,
 };
 
-impl Link {
+impl StreamLink {
     /// A stream on which nothing waits but the marks that it opens.
-    pub fn new(from: u32, to: u32) -> Link
+    pub fn new(from: u32, to: u32) -> StreamLink
         ensures { result ≡ fresh_link from to }
     {
-        Link {
+        StreamLink {
             from,
             to,
             ended: false,
@@ -106,10 +106,10 @@ impl Link {
     }
 
     /// The stream when it is cut: each end that has taken the mark that it opens is to learn it.
-    pub fn cut(self) -> Link
+    pub fn cut(self) -> StreamLink
         ensures { result ≡ cut_link self }
     {
-        Link {
+        StreamLink {
             ended: true,
             forth: self.forth.ending(),
             back: self.back.ending(),
@@ -119,17 +119,17 @@ impl Link {
 
     /// The stream when it is closed: the end of this direction is to learn it, if it has taken the mark that the
     /// stream opens.
-    pub fn closed(self, direction: Direction) -> Link
+    pub fn closed(self, direction: Direction) -> StreamLink
         ensures { result ≡ closed_link self direction }
     {
         match direction {
-            Direction::Forth => Link {
+            Direction::Forth => StreamLink {
                 ended: true,
                 forth: self.forth.ending(),
                 back: self.back.quiet(),
                 ..self
             },
-            Direction::Back => Link {
+            Direction::Back => StreamLink {
                 ended: true,
                 forth: self.forth.quiet(),
                 back: self.back.ending(),
@@ -139,7 +139,7 @@ impl Link {
     }
 
     /// The end of a direction.
-    pub fn end(&self, direction: Direction) -> End
+    pub fn end(&self, direction: Direction) -> StreamEnd
         ensures { result ≡ end_of direction self.now }
     {
         match direction {
@@ -156,15 +156,15 @@ impl Link {
     }
 
     /// The stream when the mark was taken that waits first in a direction.
-    pub fn after(self, direction: Direction) -> Link
+    pub fn after(self, direction: Direction) -> StreamLink
         ensures { result ≡ with_end direction self (end_after self.ended (end_of direction self)) }
     {
         match direction {
-            Direction::Forth => Link {
+            Direction::Forth => StreamLink {
                 forth: self.forth.after(self.ended),
                 ..self
             },
-            Direction::Back => Link {
+            Direction::Back => StreamLink {
                 back: self.back.after(self.ended),
                 ..self
             },
@@ -173,14 +173,14 @@ impl Link {
 }
 
 /// The link of this number.
-pub fn link_at(links: &[Link], number: u16) -> Option<Link>
+pub fn link_at(links: &[StreamLink], number: u16) -> Option<StreamLink>
     ensures { result ≡ slice_get links.now number }
 {
     links.get(usize::from(number)).copied()
 }
 
 /// Puts another link in the place of the one of this number. Takes no memory.
-pub fn put_link(links: &mut Vec<Link>, number: u16, link: Link)
+pub fn put_link(links: &mut Vec<StreamLink>, number: u16, link: StreamLink)
     requires { number < length links.old.items }
     ensures { links.new.items ≡ set links.old.items number link }
 {

@@ -2,15 +2,15 @@
 
 ghost use Rattle.std.specs.Prelude.{◌≡◌, ◌≤◌, ◌<◌, ◌+◌, ◌∷◌, [], ◌++◌, true, false, length, slice_get, OnOk, OnErr};
 ghost use Rattle.std.specs.Option.{option_map};
-ghost use Rattle.stream_queues.specs.Streams.{fresh_stream, with_stream, sent_over, frame_sent, frames_sent, closed_by, notice_told, notices_told, cut_stream, taken_from};
+ghost use Rattle.stream_queues.specs.Streams.{fresh_stream, with_stream, sent_over, frame_sent, frames_sent, closed_by, notice_applied, notices_applied, cut_stream, taken_from};
 ghost use Rattle.stream_queues.specs.Queues.{AreShort};
-ghost use Rattle.stream_queues.specs.Fronts.{ends_of, is_open, view_front, front_of};
+ghost use Rattle.stream_queues.specs.Fronts.{endpoints_of, is_open, view_front, front_of};
 
 use crate::buffers::{Buffers, MOST_FRAMES};
 use crate::direction::Direction;
-use crate::front::Front;
-use crate::links::{Ends, Link, link_at, put_link};
-use crate::waiting::{Waiting, drop_frames, first};
+use crate::front::QueueFront;
+use crate::links::{Endpoints, StreamLink, link_at, put_link};
+use crate::waiting::{QueuedFrame, drop_frames, first};
 use cip_events::{Frame, Notice, Recipient};
 use cip_types::OutOfMemory;
 use std::alloc::Global;
@@ -20,8 +20,8 @@ use std::marker::Model;
 /// list, with the number of frames for which there is room.
 #[derive(Drop)]
 pub struct Streams {
-    links: Vec<Link>,
-    waiting: Vec<Waiting>,
+    links: Vec<StreamLink>,
+    waiting: Vec<QueuedFrame>,
     buffers: Buffers,
 }
 
@@ -32,7 +32,7 @@ impl Model for Streams {
 
     ghost Value = { Queues };
 
-    ghost view = { λ s. record { streams = streams_in 0 s.waiting.items s.links.items; room = min (vec_capacity s.waiting - vec_len s.waiting) s.buffers } };
+    ghost view = { λ s. record { streams = streams_in 0 s.waiting.items s.links.items; space = min (vec_capacity s.waiting - vec_len s.waiting) s.buffers } };
 
     ghost invariant = { λ s. AreLive s.links.items s.waiting.items };
 }
@@ -58,13 +58,13 @@ impl Streams {
     }
 
     /// The ends of the stream of this number.
-    pub fn ends(&self, number: u16) -> Option<Ends>
-        ensures { result ≡ option_map ends_of (slice_get self.now.streams number) }
+    pub fn endpoints(&self, number: u16) -> Option<Endpoints>
+        ensures { result ≡ option_map endpoints_of (slice_get self.now.streams number) }
     {
         let Some(link) = link_at(&self.links, number) else {
             return None;
         };
-        Some(Ends {
+        Some(Endpoints {
             from: link.from,
             to: link.to,
             ended: link.ended,
@@ -72,9 +72,9 @@ impl Streams {
     }
 
     /// Makes room for the frames of an answer. After want of memory the streams are as they were.
-    pub fn make_room(&mut self) -> Result<(), OutOfMemory>
+    pub fn reserve_answer(&mut self) -> Result<(), OutOfMemory>
         ensures streams { self.new.streams ≡ self.old.streams }
-        ensures room { OnOk result (64 ≤ self.new.room) }
+        ensures space { OnOk result (64 ≤ self.new.space) }
     {
         self.waiting.reserve(MOST_FRAMES)?;
         self.buffers.refill()
@@ -86,16 +86,16 @@ impl Streams {
         ensures opened { OnOk result (self.new.streams ≡ self.old.streams ++ fresh_stream from to ∷ []) }
         ensures kept { OnErr result (self.new.streams ≡ self.old.streams) }
     {
-        self.links.push(Link::new(from, to))?;
+        self.links.push(StreamLink::new(from, to))?;
         Ok(())
     }
 
     /// Queues a frame that a device sends over a stream.
     fn send_over(&mut self, device: u32, number: u16, bytes: &[u8])
-        requires room { 0 < self.old.room }
+        requires space { 0 < self.old.space }
         requires size { length bytes.now ≤ 2048 }
         ensures streams { self.new.streams ≡ with_stream (sent_over device bytes.now) number self.old.streams }
-        ensures room { self.old.room ≤ self.new.room + 1 }
+        ensures space { self.old.space ≤ self.new.space + 1 }
     {
         let Some(link) = link_at(&self.links, number) else {
             return;
@@ -104,7 +104,7 @@ impl Streams {
             return;
         };
         let bytes = self.buffers.filled(bytes);
-        self.waiting.push_reserved(Waiting {
+        self.waiting.push_reserved(QueuedFrame {
             stream: number,
             direction,
             bytes,
@@ -112,10 +112,10 @@ impl Streams {
     }
 
     fn send_frame(&mut self, device: u32, frame: &Frame)
-        requires room { 0 < self.old.room }
+        requires space { 0 < self.old.space }
         requires size { length frame.now.bytes ≤ 2048 }
         ensures streams { self.new.streams ≡ frame_sent device self.old.streams frame.now.bytes frame.now.to }
-        ensures room { self.old.room ≤ self.new.room + 1 }
+        ensures space { self.old.space ≤ self.new.space + 1 }
     {
         match frame.to {
             Recipient::Stream(number) => self.send_over(device, number, frame.bytes.as_slice()),
@@ -126,7 +126,7 @@ impl Streams {
     /// Queues the frames of a device's answer, for which there is room, and which have at most 2,048 bytes each.
     /// Takes no memory.
     pub fn send_frames(&mut self, device: u32, frames: &[Frame])
-        requires room { length frames.now ≤ self.old.room }
+        requires space { length frames.now ≤ self.old.space }
         requires size { AreShort frames.now }
         ensures { self.new.streams ≡ frames_sent device self.old.streams frames.now }
     {
@@ -149,8 +149,8 @@ impl Streams {
         drop_frames(&mut self.waiting, number);
     }
 
-    fn tell_notice(&mut self, device: u32, notice: &Notice)
-        ensures { self.new.streams ≡ notice_told device self.old.streams notice.now }
+    fn apply_notice(&mut self, device: u32, notice: &Notice)
+        ensures { self.new.streams ≡ notice_applied device self.old.streams notice.now }
     {
         if let Notice::StreamClosed(number) = notice {
             self.close_by(device, *number);
@@ -158,11 +158,11 @@ impl Streams {
     }
 
     /// Ends the streams of which a device's answer tells that they end. Takes no memory.
-    pub fn tell_notices(&mut self, device: u32, notices: &[Notice])
-        ensures { self.new.streams ≡ notices_told device self.old.streams notices.now }
+    pub fn apply_notices(&mut self, device: u32, notices: &[Notice])
+        ensures { self.new.streams ≡ notices_applied device self.old.streams notices.now }
     {
         for notice in notices {
-            self.tell_notice(device, notice);
+            self.apply_notice(device, notice);
         }
     }
 
@@ -185,7 +185,7 @@ impl Streams {
     }
 
     /// What waits first in a direction of the stream of this number.
-    pub fn front(&self, number: u16, direction: Direction) -> Option<Front<'_>>
+    pub fn front(&self, number: u16, direction: Direction) -> Option<QueueFront<'_>>
         ensures { option_map view_front result ≡ front_of direction (slice_get self.now.streams number) }
     {
         let Some(link) = link_at(&self.links, number) else {
@@ -194,24 +194,24 @@ impl Streams {
         let end = link.end(direction);
         if link.ended {
             return if end.ending {
-                Some(Front::Ending)
+                Some(QueueFront::Ending)
             } else {
                 None
             };
         }
         if !end.taken {
-            return Some(Front::Opening);
+            return Some(QueueFront::Opening);
         }
         let Some(place) = first(&self.waiting, number, direction) else {
             return None;
         };
-        Some(Front::Frame(self.waiting[place].bytes.as_slice()))
+        Some(QueueFront::Frame(self.waiting[place].bytes.as_slice()))
     }
 
     /// Takes what waits first in a direction, if something waits. Takes no memory.
     pub fn take_front(&mut self, number: u16, direction: Direction)
         ensures streams { self.new.streams ≡ with_stream (taken_from direction) number self.old.streams }
-        ensures room { self.old.room ≤ self.new.room }
+        ensures space { self.old.space ≤ self.new.space }
     {
         let Some(link) = link_at(&self.links, number) else {
             return;

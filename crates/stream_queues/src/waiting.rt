@@ -9,7 +9,7 @@ use cip_types::Items;
 
 /// A frame that waits in a direction of the stream of this number.
 #[derive(Drop)]
-pub struct Waiting {
+pub struct QueuedFrame {
     pub stream: u16,
     pub direction: Direction,
     pub bytes: Items<u8>,
@@ -26,14 +26,14 @@ fn is_same(one: Direction, other: Direction) -> bool
     }
 }
 
-fn is_in(waiting: &Waiting, number: u16, direction: Direction) -> bool
+fn is_in(waiting: &QueuedFrame, number: u16, direction: Direction) -> bool
     ensures { result ≡ is_in number direction waiting.now }
 {
     waiting.stream == number && is_same(waiting.direction, direction)
 }
 
 /// The place of the first frame that waits in a direction.
-pub fn first(waiting: &[Waiting], number: u16, direction: Direction) -> Option<usize>
+pub fn first(waiting: &[QueuedFrame], number: u16, direction: Direction) -> Option<usize>
     ensures { result ≡ position (is_in number direction) waiting.now }
 {
     waiting
@@ -42,7 +42,7 @@ pub fn first(waiting: &[Waiting], number: u16, direction: Direction) -> Option<u
 }
 
 /// Drops the frames that wait on a stream. Takes no memory.
-pub fn drop_frames(waiting: &mut Vec<Waiting>, number: u16)
+pub fn drop_frames(waiting: &mut Vec<QueuedFrame>, number: u16)
     ensures { waiting.new.items ≡ filter (is_elsewhere number) waiting.old.items }
 {
     waiting.retain(|waiting| waiting.stream != number);

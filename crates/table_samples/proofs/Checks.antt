@@ -16,8 +16,8 @@ abbrev asked : Asking → List Outcome
 asked a = said common (opens a ∷ [])
 
 -- what it says where the output has an owner
-abbrev asked_owned : Asking → List Outcome
-asked_owned a = said common (opens owner ∷ opens a ∷ [])
+abbrev requested_owned : Asking → List Outcome
+requested_owned a = said common (opens owner ∷ opens a ∷ [])
 
 abbrev refused : Asking → ℕ → List Outcome
 refused a code = refuses peer a code ∷ []
@@ -54,20 +54,20 @@ a_key_of_another_format : asked strange ≡ refused strange 0x0315
 unfolding computing
 a_key_of_another_format = refl
 
-segments_before_the_triad : asked_owned unread ≡ refused_owned unread 0x0315
+segments_before_the_triad : requested_owned unread ≡ refused_owned unread 0x0315
 unfolding computing
 segments_before_the_triad = refl
 
 -- ---- the triad
 
-the_triad_again : asked_owned owner ≡ refused_owned owner 0x0100
+the_triad_again : requested_owned owner ≡ refused_owned owner 0x0100
 unfolding computing
 the_triad_again = refl
 
 abbrev another_vendor : Asking
 another_vendor = keyed (hex "02 00 00 00 00 00 00 00") owner
 
-the_triad_before_the_key : asked_owned another_vendor ≡ refused_owned another_vendor 0x0100
+the_triad_before_the_key : requested_owned another_vendor ≡ refused_owned another_vendor 0x0100
 unfolding computing
 the_triad_before_the_key = refl
 
@@ -75,7 +75,7 @@ the_triad_before_the_key = refl
 abbrev second_originator : Asking
 second_originator = record (consumer 1) { originator = 0x12345679 }
 
-a_triad_has_three_parts : asked_owned second_originator ≡ accepts peer owner 1 0x20000001 ∷ accepts peer second_originator 2 0x20000002 ∷ []
+a_triad_has_three_parts : requested_owned second_originator ≡ accepts peer owner 1 0x20000001 ∷ accepts peer second_originator 2 0x20000002 ∷ []
 unfolding computing
 a_triad_has_three_parts = refl
 
@@ -307,9 +307,9 @@ every o_t_rpi t_o_rpi = record owner { o_t_rpi = o_t_rpi; t_o_rpi = t_o_rpi }
 
 -- the intervals are asked for, and these are given
 abbrev paced : ℕ → ℕ → ℕ → ℕ → Type 0
-paced o_t_rpi t_o_rpi o_t_api t_o_api =
+paced o_t_rpi t_o_rpi o_t_api_us t_o_api_us =
     asked (every o_t_rpi t_o_rpi)
-    ≡ replies peer (opened_reply owner (id 1) 0x20000001 o_t_api t_o_api) (opened_notice owner 1 ∷ []) ∷ []
+    ≡ replies peer (opened_reply owner (id 1) 0x20000001 o_t_api_us t_o_api_us) (opened_notice owner 1 ∷ []) ∷ []
 
 the_longest_intervals : paced 10000000 10000000 10000000 10000000
 unfolding computing
@@ -450,8 +450,8 @@ abbrev reading : List ℕ → Asking
 reading segment = followed segment (consumer 2)
 
 -- what is said to a request beside the owner that has configured the device
-abbrev asked_configured : Asking → List Outcome
-asked_configured a = said configured (opens configuring ∷ opens a ∷ Read 151 ∷ [])
+abbrev requested_configured : Asking → List Outcome
+requested_configured a = said configured (opens configuring ∷ opens a ∷ Read 151 ∷ [])
 
 abbrev refused_configured : Asking → ℕ → List Outcome
 refused_configured a code = accepts peer owner 1 0x20000001 ∷ refuses peer a code ∷ holds (hex "AA BB") ∷ []
@@ -459,34 +459,34 @@ refused_configured a code = accepts peer owner 1 0x20000001 ∷ refuses peer a c
 abbrev accepted_configured : Asking → List Outcome
 accepted_configured a = accepts peer owner 1 0x20000001 ∷ accepts peer a 2 0x20000002 ∷ holds (hex "AA BB") ∷ []
 
-no_data_leave_the_configuration : asked_configured (reading []) ≡ accepted_configured (reading [])
+no_data_leave_the_configuration : requested_configured (reading []) ≡ accepted_configured (reading [])
 unfolding computing
 no_data_leave_the_configuration = refl
 
-equal_data : asked_configured (reading (hex "80 01 AA BB")) ≡ accepted_configured (reading [])
+equal_data : requested_configured (reading (hex "80 01 AA BB")) ≡ accepted_configured (reading [])
 unfolding computing
 equal_data = refl
 
-other_data : asked_configured (reading (hex "80 01 AA CC")) ≡ refused_configured (reading []) 0x0106
+other_data : requested_configured (reading (hex "80 01 AA CC")) ≡ refused_configured (reading []) 0x0106
 unfolding computing
 other_data = refl
 
-longer_data : asked_configured (reading (hex "80 02 AA BB 00 00")) ≡ refused_configured (reading []) 0x0126
+longer_data : requested_configured (reading (hex "80 02 AA BB 00 00")) ≡ refused_configured (reading []) 0x0126
 unfolding computing
 longer_data = refl
 
-empty_data_are_not_absent : asked_configured (reading (hex "80 00")) ≡ refused_configured (reading []) 0x0126
+empty_data_are_not_absent : requested_configured (reading (hex "80 00")) ≡ refused_configured (reading []) 0x0126
 unfolding computing
 empty_data_are_not_absent = refl
 
-the_data_s_length_before_its_bytes : asked_configured (reading (hex "80 02 AA CC 00 00")) ≡ refused_configured (reading []) 0x0126
+the_data_s_length_before_its_bytes : requested_configured (reading (hex "80 02 AA CC 00 00")) ≡ refused_configured (reading []) 0x0126
 unfolding computing
 the_data_s_length_before_its_bytes = refl
 
 abbrev changing : Asking
 changing = record (reading (hex "80 01 AA CC")) { o_t_params = 0x4803 }
 
-the_data_s_bytes_before_the_sizes : asked_configured changing ≡ refused_configured changing 0x0106
+the_data_s_bytes_before_the_sizes : requested_configured changing ≡ refused_configured changing 0x0106
 unfolding computing
 the_data_s_bytes_before_the_sizes = refl
 
@@ -497,7 +497,7 @@ data_without_a_configuration = refl
 abbrev unnamed : Asking
 unnamed = record (consumer 2) { path = hex "20 04 2C 98 2C 64 80 00" }
 
-empty_data_without_a_configuration : asked_configured unnamed ≡ accepted_configured unnamed
+empty_data_without_a_configuration : requested_configured unnamed ≡ accepted_configured unnamed
 unfolding computing
 empty_data_without_a_configuration = refl
 
@@ -537,14 +537,14 @@ the_consumed_size_before_the_produced_one = refl
 abbrev second : Asking
 second = record owner { serial = 2; t_o_id = 0x20000002 }
 
-another_owner : asked_owned second ≡ refused_owned second 0x0106
+another_owner : requested_owned second ≡ refused_owned second 0x0106
 unfolding computing
 another_owner = refl
 
 abbrev second_oversized : Asking
 second_oversized = record second { t_o_params = 0x4807 }
 
-the_sizes_before_ownership : asked_owned second_oversized ≡ refused_owned second 0x0128
+the_sizes_before_ownership : requested_owned second_oversized ≡ refused_owned second 0x0128
 unfolding computing
 the_sizes_before_ownership = refl
 
@@ -577,7 +577,7 @@ a_listener_without_support : asked listener ≡ refused listener 0x0119
 unfolding computing
 a_listener_without_support = refl
 
-a_point_to_point_connection_supports_none : asked_owned listener ≡ refused_owned listener 0x0119
+a_point_to_point_connection_supports_none : requested_owned listener ≡ refused_owned listener 0x0119
 unfolding computing
 a_point_to_point_connection_supports_none = refl
 

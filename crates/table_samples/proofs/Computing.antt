@@ -9,7 +9,7 @@ use Rattle.cip_fwdopen.specs.Open as opens
 use Rattle.cip_fwdopen.specs.Reply as replies
 use Rattle.cip_fwdopen.specs.Request as requests
 use Rattle.cip_netparams.specs.Word as words
-use Rattle.cip_router.specs.Asking.{asked_reading}
+use Rattle.cip_router.specs.Requests.{router_request_reading}
 use Rattle.adapter_table.specs.Checks.{verdict}
 use Rattle.adapter_table.specs.Closing.{closed_table}
 use Rattle.adapter_table.specs.Datagrams.{accepted_table, received}
@@ -25,5 +25,5 @@ use Rattle.adapter_table.specs.Ticks.{clocked_table, expired_table, produced_tab
 
 -- `unfolding computing` lets `refl` compute a step on events that are written out
 unfoldable pub computing : Unit {0}
-unfolding datagrams.datagram_reading messages.message_reading packets.packet_reading packets.are_sockets packets.behind_socket paths.path_reading paths.target_reading paths.segments_at paths.segment_at paths.logical_at paths.value_at paths.key_at paths.key_fields_at paths.data_at closes.close_reading closes.closed_text values.got_text opens.open_reading replies.opened_text replies.refused_text requests.request_reading words.params16 words.params32 asked_reading verdict closed_table accepted_table received frame_reading handled frame opened_row opened_table profile_fault admitted_open served_open served_close served_assembly requested read written_table changed_table write step with_stream without_stream registered_table stream_opened stream_cut clocked_table expired_table produced_table tick
+unfolding datagrams.datagram_reading messages.message_reading packets.packet_reading packets.are_sockets packets.behind_socket paths.path_reading paths.target_reading paths.segments_at paths.segment_at paths.logical_at paths.value_at paths.key_at paths.key_fields_at paths.data_at closes.close_reading closes.closed_text values.got_text opens.open_reading replies.opened_text replies.refused_text requests.request_reading words.params16 words.params32 router_request_reading verdict closed_table accepted_table received frame_reading handled frame opened_row opened_table profile_fault admitted_open served_open served_close served_assembly requested read written_table changed_table write step with_stream without_stream registered_table stream_opened stream_cut clocked_table expired_table produced_table tick
 computing = tt

@@ -11,7 +11,7 @@ use Rattle.cip_tables.specs.Run.{outcomes_of}
 use Rattle.table_samples.specs.Hex.{hex}
 use Rattle.table_samples.specs.Devices.{common, double, input, peer, other, group, triad, own}
 use Rattle.table_samples.specs.Requests.{Asking, opening, owner, gatherer, listener, consumer, inhibited}
-use Rattle.table_samples.specs.Datagrams.{datagram, sending}
+use Rattle.table_samples.specs.Datagrams.{datagram, outgoing}
 use Rattle.table_samples.specs.Runs.{said, after, opens, closes, replies, accepts, refuses, ends, emits}
 use Rattle.table_samples.proofs.Computing.{computing}
 
@@ -103,12 +103,12 @@ joiner_every rpi = record gatherer { serial = 8; t_o_rpi = rpi }
 joiners_share_the_producer :
     said common (opens gatherer ∷ joins joiner ∷ Tick 1 ∷ closes peer gatherer ∷ Tick 9 ∷ joins (joiner_every 20000) ∷ opens (joiner_every 9500) ∷ Tick 10 ∷ [])
     ≡ gathered ∷ joined
-    ∷ emits (sending group pair (hex "02 00 02 80 08 00 02 00 00 10 01 00 00 00 B1 00 06 00 01 00 00 00 00 00") ∷ []) []
+    ∷ emits (outgoing group pair (hex "02 00 02 80 08 00 02 00 00 10 01 00 00 00 B1 00 06 00 01 00 00 00 00 00") ∷ []) []
     ∷ ends peer gatherer []
-    ∷ emits (sending group (other ∷ []) (datagram 0x10000002 2 1 (hex "00 00 00 00")) ∷ []) []
+    ∷ emits (outgoing group (other ∷ []) (datagram 0x10000002 2 1 (hex "00 00 00 00")) ∷ []) []
     ∷ refuses other (joiner_every 20000) 0x0111
     ∷ accepts peer (joiner_every 9500) 4 0x10000002
-    ∷ emits (sending group (other ∷ peer ∷ []) (datagram 0x10000002 3 1 (hex "00 00 00 00")) ∷ []) []
+    ∷ emits (outgoing group (other ∷ peer ∷ []) (datagram 0x10000002 3 1 (hex "00 00 00 00")) ∷ []) []
     ∷ []
 unfolding computing
 joiners_share_the_producer = refl
@@ -117,7 +117,7 @@ joiners_share_the_producer = refl
 one_node_twice :
     said common (opens gatherer ∷ opens joiner ∷ joins (record joiner { serial = 8 }) ∷ Tick 1 ∷ [])
     ≡ gathered ∷ accepts peer joiner 3 0x10000002 ∷ accepts other (record joiner { serial = 8 }) 4 0x10000002
-    ∷ emits (sending group pair (datagram 0x10000002 1 1 (hex "00 00 00 00")) ∷ []) [] ∷ []
+    ∷ emits (outgoing group pair (datagram 0x10000002 1 1 (hex "00 00 00 00")) ∷ []) [] ∷ []
 unfolding computing
 one_node_twice = refl
 
@@ -183,8 +183,8 @@ second_gatherer = record gatherer { serial = 9; t_o_params = 0x2804; path = hex 
 each_input_has_its_group :
     said double (opens gatherer ∷ joins second_gatherer ∷ Tick 1 ∷ [])
     ≡ gathered ∷ accepts other second_gatherer 3 0x10000004
-    ∷ emits (sending group (peer ∷ []) (datagram 0x10000002 1 1 (hex "00 00 00 00"))
-    ∷ sending (record { 0 = 0xEFC00221 }) (other ∷ []) (datagram 0x10000004 1 1 (hex "00 00")) ∷ []) []
+    ∷ emits (outgoing group (peer ∷ []) (datagram 0x10000002 1 1 (hex "00 00 00 00"))
+    ∷ outgoing (record { 0 = 0xEFC00221 }) (other ∷ []) (datagram 0x10000004 1 1 (hex "00 00")) ∷ []) []
     ∷ []
 unfolding computing
 each_input_has_its_group = refl
@@ -201,6 +201,6 @@ no_support_by_another_input = refl
 -- the next connection begins a group of its own, with an id of its own
 a_lost_connection_is_not_joined :
     outcomes_of (after common (opens gatherer ∷ Tick 10000 ∷ [])) (joins joiner ∷ Tick 1 ∷ [])
-    ≡ accepts other joiner 3 0x10000004 ∷ emits (sending group (other ∷ []) (datagram 0x10000004 1 1 (hex "00 00 00 00")) ∷ []) [] ∷ []
+    ≡ accepts other joiner 3 0x10000004 ∷ emits (outgoing group (other ∷ []) (datagram 0x10000004 1 1 (hex "00 00 00 00")) ∷ []) [] ∷ []
 unfolding computing
 a_lost_connection_is_not_joined = refl

@@ -3,7 +3,7 @@ use Rattle.std.proofs.Common.{◌≡◌, refl, ℕ, false, List, [], ◌∷◌, 
 use Rattle.cip_netparams.specs.declared.Trigger.TheVariants.{ChangeOfState}
 use Rattle.cip_events.specs.declared.event.Event.{Event}
 use Rattle.cip_events.specs.declared.event.Event.TheVariants.{Request, Read, Tick, Write}
-use Rattle.cip_events.specs.declared.event.Sending.{Sending}
+use Rattle.cip_events.specs.declared.event.OutgoingDatagram.{OutgoingDatagram}
 use Rattle.cip_events.specs.declared.event.StepFault.TheVariants.{NoSuchPoint, WrongLength}
 use Rattle.cip_productions.specs.declared.production.Production.{Production}
 use Rattle.adapter_table.specs.declared.row.State.TheVariants.{Established}
@@ -12,7 +12,7 @@ use Rattle.cip_tables.specs.Run.{outcomes_of, table_after}
 use Rattle.table_samples.specs.Hex.{hex}
 use Rattle.table_samples.specs.Devices.{common, double, peer, other, group}
 use Rattle.table_samples.specs.Requests.{opening, owner, gatherer, consumer, inhibited}
-use Rattle.table_samples.specs.Datagrams.{datagram, sending, to_one}
+use Rattle.table_samples.specs.Datagrams.{datagram, outgoing, to_one}
 use Rattle.table_samples.specs.Runs.{after, opens, closes, emits, holds}
 use Rattle.table_samples.specs.Rows.{connection_in, production, producing, connected_at}
 use Rattle.table_samples.proofs.Computing.{computing}
@@ -27,7 +27,7 @@ abbrev second : List ℕ
 second = hex "09 0A 0B 0C"
 
 -- the owner's producer sends a datagram with this number, this count and these data
-abbrev sends : ℕ → ℕ → List ℕ → Sending
+abbrev sends : ℕ → ℕ → List ℕ → OutgoingDatagram
 sends number count bytes = to_one peer (datagram 0x20000001 number count bytes)
 
 abbrev one : ℕ → ℕ → List ℕ → Outcome
@@ -116,7 +116,7 @@ the_greatest_count_stays_without_new_data = refl
 
 -- ---- two producers at once
 
-abbrev to_second : ℕ → ℕ → List ℕ → Sending
+abbrev to_second : ℕ → ℕ → List ℕ → OutgoingDatagram
 to_second number count bytes = to_one other (datagram 0x20000002 number count bytes)
 
 -- the other originator's, every 5 ms
@@ -135,7 +135,7 @@ joiner = Request other (opening (record gatherer { serial = 7 }))
 
 and_then_by_the_producer_s_number :
     outcomes_of (after common (opens gatherer ∷ opens owner ∷ joiner ∷ closes peer gatherer ∷ [])) (Tick 1 ∷ [])
-    ≡ emits (sending group (other ∷ []) (datagram 0x10000002 1 1 zeros) ∷ sends 1 1 zeros ∷ []) [] ∷ []
+    ≡ emits (outgoing group (other ∷ []) (datagram 0x10000002 1 1 zeros) ∷ sends 1 1 zeros ∷ []) [] ∷ []
 unfolding computing
 and_then_by_the_producer_s_number = refl
 
@@ -210,7 +210,7 @@ shared_changing = opens (inhibited 0 gatherer) ∷ opens (inhibited 0 owner) ∷
 
 and_not_in_opening_order :
     outcomes_of (after common shared_changing) (Write 100 first ∷ [])
-    ≡ emits (sending group (other ∷ []) (datagram 0x10000002 1 1 first) ∷ sends 1 1 first ∷ []) [] ∷ []
+    ≡ emits (outgoing group (other ∷ []) (datagram 0x10000002 1 1 first) ∷ sends 1 1 first ∷ []) [] ∷ []
 unfolding computing
 and_not_in_opening_order = refl
 

@@ -12,7 +12,7 @@ use Rattle.cip_tables.specs.Run.{outcomes_of}
 use Rattle.table_samples.specs.Hex.{hex}
 use Rattle.table_samples.specs.Devices.{common, peer, other, group, own, triad}
 use Rattle.table_samples.specs.Requests.{Asking, opening, owner, gatherer, listener, consumer}
-use Rattle.table_samples.specs.Datagrams.{datagram, running, sending, to_one}
+use Rattle.table_samples.specs.Datagrams.{datagram, running, outgoing, to_one}
 use Rattle.table_samples.specs.Runs.{after, opens, closes, delivers, emits, holds, notices_of}
 use Rattle.table_samples.specs.Rows.{at_clock}
 use Rattle.table_samples.proofs.Computing.{computing}
@@ -130,7 +130,7 @@ joins = Request other (opening (record gatherer { serial = 7; multiplier = 7; o_
 
 the_group_goes_on :
     outcomes_of (after common (opens gatherer ∷ joins ∷ Tick 9990 ∷ [])) (Tick 10 ∷ [])
-    ≡ emits (sending group (other ∷ []) (datagram 0x10000002 2 1 (hex "00 00 00 00")) ∷ []) (Expired (own 5) ∷ []) ∷ []
+    ≡ emits (outgoing group (other ∷ []) (datagram 0x10000002 2 1 (hex "00 00 00 00")) ∷ []) (Expired (own 5) ∷ []) ∷ []
 unfolding computing
 the_group_goes_on = refl
 

@@ -1,7 +1,7 @@
 -- Class 1 datagrams, byte for byte (Volume 2, chapter 2, sequenced address item and connected data item).
 use Rattle.std.specs.Prelude.{ℕ, ◌+◌, List, [], ◌∷◌, ◌++◌, length}
 use Rattle.cip_types.specs.declared.names.Node.{Node}
-use Rattle.cip_events.specs.declared.event.Sending.{Sending}
+use Rattle.cip_events.specs.declared.event.OutgoingDatagram.{OutgoingDatagram}
 use Rattle.table_samples.specs.Hex.{hex, little}
 
 -- a datagram by its connection id, sequence number, sequence count and data
@@ -18,9 +18,9 @@ abbrev pub idling : List ℕ → List ℕ
 idling bytes = hex "00 00 00 00" ++ bytes
 
 -- a datagram that goes out
-abbrev pub sending : Node → List Node → List ℕ → Sending
-sending address nodes bytes = record { address = address; nodes = nodes; bytes = bytes }
+abbrev pub outgoing : Node → List Node → List ℕ → OutgoingDatagram
+outgoing address nodes bytes = record { address = address; nodes = nodes; bytes = bytes }
 
 -- a datagram for one consumer
-abbrev pub to_one : Node → List ℕ → Sending
-to_one node bytes = sending node (node ∷ []) bytes
+abbrev pub to_one : Node → List ℕ → OutgoingDatagram
+to_one node bytes = outgoing node (node ∷ []) bytes

@@ -90,9 +90,9 @@ closing serial originator =
 
 -- the success of a Forward_Open: both ids, and both actual packet intervals in microseconds
 abbrev pub opened_reply : Asking → ℕ → ℕ → ℕ → ℕ → List ℕ
-opened_reply a o_t_id t_o_id o_t_api t_o_api =
+opened_reply a o_t_id t_o_id o_t_api_us t_o_api_us =
     hex "D4 00 00 00" ++ little 4 o_t_id ++ little 4 t_o_id ++ little 2 a.serial ++ hex "34 12" ++ little 4 a.originator
-    ++ little 4 o_t_api ++ little 4 t_o_api ++ hex "00 00"
+    ++ little 4 o_t_api_us ++ little 4 t_o_api_us ++ hex "00 00"
 
 -- the refusal of a Forward_Open with an additional status
 abbrev pub refused_reply : Asking → ℕ → List ℕ

@@ -35,8 +35,8 @@ connection_in opening state = record {
   produced = 100;
   o_t_id = record { 0 = id opening };
   t_o_id = record { 0 = 0x20000002 };
-  o_t_api = 10;
-  t_o_api = 10;
+  o_t_api_ms = 10;
+  t_o_api_ms = 10;
   multiplier = 2;
   multicast = false;
   opening = opening;

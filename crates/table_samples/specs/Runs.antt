@@ -7,7 +7,7 @@ use Rattle.cip_events.specs.declared.event.Event.TheVariants.{Request}
 use Rattle.cip_events.specs.declared.event.Notice.{Notice}
 use Rattle.cip_events.specs.declared.event.Notice.TheVariants.{Opened, Closed}
 use Rattle.cip_events.specs.declared.event.Recipient.TheVariants.{Peer}
-use Rattle.cip_events.specs.declared.event.Sending.{Sending}
+use Rattle.cip_events.specs.declared.event.OutgoingDatagram.{OutgoingDatagram}
 use Rattle.cip_events.specs.declared.event.Verdict.{Verdict}
 use Rattle.cip_events.specs.declared.event.Verdict.TheVariants.{Done, Value, Delivered}
 use Rattle.adapter_table.specs.declared.profile.Profile.{Profile}
@@ -50,7 +50,7 @@ abbrev pub holds : List ℕ → Outcome
 holds bytes = says (Value bytes)
 
 -- datagrams go out, and these things happen to connections
-abbrev pub emits : List Sending → List Notice → Outcome
+abbrev pub emits : List OutgoingDatagram → List Notice → Outcome
 emits datagrams notices = Ok (record { frames = []; datagrams = datagrams; verdict = Done; notices = notices })
 
 -- a reply to a node, and these things happen to connections

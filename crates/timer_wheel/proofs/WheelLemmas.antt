@@ -6,11 +6,11 @@ use Rattle.std.specs.FinMap.{get, contains_key, len, insert, empty}
 use Rattle.futures.specs.LinkedLists.{LinkedLists, list_of, Moves, IsEmpty}
 use Rattle.timer_wheel.specs.declared.Token.{Token}
 use Rattle.timer_wheel.specs.Marks.{AllFree}
-use Rattle.timer_wheel.specs.declared.place.Timer.{Timer}
+use Rattle.timer_wheel.specs.declared.timer.Timer.{Timer}
 use Rattle.timer_wheel.specs.Timers.{Timers}
 use Rattle.timer_wheel.specs.Layout.{timer_at, armed_of, IsUnique, Agree, IsPlaced, IsLaidOut, IsSound, HasToken, Mirrors, Clears}
 use Rattle.timer_wheel.specs.Laws.MapLemmas.{get-armed_of, armed_of-put, IsUnique-put, get-armed_of_none, IsUnique-clear, len-armed_of, timer_count-bound, timer_count-free, timer_count-clear, free_key, timer_within}
-use Rattle.timer_wheel.specs.Laws.PlaceLemmas.{slot_of-bound}
+use Rattle.timer_wheel.specs.Laws.LevelLemmas.{slot_of-bound}
 use Rattle.timer_wheel.specs.Laws.SweepLemmas.{key_within, IsLaidOut-move, Clears-one}
 
 pub same_timers : (a b : Timers) → a.time ≡ b.time → a.capacity ≡ b.capacity → a.armed ≡ b.armed → a ≡ b

@@ -3,5 +3,5 @@ use Rattle.std.specs.Prelude.{ℕ, ◌*◌, ◌/◌, ◌%◌, ◌^◌}
 use Rattle.timer_wheel.specs.declared.search.TheConstants.{SPREAD}
 
 -- the place of a token's guess: the upper bits of a multiple of its number
-abbrev pub place_of : ℕ → ℕ → ℕ
-place_of shift token = token * SPREAD % 2 ^ 64 / 2 ^ (shift % 64)
+abbrev pub hint_index : ℕ → ℕ → ℕ
+hint_index shift token = token * SPREAD % 2 ^ 64 / 2 ^ (shift % 64)

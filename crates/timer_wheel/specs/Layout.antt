@@ -3,10 +3,10 @@
 use Rattle.std.specs.Prelude.{◌≡◌, ◌≢◌, ◌⊎◌, ℕ, ◌+◌, ◌^◌, ◌<◌, ◌≤◌, List, [], ◌∷◌, length, Option, Some, None, IsSomeAnd, is_some, count_by, slice_index_or, Contains, AllPairs}
 use Rattle.std.specs.FinMap as map
 use Rattle.futures.specs.LinkedLists.{LinkedLists, list_of, key_limit}
-use Rattle.timer_wheel.specs.declared.place.Timer.{Timer}
+use Rattle.timer_wheel.specs.declared.timer.Timer.{Timer}
 use Rattle.timer_wheel.specs.declared.Token.{Token}
 use Rattle.timer_wheel.specs.Timers.{Deadlines}
-use Rattle.timer_wheel.specs.Place.{slot_of}
+use Rattle.timer_wheel.specs.Levels.{slot_of}
 
 -- the timer of a key
 abbrev pub timer_at : List (Option Timer) → ℕ → Option Timer

@@ -1,5 +1,5 @@
 pub mod Timers
-pub mod Place
+pub mod Levels
 pub mod Marks
 pub mod Hints
 pub mod Layout

@@ -5,18 +5,18 @@ ghost use Rattle.std.specs.Prelude.{◌≡◌, ◌+◌, ◌^◌, ◌<◌, ◌≤
 ghost use Rattle.std.specs.FinMap as map;
 ghost use Rattle.timer_wheel.specs.Timers.{Fires, later_than};
 
-mod place;
 mod search;
 mod slots;
 mod sweep;
+mod timer;
 
 use cip_types::OutOfMemory;
-use place::{FREE, Timer, slot_of};
 use search::{Hints, key_of};
 use slots::Slots;
 use std::alloc::Global;
 use std::marker::Model;
 use sweep::{Step, sweep};
+use timer::{FREE, Timer, slot_of};
 
 /// What names a timer of a wheel.
 #[derive(Clone, Copy, PartialEq, Eq, PartialOrd, Ord)]

@@ -5,7 +5,7 @@ ghost use Rattle.timer_wheel.specs.Hints as spec;
 ghost use Rattle.timer_wheel.specs.Layout.{HasToken, Mirrors};
 
 use crate::Token;
-use crate::place::Timer;
+use crate::timer::Timer;
 use cip_types::OutOfMemory;
 use std::alloc::Global;
 
@@ -36,19 +36,19 @@ impl Hints {
     }
 
     // The place of the guess for a token.
-    fn place_of(&self, token: Token) -> usize
-        ensures { result ≡ spec.place_of self.now.shift token.0 }
+    fn hint_index(&self, token: Token) -> usize
+        ensures { result ≡ spec.hint_index self.now.shift token.0 }
     {
         token.0.wrapping_mul(SPREAD).wrapping_shr(self.shift) as usize
     }
 
     /// Notes where a token is armed.
     pub fn note(&mut self, token: Token, key: usize)
-        ensures noted { let place = spec.place_of self.old.shift token.0 in
+        ensures noted { let place = spec.hint_index self.old.shift token.0 in
             self.new.keys.items ≡ slice_set self.old.keys.items place key }
         ensures shift { self.new.shift ≡ self.old.shift }
     {
-        let place = self.place_of(token);
+        let place = self.hint_index(token);
         if let Some(hint) = self.keys.get_mut(place) {
             *hint = key;
         }
@@ -56,9 +56,9 @@ impl Hints {
 
     /// Where the token may be armed.
     pub fn guess(&self, token: Token) -> Option<usize>
-        ensures { result ≡ slice_get self.now.keys.items (spec.place_of self.now.shift token.0) }
+        ensures { result ≡ slice_get self.now.keys.items (spec.hint_index self.now.shift token.0) }
     {
-        self.keys.get(self.place_of(token)).copied()
+        self.keys.get(self.hint_index(token)).copied()
     }
 }
 

@@ -4,7 +4,7 @@ ghost use Rattle.std.specs.Prelude.{◌≡◌, ◌≢◌, ℕ, ◌+◌, ◌<◌,
 ghost use Rattle.futures.specs.LinkedLists.{items, list_of, list_count, key_limit, IsEmpty, Moves};
 ghost use Rattle.timer_wheel.specs.Marks.{AllEmpty, AllFree};
 
-use crate::place::FREE;
+use crate::timer::FREE;
 use cip_types::OutOfMemory;
 use futures::util::linked_list::LinkedLists;
 use std::alloc::Global;

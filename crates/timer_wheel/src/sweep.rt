@@ -3,8 +3,8 @@
 ghost use Rattle.std.specs.Prelude.{◌≡◌, ◌+◌, ◌<◌, ◌≤◌, vec_len, vec_capacity};
 ghost use Rattle.timer_wheel.specs.Layout.{IsLaidOut, IsPlaced, IsAt, MovesDown, TakesDue, Clears, timer_count};
 
-use crate::place::{FREE, Timer, slot_of};
 use crate::slots::Slots;
+use crate::timer::{FREE, Timer, slot_of};
 
 /// A step of time.
 #[derive(Clone, Copy)]

@@ -11,12 +11,12 @@ use Rattle.trace_words.specs.Reader.{Reader, gives}
 use Rattle.trace_outcomes.specs.declared.part.Part.{Part}
 use Rattle.trace_outcomes.specs.Parts.{part_reader}
 use Rattle.trace_outcomes.specs.Recorded.{recorded_with}
-use Rattle.trace_text.specs.declared.draft.Draft.{Draft}
-use Rattle.trace_text.specs.declared.draft.Draft.TheVariants.{Events}
-use Rattle.trace_text.specs.declared.forms.Line.{Line}
-use Rattle.trace_text.specs.declared.forms.Line.TheVariants as line
+use Rattle.trace_text.specs.declared.builder.TraceBuilder.{TraceBuilder}
+use Rattle.trace_text.specs.declared.builder.TraceBuilder.TheVariants.{Events}
+use Rattle.trace_text.specs.declared.forms.TraceLine.{TraceLine}
+use Rattle.trace_text.specs.declared.forms.TraceLine.TheVariants as line
 use Rattle.trace_text.specs.Forms.{line_reader, line_meanings, numbered, mode_of}
-use Rattle.trace_text.specs.Reading.{Entry, draft_with}
+use Rattle.trace_text.specs.Reading.{Entry, builder_with}
 use Rattle.trace_text.specs.Written.{event_words, mode_word}
 use Rattle.trace_laws.specs.TraceBack.{EventFits}
 use Rattle.trace_laws.proofs.WordLaws.{node_back, bytes_back}
@@ -34,28 +34,28 @@ mode_clean : (run : Bool) → is_clean (mode_word run) ≡ true
 mode_clean true = refl
 mode_clean false = refl
 
-event_reads : (draft draft' : Draft) (told : Event) → EventFits told → draft_with draft (line.Event told) ≡ Some draft' → Reads draft (line_text (event_words told)) draft'
-event_reads draft draft' (event.Request peer bytes) fits drafted = line_reads draft draft' (codes "request") (node_word peer ∷ bytes_word bytes ∷ []) (line.Event (event.Request peer bytes)) refl refl (rw (node_clean peer, bytes_clean bytes fits.1) refl) (rw (node_back peer fits.0, bytes_back bytes fits.1) refl) drafted
-event_reads draft draft' (event.StreamOpened stream peer) fits drafted = line_reads draft draft' (codes "stream") (decimal stream ∷ node_word peer ∷ []) (line.Event (event.StreamOpened stream peer)) refl refl (rw (c16 stream fits.0, node_clean peer) refl) (rw (n16 stream fits.0, node_back peer fits.1) refl) drafted
-event_reads draft draft' (event.Frame stream bytes) fits drafted = line_reads draft draft' (codes "frame") (decimal stream ∷ bytes_word bytes ∷ []) (line.Event (event.Frame stream bytes)) refl refl (rw (c16 stream fits.0, bytes_clean bytes fits.1) refl) (rw (n16 stream fits.0, bytes_back bytes fits.1) refl) drafted
-event_reads draft draft' (event.StreamCut stream) fits drafted = line_reads draft draft' (codes "cut") (decimal stream ∷ []) (line.Event (event.StreamCut stream)) refl refl (rw (c16 stream fits) refl) (rw (n16 stream fits) refl) drafted
-event_reads draft draft' (event.Datagram peer bytes) fits drafted = line_reads draft draft' (codes "datagram") (node_word peer ∷ bytes_word bytes ∷ []) (line.Event (event.Datagram peer bytes)) refl refl (rw (node_clean peer, bytes_clean bytes fits.1) refl) (rw (node_back peer fits.0, bytes_back bytes fits.1) refl) drafted
-event_reads draft draft' (event.Write point bytes) fits drafted = line_reads draft draft' (codes "write") (decimal point ∷ bytes_word bytes ∷ []) (line.Event (event.Write point bytes)) refl refl (rw (c32 point fits.0, bytes_clean bytes fits.1) refl) (rw (n32 point fits.0, bytes_back bytes fits.1) refl) drafted
-event_reads draft draft' (event.Read point) fits drafted = line_reads draft draft' (codes "read") (decimal point ∷ []) (line.Event (event.Read point)) refl refl (rw (c32 point fits) refl) (rw (n32 point fits) refl) drafted
-event_reads draft draft' (event.Tick ms) fits drafted = line_reads draft draft' (codes "tick") (decimal ms ∷ []) (line.Event (event.Tick ms)) refl refl (rw (c32 ms fits) refl) (rw (n32 ms fits) refl) drafted
-event_reads draft draft' (event.Mode run) fits drafted = line_reads draft draft' (codes "mode") (mode_word run ∷ []) (line.Event (event.Mode run)) refl refl (rw (mode_clean run) refl) (rw (mode_back run) refl) drafted
-event_reads draft draft' (event.Start slot) fits drafted = line_reads draft draft' (codes "start") (decimal slot ∷ []) (line.Event (event.Start slot)) refl refl (rw (c32 slot fits) refl) (rw (n32 slot fits) refl) drafted
-event_reads draft draft' (event.Stop slot) fits drafted = line_reads draft draft' (codes "stop") (decimal slot ∷ []) (line.Event (event.Stop slot)) refl refl (rw (c32 slot fits) refl) (rw (n32 slot fits) refl) drafted
+event_reads : (builder builder' : TraceBuilder) (given : Event) → EventFits given → builder_with builder (line.Event given) ≡ Some builder' → Reads builder (line_text (event_words given)) builder'
+event_reads builder builder' (event.Request peer bytes) fits drafted = line_reads builder builder' (codes "request") (node_word peer ∷ bytes_word bytes ∷ []) (line.Event (event.Request peer bytes)) refl refl (rw (node_clean peer, bytes_clean bytes fits.1) refl) (rw (node_back peer fits.0, bytes_back bytes fits.1) refl) drafted
+event_reads builder builder' (event.StreamOpened stream peer) fits drafted = line_reads builder builder' (codes "stream") (decimal stream ∷ node_word peer ∷ []) (line.Event (event.StreamOpened stream peer)) refl refl (rw (c16 stream fits.0, node_clean peer) refl) (rw (n16 stream fits.0, node_back peer fits.1) refl) drafted
+event_reads builder builder' (event.Frame stream bytes) fits drafted = line_reads builder builder' (codes "frame") (decimal stream ∷ bytes_word bytes ∷ []) (line.Event (event.Frame stream bytes)) refl refl (rw (c16 stream fits.0, bytes_clean bytes fits.1) refl) (rw (n16 stream fits.0, bytes_back bytes fits.1) refl) drafted
+event_reads builder builder' (event.StreamCut stream) fits drafted = line_reads builder builder' (codes "cut") (decimal stream ∷ []) (line.Event (event.StreamCut stream)) refl refl (rw (c16 stream fits) refl) (rw (n16 stream fits) refl) drafted
+event_reads builder builder' (event.Datagram peer bytes) fits drafted = line_reads builder builder' (codes "datagram") (node_word peer ∷ bytes_word bytes ∷ []) (line.Event (event.Datagram peer bytes)) refl refl (rw (node_clean peer, bytes_clean bytes fits.1) refl) (rw (node_back peer fits.0, bytes_back bytes fits.1) refl) drafted
+event_reads builder builder' (event.Write point bytes) fits drafted = line_reads builder builder' (codes "write") (decimal point ∷ bytes_word bytes ∷ []) (line.Event (event.Write point bytes)) refl refl (rw (c32 point fits.0, bytes_clean bytes fits.1) refl) (rw (n32 point fits.0, bytes_back bytes fits.1) refl) drafted
+event_reads builder builder' (event.Read point) fits drafted = line_reads builder builder' (codes "read") (decimal point ∷ []) (line.Event (event.Read point)) refl refl (rw (c32 point fits) refl) (rw (n32 point fits) refl) drafted
+event_reads builder builder' (event.Tick ms) fits drafted = line_reads builder builder' (codes "tick") (decimal ms ∷ []) (line.Event (event.Tick ms)) refl refl (rw (c32 ms fits) refl) (rw (n32 ms fits) refl) drafted
+event_reads builder builder' (event.Mode run) fits drafted = line_reads builder builder' (codes "mode") (mode_word run ∷ []) (line.Event (event.Mode run)) refl refl (rw (mode_clean run) refl) (rw (mode_back run) refl) drafted
+event_reads builder builder' (event.Start slot) fits drafted = line_reads builder builder' (codes "start") (decimal slot ∷ []) (line.Event (event.Start slot)) refl refl (rw (c32 slot fits) refl) (rw (n32 slot fits) refl) drafted
+event_reads builder builder' (event.Stop slot) fits drafted = line_reads builder builder' (codes "stop") (decimal slot ∷ []) (line.Event (event.Stop slot)) refl refl (rw (c32 slot fits) refl) (rw (n32 slot fits) refl) drafted
 
 -- an event behind those before it
-pub event_read : (made_of : Config) (entries : List Entry) (last : Option Entry) (told : Event) → EventFits told → Reads (Events made_of entries last) (line_text (event_words told)) (Events made_of (entries ++ option_to_list last) (Some (told, None)))
-event_read made_of entries last told fits = event_reads (Events made_of entries last) _ told fits refl
+pub event_read : (made_of : Config) (entries : List Entry) (last : Option Entry) (given : Event) → EventFits given → Reads (Events made_of entries last) (line_text (event_words given)) (Events made_of (entries ++ option_to_list last) (Some (given, None)))
+event_read made_of entries last given fits = event_reads (Events made_of entries last) _ given fits refl
 
 -- PARTS OF OUTCOMES
 
 recorded_read : (n : ℕ) (words : List (List ℕ)) (part : Part) → n < 2 ^ 64 → part_reader words ≡ Some (part, []) → line_reader (decimal n ∷ words) ≡ Some (line.Recorded n part, [])
 recorded_read n words part fits read =
-    ap (λ (reader : Reader Line). reader words) (none_meant line_meanings (numbered (number_of 64 (decimal n))) (decimal n) refl (decimal_low n fits))
+    ap (λ (reader : Reader TraceLine). reader words) (none_meant line_meanings (numbered (number_of 64 (decimal n))) (decimal n) refl (decimal_low n fits))
     ∙ ap (λ (number : Option ℕ). numbered number words) (n64 n fits)
     ∙ ap (λ r. option_and_then {T = Part × List (List ℕ)} (λ got. gives (line.Recorded n got.0) got.1) r) read
 
@@ -63,7 +63,7 @@ same_number : (a b : ℕ) → a ≡ b → eqb a b ≡ true
 same_number a b is = grind (arith, nat_tests, is)
 
 -- a part of the outcome of the last event
-pub part_read : (made_of : Config) (entries : List Entry) (told : Event) (recorded : Option Outcome) (outcome : Outcome) (n : ℕ) (words : List (List ℕ)) (part : Part) → n < 2 ^ 64 → n ≡ length entries + 1 → are_clean words ≡ true → part_reader words ≡ Some (part, []) → recorded_with recorded part ≡ Some outcome → Reads (Events made_of entries (Some (told, recorded))) (line_text (decimal n ∷ words)) (Events made_of entries (Some (told, Some outcome)))
-part_read made_of entries told recorded outcome n words part fits number clean read with =
-    let drafted : draft_with (Events made_of entries (Some (told, recorded))) (line.Recorded n part) ≡ Some (Events made_of entries (Some (told, Some outcome))) = rw (same_number n (length entries + 1) number, with) refl in
-    line_reads (Events made_of entries (Some (told, recorded))) (Events made_of entries (Some (told, Some outcome))) (decimal n) words (line.Recorded n part) (decimal_begins n fits) (decimal_clean n fits) clean (recorded_read n words part fits read) drafted
+pub part_read : (made_of : Config) (entries : List Entry) (given : Event) (recorded : Option Outcome) (outcome : Outcome) (n : ℕ) (words : List (List ℕ)) (part : Part) → n < 2 ^ 64 → n ≡ length entries + 1 → are_clean words ≡ true → part_reader words ≡ Some (part, []) → recorded_with recorded part ≡ Some outcome → Reads (Events made_of entries (Some (given, recorded))) (line_text (decimal n ∷ words)) (Events made_of entries (Some (given, Some outcome)))
+part_read made_of entries given recorded outcome n words part fits number clean read with =
+    let drafted : builder_with (Events made_of entries (Some (given, recorded))) (line.Recorded n part) ≡ Some (Events made_of entries (Some (given, Some outcome))) = rw (same_number n (length entries + 1) number, with) refl in
+    line_reads (Events made_of entries (Some (given, recorded))) (Events made_of entries (Some (given, Some outcome))) (decimal n) words (line.Recorded n part) (decimal_begins n fits) (decimal_clean n fits) clean (recorded_read n words part fits read) drafted

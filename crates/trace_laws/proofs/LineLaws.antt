@@ -6,10 +6,10 @@ use Rattle.std.proofs.lemmas.Bool.Decides.{nat_tests}
 use Rattle.std.proofs.lemmas.List.Elements.{All-append, All-cons, All-nil}
 use Rattle.std.proofs.lemmas.List.Splits.{slice_split_at, slice_split_none, length-slice_split}
 use Rattle.trace_words.specs.Words.{words_of}
-use Rattle.trace_text.specs.declared.forms.Line.{Line}
-use Rattle.trace_text.specs.declared.draft.Draft.{Draft}
+use Rattle.trace_text.specs.declared.forms.TraceLine.{TraceLine}
+use Rattle.trace_text.specs.declared.builder.TraceBuilder.{TraceBuilder}
 use Rattle.trace_text.specs.Forms.{line_of, line_reader, is_ascii}
-use Rattle.trace_text.specs.Reading.{draft_with, draft_after, is_skipped, is_line_feed, parts_of, told_from}
+use Rattle.trace_text.specs.Reading.{builder_with, builder_after, is_skipped, is_line_feed, parts_of, parsed_from}
 
 -- CLEAN WORDS
 
@@ -78,26 +78,26 @@ kept_line : (c : ℕ) (cs : List ℕ) (words : List (List ℕ)) → eqb c 35 ≡
 kept_line c cs [] other = other
 kept_line c cs (next ∷ words) other = other
 
-line_found : (word : List ℕ) (words : List (List ℕ)) (line : Line) → is_clean word ≡ true → are_clean words ≡ true → line_reader (word ∷ words) ≡ Some (line, []) → line_of (join_with_byte 32 (word ∷ words)) ≡ Some line
+line_found : (word : List ℕ) (words : List (List ℕ)) (line : TraceLine) → is_clean word ≡ true → are_clean words ≡ true → line_reader (word ∷ words) ≡ Some (line, []) → line_of (join_with_byte 32 (word ∷ words)) ≡ Some line
 unfolding line_of
 line_found word words line clean all read =
     rw (line_ascii word words clean all, words_back word words clean all, read) refl
 
-pub line_drafted : (draft draft' : Draft) (c : ℕ) (cs : List ℕ) (words : List (List ℕ)) (line : Line) → eqb c 35 ≡ false → is_clean (c ∷ cs) ≡ true → are_clean words ≡ true → line_reader ((c ∷ cs) ∷ words) ≡ Some (line, []) → draft_with draft line ≡ Some draft' → draft_after draft (join_with_byte 32 ((c ∷ cs) ∷ words)) ≡ Some draft'
-unfolding draft_after
-line_drafted draft draft' c cs words line other clean all read drafted =
+pub line_drafted : (builder builder' : TraceBuilder) (c : ℕ) (cs : List ℕ) (words : List (List ℕ)) (line : TraceLine) → eqb c 35 ≡ false → is_clean (c ∷ cs) ≡ true → are_clean words ≡ true → line_reader ((c ∷ cs) ∷ words) ≡ Some (line, []) → builder_with builder line ≡ Some builder' → builder_after builder (join_with_byte 32 ((c ∷ cs) ∷ words)) ≡ Some builder'
+unfolding builder_after
+line_drafted builder builder' c cs words line other clean all read drafted =
     rw (kept_line c cs words other, line_found (c ∷ cs) words line clean all read) drafted
 
 -- ONE LINE AFTER THE OTHER
 
 -- the text up to the rest leads from one draft to another
-abbrev pub Leads : Draft → List ℕ → Draft → List ℕ → Type 0
-Leads draft text draft' rest = (number : ℕ) → (next : ℕ) × (told_from number (Ok draft) (parts_of text) ≡ told_from next (Ok draft') (parts_of rest))
+abbrev pub Leads : TraceBuilder → List ℕ → TraceBuilder → List ℕ → Type 0
+Leads builder text builder' rest = (number : ℕ) → (next : ℕ) × (parsed_from number (Ok builder) (parts_of text) ≡ parsed_from next (Ok builder') (parts_of rest))
 
-pub stays : (draft : Draft) (text : List ℕ) → Leads draft text draft text
-stays draft text = λ number. (number, refl)
+pub stays : (builder : TraceBuilder) (text : List ℕ) → Leads builder text builder text
+stays builder text = λ number. (number, refl)
 
-pub goes_on : (one two three : Draft) (text mid rest : List ℕ) → Leads one text two mid → Leads two mid three rest → Leads one text three rest
+pub goes_on : (one two three : TraceBuilder) (text mid rest : List ℕ) → Leads one text two mid → Leads two mid three rest → Leads one text three rest
 goes_on one two three text mid rest first second = λ number. ((second (first number).0).0, (first number).1 ∙ (second (first number).0).1)
 
 some_part : (text : List ℕ) → parts_of text ≢ []
@@ -106,15 +106,15 @@ some_part text none = absurd (omega (arith, length-slice_split is_line_feed text
 abbrev Parts : Type 0
 Parts = List (List ℕ)
 
-part_told : (number : ℕ) (draft draft' : Draft) (line : List ℕ) (parts : Parts) → parts ≢ [] → draft_after draft line ≡ Some draft' → told_from number (Ok draft) (line ∷ parts) ≡ told_from (number + 1) (Ok draft') parts
-part_told number draft draft' line [] some drafted = absurd (some refl)
-part_told number draft draft' line (next ∷ parts) some drafted = ap (λ d. told_from (number + 1) (ok_or d number) (next ∷ parts)) drafted
+part_parsed : (number : ℕ) (builder builder' : TraceBuilder) (line : List ℕ) (parts : Parts) → parts ≢ [] → builder_after builder line ≡ Some builder' → parsed_from number (Ok builder) (line ∷ parts) ≡ parsed_from (number + 1) (Ok builder') parts
+part_parsed number builder builder' line [] some drafted = absurd (some refl)
+part_parsed number builder builder' line (next ∷ parts) some drafted = ap (λ d. parsed_from (number + 1) (ok_or d number) (next ∷ parts)) drafted
 
 -- a line of clean words, and LF
-pub line_leads : (draft draft' : Draft) (c : ℕ) (cs : List ℕ) (words : List (List ℕ)) (line : Line) (rest : List ℕ) → eqb c 35 ≡ false → is_clean (c ∷ cs) ≡ true → are_clean words ≡ true → line_reader ((c ∷ cs) ∷ words) ≡ Some (line, []) → draft_with draft line ≡ Some draft' → Leads draft (join_with_byte 32 ((c ∷ cs) ∷ words) ++ 10 ∷ rest) draft' rest
-line_leads draft draft' c cs words line rest other clean all read drafted = λ number.
+pub line_leads : (builder builder' : TraceBuilder) (c : ℕ) (cs : List ℕ) (words : List (List ℕ)) (line : TraceLine) (rest : List ℕ) → eqb c 35 ≡ false → is_clean (c ∷ cs) ≡ true → are_clean words ≡ true → line_reader ((c ∷ cs) ∷ words) ≡ Some (line, []) → builder_with builder line ≡ Some builder' → Leads builder (join_with_byte 32 ((c ∷ cs) ∷ words) ++ 10 ∷ rest) builder' rest
+line_leads builder builder' c cs words line rest other clean all read drafted = λ number.
     let parted : parts_of (join_with_byte 32 ((c ∷ cs) ∷ words) ++ 10 ∷ rest) ≡ join_with_byte 32 ((c ∷ cs) ∷ words) ∷ parts_of rest = slice_split_at is_line_feed (join_with_byte 32 ((c ∷ cs) ∷ words)) 10 rest (line_closed (c ∷ cs) words clean all) refl in
-    (number + 1, ap (told_from number (Ok draft)) parted ∙ part_told number draft draft' (join_with_byte 32 ((c ∷ cs) ∷ words)) (parts_of rest) (some_part rest) (line_drafted draft draft' c cs words line other clean all read drafted))
+    (number + 1, ap (parsed_from number (Ok builder)) parted ∙ part_parsed number builder builder' (join_with_byte 32 ((c ∷ cs) ∷ words)) (parts_of rest) (some_part rest) (line_drafted builder builder' c cs words line other clean all read drafted))
 
 -- the words of a line, right-nested, and what stands behind it
 abbrev pub spelled : List ℕ → List (List ℕ) → List ℕ → List ℕ

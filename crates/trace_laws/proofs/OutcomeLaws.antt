@@ -16,23 +16,23 @@ use Rattle.cip_events.specs.declared.event.Reason.{Reason}
 use Rattle.cip_events.specs.declared.event.Reason.TheVariants as reason
 use Rattle.cip_events.specs.declared.event.Recipient.{Recipient}
 use Rattle.cip_events.specs.declared.event.Recipient.TheVariants as recipient
-use Rattle.cip_events.specs.declared.event.Sending.{Sending}
+use Rattle.cip_events.specs.declared.event.OutgoingDatagram.{OutgoingDatagram}
 use Rattle.cip_events.specs.declared.event.StepFault.{StepFault}
 use Rattle.cip_events.specs.declared.event.StepFault.TheVariants as fault
 use Rattle.cip_events.specs.declared.event.Verdict.{Verdict}
 use Rattle.cip_events.specs.declared.event.Verdict.TheVariants as verdict
 use Rattle.cip_events.specs.Outcomes.{Outcome}
-use Rattle.trace_words.specs.Words.{node_word, nodes_word, bytes_word, id_word, general_word, extra_word, line_text}
+use Rattle.trace_words.specs.Words.{node_word, nodes_word, bytes_word, id_word, general_word, extended_word, line_text}
 use Rattle.trace_outcomes.specs.declared.part.Part.TheVariants as part
 use Rattle.trace_outcomes.specs.Parts.{part_reader, verdict_of, fault_of, mismatch_of}
-use Rattle.trace_outcomes.specs.Told.{fault_word, delivery_word, verdict_words, triad_words, recipient_words, notice_words, frame_line, sending_line, notice_line, outcome_text}
-use Rattle.trace_text.specs.declared.draft.Draft.{Draft}
-use Rattle.trace_text.specs.declared.draft.Draft.TheVariants.{Events}
+use Rattle.trace_outcomes.specs.Written.{fault_word, delivery_word, verdict_words, triad_words, recipient_words, notice_words, frame_line, outgoing_line, notice_line, outcome_text}
+use Rattle.trace_text.specs.declared.builder.TraceBuilder.{TraceBuilder}
+use Rattle.trace_text.specs.declared.builder.TraceBuilder.TheVariants.{Events}
 use Rattle.trace_text.specs.Reading.{Entry}
-use Rattle.trace_laws.specs.TraceBack.{NoticeFits, FrameFits, SendingFits, VerdictFits, OutcomeFits}
-use Rattle.trace_laws.proofs.WordLaws.{node_back, bytes_back, id_back, general_back, extra_back}
+use Rattle.trace_laws.specs.TraceBack.{NoticeFits, FrameFits, OutgoingDatagramFits, VerdictFits, OutcomeFits}
+use Rattle.trace_laws.proofs.WordLaws.{node_back, bytes_back, id_back, general_back, extended_back}
 use Rattle.trace_laws.proofs.NodeLaws.{nodes_back, nodes_clean}
-use Rattle.trace_laws.proofs.CleanWords.{node_clean, bytes_clean, id_clean, general_clean, extra_clean}
+use Rattle.trace_laws.proofs.CleanWords.{node_clean, bytes_clean, id_clean, general_clean, extended_clean}
 use Rattle.trace_laws.proofs.LineLaws.{are_clean}
 use Rattle.trace_laws.proofs.ProfileLaws.{n8, n16, n32, c8, c16, c32}
 use Rattle.trace_laws.proofs.EventLaws.{part_read}
@@ -54,14 +54,14 @@ verdict_rest verdict.BadFrame = []
 verdict_rest verdict.Ignored = []
 verdict_rest (verdict.Delivered what) = []
 
-verdict_joined : (told : Verdict) → verdict_words told ≡ join_with_byte 32 (verdict_first told ∷ verdict_rest told)
+verdict_joined : (given : Verdict) → verdict_words given ≡ join_with_byte 32 (verdict_first given ∷ verdict_rest given)
 verdict_joined verdict.Done = refl
 verdict_joined verdict.BadFrame = refl
 verdict_joined verdict.Ignored = refl
 verdict_joined (verdict.Value bytes) = refl
 verdict_joined (verdict.Delivered what) = refl
 
-verdict_read : (told : Verdict) → VerdictFits told → part_reader (verdict_first told ∷ verdict_rest told) ≡ Some (part.Verdict told, [])
+verdict_read : (given : Verdict) → VerdictFits given → part_reader (verdict_first given ∷ verdict_rest given) ≡ Some (part.Verdict given, [])
 unfolding verdict_of
 verdict_read verdict.Done fits = refl
 verdict_read verdict.BadFrame fits = refl
@@ -76,7 +76,7 @@ verdict_read (verdict.Delivered delivery.UnknownId) fits = refl
 verdict_read (verdict.Delivered delivery.WrongSize) fits = refl
 verdict_read (verdict.Delivered delivery.Malformed) fits = refl
 
-verdict_clean : (told : Verdict) → VerdictFits told → are_clean (verdict_first told ∷ verdict_rest told) ≡ true
+verdict_clean : (given : Verdict) → VerdictFits given → are_clean (verdict_first given ∷ verdict_rest given) ≡ true
 verdict_clean verdict.Done fits = refl
 verdict_clean verdict.BadFrame fits = refl
 verdict_clean verdict.Ignored fits = refl
@@ -129,16 +129,16 @@ frame_clean : (to : Recipient) (bytes : List ℕ) → FrameFits (record { to = t
 frame_clean (recipient.Stream stream) bytes fits = rw (c16 stream fits.0, bytes_clean bytes fits.1) refl
 frame_clean (recipient.Peer node) bytes fits = rw (node_clean node, bytes_clean bytes fits.1) refl
 
-sending_read : (sending : Sending) → SendingFits sending → part_reader (codes "send" ∷ node_word sending.address ∷ nodes_word sending.nodes ∷ bytes_word sending.bytes ∷ []) ≡ Some (part.Datagram sending, [])
-sending_read sending fits = rw (node_back sending.address fits.0, nodes_back sending.nodes fits.1, bytes_back sending.bytes fits.2) refl
+outgoing_read : (outgoing : OutgoingDatagram) → OutgoingDatagramFits outgoing → part_reader (codes "send" ∷ node_word outgoing.address ∷ nodes_word outgoing.nodes ∷ bytes_word outgoing.bytes ∷ []) ≡ Some (part.Datagram outgoing, [])
+outgoing_read outgoing fits = rw (node_back outgoing.address fits.0, nodes_back outgoing.nodes fits.1, bytes_back outgoing.bytes fits.2) refl
 
-sending_clean : (sending : Sending) → SendingFits sending → are_clean (codes "send" ∷ node_word sending.address ∷ nodes_word sending.nodes ∷ bytes_word sending.bytes ∷ []) ≡ true
-sending_clean sending fits = rw (node_clean sending.address, nodes_clean sending.nodes, bytes_clean sending.bytes fits.2) refl
+outgoing_clean : (outgoing : OutgoingDatagram) → OutgoingDatagramFits outgoing → are_clean (codes "send" ∷ node_word outgoing.address ∷ nodes_word outgoing.nodes ∷ bytes_word outgoing.bytes ∷ []) ≡ true
+outgoing_clean outgoing fits = rw (node_clean outgoing.address, nodes_clean outgoing.nodes, bytes_clean outgoing.bytes fits.2) refl
 
 abbrev reason_list : Reason → List (List ℕ)
 reason_list (reason.Encap status) = codes "encap" ∷ decimal status ∷ []
 reason_list reason.Unreadable = codes "unreadable" ∷ []
-reason_list (reason.Cip why) = codes "cip" ∷ general_word why.general ∷ extra_word why.extra ∷ []
+reason_list (reason.Cip why) = codes "cip" ∷ general_word why.general ∷ extended_word why.extended ∷ []
 reason_list (reason.Mismatch mismatch.Triad) = codes "mismatch" ∷ codes "Triad" ∷ []
 reason_list (reason.Mismatch mismatch.Id) = codes "mismatch" ∷ codes "Id" ∷ []
 reason_list (reason.Mismatch mismatch.Api) = codes "mismatch" ∷ codes "Api" ∷ []
@@ -163,7 +163,7 @@ triad_joined triad rest =
     append_assoc (decimal triad.serial) (32 ∷ (decimal triad.vendor ++ 32 ∷ decimal triad.originator)) rest
     ∙ ap (λ t. decimal triad.serial ++ 32 ∷ t) (append_assoc (decimal triad.vendor) (32 ∷ decimal triad.originator) rest)
 
-notice_joined : (told : Notice) → NoticeFits told → notice_words told ≡ join_with_byte 32 (notice_list told)
+notice_joined : (given : Notice) → NoticeFits given → notice_words given ≡ join_with_byte 32 (notice_list given)
 notice_joined (notice.Opened triad id) fits = ap (λ t. codes "opened " ++ t) (triad_joined triad (32 ∷ id_word id))
 notice_joined (notice.Closed triad) fits = refl
 notice_joined (notice.Expired triad) fits = refl
@@ -180,7 +180,7 @@ notice_joined (notice.Refused slot (reason.Mismatch mismatch.Api)) fits = refl
 notice_joined (notice.Refused slot (reason.Mismatch (mismatch.Refused why))) fits = absurd fits.1
 notice_joined (notice.NoIds slot) fits = refl
 
-notice_read : (told : Notice) → NoticeFits told → part_reader (codes "note" ∷ notice_list told) ≡ Some (part.Notice told, [])
+notice_read : (given : Notice) → NoticeFits given → part_reader (codes "note" ∷ notice_list given) ≡ Some (part.Notice given, [])
 unfolding mismatch_of
 notice_read (notice.Opened triad id) fits = rw (n16 triad.serial fits.0.0, n16 triad.vendor fits.0.1, n32 triad.originator fits.0.2, id_back id fits.1) refl
 notice_read (notice.Closed triad) fits = rw (n16 triad.serial fits.0, n16 triad.vendor fits.1, n32 triad.originator fits.2) refl
@@ -191,14 +191,14 @@ notice_read (notice.StreamClosed stream) fits = rw (n16 stream fits) refl
 notice_read (notice.Slot slot state) fits = rw (n32 slot fits.0, n8 state fits.1) refl
 notice_read (notice.Refused slot (reason.Encap status)) fits = rw (n32 slot fits.0, n32 status fits.1) refl
 notice_read (notice.Refused slot reason.Unreadable) fits = rw (n32 slot fits.0) refl
-notice_read (notice.Refused slot (reason.Cip why)) fits = rw (n32 slot fits.0, general_back why.general fits.1.0, extra_back why.extra fits.1.1) refl
+notice_read (notice.Refused slot (reason.Cip why)) fits = rw (n32 slot fits.0, general_back why.general fits.1.0, extended_back why.extended fits.1.1) refl
 notice_read (notice.Refused slot (reason.Mismatch mismatch.Triad)) fits = rw (n32 slot fits.0) refl
 notice_read (notice.Refused slot (reason.Mismatch mismatch.Id)) fits = rw (n32 slot fits.0) refl
 notice_read (notice.Refused slot (reason.Mismatch mismatch.Api)) fits = rw (n32 slot fits.0) refl
 notice_read (notice.Refused slot (reason.Mismatch (mismatch.Refused why))) fits = absurd fits.1
 notice_read (notice.NoIds slot) fits = rw (n32 slot fits) refl
 
-notice_clean : (told : Notice) → NoticeFits told → are_clean (codes "note" ∷ notice_list told) ≡ true
+notice_clean : (given : Notice) → NoticeFits given → are_clean (codes "note" ∷ notice_list given) ≡ true
 notice_clean (notice.Opened triad id) fits = rw (c16 triad.serial fits.0.0, c16 triad.vendor fits.0.1, c32 triad.originator fits.0.2, id_clean id) refl
 notice_clean (notice.Closed triad) fits = rw (c16 triad.serial fits.0, c16 triad.vendor fits.1, c32 triad.originator fits.2) refl
 notice_clean (notice.Expired triad) fits = rw (c16 triad.serial fits.0, c16 triad.vendor fits.1, c32 triad.originator fits.2) refl
@@ -208,7 +208,7 @@ notice_clean (notice.StreamClosed stream) fits = rw (c16 stream fits) refl
 notice_clean (notice.Slot slot state) fits = rw (c32 slot fits.0, c8 state fits.1) refl
 notice_clean (notice.Refused slot (reason.Encap status)) fits = rw (c32 slot fits.0, c32 status fits.1) refl
 notice_clean (notice.Refused slot reason.Unreadable) fits = rw (c32 slot fits.0) refl
-notice_clean (notice.Refused slot (reason.Cip why)) fits = rw (c32 slot fits.0, general_clean why.general fits.1.0, extra_clean why.extra) refl
+notice_clean (notice.Refused slot (reason.Cip why)) fits = rw (c32 slot fits.0, general_clean why.general fits.1.0, extended_clean why.extended) refl
 notice_clean (notice.Refused slot (reason.Mismatch mismatch.Triad)) fits = rw (c32 slot fits.0) refl
 notice_clean (notice.Refused slot (reason.Mismatch mismatch.Id)) fits = rw (c32 slot fits.0) refl
 notice_clean (notice.Refused slot (reason.Mismatch mismatch.Api)) fits = rw (c32 slot fits.0) refl
@@ -230,14 +230,14 @@ frame_spelled n frame =
     ap (λ t. decimal n ++ 32 ∷ t) (sym (append_assoc (recipient_words frame.to) (32 ∷ bytes_word frame.bytes) (10 ∷ [])))
     ∙ numbered_line n (recipient_words frame.to ++ 32 ∷ bytes_word frame.bytes) (frame_first frame.to) (recipient_word frame.to ∷ bytes_word frame.bytes ∷ []) (recipient_joined frame.to (32 ∷ bytes_word frame.bytes))
 
-sending_spelled : (n : ℕ) (sending : Sending) → sending_line n sending ≡ line_text (decimal n ∷ codes "send" ∷ node_word sending.address ∷ nodes_word sending.nodes ∷ bytes_word sending.bytes ∷ [])
-sending_spelled n sending =
-    let inner : (nodes_word sending.nodes ++ 32 ∷ bytes_word sending.bytes) ++ 10 ∷ [] ≡ nodes_word sending.nodes ++ 32 ∷ (bytes_word sending.bytes ++ 10 ∷ []) = append_assoc (nodes_word sending.nodes) (32 ∷ bytes_word sending.bytes) (10 ∷ []) in
-    let outer : (node_word sending.address ++ 32 ∷ (nodes_word sending.nodes ++ 32 ∷ bytes_word sending.bytes)) ++ 10 ∷ [] ≡ node_word sending.address ++ 32 ∷ (nodes_word sending.nodes ++ 32 ∷ (bytes_word sending.bytes ++ 10 ∷ [])) = append_assoc (node_word sending.address) (32 ∷ (nodes_word sending.nodes ++ 32 ∷ bytes_word sending.bytes)) (10 ∷ []) ∙ ap (λ t. node_word sending.address ++ 32 ∷ t) inner in
+outgoing_spelled : (n : ℕ) (outgoing : OutgoingDatagram) → outgoing_line n outgoing ≡ line_text (decimal n ∷ codes "send" ∷ node_word outgoing.address ∷ nodes_word outgoing.nodes ∷ bytes_word outgoing.bytes ∷ [])
+outgoing_spelled n outgoing =
+    let inner : (nodes_word outgoing.nodes ++ 32 ∷ bytes_word outgoing.bytes) ++ 10 ∷ [] ≡ nodes_word outgoing.nodes ++ 32 ∷ (bytes_word outgoing.bytes ++ 10 ∷ []) = append_assoc (nodes_word outgoing.nodes) (32 ∷ bytes_word outgoing.bytes) (10 ∷ []) in
+    let outer : (node_word outgoing.address ++ 32 ∷ (nodes_word outgoing.nodes ++ 32 ∷ bytes_word outgoing.bytes)) ++ 10 ∷ [] ≡ node_word outgoing.address ++ 32 ∷ (nodes_word outgoing.nodes ++ 32 ∷ (bytes_word outgoing.bytes ++ 10 ∷ [])) = append_assoc (node_word outgoing.address) (32 ∷ (nodes_word outgoing.nodes ++ 32 ∷ bytes_word outgoing.bytes)) (10 ∷ []) ∙ ap (λ t. node_word outgoing.address ++ 32 ∷ t) inner in
     ap (λ t. decimal n ++ (codes " send " ++ t)) (sym outer)
-    ∙ numbered_line n (codes "send " ++ (node_word sending.address ++ 32 ∷ (nodes_word sending.nodes ++ 32 ∷ bytes_word sending.bytes))) (codes "send") (node_word sending.address ∷ nodes_word sending.nodes ∷ bytes_word sending.bytes ∷ []) refl
+    ∙ numbered_line n (codes "send " ++ (node_word outgoing.address ++ 32 ∷ (nodes_word outgoing.nodes ++ 32 ∷ bytes_word outgoing.bytes))) (codes "send") (node_word outgoing.address ∷ nodes_word outgoing.nodes ∷ bytes_word outgoing.bytes ∷ []) refl
 
-noted : (told : Notice) → NoticeFits told → codes "note " ++ notice_words told ≡ join_with_byte 32 (codes "note" ∷ notice_list told)
+noted : (given : Notice) → NoticeFits given → codes "note " ++ notice_words given ≡ join_with_byte 32 (codes "note" ∷ notice_list given)
 noted (notice.Opened triad id) fits = ap (λ t. codes "note " ++ t) (notice_joined (notice.Opened triad id) fits)
 noted (notice.Closed triad) fits = ap (λ t. codes "note " ++ t) (notice_joined (notice.Closed triad) fits)
 noted (notice.Expired triad) fits = ap (λ t. codes "note " ++ t) (notice_joined (notice.Expired triad) fits)
@@ -251,46 +251,46 @@ noted (notice.NoIds slot) fits = ap (λ t. codes "note " ++ t) (notice_joined (n
 spelled : (n : ℕ) (body : List ℕ) (words : List (List ℕ)) → body ≡ join_with_byte 32 (codes "note" ∷ words) → decimal n ++ (32 ∷ (body ++ 10 ∷ [])) ≡ line_text (decimal n ∷ codes "note" ∷ words)
 spelled n body words is = numbered_line n body (codes "note") words is
 
-notice_spelled : (n : ℕ) (told : Notice) → NoticeFits told → notice_line n told ≡ line_text (decimal n ∷ codes "note" ∷ notice_list told)
-notice_spelled n told fits = spelled n (codes "note " ++ notice_words told) (notice_list told) (noted told fits)
+notice_spelled : (n : ℕ) (given : Notice) → NoticeFits given → notice_line n given ≡ line_text (decimal n ∷ codes "note" ∷ notice_list given)
+notice_spelled n given fits = spelled n (codes "note " ++ notice_words given) (notice_list given) (noted given fits)
 
 -- PART AFTER PART
 
-abbrev answer_of : Verdict → List Frame → List Sending → List Notice → Answer
-answer_of told frames datagrams notices = record { frames = frames; datagrams = datagrams; verdict = told; notices = notices }
+abbrev answer_of : Verdict → List Frame → List OutgoingDatagram → List Notice → Answer
+answer_of given frames datagrams notices = record { frames = frames; datagrams = datagrams; verdict = given; notices = notices }
 
-abbrev recording : Config → List Entry → Event → Answer → Draft
+abbrev recording : Config → List Entry → Event → Answer → TraceBuilder
 recording made_of entries event answer = Events made_of entries (Some (event, Some (Ok answer)))
 
 module _ (made_of : Config) (entries : List Entry) (event : Event) (n : ℕ) (fits : n < 2 ^ 64) (number : n ≡ length entries + 1) where
-  frames_read : (told : Verdict) (before frames : List Frame) → All FrameFits frames → Reads (recording made_of entries event (answer_of told before [] [])) (flat_map (frame_line n) frames) (recording made_of entries event (answer_of told (before ++ frames) [] []))
-  frames_read told before [] fit = subst (λ all. Reads (recording made_of entries event (answer_of told before [] [])) [] (recording made_of entries event (answer_of told all [] []))) (sym (append-nil before)) (reads_none (recording made_of entries event (answer_of told before [] [])))
-  frames_read told before (frame ∷ frames) fit =
+  frames_read : (given : Verdict) (before frames : List Frame) → All FrameFits frames → Reads (recording made_of entries event (answer_of given before [] [])) (flat_map (frame_line n) frames) (recording made_of entries event (answer_of given (before ++ frames) [] []))
+  frames_read given before [] fit = subst (λ all. Reads (recording made_of entries event (answer_of given before [] [])) [] (recording made_of entries event (answer_of given all [] []))) (sym (append-nil before)) (reads_none (recording made_of entries event (answer_of given before [] [])))
+  frames_read given before (frame ∷ frames) fit =
       let fits_one : FrameFits frame = first_of FrameFits frame frames fit in
-      let one : Reads (recording made_of entries event (answer_of told before [] [])) (frame_line n frame) (recording made_of entries event (answer_of told (before ++ frame ∷ []) [] [])) = reads_as _ _ _ _ (frame_spelled n frame) (part_read made_of entries event (Some (Ok (answer_of told before [] []))) (Ok (answer_of told (before ++ frame ∷ []) [] [])) n (frame_first frame.to ∷ recipient_word frame.to ∷ bytes_word frame.bytes ∷ []) (part.Frame frame) fits number (frame_clean frame.to frame.bytes fits_one) (frame_read frame.to frame.bytes fits_one) refl) in
-      let more : Reads (recording made_of entries event (answer_of told (before ++ frame ∷ []) [] [])) (flat_map (frame_line n) frames) (recording made_of entries event (answer_of told (before ++ frame ∷ frames) [] [])) = subst (λ all. Reads (recording made_of entries event (answer_of told (before ++ frame ∷ []) [] [])) (flat_map (frame_line n) frames) (recording made_of entries event (answer_of told all [] []))) (append_assoc before (frame ∷ []) frames) (frames_read told (before ++ frame ∷ []) frames (rest_of FrameFits frame frames fit)) in
+      let one : Reads (recording made_of entries event (answer_of given before [] [])) (frame_line n frame) (recording made_of entries event (answer_of given (before ++ frame ∷ []) [] [])) = reads_as _ _ _ _ (frame_spelled n frame) (part_read made_of entries event (Some (Ok (answer_of given before [] []))) (Ok (answer_of given (before ++ frame ∷ []) [] [])) n (frame_first frame.to ∷ recipient_word frame.to ∷ bytes_word frame.bytes ∷ []) (part.Frame frame) fits number (frame_clean frame.to frame.bytes fits_one) (frame_read frame.to frame.bytes fits_one) refl) in
+      let more : Reads (recording made_of entries event (answer_of given (before ++ frame ∷ []) [] [])) (flat_map (frame_line n) frames) (recording made_of entries event (answer_of given (before ++ frame ∷ frames) [] [])) = subst (λ all. Reads (recording made_of entries event (answer_of given (before ++ frame ∷ []) [] [])) (flat_map (frame_line n) frames) (recording made_of entries event (answer_of given all [] []))) (append_assoc before (frame ∷ []) frames) (frames_read given (before ++ frame ∷ []) frames (rest_of FrameFits frame frames fit)) in
       reads_both _ _ _ _ _ one more
 
-  datagrams_read : (told : Verdict) (frames : List Frame) (before sendings : List Sending) → All SendingFits sendings → Reads (recording made_of entries event (answer_of told frames before [])) (flat_map (sending_line n) sendings) (recording made_of entries event (answer_of told frames (before ++ sendings) []))
-  datagrams_read told frames before [] fit = subst (λ all. Reads (recording made_of entries event (answer_of told frames before [])) [] (recording made_of entries event (answer_of told frames all []))) (sym (append-nil before)) (reads_none (recording made_of entries event (answer_of told frames before [])))
-  datagrams_read told frames before (sending ∷ sendings) fit =
-      let fits_one : SendingFits sending = first_of SendingFits sending sendings fit in
-      let one : Reads (recording made_of entries event (answer_of told frames before [])) (sending_line n sending) (recording made_of entries event (answer_of told frames (before ++ sending ∷ []) [])) = reads_as _ _ _ _ (sending_spelled n sending) (part_read made_of entries event (Some (Ok (answer_of told frames before []))) (Ok (answer_of told frames (before ++ sending ∷ []) [])) n (codes "send" ∷ node_word sending.address ∷ nodes_word sending.nodes ∷ bytes_word sending.bytes ∷ []) (part.Datagram sending) fits number (sending_clean sending fits_one) (sending_read sending fits_one) refl) in
-      let more : Reads (recording made_of entries event (answer_of told frames (before ++ sending ∷ []) [])) (flat_map (sending_line n) sendings) (recording made_of entries event (answer_of told frames (before ++ sending ∷ sendings) [])) = subst (λ all. Reads (recording made_of entries event (answer_of told frames (before ++ sending ∷ []) [])) (flat_map (sending_line n) sendings) (recording made_of entries event (answer_of told frames all []))) (append_assoc before (sending ∷ []) sendings) (datagrams_read told frames (before ++ sending ∷ []) sendings (rest_of SendingFits sending sendings fit)) in
+  datagrams_read : (given : Verdict) (frames : List Frame) (before outgoing_datagrams : List OutgoingDatagram) → All OutgoingDatagramFits outgoing_datagrams → Reads (recording made_of entries event (answer_of given frames before [])) (flat_map (outgoing_line n) outgoing_datagrams) (recording made_of entries event (answer_of given frames (before ++ outgoing_datagrams) []))
+  datagrams_read given frames before [] fit = subst (λ all. Reads (recording made_of entries event (answer_of given frames before [])) [] (recording made_of entries event (answer_of given frames all []))) (sym (append-nil before)) (reads_none (recording made_of entries event (answer_of given frames before [])))
+  datagrams_read given frames before (outgoing ∷ outgoing_datagrams) fit =
+      let fits_one : OutgoingDatagramFits outgoing = first_of OutgoingDatagramFits outgoing outgoing_datagrams fit in
+      let one : Reads (recording made_of entries event (answer_of given frames before [])) (outgoing_line n outgoing) (recording made_of entries event (answer_of given frames (before ++ outgoing ∷ []) [])) = reads_as _ _ _ _ (outgoing_spelled n outgoing) (part_read made_of entries event (Some (Ok (answer_of given frames before []))) (Ok (answer_of given frames (before ++ outgoing ∷ []) [])) n (codes "send" ∷ node_word outgoing.address ∷ nodes_word outgoing.nodes ∷ bytes_word outgoing.bytes ∷ []) (part.Datagram outgoing) fits number (outgoing_clean outgoing fits_one) (outgoing_read outgoing fits_one) refl) in
+      let more : Reads (recording made_of entries event (answer_of given frames (before ++ outgoing ∷ []) [])) (flat_map (outgoing_line n) outgoing_datagrams) (recording made_of entries event (answer_of given frames (before ++ outgoing ∷ outgoing_datagrams) [])) = subst (λ all. Reads (recording made_of entries event (answer_of given frames (before ++ outgoing ∷ []) [])) (flat_map (outgoing_line n) outgoing_datagrams) (recording made_of entries event (answer_of given frames all []))) (append_assoc before (outgoing ∷ []) outgoing_datagrams) (datagrams_read given frames (before ++ outgoing ∷ []) outgoing_datagrams (rest_of OutgoingDatagramFits outgoing outgoing_datagrams fit)) in
       reads_both _ _ _ _ _ one more
 
-  notices_read : (told : Verdict) (frames : List Frame) (datagrams : List Sending) (before notices : List Notice) → All NoticeFits notices → Reads (recording made_of entries event (answer_of told frames datagrams before)) (flat_map (notice_line n) notices) (recording made_of entries event (answer_of told frames datagrams (before ++ notices)))
-  notices_read told frames datagrams before [] fit = subst (λ all. Reads (recording made_of entries event (answer_of told frames datagrams before)) [] (recording made_of entries event (answer_of told frames datagrams all))) (sym (append-nil before)) (reads_none (recording made_of entries event (answer_of told frames datagrams before)))
-  notices_read told frames datagrams before (what ∷ notices) fit =
+  notices_read : (given : Verdict) (frames : List Frame) (datagrams : List OutgoingDatagram) (before notices : List Notice) → All NoticeFits notices → Reads (recording made_of entries event (answer_of given frames datagrams before)) (flat_map (notice_line n) notices) (recording made_of entries event (answer_of given frames datagrams (before ++ notices)))
+  notices_read given frames datagrams before [] fit = subst (λ all. Reads (recording made_of entries event (answer_of given frames datagrams before)) [] (recording made_of entries event (answer_of given frames datagrams all))) (sym (append-nil before)) (reads_none (recording made_of entries event (answer_of given frames datagrams before)))
+  notices_read given frames datagrams before (what ∷ notices) fit =
       let fits_one : NoticeFits what = first_of NoticeFits what notices fit in
-      let one : Reads (recording made_of entries event (answer_of told frames datagrams before)) (notice_line n what) (recording made_of entries event (answer_of told frames datagrams (before ++ what ∷ []))) = reads_as _ _ _ _ (notice_spelled n what fits_one) (part_read made_of entries event (Some (Ok (answer_of told frames datagrams before))) (Ok (answer_of told frames datagrams (before ++ what ∷ []))) n (codes "note" ∷ notice_list what) (part.Notice what) fits number (notice_clean what fits_one) (notice_read what fits_one) refl) in
-      let more : Reads (recording made_of entries event (answer_of told frames datagrams (before ++ what ∷ []))) (flat_map (notice_line n) notices) (recording made_of entries event (answer_of told frames datagrams (before ++ what ∷ notices))) = subst (λ all. Reads (recording made_of entries event (answer_of told frames datagrams (before ++ what ∷ []))) (flat_map (notice_line n) notices) (recording made_of entries event (answer_of told frames datagrams all))) (append_assoc before (what ∷ []) notices) (notices_read told frames datagrams (before ++ what ∷ []) notices (rest_of NoticeFits what notices fit)) in
+      let one : Reads (recording made_of entries event (answer_of given frames datagrams before)) (notice_line n what) (recording made_of entries event (answer_of given frames datagrams (before ++ what ∷ []))) = reads_as _ _ _ _ (notice_spelled n what fits_one) (part_read made_of entries event (Some (Ok (answer_of given frames datagrams before))) (Ok (answer_of given frames datagrams (before ++ what ∷ []))) n (codes "note" ∷ notice_list what) (part.Notice what) fits number (notice_clean what fits_one) (notice_read what fits_one) refl) in
+      let more : Reads (recording made_of entries event (answer_of given frames datagrams (before ++ what ∷ []))) (flat_map (notice_line n) notices) (recording made_of entries event (answer_of given frames datagrams (before ++ what ∷ notices))) = subst (λ all. Reads (recording made_of entries event (answer_of given frames datagrams (before ++ what ∷ []))) (flat_map (notice_line n) notices) (recording made_of entries event (answer_of given frames datagrams all))) (append_assoc before (what ∷ []) notices) (notices_read given frames datagrams (before ++ what ∷ []) notices (rest_of NoticeFits what notices fit)) in
       reads_both _ _ _ _ _ one more
 
   -- an outcome behind its event
   pub outcome_read : (outcome : Outcome) → OutcomeFits outcome → Reads (Events made_of entries (Some (event, None))) (outcome_text n outcome) (Events made_of entries (Some (event, Some outcome)))
   outcome_read (Ok answer) fit =
-      let rest : List ℕ = flat_map (frame_line n) answer.frames ++ (flat_map (sending_line n) answer.datagrams ++ flat_map (notice_line n) answer.notices) in
+      let rest : List ℕ = flat_map (frame_line n) answer.frames ++ (flat_map (outgoing_line n) answer.datagrams ++ flat_map (notice_line n) answer.notices) in
       let one : Reads (Events made_of entries (Some (event, None))) (line_text (decimal n ∷ verdict_first answer.verdict ∷ verdict_rest answer.verdict)) (recording made_of entries event (answer_of answer.verdict [] [] [])) = part_read made_of entries event None (Ok (answer_of answer.verdict [] [] [])) n (verdict_first answer.verdict ∷ verdict_rest answer.verdict) (part.Verdict answer.verdict) fits number (verdict_clean answer.verdict fit.verdict_fits) (verdict_read answer.verdict fit.verdict_fits) refl in
       reads_as _ _ _ _ (numbered_front n (verdict_words answer.verdict) rest (verdict_first answer.verdict) (verdict_rest answer.verdict) (verdict_joined answer.verdict))
       (reads_both _ _ _ _ _ one

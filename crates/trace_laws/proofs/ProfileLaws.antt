@@ -15,8 +15,8 @@ use Rattle.trace_profiles.specs.declared.forms.AdapterLine.{AdapterLine}
 use Rattle.trace_profiles.specs.declared.forms.HeartbeatLine.{HeartbeatLine}
 use Rattle.trace_profiles.specs.Profiles.{identity_reader, profile_with}
 use Rattle.trace_profiles.specs.Written.{identity_words, adapter_words, output_words, point_words, heartbeat_words, config_text, profile_text}
-use Rattle.trace_text.specs.declared.draft.Draft.TheVariants.{Empty, Points, Configured, Events}
-use Rattle.trace_text.specs.declared.forms.Line.TheVariants as line
+use Rattle.trace_text.specs.declared.builder.TraceBuilder.TheVariants.{Empty, Points, Configured, Events}
+use Rattle.trace_text.specs.declared.forms.TraceLine.TheVariants as line
 use Rattle.trace_text.specs.Forms.{line_reader}
 use Rattle.trace_laws.specs.TraceBack.{IdentityFits, OutputFits, InputFits, ProfileFits}
 use Rattle.trace_laws.proofs.WordLaws.{number_back, node_back, action_back}

@@ -7,13 +7,13 @@ use Rattle.std.specs.Str.Parse.{digits_value}
 use Rattle.std.specs.Char.{is_ascii_digit}
 use Rattle.std.proofs.lemmas.Bool.Decides.{nat_tests}
 use Rattle.std.proofs.lemmas.Fmt.{digits_decimal, decimal_nonempty}
-use Rattle.std.proofs.lemmas.Str.Parse.{IsNumeralModel, numerals_by_value, tells_all_ascii_digits}
+use Rattle.std.proofs.lemmas.Str.Parse.{IsNumeralModel, numerals_by_value, reads_all_ascii_digits}
 use Rattle.trace_words.specs.Words.{line_text, is_word}
 use Rattle.trace_words.specs.Reader.{Reader, ◌>>=◌, next_word, Meanings, meaning}
-use Rattle.trace_text.specs.declared.forms.Line.{Line}
-use Rattle.trace_text.specs.declared.draft.Draft.{Draft}
+use Rattle.trace_text.specs.declared.forms.TraceLine.{TraceLine}
+use Rattle.trace_text.specs.declared.builder.TraceBuilder.{TraceBuilder}
 use Rattle.trace_text.specs.Forms.{line_reader}
-use Rattle.trace_text.specs.Reading.{draft_with}
+use Rattle.trace_text.specs.Reading.{builder_with}
 use Rattle.trace_laws.proofs.LineLaws.{is_clean, are_clean, both, Leads, stays, goes_on, line_leads}
 
 -- EACH OF A LIST
@@ -27,17 +27,17 @@ rest_of P x xs all k d below = all (suc k) d (omega (arith, below))
 -- TEXTS
 
 -- a text leads from one draft to another, whatever stands behind it
-pub record Reads (draft : Draft) (text : List ℕ) (draft' : Draft) : Type 0 where
-  pub leads : (rest : List ℕ) → Leads draft (text ++ rest) draft' rest
+pub record Reads (builder : TraceBuilder) (text : List ℕ) (builder' : TraceBuilder) : Type 0 where
+  pub leads : (rest : List ℕ) → Leads builder (text ++ rest) builder' rest
 
-pub reads_none : (draft : Draft) → Reads draft [] draft
-reads_none draft = record { leads = λ rest. stays draft rest }
+pub reads_none : (builder : TraceBuilder) → Reads builder [] builder
+reads_none builder = record { leads = λ rest. stays builder rest }
 
-pub reads_both : (one two three : Draft) (a b : List ℕ) → Reads one a two → Reads two b three → Reads one (a ++ b) three
+pub reads_both : (one two three : TraceBuilder) (a b : List ℕ) → Reads one a two → Reads two b three → Reads one (a ++ b) three
 reads_both one two three a b first second = record { leads = λ rest. subst (λ text. Leads one text three rest) (sym (append_assoc a b rest)) (goes_on one two three (a ++ (b ++ rest)) (b ++ rest) rest (first.leads (b ++ rest)) (second.leads rest)) }
 
-pub reads_as : (draft draft' : Draft) (text text' : List ℕ) → text ≡ text' → Reads draft text' draft' → Reads draft text draft'
-reads_as draft draft' text text' is reads = subst (λ t. Reads draft t draft') (sym is) reads
+pub reads_as : (builder builder' : TraceBuilder) (text text' : List ℕ) → text ≡ text' → Reads builder text' builder' → Reads builder text builder'
+reads_as builder builder' text text' is reads = subst (λ t. Reads builder t builder') (sym is) reads
 
 -- a word that begins a line, and no comment
 abbrev pub begins_line : List ℕ → Bool
@@ -48,11 +48,11 @@ not_hash : (b : Bool) → cond b false true ≡ true → b ≡ false
 not_hash true h = absurd (cc)
 not_hash false h = refl
 
-pub line_reads : (draft draft' : Draft) (word : List ℕ) (words : List (List ℕ)) (line : Line) → begins_line word ≡ true → is_clean word ≡ true → are_clean words ≡ true → line_reader (word ∷ words) ≡ Some (line, []) → draft_with draft line ≡ Some draft' → Reads draft (line_text (word ∷ words)) draft'
-line_reads draft draft' [] words line begins clean all read drafted = absurd (cc)
-line_reads draft draft' (c ∷ cs) words line begins clean all read drafted = record {
+pub line_reads : (builder builder' : TraceBuilder) (word : List ℕ) (words : List (List ℕ)) (line : TraceLine) → begins_line word ≡ true → is_clean word ≡ true → are_clean words ≡ true → line_reader (word ∷ words) ≡ Some (line, []) → builder_with builder line ≡ Some builder' → Reads builder (line_text (word ∷ words)) builder'
+line_reads builder builder' [] words line begins clean all read drafted = absurd (cc)
+line_reads builder builder' (c ∷ cs) words line begins clean all read drafted = record {
   leads = λ rest.
-      subst (λ text. Leads draft text draft' rest) (sym (append_assoc (join_with_byte 32 ((c ∷ cs) ∷ words)) (10 ∷ []) rest)) (line_leads draft draft' c cs words line rest (not_hash (eqb c 35) begins) clean all read drafted);
+      subst (λ text. Leads builder text builder' rest) (sym (append_assoc (join_with_byte 32 ((c ∷ cs) ∷ words)) (10 ∷ []) rest)) (line_leads builder builder' c cs words line rest (not_hash (eqb c 35) begins) clean all read drafted);
 }
 
 -- READERS
@@ -91,7 +91,7 @@ none_meant (entry ∷ entries) otherwise word high low =
     rw (other_word entry.0 word parts.0 low) (none_meant entries otherwise word parts.1 low)
 
 own : IsNumeralModel (λ word. all_ascii_digits word ≡ true) (digits_value 10)
-own = numerals_by_value _ tells_all_ascii_digits
+own = numerals_by_value _ reads_all_ascii_digits
 
 digits_low : (word : List ℕ) → 0 < length word → all_ascii_digits word ≡ true → (begins_low word ≡ true) × (begins_line word ≡ true)
 digits_low [] some digits = absurd (omega (arith, some))

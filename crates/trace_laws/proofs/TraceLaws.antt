@@ -11,9 +11,9 @@ use Rattle.cip_tables.specs.declared.table.Config.{Config}
 use Rattle.cip_tables.specs.declared.table.Config.TheVariants as config
 use Rattle.cip_tables.specs.Step.{config_fault}
 use Rattle.trace_profiles.specs.Written.{profile_text}
-use Rattle.trace_text.specs.declared.draft.Draft.TheVariants.{Empty, Events}
+use Rattle.trace_text.specs.declared.builder.TraceBuilder.TheVariants.{Empty, Events}
 use Rattle.trace_text.specs.declared.trace.Trace.{Trace}
-use Rattle.trace_text.specs.Reading.{Entry, trace_reading, told_from, told, judged, parts_of}
+use Rattle.trace_text.specs.Reading.{Entry, trace_reading, parsed_from, parsed, judged, parts_of}
 use Rattle.trace_text.specs.Written.{event_words, recorded_text, entries_text, trace_text}
 use Rattle.trace_words.specs.Words.{line_text}
 use Rattle.trace_laws.specs.TraceBack.{ProfileFits, OutcomeFits, EntryFits}
@@ -53,16 +53,16 @@ entries_read made_of entries last n ((event, recorded) ∷ events) number few fi
 good : (trace : Trace) (made_of : Config) → config_fault made_of ≡ None → judged trace (config_fault made_of) ≡ Ok trace
 good trace made_of is = ap (judged trace) is
 
-told_whole : (made_of : Config) (entries events : List Entry) (last : Option Entry) (number : ℕ) → config_fault made_of ≡ None → so_far entries last ≡ events → told number (Events made_of entries last) ≡ Ok (record { config = made_of; events = events })
-told_whole made_of entries events last number is all =
+parsed_whole : (made_of : Config) (entries events : List Entry) (last : Option Entry) (number : ℕ) → config_fault made_of ≡ None → so_far entries last ≡ events → parsed number (Events made_of entries last) ≡ Ok (record { config = made_of; events = events })
+parsed_whole made_of entries events last number is all =
     good (record { config = made_of; events = so_far entries last }) made_of is ∙ ap (λ es. Ok (record { config = made_of; events = es })) all
 
-led : (made_of : Config) (text : List ℕ) (entries events : List Entry) (last : Option Entry) → Reads Empty text (Events made_of entries last) → config_fault made_of ≡ None → so_far entries last ≡ events → told_from 1 (Ok Empty) (parts_of text) ≡ Ok (record { config = made_of; events = events })
+led : (made_of : Config) (text : List ℕ) (entries events : List Entry) (last : Option Entry) → Reads Empty text (Events made_of entries last) → config_fault made_of ≡ None → so_far entries last ≡ events → parsed_from 1 (Ok Empty) (parts_of text) ≡ Ok (record { config = made_of; events = events })
 led made_of text entries events last reads is all =
     let step = reads.leads [] 1 in
-    ap (λ t. told_from 1 (Ok Empty) (parts_of t)) (sym (append-nil text)) ∙ step.1 ∙ told_whole made_of entries events last step.0 is all
+    ap (λ t. parsed_from 1 (Ok Empty) (parts_of t)) (sym (append-nil text)) ∙ step.1 ∙ parsed_whole made_of entries events last step.0 is all
 
-read_as : (text : List ℕ) → trace_reading text ≡ told_from 1 (Ok Empty) (parts_of text)
+read_as : (text : List ℕ) → trace_reading text ≡ parsed_from 1 (Ok Empty) (parts_of text)
 unfolding trace_reading
 read_as text = refl
 
@@ -70,7 +70,7 @@ spelled : (profile : Profile) (events : List Entry) → trace_text (record { con
 unfolding trace_text
 spelled profile events = refl
 
-all_read : (made_of : Config) (front : List ℕ) (events : List Entry) → Reads Empty front (Events made_of [] None) → config_fault made_of ≡ None → ReadsOn made_of [] None (entries_text 1 events) events → told_from 1 (Ok Empty) (parts_of (front ++ entries_text 1 events)) ≡ Ok (record { config = made_of; events = events })
+all_read : (made_of : Config) (front : List ℕ) (events : List Entry) → Reads Empty front (Events made_of [] None) → config_fault made_of ≡ None → ReadsOn made_of [] None (entries_text 1 events) events → parsed_from 1 (Ok Empty) (parts_of (front ++ entries_text 1 events)) ≡ Ok (record { config = made_of; events = events })
 all_read made_of front events first is (entries, (last, (reads, all))) = led made_of (front ++ entries_text 1 events) entries events last (reads_both Empty (Events made_of [] None) (Events made_of entries last) front (entries_text 1 events) first reads) is all
 
 pub trace_back : (profile : Profile) (events : List Entry) → ProfileFits profile → profile_fault profile ≡ None → All EntryFits events → length events < 2 ^ 64 - 1 → trace_reading (trace_text (record { config = config.Adapter profile; events = events })) ≡ Ok (record { config = config.Adapter profile; events = events })

@@ -9,7 +9,7 @@ use Rattle.std.specs.Str.Parse.{digits_value}
 use Rattle.std.proofs.lemmas.Bool.Decides.{nat_tests}
 use Rattle.std.proofs.lemmas.Nat.{from_be_bytes-to_be_bytes_2, from_be_bytes-to_be_bytes_4}
 use Rattle.std.proofs.lemmas.Fmt.{digits_decimal, digits_value-decimal, decimal_nonempty, first_decimal, decimal_digit}
-use Rattle.std.proofs.lemmas.Str.Parse.{IsNumeralModel, numerals_by_value, tells_all_ascii_digits}
+use Rattle.std.proofs.lemmas.Str.Parse.{IsNumeralModel, numerals_by_value, reads_all_ascii_digits}
 use Rattle.std.specs.Net.Grammar.{IsDotted}
 use Rattle.std.specs.Net.Reader.{read_ipv4}
 use Rattle.std.proofs.lemmas.List.{append-nil}
@@ -21,12 +21,12 @@ use Rattle.cip_types.specs.declared.names.Node.{Node}
 use Rattle.cip_types.specs.declared.names.ConnId.{ConnId}
 use Rattle.adapter_table.specs.declared.profile.Action.{Action}
 use Rattle.adapter_table.specs.declared.profile.Action.TheVariants.{Zero, Hold}
-use Rattle.trace_words.specs.Words.{number_of, is_short_form, node_word, node_of, bytes_word, bytes_of, is_dash, digits_of, id_word, id_of, general_word, general_of, extra_word, extra_of, action_word, action_of}
+use Rattle.trace_words.specs.Words.{number_of, is_short_form, node_word, node_of, bytes_word, bytes_of, is_dash, digits_of, id_word, id_of, general_word, general_of, extended_word, extended_of, action_word, action_of}
 
 -- NUMBERS
 
 own : IsNumeralModel (λ word. all_ascii_digits word ≡ true) (digits_value 10)
-own = numerals_by_value _ tells_all_ascii_digits
+own = numerals_by_value _ reads_all_ascii_digits
 
 below : (m n : ℕ) → m < n → nat_lt m n ≡ true
 below m n less = grind (arith, nat_tests)
@@ -113,10 +113,10 @@ pub general_back : (general : ℕ) → general < 2 ^ 8 → general_of (general_w
 unfolding general_of
 general_back general fits = rw (digits_back (general ∷ []) (omega arith) (one_byte general fits)) refl
 
-pub extra_back : (extra : Option ℕ) → IfSome extra (λ status. status < 2 ^ 16) → extra_of (extra_word extra) ≡ Some extra
-unfolding extra_of
-extra_back None fits = refl
-extra_back (Some status) fits =
+pub extended_back : (extended : Option ℕ) → IfSome extended (λ status. status < 2 ^ 16) → extended_of (extended_word extended) ≡ Some extended
+unfolding extended_of
+extended_back None fits = refl
+extended_back (Some status) fits =
     let some : 0 < length (to_be_bytes w16 status) = omega (arith, len_2 status) in
     let undashed : is_dash (encode_lower (to_be_bytes w16 status)) ≡ false = no_dash_spelled (to_be_bytes w16 status) some in
     rw (undashed, digits_back (to_be_bytes w16 status) some (fit_2 status)) (ap (λ n. Some (Some n)) (from_be_bytes-to_be_bytes_2 status fits))

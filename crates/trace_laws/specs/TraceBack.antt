@@ -23,7 +23,7 @@ use Rattle.cip_events.specs.declared.event.Reason.{Reason}
 use Rattle.cip_events.specs.declared.event.Reason.TheVariants as reason
 use Rattle.cip_events.specs.declared.event.Recipient.{Recipient}
 use Rattle.cip_events.specs.declared.event.Recipient.TheVariants as recipient
-use Rattle.cip_events.specs.declared.event.Sending.{Sending}
+use Rattle.cip_events.specs.declared.event.OutgoingDatagram.{OutgoingDatagram}
 use Rattle.cip_events.specs.declared.event.Verdict.{Verdict}
 use Rattle.cip_events.specs.declared.event.Verdict.TheVariants as verdict
 use Rattle.cip_events.specs.Outcomes.{Outcome}
@@ -74,18 +74,18 @@ abbrev pub TriadFits : Triad → Type 0
 TriadFits triad = (triad.serial < 2 ^ 16) × (triad.vendor < 2 ^ 16) × (triad.originator < 2 ^ 32)
 
 abbrev pub FaultFits : Fault → Type 0
-FaultFits fault = (fault.general < 2 ^ 8) × IfSome fault.extra (λ extra. extra < 2 ^ 16)
+FaultFits fault = (fault.general < 2 ^ 8) × IfSome fault.extended (λ extended. extended < 2 ^ 16)
 
 -- a mismatch carries no refused status
-abbrev pub MismatchTells : Mismatch → Type 0
-MismatchTells (mismatch.Refused fault) = ⊥
-MismatchTells why = Unit {0}
+abbrev pub MismatchFits : Mismatch → Type 0
+MismatchFits (mismatch.Refused fault) = ⊥
+MismatchFits why = Unit {0}
 
 abbrev pub ReasonFits : Reason → Type 0
 ReasonFits (reason.Encap status) = status < 2 ^ 32
 ReasonFits reason.Unreadable = Unit {0}
 ReasonFits (reason.Cip fault) = FaultFits fault
-ReasonFits (reason.Mismatch why) = MismatchTells why
+ReasonFits (reason.Mismatch why) = MismatchFits why
 
 abbrev pub NoticeFits : Notice → Type 0
 NoticeFits (notice.Opened triad id) = TriadFits triad × (id.0 < 2 ^ 32)
@@ -105,17 +105,17 @@ RecipientFits (recipient.Peer node) = node.0 < 2 ^ 32
 abbrev pub FrameFits : Frame → Type 0
 FrameFits frame = RecipientFits frame.to × IsBytes frame.bytes
 
-abbrev pub SendingFits : Sending → Type 0
-SendingFits sending = (sending.address.0 < 2 ^ 32) × All (λ node. node.0 < 2 ^ 32) sending.nodes × IsBytes sending.bytes
+abbrev pub OutgoingDatagramFits : OutgoingDatagram → Type 0
+OutgoingDatagramFits outgoing = (outgoing.address.0 < 2 ^ 32) × All (λ node. node.0 < 2 ^ 32) outgoing.nodes × IsBytes outgoing.bytes
 
 abbrev pub VerdictFits : Verdict → Type 0
 VerdictFits (verdict.Value bytes) = IsBytes bytes
-VerdictFits told = Unit {0}
+VerdictFits given = Unit {0}
 
 pub record AnswerFits (answer : Answer) : Type 0 where
   pub verdict_fits : VerdictFits answer.verdict
   pub frames_fit : All FrameFits answer.frames
-  pub datagrams_fit : All SendingFits answer.datagrams
+  pub datagrams_fit : All OutgoingDatagramFits answer.datagrams
   pub notices_fit : All NoticeFits answer.notices
 
 abbrev pub OutcomeFits : Outcome → Type 0

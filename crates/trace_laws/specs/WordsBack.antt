@@ -5,7 +5,7 @@ use Rattle.hex.specs.Hex.{IsBytes}
 use Rattle.cip_types.specs.declared.names.Node.{Node}
 use Rattle.cip_types.specs.declared.names.ConnId.{ConnId}
 use Rattle.adapter_table.specs.declared.profile.Action.{Action}
-use Rattle.trace_words.specs.Words.{number_of, node_word, node_of, nodes_word, nodes_of, bytes_word, bytes_of, id_word, id_of, general_word, general_of, extra_word, extra_of, action_word, action_of}
+use Rattle.trace_words.specs.Words.{number_of, node_word, node_of, nodes_word, nodes_of, bytes_word, bytes_of, id_word, id_of, general_word, general_of, extended_word, extended_of, action_word, action_of}
 
 -- a number of at most so many bits
 abbrev pub NumbersReadBack : Type 0
@@ -29,8 +29,8 @@ IdsReadBack = (id : ConnId) → id.0 < 2 ^ 32 → id_of (id_word id) ≡ Some id
 abbrev pub GeneralReadsBack : Type 0
 GeneralReadsBack = (general : ℕ) → general < 2 ^ 8 → general_of (general_word general) ≡ Some general
 
-abbrev pub ExtraReadsBack : Type 0
-ExtraReadsBack = (extra : Option ℕ) → IfSome extra (λ status. status < 2 ^ 16) → extra_of (extra_word extra) ≡ Some extra
+abbrev pub ExtendedReadsBack : Type 0
+ExtendedReadsBack = (extended : Option ℕ) → IfSome extended (λ status. status < 2 ^ 16) → extended_of (extended_word extended) ≡ Some extended
 
 -- what happens to an output
 abbrev pub ActionsReadBack : Type 0

@@ -1,7 +1,7 @@
 //! What is written is read as the same value. The call does nothing: its contract is the law of each kind of word,
 //! and of whole traces.
 
-ghost use Rattle.trace_laws.specs.WordsBack.{NumbersReadBack, NodesReadBack, NodeListsReadBack, BytesReadBack, IdsReadBack, GeneralReadsBack, ExtraReadsBack, ActionsReadBack};
+ghost use Rattle.trace_laws.specs.WordsBack.{NumbersReadBack, NodesReadBack, NodeListsReadBack, BytesReadBack, IdsReadBack, GeneralReadsBack, ExtendedReadsBack, ActionsReadBack};
 ghost use Rattle.trace_laws.specs.TraceBack.{TraceReadsBack};
 
 /// A number, an address, addresses one after the other, bytes, a connection id, a status and an action are read back
@@ -14,7 +14,7 @@ pub fn reads_back()
     ensures bytes { BytesReadBack }
     ensures ids { IdsReadBack }
     ensures general { GeneralReadsBack }
-    ensures extra { ExtraReadsBack }
+    ensures extended { ExtendedReadsBack }
     ensures actions { ActionsReadBack }
     ensures trace { TraceReadsBack }
 {}

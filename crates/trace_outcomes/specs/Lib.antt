@@ -1,3 +1,3 @@
 pub mod Parts
 pub mod Recorded
-pub mod Told
+pub mod Written

@@ -6,7 +6,7 @@ use Rattle.cip_types.specs.declared.names.Triad.{Triad}
 use Rattle.cip_events.specs.declared.event.Frame.{Frame}
 use Rattle.cip_events.specs.declared.event.Recipient.{Recipient}
 use Rattle.cip_events.specs.declared.event.Recipient.TheVariants as recipient
-use Rattle.cip_events.specs.declared.event.Sending.{Sending}
+use Rattle.cip_events.specs.declared.event.OutgoingDatagram.{OutgoingDatagram}
 use Rattle.cip_events.specs.declared.event.Delivery.TheVariants as delivery
 use Rattle.cip_events.specs.declared.event.Verdict.{Verdict}
 use Rattle.cip_events.specs.declared.event.Verdict.TheVariants as verdict
@@ -18,8 +18,8 @@ use Rattle.cip_events.specs.declared.event.StepFault.{StepFault}
 use Rattle.cip_events.specs.declared.event.StepFault.TheVariants as fault
 use Rattle.trace_outcomes.specs.declared.part.Part.{Part}
 use Rattle.trace_outcomes.specs.declared.part.Part.TheVariants as part
-use Rattle.trace_words.specs.Words.{number_of, node_of, nodes_of, bytes_of, id_of, general_of, extra_of}
-use Rattle.trace_words.specs.Reader.{Reader, ◌>>=◌, next_word, gives, ends, refuses, Meanings, meaning, tells}
+use Rattle.trace_words.specs.Words.{number_of, node_of, nodes_of, bytes_of, id_of, general_of, extended_of}
+use Rattle.trace_words.specs.Reader.{Reader, ◌>>=◌, next_word, gives, ends, refuses, Meanings, meaning, mapped}
 
 -- a connection's serial number, vendor number and originator serial number
 abbrev pub triad_reader : Reader Triad
@@ -74,8 +74,8 @@ encap_reader = do
 abbrev pub cip_reader : Reader Reason
 cip_reader = do
   general ← next_word general_of
-  extra ← next_word extra_of
-  ends (reason.Cip (record { general = general; extra = extra }))
+  extended ← next_word extended_of
+  ends (reason.Cip (record { general = general; extended = extended }))
 
 -- what is amiss in a reply, by its name
 abbrev pub mismatch_meanings : Meanings (Option Mismatch)
@@ -153,8 +153,8 @@ frame_out_reader = do
   bytes_to (recipient.Stream stream)
 
 -- the address, the nodes that consume it, and the bytes
-abbrev pub sending_reader : Reader Sending
-sending_reader = do
+abbrev pub outgoing_reader : Reader OutgoingDatagram
+outgoing_reader = do
   address ← next_word node_of
   nodes ← next_word nodes_of
   bytes ← next_word bytes_of
@@ -208,18 +208,18 @@ fault_reader = do
 -- the parts of an outcome that a word begins
 abbrev pub part_meanings : Meanings (Reader Part)
 part_meanings =
-    (codes "value", tells part.Verdict value_reader)
-    ∷ (codes "fault", tells part.Fault fault_reader)
-    ∷ (codes "reply", tells part.Frame reply_reader)
-    ∷ (codes "frame", tells part.Frame frame_out_reader)
-    ∷ (codes "send", tells part.Datagram sending_reader)
-    ∷ (codes "note", tells part.Notice notice_reader)
+    (codes "value", mapped part.Verdict value_reader)
+    ∷ (codes "fault", mapped part.Fault fault_reader)
+    ∷ (codes "reply", mapped part.Frame reply_reader)
+    ∷ (codes "frame", mapped part.Frame frame_out_reader)
+    ∷ (codes "send", mapped part.Datagram outgoing_reader)
+    ∷ (codes "note", mapped part.Notice notice_reader)
     ∷ []
 
 -- a verdict without data, alone
 abbrev pub plain_part : Option Verdict → Reader Part
 plain_part None = refuses
-plain_part (Some told) = ends (part.Verdict told)
+plain_part (Some parsed) = ends (part.Verdict parsed)
 
 abbrev pub part_reader : Reader Part
 part_reader = do

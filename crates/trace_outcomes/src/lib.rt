@@ -6,10 +6,10 @@ mod notice_lines;
 mod part;
 mod part_lines;
 mod recorded;
-mod told;
+mod written;
 
 pub use kept::Recorded;
 pub use part::Part;
 pub use part_lines::read_part;
 pub use recorded::{recorded_with, with_item};
-pub use told::{push_outcome, write_outcome};
+pub use written::{push_outcome, write_outcome};

@@ -112,9 +112,9 @@ fn read_cip(alloc: Global, words: &mut Words<'_>) -> Result<Reason, LineFault>
     ensures { Takes (cip_reader (unread_words words.old)) result (unread_words words.new) }
 {
     let general = words.general(alloc)?;
-    let extra = words.extra(alloc)?;
+    let extended = words.extended(alloc)?;
     words.end()?;
-    Ok(Reason::Cip(Fault { general, extra }))
+    Ok(Reason::Cip(Fault { general, extended }))
 }
 
 /// What follows `encap`: `STATUS`.

@@ -1,6 +1,6 @@
 //! What the lines of an outcome tell.
 
-use cip_events::{Frame, Notice, Sending, StepFault, Verdict};
+use cip_events::{Frame, Notice, OutgoingDatagram, StepFault, Verdict};
 
 /// A part of an outcome.
 #[derive(Drop)]
@@ -8,6 +8,6 @@ pub enum Part {
     Verdict(Verdict),
     Fault(StepFault),
     Frame(Frame),
-    Datagram(Sending),
+    Datagram(OutgoingDatagram),
     Notice(Notice),
 }

@@ -2,11 +2,13 @@
 
 ghost use Rattle.std.specs.Prelude.{◌≡◌};
 ghost use Rattle.trace_words.specs.Reader.{unread_words, Takes};
-ghost use Rattle.trace_outcomes.specs.Parts.{bytes_to, reply_reader, frame_out_reader, sending_reader, fault_of, verdict_of, value_reader, fault_reader, part_reader};
+ghost use Rattle.trace_outcomes.specs.Parts.{bytes_to, reply_reader, frame_out_reader, outgoing_reader, fault_of, verdict_of, value_reader, fault_reader, part_reader};
 
 use crate::notice_lines::read_notice;
 use crate::part::Part;
-use cip_events::{Delivery, Frame, Nodes, Octets, Recipient, Sending, StepFault, Verdict};
+use cip_events::{
+    Consumers, Delivery, Frame, OutgoingDatagram, Recipient, SmallBytes, StepFault, Verdict,
+};
 use std::alloc::Global;
 use trace_words::{LineFault, Words};
 
@@ -20,12 +22,12 @@ pub fn read_part(alloc: Global, words: &mut Words<'_>) -> Result<Part, LineFault
         "fault" => last_fault(words).map(Part::Fault),
         "reply" => read_reply(alloc, words).map(Part::Frame),
         "frame" => read_frame_out(alloc, words).map(Part::Frame),
-        "send" => read_sending(alloc, words).map(Part::Datagram),
+        "send" => read_outgoing(alloc, words).map(Part::Datagram),
         "note" => read_notice(alloc, words).map(Part::Notice),
         _ => {
-            let told = read_verdict(word).ok_or(LineFault::Bad)?;
+            let parsed = read_verdict(word).ok_or(LineFault::Bad)?;
             words.end()?;
-            Ok(Part::Verdict(told))
+            Ok(Part::Verdict(parsed))
         }
     }
 }
@@ -111,16 +113,16 @@ fn read_bytes_to(alloc: Global, words: &mut Words<'_>, to: Recipient) -> Result<
 }
 
 /// What follows `send`: `ADDRESS NODES HEX`.
-fn read_sending(alloc: Global, words: &mut Words<'_>) -> Result<Sending, LineFault>
-    ensures { Takes (sending_reader (unread_words words.old)) result (unread_words words.new) }
+fn read_outgoing(alloc: Global, words: &mut Words<'_>) -> Result<OutgoingDatagram, LineFault>
+    ensures { Takes (outgoing_reader (unread_words words.old)) result (unread_words words.new) }
 {
     let address = words.node()?;
     let nodes = words.nodes(alloc)?;
     let bytes = words.bytes(alloc)?;
     words.end()?;
-    Ok(Sending {
+    Ok(OutgoingDatagram {
         address,
-        nodes: Nodes::from_vec(nodes.into_vec()),
-        bytes: Octets::from_vec(bytes.into_vec()),
+        nodes: Consumers::from_vec(nodes.into_vec()),
+        bytes: SmallBytes::from_vec(bytes.into_vec()),
     })
 }

@@ -5,7 +5,7 @@ ghost use Rattle.trace_words.specs.Reader.{Finds};
 ghost use Rattle.trace_outcomes.specs.Recorded.{plain_answer_of, with_frame, with_datagram, recorded_with};
 
 use crate::part::Part;
-use cip_events::{Answer, Frame, Notice, Outcome, Sending, Verdict};
+use cip_events::{Answer, Frame, Notice, Outcome, OutgoingDatagram, Verdict};
 use cip_types::{Items, OutOfMemory};
 use std::alloc::Global;
 use trace_words::LineFault;
@@ -51,7 +51,7 @@ fn answer_with(answer: Answer, part: Part) -> Result<Outcome, LineFault>
 {
     match part {
         Part::Frame(frame) => Ok(Ok(with_frame(answer, frame)?)),
-        Part::Datagram(sending) => Ok(Ok(with_datagram(answer, sending)?)),
+        Part::Datagram(outgoing) => Ok(Ok(with_datagram(answer, outgoing)?)),
         Part::Notice(notice) => Ok(Ok(with_notice(answer, notice)?)),
         _ => Err(LineFault::Bad),
     }
@@ -78,8 +78,8 @@ fn with_frame(answer: Answer, frame: Frame) -> Result<Answer, LineFault>
     })
 }
 
-fn with_datagram(answer: Answer, sending: Sending) -> Result<Answer, LineFault>
-    ensures { Finds (with_datagram answer sending) result }
+fn with_datagram(answer: Answer, outgoing: OutgoingDatagram) -> Result<Answer, LineFault>
+    ensures { Finds (with_datagram answer outgoing) result }
 {
     if !answer.notices.as_slice().is_empty() {
         return Err(LineFault::Bad);
@@ -90,7 +90,7 @@ fn with_datagram(answer: Answer, sending: Sending) -> Result<Answer, LineFault>
         verdict,
         notices,
     } = answer;
-    let datagrams = with_item(datagrams, sending)?;
+    let datagrams = with_item(datagrams, outgoing)?;
     Ok(Answer {
         frames,
         datagrams,

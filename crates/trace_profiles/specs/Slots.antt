@@ -5,8 +5,8 @@ use Rattle.std.proofs.Common.{lit<}
 use Rattle.std.proofs.Math.Nat.{mod-lt}
 use Rattle.std.specs.Int.{w16, from_le_bytes}
 use Rattle.hex.specs.Hex.{encode_lower}
-use Rattle.cip_epath.specs.declared.key.Key.{Key}
-use Rattle.cip_epath.specs.Key.{view_key}
+use Rattle.cip_epath.specs.declared.key.ElectronicKey.{ElectronicKey}
+use Rattle.cip_epath.specs.ElectronicKey.{view_key}
 use Rattle.cip_epath.specs.Segment.{key_text}
 use Rattle.cip_netparams.specs.declared.Trigger.{Trigger}
 use Rattle.cip_netparams.specs.declared.Trigger.TheVariants.{Cyclic, ChangeOfState}
@@ -52,7 +52,7 @@ pair_at bytes at = from_le_bytes w16 (get_or bytes at 0 ∷ get_or bytes (at + 1
 
 -- vendor, device type and product code in two bytes each, the major revision with the compatibility bit, and the
 -- minor revision
-abbrev pub key_with : List ℕ → Key
+abbrev pub key_with : List ℕ → ElectronicKey
 key_with bytes = record {
   vendor = pair_at bytes 0;
   device_type = pair_at bytes 2;
@@ -64,7 +64,7 @@ key_with bytes = record {
 }
 
 -- the key of eight bytes; none of no bytes
-unfoldable pub key_of_bytes : List ℕ → Option (Option Key)
+unfoldable pub key_of_bytes : List ℕ → Option (Option ElectronicKey)
 key_of_bytes bytes = if length bytes == 0 then Some None else (if length bytes == 8 then Some (Some (key_with bytes)) else None)
 
 -- LINES THAT ARE READ
@@ -80,7 +80,7 @@ scanner_reader = do
   retry ← next_word (number_of 64)
   ends (record { incarnation = incarnation; node = node; vendor = vendor; serial = serial; open_timeout = open_timeout; retry = retry })
 
-abbrev pub key_reader : Reader (Option Key)
+abbrev pub key_reader : Reader (Option ElectronicKey)
 key_reader = do
   bytes ← next_word bytes_of
   perhaps (key_of_bytes bytes)
@@ -160,7 +160,7 @@ instance_word None = codes "-"
 instance_word (Some instance) = decimal instance
 
 -- the bytes of a key segment behind its format, in lower case; a dash for none
-abbrev pub key_word : Option Key → List ℕ
+abbrev pub key_word : Option ElectronicKey → List ℕ
 key_word None = codes "-"
 key_word (Some key) = encode_lower (drop 2 (key_text (view_key key)))
 

@@ -5,7 +5,7 @@ ghost use Rattle.trace_words.specs.Reader.{unread_words, Takes};
 ghost use Rattle.trace_profiles.specs.Slots.{kind_of, multicast_of, trigger_of, key_of_bytes, key_reader, scanner_reader, stated_rate, rate_reader, slot_reader};
 
 use crate::forms::{Rate, ScannerLine};
-use cip_epath::Key;
+use cip_epath::ElectronicKey;
 use cip_netparams::Trigger;
 use cip_productions::Kind;
 use scanner_table::SlotConfig;
@@ -109,7 +109,7 @@ fn trigger_named(word: &str) -> Option<Trigger>
 }
 
 /// The next word as an electronic key, or none.
-fn read_key(alloc: Global, words: &mut Words<'_>) -> Result<Option<Key>, LineFault>
+fn read_key(alloc: Global, words: &mut Words<'_>) -> Result<Option<ElectronicKey>, LineFault>
     ensures { Takes (key_reader (unread_words words.old)) result (unread_words words.new) }
 {
     let bytes = words.bytes(alloc)?;
@@ -118,7 +118,7 @@ fn read_key(alloc: Global, words: &mut Words<'_>) -> Result<Option<Key>, LineFau
 
 /// The key of eight bytes; none of no bytes.
 #[tactic(auto, unfolding(crate::specs::Slots::key_of_bytes))]
-fn key_of_bytes(bytes: &[u8]) -> Option<Option<Key>>
+fn key_of_bytes(bytes: &[u8]) -> Option<Option<ElectronicKey>>
     ensures { result ≡ key_of_bytes bytes.now }
 {
     if bytes.is_empty() {
@@ -127,7 +127,7 @@ fn key_of_bytes(bytes: &[u8]) -> Option<Option<Key>>
     let [v0, v1, t0, t1, p0, p1, revision, minor] = bytes else {
         return None;
     };
-    Some(Some(Key {
+    Some(Some(ElectronicKey {
         vendor: u16::from_le_bytes([*v0, *v1]),
         device_type: u16::from_le_bytes([*t0, *t1]),
         product: u16::from_le_bytes([*p0, *p1]),

@@ -5,7 +5,7 @@ ghost use Rattle.std.specs.List.{join_with_byte};
 ghost use Rattle.trace_words.specs.Words.{node_word, bytes_word, line_text};
 ghost use Rattle.trace_profiles.specs.Slots.{kind_word, multicast_word, instance_word, key_word, rate_words, size_words, slot_words, scanner_words, scanner_text};
 
-use cip_epath::Key;
+use cip_epath::ElectronicKey;
 use cip_netparams::Trigger;
 use cip_productions::Kind;
 use cip_types::OutOfMemory;
@@ -120,7 +120,7 @@ fn multicast_name(multicast: bool) -> &'static str
 }
 
 /// Appends the bytes of a key segment behind its format; `-` for no key.
-fn push_key(alloc: Global, out: &mut String, key: Option<Key>) -> Result<(), OutOfMemory>
+fn push_key(alloc: Global, out: &mut String, key: Option<ElectronicKey>) -> Result<(), OutOfMemory>
     ensures { OnOk result (string_bytes out.new ≡ string_bytes out.old ++ key_word key) }
 {
     let Some(key) = key else {

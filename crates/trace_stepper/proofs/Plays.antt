@@ -10,12 +10,12 @@ use Rattle.cip_events.specs.Outcomes.{Outcome}
 use Rattle.cip_tables.specs.Run.{outcomes_of}
 use Rattle.trace_text.specs.declared.trace.Trace.{Trace}
 use Rattle.trace_text.specs.Reading.{Entry}
-use Rattle.trace_outcomes.specs.Told.{outcome_text, outcomes_text}
+use Rattle.trace_outcomes.specs.Written.{outcome_text, outcomes_text}
 use Rattle.trace_stepper.specs.Compared.{AgreesWith, AgreeAt, AgreeBefore, recorded_at, IsJudged, JudgesOn}
 use Rattle.trace_stepper.specs.Playing.{WritesFirst}
-use Rattle.trace_stepper.specs.Stepping.{events_of, outcomes_told, MovesOn}
+use Rattle.trace_stepper.specs.Stepping.{events_of, outcomes_of_trace, MovesOn}
 use Rattle.trace_stepper.specs.Written.{BeginsToWrite}
-use Rattle.trace_stepper.proofs.Steps.{begun, gone_on, gone_through}
+use Rattle.trace_stepper.proofs.Steps.{begun, continued, completed}
 use Rattle.trace_stepper.proofs.Writes.{chained, nothing}
 
 text_pushed : (number : ℕ) (outcomes : List Outcome) (last : Outcome) → outcomes_text number (outcomes ++ last ∷ []) ≡ outcomes_text number outcomes ++ outcome_text (number + length outcomes) last
@@ -55,16 +55,16 @@ judged_more entries outcomes place outcome None (Some number) given judged on = 
 -- the first outcomes are told and judged, and the others are to come
 pub record IsPlaying (trace : Trace) (old now : Option (List ℕ)) (table : DeviceTable) (left : List Entry) (place : ℕ) (differs : Option ℕ) : Type 0 where
   pub front : List Outcome
-  pub told : outcomes_told trace ≡ front ++ outcomes_of table (events_of left)
+  pub reported : outcomes_of_trace trace ≡ front ++ outcomes_of table (events_of left)
   pub counted : length front ≡ place
   pub written : Appends old now (outcomes_text 1 front)
-  pub judged : IsJudged trace.events (outcomes_told trace) place differs
+  pub judged : IsJudged trace.events (outcomes_of_trace trace) place differs
   pub all : place + length left ≡ length trace.events
 
 pub play_begun : (trace : Trace) (old : Option (List ℕ)) (table : DeviceTable) (left : List Entry) → table ≡ opening_table trace.config → left ≡ trace.events → IsPlaying trace old old table left 0 None
 play_begun trace old table left fresh all = record {
   front = [];
-  told = begun trace [] table left refl fresh all;
+  reported = begun trace [] table left refl fresh all;
   counted = refl;
   written = nothing old;
   judged = λ place below. absurd (omega (arith, below));
@@ -74,30 +74,30 @@ play_begun trace old table left fresh all = record {
 pub play_more : (trace : Trace) (old now next : Option (List ℕ)) (table table' : DeviceTable) (left rest : List Entry) (place : ℕ) (differs differs' : Option ℕ) (outcome : Outcome) (text : List ℕ) → IsPlaying trace old now table left place differs → MovesOn table left (Ok (Some outcome)) table' rest → text ≡ outcome_text (place + 1) outcome → Appends now next text → JudgesOn trace.events place outcome differs differs' → IsPlaying trace old next table' rest (place + 1) differs'
 play_more trace old now next table table' left rest place differs differs' outcome text playing moves is written judges =
     let front : List Outcome = playing.front in
-    let told : outcomes_told trace ≡ (front ++ outcome ∷ []) ++ outcomes_of table' (events_of rest) = gone_on (outcomes_told trace) front (front ++ outcome ∷ []) table table' left rest outcome playing.told moves refl in
-    let apart : outcomes_told trace ≡ front ++ outcome ∷ outcomes_of table' (events_of rest) = told ∙ append_assoc front (outcome ∷ []) (outcomes_of table' (events_of rest)) in
-    let given : slice_get (outcomes_told trace) place ≡ Some outcome = ap (λ os. slice_get os place) apart ∙ ap (λ n. slice_get (front ++ outcome ∷ outcomes_of table' (events_of rest)) n) (sym playing.counted) ∙ got front (outcomes_of table' (events_of rest)) outcome in
+    let reported : outcomes_of_trace trace ≡ (front ++ outcome ∷ []) ++ outcomes_of table' (events_of rest) = continued (outcomes_of_trace trace) front (front ++ outcome ∷ []) table table' left rest outcome playing.reported moves refl in
+    let apart : outcomes_of_trace trace ≡ front ++ outcome ∷ outcomes_of table' (events_of rest) = reported ∙ append_assoc front (outcome ∷ []) (outcomes_of table' (events_of rest)) in
+    let given : slice_get (outcomes_of_trace trace) place ≡ Some outcome = ap (λ os. slice_get os place) apart ∙ ap (λ n. slice_get (front ++ outcome ∷ outcomes_of table' (events_of rest)) n) (sym playing.counted) ∙ got front (outcomes_of table' (events_of rest)) outcome in
     let number : 1 + length front ≡ place + 1 = omega (arith, playing.counted) in
     let text_is : outcomes_text 1 front ++ text ≡ outcomes_text 1 (front ++ outcome ∷ []) = ap (λ t. outcomes_text 1 front ++ t) (is ∙ ap (λ n. outcome_text n outcome) (sym number)) ∙ sym (text_pushed 1 front outcome) in
     let fewer : length left ≡ suc (length rest) = ap length moves.1 in
     record {
       front = front ++ outcome ∷ [];
-      told = told;
+      reported = reported;
       counted = length_pushed front outcome ∙ ap (λ n. n + 1) playing.counted;
       written = subst (Appends old next) text_is (chained old now next (outcomes_text 1 front) text playing.written written);
-      judged = judged_more trace.events (outcomes_told trace) place outcome differs differs' given playing.judged judges;
+      judged = judged_more trace.events (outcomes_of_trace trace) place outcome differs differs' given playing.judged judges;
       all = omega (arith, playing.all, fewer);
     }
 
 pub play_stopped : (trace : Trace) (old now : Option (List ℕ)) (table : DeviceTable) (left : List Entry) (place : ℕ) (differs : Option ℕ) → IsPlaying trace old now table left place differs → WritesFirst trace old now
-play_stopped trace old now table left place differs playing = (playing.front, (outcomes_of table (events_of left), (playing.told, playing.written)))
+play_stopped trace old now table left place differs playing = (playing.front, (outcomes_of table (events_of left), (playing.reported, playing.written)))
 
-pub play_ended : (trace : Trace) (old now : Option (List ℕ)) (table table' : DeviceTable) (left rest : List Entry) (place : ℕ) (differs : Option ℕ) → IsPlaying trace old now table left place differs → MovesOn table left (Ok None) table' rest → Appends old now (outcomes_text 1 (outcomes_told trace)) × IsJudged trace.events (outcomes_told trace) (length trace.events) differs
+pub play_ended : (trace : Trace) (old now : Option (List ℕ)) (table table' : DeviceTable) (left rest : List Entry) (place : ℕ) (differs : Option ℕ) → IsPlaying trace old now table left place differs → MovesOn table left (Ok None) table' rest → Appends old now (outcomes_text 1 (outcomes_of_trace trace)) × IsJudged trace.events (outcomes_of_trace trace) (length trace.events) differs
 play_ended trace old now table table' left rest place differs playing moves =
-    let whole : outcomes_told trace ≡ playing.front = gone_through (outcomes_told trace) playing.front table table' left rest playing.told moves in
+    let whole : outcomes_of_trace trace ≡ playing.front = completed (outcomes_of_trace trace) playing.front table table' left rest playing.reported moves in
     let none : length left ≡ 0 = ap length moves.0 in
     let last : place ≡ length trace.events = omega (arith, playing.all, none) in
-    (subst (λ os. Appends old now (outcomes_text 1 os)) (sym whole) playing.written, subst (λ n. IsJudged trace.events (outcomes_told trace) n differs) last playing.judged)
+    (subst (λ os. Appends old now (outcomes_text 1 os)) (sym whole) playing.written, subst (λ n. IsJudged trace.events (outcomes_of_trace trace) n differs) last playing.judged)
 
 -- a place is left where an entry is
 pub place_left : (trace : Trace) (old now : Option (List ℕ)) (table table' : DeviceTable) (left rest : List Entry) (place : ℕ) (differs : Option ℕ) (outcome : Outcome) → IsPlaying trace old now table left place differs → MovesOn table left (Ok (Some outcome)) table' rest → place < length trace.events
@@ -106,23 +106,23 @@ place_left trace old now table table' left rest place differs outcome playing mo
     omega (arith, playing.all, fewer)
 
 -- a text is cleared, and the outcome is put there
-pub put_alone : (text before after told : List ℕ) → text ≡ after → after ≡ before ++ told → before ≡ [] → text ≡ told
-put_alone text before after told is put cleared = is ∙ put ∙ ap (λ front. front ++ told) cleared
+pub put_alone : (text before after reported : List ℕ) → text ≡ after → after ≡ before ++ reported → before ≡ [] → text ≡ reported
+put_alone text before after reported is put cleared = is ∙ put ∙ ap (λ front. front ++ reported) cleared
 
 pub played_on : (trace : Trace) (old now next : Option (List ℕ)) (table table' : DeviceTable) (left rest : List Entry) (place number : ℕ) (differs differs' : Option ℕ) (outcome : Outcome) (text : List ℕ) → IsPlaying trace old now table left place differs → MovesOn table left (Ok (Some outcome)) table' rest → number ≡ place + 1 → text ≡ outcome_text number outcome → Appends now next text → JudgesOn trace.events place outcome differs differs' → IsPlaying trace old next table' rest number differs'
 played_on trace old now next table table' left rest place number differs differs' outcome text playing moves numbered is written judges =
-    let told : text ≡ outcome_text (place + 1) outcome = is ∙ ap (λ n. outcome_text n outcome) numbered in
-    subst (λ n. IsPlaying trace old next table' rest n differs') (sym numbered) (play_more trace old now next table table' left rest place differs differs' outcome text playing moves told written judges)
+    let reported : text ≡ outcome_text (place + 1) outcome = is ∙ ap (λ n. outcome_text n outcome) numbered in
+    subst (λ n. IsPlaying trace old next table' rest n differs') (sym numbered) (play_more trace old now next table table' left rest place differs differs' outcome text playing moves reported written judges)
 
 -- the stream took a beginning of the next outcome's text
-pub play_broken : (trace : Trace) (old now next : Option (List ℕ)) (table table' : DeviceTable) (left rest : List Entry) (place number : ℕ) (differs : Option ℕ) (outcome : Outcome) (text : List ℕ) → IsPlaying trace old now table left place differs → MovesOn table left (Ok (Some outcome)) table' rest → number ≡ place + 1 → text ≡ outcome_text number outcome → BeginsToWrite now text next → BeginsToWrite old (outcomes_text 1 (outcomes_told trace)) next
+pub play_broken : (trace : Trace) (old now next : Option (List ℕ)) (table table' : DeviceTable) (left rest : List Entry) (place number : ℕ) (differs : Option ℕ) (outcome : Outcome) (text : List ℕ) → IsPlaying trace old now table left place differs → MovesOn table left (Ok (Some outcome)) table' rest → number ≡ place + 1 → text ≡ outcome_text number outcome → BeginsToWrite now text next → BeginsToWrite old (outcomes_text 1 (outcomes_of_trace trace)) next
 play_broken trace old now next table table' left rest place number differs outcome text playing moves numbered is (first, (last, (parts, written))) =
     let front : List Outcome = playing.front in
     let more : List Outcome = outcomes_of table' (events_of rest) in
-    let told : outcomes_told trace ≡ (front ++ outcome ∷ []) ++ more = gone_on (outcomes_told trace) front (front ++ outcome ∷ []) table table' left rest outcome playing.told moves refl in
-    let apart : outcomes_told trace ≡ front ++ outcome ∷ more = told ∙ append_assoc front (outcome ∷ []) more in
+    let reported : outcomes_of_trace trace ≡ (front ++ outcome ∷ []) ++ more = continued (outcomes_of_trace trace) front (front ++ outcome ∷ []) table table' left rest outcome playing.reported moves refl in
+    let apart : outcomes_of_trace trace ≡ front ++ outcome ∷ more = reported ∙ append_assoc front (outcome ∷ []) more in
     let number_is : 1 + length front ≡ number = omega (arith, playing.counted, numbered) in
-    let all_text : outcomes_text 1 (outcomes_told trace) ≡ outcomes_text 1 front ++ (text ++ outcomes_text (number + 1) more) =
+    let all_text : outcomes_text 1 (outcomes_of_trace trace) ≡ outcomes_text 1 front ++ (text ++ outcomes_text (number + 1) more) =
     ap (outcomes_text 1) apart ∙ text_apart 1 front (outcome ∷ more) ∙ ap (λ n. outcomes_text 1 front ++ outcomes_text n (outcome ∷ more)) number_is ∙ ap (λ t. outcomes_text 1 front ++ (t ++ outcomes_text (number + 1) more)) (sym is) in
     let parted : outcomes_text 1 front ++ (text ++ outcomes_text (number + 1) more) ≡ (outcomes_text 1 front ++ first) ++ (last ++ outcomes_text (number + 1) more) =
     ap (λ t. outcomes_text 1 front ++ (t ++ outcomes_text (number + 1) more)) parts ∙ ap (λ t. outcomes_text 1 front ++ t) (append_assoc first last (outcomes_text (number + 1) more)) ∙ sym (append_assoc (outcomes_text 1 front) first (last ++ outcomes_text (number + 1) more)) in

@@ -13,7 +13,7 @@ use Rattle.trace_text.specs.Reading.{Entry}
 use Rattle.cip_events.specs.declared.profile_fault.ProfileFault.{ProfileFault}
 use Rattle.trace_stepper.specs.declared.stepper.StepperFault.{StepperFault}
 use Rattle.trace_stepper.specs.declared.stepper.StepperFault.TheVariants as stepper
-use Rattle.trace_stepper.specs.Stepping.{events_of, outcomes_told, MovesOn, IsRefused}
+use Rattle.trace_stepper.specs.Stepping.{events_of, outcomes_of_trace, MovesOn, IsRefused}
 
 -- an outcome that is no want of memory is the step's
 pub follows_said : (said : Result (Answer × DeviceTable) StepFault) (old new : DeviceTable) (outcome : Outcome) → Follows said old outcome new → outcome ≢ Err step_fault.OutOfMemory → (outcome ≡ outcome_of said) × (new ≡ table_of old said)
@@ -27,8 +27,8 @@ follows_said said old new (Err step_fault.NoSuchSlot) h found = rw h.0 (refl, h.
 follows_said said old new (Err step_fault.NotAllowedNow) h found = rw h.0 (refl, h.1)
 
 -- the outcomes so far, and those to come
-pub gone_on : (all front front' : List Outcome) (old new : DeviceTable) (left rest : List Entry) (outcome : Outcome) → all ≡ front ++ outcomes_of old (events_of left) → MovesOn old left (Ok (Some outcome)) new rest → front' ≡ front ++ outcome ∷ [] → all ≡ front' ++ outcomes_of new (events_of rest)
-gone_on all front front' old new left rest outcome so_far (entry, taken, is, table) pushed =
+pub continued : (all front front' : List Outcome) (old new : DeviceTable) (left rest : List Entry) (outcome : Outcome) → all ≡ front ++ outcomes_of old (events_of left) → MovesOn old left (Ok (Some outcome)) new rest → front' ≡ front ++ outcome ∷ [] → all ≡ front' ++ outcomes_of new (events_of rest)
+continued all front front' old new left rest outcome so_far (entry, taken, is, table) pushed =
     so_far
     ∙ ap (λ entries. front ++ outcomes_of old (events_of entries)) taken
     ∙ ap (λ o. front ++ (o ∷ outcomes_of (table_of old (step old entry.0)) (events_of rest))) (sym is)
@@ -36,8 +36,8 @@ gone_on all front front' old new left rest outcome so_far (entry, taken, is, tab
     ∙ sym (append_assoc front (outcome ∷ []) (outcomes_of new (events_of rest)))
     ∙ ap (λ f. f ++ outcomes_of new (events_of rest)) (sym pushed)
 
-pub gone_through : (all front : List Outcome) (old new : DeviceTable) (left rest : List Entry) → all ≡ front ++ outcomes_of old (events_of left) → MovesOn old left (Ok None) new rest → all ≡ front
-gone_through all front old new left rest so_far (none, no_rest, same) = so_far ∙ ap (λ entries. front ++ outcomes_of old (events_of entries)) none ∙ append-nil front
+pub completed : (all front : List Outcome) (old new : DeviceTable) (left rest : List Entry) → all ≡ front ++ outcomes_of old (events_of left) → MovesOn old left (Ok None) new rest → all ≡ front
+completed all front old new left rest so_far (none, no_rest, same) = so_far ∙ ap (λ entries. front ++ outcomes_of old (events_of entries)) none ∙ append-nil front
 
 dropped : (entries : List Entry) (place : ℕ) (entry : Entry) → place < length entries → entry ≡ get_or entries place entry → drop place entries ≡ entry ∷ drop (place + 1) entries
 dropped entries place entry below is =
@@ -50,7 +50,7 @@ moved old new slice entries place entry outcome same below is h memory =
     let at : drop place entries ≡ entry ∷ drop (place + 1) entries = subst (λ xs. drop place xs ≡ entry ∷ drop (place + 1) xs) same (dropped slice place entry below is) in
     (entry, at, said.0, said.1)
 
-pub begun : (trace : Trace) (front : List Outcome) (table : DeviceTable) (left : List Entry) → front ≡ [] → table ≡ opening_table trace.config → left ≡ trace.events → outcomes_told trace ≡ front ++ outcomes_of table (events_of left)
+pub begun : (trace : Trace) (front : List Outcome) (table : DeviceTable) (left : List Entry) → front ≡ [] → table ≡ opening_table trace.config → left ≡ trace.events → outcomes_of_trace trace ≡ front ++ outcomes_of table (events_of left)
 begun trace front table left none fresh all = rw (none, fresh, all) refl
 
 -- a step that is not taken is refused for want of memory alone

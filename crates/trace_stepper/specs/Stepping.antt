@@ -18,8 +18,8 @@ abbrev pub events_of : List Entry → List Event
 events_of entries = map (λ entry. entry.0) entries
 
 -- the outcomes of a trace's events at a fresh device
-abbrev pub outcomes_told : Trace → List Outcome
-outcomes_told trace = outcomes_of (opening_table trace.config) (events_of trace.events)
+abbrev pub outcomes_of_trace : Trace → List Outcome
+outcomes_of_trace trace = outcomes_of (opening_table trace.config) (events_of trace.events)
 
 -- The next entry's event is taken, with the outcome of the table's step; or no entry is left; or memory is
 -- wanted, and the same event is next again.

@@ -2,7 +2,7 @@
 
 ghost use Rattle.std.specs.Prelude.{◌≡◌, ◌<◌, ◌+◌, length, IfErr, OnOk, OnErr};
 ghost use Rattle.std.specs.Io.KnownBytes.{Appends};
-ghost use Rattle.trace_outcomes.specs.Told.{outcome_text};
+ghost use Rattle.trace_outcomes.specs.Written.{outcome_text};
 ghost use Rattle.cip_tables.specs.Step.{makes_adapter, same_kind};
 ghost use Rattle.trace_stepper.specs.Compared.{JudgesOn};
 ghost use Rattle.trace_stepper.specs.Playing.{IsPlayed};

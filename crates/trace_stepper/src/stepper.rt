@@ -2,7 +2,7 @@
 
 ghost use Rattle.std.specs.Prelude.{◌≡◌, ◌↔◌, true, None, Err, IsTrue, IfOk, IfErr, drop};
 ghost use Rattle.cip_tables.specs.Step.{opening_table, config_fault, makes_adapter, same_kind};
-ghost use Rattle.trace_stepper.specs.Stepping.{outcomes_told, MovesOn, IsRefused};
+ghost use Rattle.trace_stepper.specs.Stepping.{outcomes_of_trace, MovesOn, IsRefused};
 
 use cip_tables::{Config, Device, NewFault, Outcome, StepFault};
 use cip_types::{Items, OutOfMemory};
@@ -93,7 +93,7 @@ impl<'a, D: Device> Stepper<'a, D> {
             return Ok(None);
         };
         let outcome = self.device.step(&entry.0);
-        if wants_memory(&outcome) {
+        if is_out_of_memory(&outcome) {
             return Err(StepperFault::OutOfMemory);
         }
         self.place += 1;
@@ -122,7 +122,7 @@ fn makes_adapter(config: &Config) -> bool
 }
 
 /// Whether a growth of memory was refused.
-fn wants_memory(outcome: &Outcome) -> bool
+fn is_out_of_memory(outcome: &Outcome) -> bool
     ensures { IsTrue result ↔ (outcome.now ≡ Err StepFault.OutOfMemory) }
 {
     match outcome {
@@ -141,7 +141,7 @@ pub struct Report {
 ///
 /// The faults, in order: `Profile`, `WrongKind`, and `OutOfMemory` wherever a growth was refused.
 pub fn replay<D: Device + Drop>(alloc: Global, trace: &Trace) -> Result<Report, StepperFault>
-    ensures outcomes { IfOk result (λ report. report.outcomes ≡ outcomes_told trace.now) }
+    ensures outcomes { IfOk result (λ report. report.outcomes ≡ outcomes_of_trace trace.now) }
     ensures fault { IfErr result (IsRefused (config_fault trace.now.config) (same_kind D.ADAPTER (makes_adapter trace.now.config))) }
 {
     let mut stepper: Stepper<'_, D> = Stepper::new(alloc, trace)?;

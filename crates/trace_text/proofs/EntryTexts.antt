@@ -20,10 +20,10 @@ entries_text-push number (entry ∷ entries) last =
     ∙ sym (append_assoc front (recorded_text number entry.1 ++ entries_text (number + 1) entries) _)
 
 pub entry_more : (old so_far mid more : List ℕ) (entries : List Entry) (i number : ℕ) (entry : Entry) → i < length entries → entry ≡ get_or entries i entry → number ≡ i + 1 → so_far ≡ old ++ entries_text 1 (take i entries) → mid ≡ so_far ++ line_text (event_words entry.0) → more ≡ mid ++ recorded_text number entry.1 → more ≡ old ++ entries_text 1 (take (i + 1) entries)
-entry_more old so_far mid more entries i number entry below is numbered told line recorded =
+entry_more old so_far mid more entries i number entry below is numbered parsed line recorded =
     let taken : take (i + 1) entries ≡ take i entries ++ entry ∷ [] = take_more entries i entry below ∙ ap (λ x. take i entries ++ x ∷ []) (sym is) in
     let place : number ≡ 1 + length (take i entries) = numbered ∙ (let same : i + 1 ≡ 1 + length (take i entries) = simp length-take (omega arith) in same) in
-    recorded ∙ ap (λ front. front ++ recorded_text number entry.1) (line ∙ ap (λ front. front ++ line_text (event_words entry.0)) told)
+    recorded ∙ ap (λ front. front ++ recorded_text number entry.1) (line ∙ ap (λ front. front ++ line_text (event_words entry.0)) parsed)
     ∙ append_assoc (old ++ entries_text 1 (take i entries)) (line_text (event_words entry.0)) (recorded_text number entry.1)
     ∙ append_assoc old (entries_text 1 (take i entries)) (entry_text number entry)
     ∙ ap (λ n. old ++ (entries_text 1 (take i entries) ++ entry_text n entry)) place

@@ -7,10 +7,10 @@ use Rattle.cip_events.specs.declared.event.Notice.{Notice}
 use Rattle.cip_events.specs.declared.event.Notice.TheVariants.{Slot, Refused, NoIds}
 use Rattle.cip_events.specs.declared.event.Reason.TheVariants.{Encap, Unreadable, Cip, Mismatch}
 use Rattle.cip_events.specs.declared.event.Verdict.TheVariants as verdict
-use Rattle.trace_text.specs.declared.forms.Line.{Line}
-use Rattle.trace_text.specs.declared.forms.Line.TheVariants.{Event as EventLine, Recorded}
+use Rattle.trace_text.specs.declared.forms.TraceLine.{TraceLine}
+use Rattle.trace_text.specs.declared.forms.TraceLine.TheVariants.{Event as EventLine, Recorded}
 use Rattle.trace_outcomes.specs.declared.part.Part.TheVariants as part
-use Rattle.trace_words.specs.Words.{number_of, general_of, extra_of}
+use Rattle.trace_words.specs.Words.{number_of, general_of, extended_of}
 use Rattle.trace_outcomes.specs.Parts.{mismatch_of, verdict_of}
 use Rattle.trace_text.specs.Forms.{mode_of, line_of}
 
@@ -30,12 +30,12 @@ other_modes_and_slots_are_bad = refl
 
 -- ---- outcomes
 
-abbrev told : List Notice
-told =
+abbrev parsed : List Notice
+parsed =
     Refused 0 (Encap 4294967295)
     ∷ Refused 1 Unreadable
-    ∷ Refused 2 (Cip (record { general = 1; extra = Some 0x0106 }))
-    ∷ Refused 3 (Cip (record { general = 0x1C; extra = None }))
+    ∷ Refused 2 (Cip (record { general = 1; extended = Some 0x0106 }))
+    ∷ Refused 3 (Cip (record { general = 0x1C; extended = None }))
     ∷ Refused 4 (Mismatch mismatch.Triad)
     ∷ Refused 5 (Mismatch mismatch.Id)
     ∷ Refused 6 (Mismatch mismatch.Api)
@@ -43,7 +43,7 @@ told =
     ∷ Slot 8 6
     ∷ []
 
-abbrev noted : Notice → Option Line
+abbrev noted : Notice → Option TraceLine
 noted notice = Some (Recorded 12 (part.Notice notice))
 
 notices_of_slots_are_read :
@@ -59,8 +59,8 @@ notices_of_slots_are_read :
     ∷ codes "12 note slot 8 6"
     ∷ []
     )
-    ≡ map noted told
-unfolding line_of verdict_of mismatch_of number_of general_of extra_of decode_pairs
+    ≡ map noted parsed
+unfolding line_of verdict_of mismatch_of number_of general_of extended_of decode_pairs
 notices_of_slots_are_read = refl
 
 ignored_is_read : line_of (codes "12 ignored") ≡ Some (Recorded 12 (part.Verdict verdict.Ignored))
@@ -80,5 +80,5 @@ other_notices_are_bad :
     ∷ []
     )
     ≡ None ∷ None ∷ None ∷ None ∷ None ∷ None ∷ None ∷ []
-unfolding line_of verdict_of mismatch_of number_of general_of extra_of decode_pairs
+unfolding line_of verdict_of mismatch_of number_of general_of extended_of decode_pairs
 other_notices_are_bad = refl

@@ -7,11 +7,11 @@ use Rattle.std.proofs.lemmas.List.{take_all, length-drop, drop-drop}
 use Rattle.std.proofs.lemmas.List.Sums.{fails_before_first}
 use Rattle.std.proofs.lemmas.List.Elements.{All-from_get_or}
 use Rattle.std.proofs.lemmas.List.Splits.{slice_split_first, slice_split_none, length-slice_split}
-use Rattle.trace_text.specs.declared.draft.Draft.{Draft}
+use Rattle.trace_text.specs.declared.builder.TraceBuilder.{TraceBuilder}
 use Rattle.trace_text.specs.declared.trace.Trace.{Trace}
 use Rattle.trace_text.specs.declared.trace.TraceFault.{TraceFault}
 use Rattle.trace_text.specs.declared.trace.TraceFault.TheVariants.{BadLine}
-use Rattle.trace_text.specs.Reading.{is_line_feed, parts_of, draft_after, state_after, told, told_from, ended}
+use Rattle.trace_text.specs.Reading.{is_line_feed, parts_of, builder_after, state_after, parsed, parsed_from, ended}
 
 chosen : (b : Bool) (n i : ℕ) → cond b (Some n) None ≡ Some i → (b ≡ true) × (n ≡ i)
 chosen true n i e = (refl, cc)
@@ -50,39 +50,39 @@ abbrev Parts : Type 0
 Parts = List (List ℕ)
 
 -- a line that is there is read first
-pub line_told : (number : ℕ) (state : Result Draft ℕ) (text rest line : List ℕ) → parts_of text ≡ line ∷ parts_of rest → told_from number state (parts_of text) ≡ told_from (number + 1) (state_after number state line) (parts_of rest)
-line_told number state text rest line parted = ap (told_from number state) parted ∙ go (parts_of rest) (some_part rest)
+pub line_parsed : (number : ℕ) (state : Result TraceBuilder ℕ) (text rest line : List ℕ) → parts_of text ≡ line ∷ parts_of rest → parsed_from number state (parts_of text) ≡ parsed_from (number + 1) (state_after number state line) (parts_of rest)
+line_parsed number state text rest line parted = ap (parsed_from number state) parted ∙ go (parts_of rest) (some_part rest)
   where
-    go : (parts : Parts) → parts ≢ [] → told_from number state (line ∷ parts) ≡ told_from (number + 1) (state_after number state line) parts
+    go : (parts : Parts) → parts ≢ [] → parsed_from number state (line ∷ parts) ≡ parsed_from (number + 1) (state_after number state line) parts
     go [] some = absurd (some refl)
     go (next ∷ parts) some = refl
 
 -- what is bad stays so
-pub stays_bad : (number bad : ℕ) (parts : Parts) → told_from number (Err bad) parts ≡ Err (BadLine bad)
+pub stays_bad : (number bad : ℕ) (parts : Parts) → parsed_from number (Err bad) parts ≡ Err (BadLine bad)
 stays_bad number bad [] = refl
 stays_bad number bad (last ∷ []) = refl
 stays_bad number bad (line ∷ next ∷ parts) = stays_bad (number + 1) bad (next ∷ parts)
 
 -- a line that is good
-pub good_line : (said : Result Trace TraceFault) (number : ℕ) (draft draft' : Draft) (text rest line : List ℕ) → said ≡ told_from number (Ok draft) (parts_of text) → parts_of text ≡ line ∷ parts_of rest → draft_after draft line ≡ Some draft' → said ≡ told_from (number + 1) (Ok draft') (parts_of rest)
-good_line said number draft draft' text rest line so_far parted good = so_far ∙ line_told number (Ok draft) text rest line parted ∙ ap (λ d. told_from (number + 1) (ok_or d number) (parts_of rest)) good
+pub good_line : (said : Result Trace TraceFault) (number : ℕ) (builder builder' : TraceBuilder) (text rest line : List ℕ) → said ≡ parsed_from number (Ok builder) (parts_of text) → parts_of text ≡ line ∷ parts_of rest → builder_after builder line ≡ Some builder' → said ≡ parsed_from (number + 1) (Ok builder') (parts_of rest)
+good_line said number builder builder' text rest line so_far parted good = so_far ∙ line_parsed number (Ok builder) text rest line parted ∙ ap (λ d. parsed_from (number + 1) (ok_or d number) (parts_of rest)) good
 
 -- a line that is bad
-pub bad_line : (said : Result Trace TraceFault) (number : ℕ) (draft : Draft) (text rest line : List ℕ) → said ≡ told_from number (Ok draft) (parts_of text) → parts_of text ≡ line ∷ parts_of rest → draft_after draft line ≡ None → said ≡ Err (BadLine number)
-bad_line said number draft text rest line so_far parted bad = so_far ∙ line_told number (Ok draft) text rest line parted ∙ ap (λ d. told_from (number + 1) (ok_or d number) (parts_of rest)) bad ∙ stays_bad (number + 1) number (parts_of rest)
+pub bad_line : (said : Result Trace TraceFault) (number : ℕ) (builder : TraceBuilder) (text rest line : List ℕ) → said ≡ parsed_from number (Ok builder) (parts_of text) → parts_of text ≡ line ∷ parts_of rest → builder_after builder line ≡ None → said ≡ Err (BadLine number)
+bad_line said number builder text rest line so_far parted bad = so_far ∙ line_parsed number (Ok builder) text rest line parted ∙ ap (λ d. parsed_from (number + 1) (ok_or d number) (parts_of rest)) bad ∙ stays_bad (number + 1) number (parts_of rest)
 
-ended_open : (number : ℕ) (draft : Draft) (text : List ℕ) → 0 < length text → ended number (Ok draft) text ≡ Err (BadLine number)
-ended_open number draft [] some = absurd (omega arith)
-ended_open number draft (byte ∷ text) some = refl
+ended_open : (number : ℕ) (builder : TraceBuilder) (text : List ℕ) → 0 < length text → ended number (Ok builder) text ≡ Err (BadLine number)
+ended_open number builder [] some = absurd (omega arith)
+ended_open number builder (byte ∷ text) some = refl
 
 -- what no LF ends is bad
-pub open_line : (said : Result Trace TraceFault) (number : ℕ) (draft : Draft) (text : List ℕ) → said ≡ told_from number (Ok draft) (parts_of text) → parts_of text ≡ text ∷ [] → 0 < length text → said ≡ Err (BadLine number)
-open_line said number draft text so_far parted some = so_far ∙ ap (told_from number (Ok draft)) parted ∙ ended_open number draft text some
+pub open_line : (said : Result Trace TraceFault) (number : ℕ) (builder : TraceBuilder) (text : List ℕ) → said ≡ parsed_from number (Ok builder) (parts_of text) → parts_of text ≡ text ∷ [] → 0 < length text → said ≡ Err (BadLine number)
+open_line said number builder text so_far parted some = so_far ∙ ap (parsed_from number (Ok builder)) parted ∙ ended_open number builder text some
 
 empty_is : (text : List ℕ) → length text ≡ 0 → text ≡ []
 empty_is [] none = refl
 empty_is (byte ∷ text) none = absurd (omega arith)
 
 -- the end of the text
-pub text_ends : (said : Result Trace TraceFault) (number : ℕ) (draft : Draft) (text : List ℕ) → said ≡ told_from number (Ok draft) (parts_of text) → parts_of text ≡ text ∷ [] → length text ≡ 0 → said ≡ told number draft
-text_ends said number draft text so_far parted none = so_far ∙ ap (told_from number (Ok draft)) parted ∙ ap (ended number (Ok draft)) (empty_is text none)
+pub text_ends : (said : Result Trace TraceFault) (number : ℕ) (builder : TraceBuilder) (text : List ℕ) → said ≡ parsed_from number (Ok builder) (parts_of text) → parts_of text ≡ text ∷ [] → length text ≡ 0 → said ≡ parsed number builder
+text_ends said number builder text so_far parted none = so_far ∙ ap (parsed_from number (Ok builder)) parted ∙ ap (ended number (Ok builder)) (empty_is text none)

@@ -4,10 +4,10 @@ use Rattle.std.specs.Prelude.{ℕ, nat_lt, Bool, true, false, List, [], ◌∷�
 use Rattle.std.specs.List.{list_all}
 use Rattle.cip_events.specs.declared.event.Event.{Event}
 use Rattle.cip_events.specs.declared.event.Event.TheVariants as event
-use Rattle.trace_text.specs.declared.forms.Line.{Line}
-use Rattle.trace_text.specs.declared.forms.Line.TheVariants as line
+use Rattle.trace_text.specs.declared.forms.TraceLine.{TraceLine}
+use Rattle.trace_text.specs.declared.forms.TraceLine.TheVariants as line
 use Rattle.trace_words.specs.Words.{words_of, number_of, node_of, bytes_of}
-use Rattle.trace_words.specs.Reader.{Reader, ◌>>=◌, next_word, ends, refuses, Meanings, meaning, tells}
+use Rattle.trace_words.specs.Reader.{Reader, ◌>>=◌, next_word, ends, refuses, Meanings, meaning, mapped}
 use Rattle.trace_profiles.specs.Profiles.{adapter_reader, output_reader, point_reader, heartbeat_reader}
 use Rattle.trace_profiles.specs.Slots.{scanner_reader, slot_reader}
 use Rattle.trace_outcomes.specs.Parts.{part_reader}
@@ -85,34 +85,34 @@ stop_reader = do
 -- LINES
 
 -- the lines that a keyword begins
-abbrev pub line_meanings : Meanings (Reader Line)
+abbrev pub line_meanings : Meanings (Reader TraceLine)
 line_meanings =
-    (codes "adapter", tells line.Adapter adapter_reader)
-    ∷ (codes "output", tells line.Output output_reader)
-    ∷ (codes "input", tells line.Input point_reader)
-    ∷ (codes "config", tells line.Config point_reader)
-    ∷ (codes "heartbeat", tells line.Heartbeat heartbeat_reader)
-    ∷ (codes "scanner", tells line.Scanner scanner_reader)
-    ∷ (codes "slot", tells line.Slot slot_reader)
-    ∷ (codes "request", tells line.Event request_reader)
-    ∷ (codes "stream", tells line.Event stream_reader)
-    ∷ (codes "frame", tells line.Event frame_reader)
-    ∷ (codes "cut", tells line.Event cut_reader)
-    ∷ (codes "datagram", tells line.Event datagram_reader)
-    ∷ (codes "write", tells line.Event write_reader)
-    ∷ (codes "read", tells line.Event read_reader)
-    ∷ (codes "tick", tells line.Event tick_reader)
-    ∷ (codes "mode", tells line.Event mode_reader)
-    ∷ (codes "start", tells line.Event start_reader)
-    ∷ (codes "stop", tells line.Event stop_reader)
+    (codes "adapter", mapped line.Adapter adapter_reader)
+    ∷ (codes "output", mapped line.Output output_reader)
+    ∷ (codes "input", mapped line.Input point_reader)
+    ∷ (codes "config", mapped line.Config point_reader)
+    ∷ (codes "heartbeat", mapped line.Heartbeat heartbeat_reader)
+    ∷ (codes "scanner", mapped line.Scanner scanner_reader)
+    ∷ (codes "slot", mapped line.Slot slot_reader)
+    ∷ (codes "request", mapped line.Event request_reader)
+    ∷ (codes "stream", mapped line.Event stream_reader)
+    ∷ (codes "frame", mapped line.Event frame_reader)
+    ∷ (codes "cut", mapped line.Event cut_reader)
+    ∷ (codes "datagram", mapped line.Event datagram_reader)
+    ∷ (codes "write", mapped line.Event write_reader)
+    ∷ (codes "read", mapped line.Event read_reader)
+    ∷ (codes "tick", mapped line.Event tick_reader)
+    ∷ (codes "mode", mapped line.Event mode_reader)
+    ∷ (codes "start", mapped line.Event start_reader)
+    ∷ (codes "stop", mapped line.Event stop_reader)
     ∷ []
 
 -- a part of the outcome of the event of this number
-abbrev pub numbered : Option ℕ → Reader Line
+abbrev pub numbered : Option ℕ → Reader TraceLine
 numbered None = refuses
-numbered (Some number) = tells (line.Recorded number) part_reader
+numbered (Some number) = mapped (line.Recorded number) part_reader
 
-abbrev pub line_reader : Reader Line
+abbrev pub line_reader : Reader TraceLine
 line_reader = do
   word ← next_word Some
   meaning line_meanings (numbered (number_of 64 word)) word
@@ -121,5 +121,5 @@ abbrev pub is_ascii : List ℕ → Bool
 is_ascii line = list_all (λ byte. nat_lt byte 128) line
 
 -- what a line tells
-unfoldable pub line_of : List ℕ → Option Line
+unfoldable pub line_of : List ℕ → Option TraceLine
 line_of line = if is_ascii line then option_map (λ got. got.0) (line_reader (words_of line)) else None

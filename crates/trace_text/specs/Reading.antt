@@ -12,11 +12,11 @@ use Rattle.cip_tables.specs.Step.{config_fault}
 use Rattle.cip_events.specs.Faults.{fault_number}
 use Rattle.cip_events.specs.Outcomes.{Outcome}
 use Rattle.trace_profiles.specs.declared.forms.AdapterLine.{AdapterLine}
-use Rattle.trace_text.specs.declared.forms.Line.{Line}
-use Rattle.trace_text.specs.declared.forms.Line.TheVariants as line
+use Rattle.trace_text.specs.declared.forms.TraceLine.{TraceLine}
+use Rattle.trace_text.specs.declared.forms.TraceLine.TheVariants as line
 use Rattle.trace_outcomes.specs.declared.part.Part.{Part}
-use Rattle.trace_text.specs.declared.draft.Draft.{Draft}
-use Rattle.trace_text.specs.declared.draft.Draft.TheVariants.{Empty, Points, Configured, Slots, Events}
+use Rattle.trace_text.specs.declared.builder.TraceBuilder.{TraceBuilder}
+use Rattle.trace_text.specs.declared.builder.TraceBuilder.TheVariants.{Empty, Points, Configured, Slots, Events}
 use Rattle.trace_text.specs.declared.trace.Trace.{Trace}
 use Rattle.trace_text.specs.declared.trace.TraceFault.{TraceFault}
 use Rattle.trace_text.specs.declared.trace.TraceFault.TheVariants as fault
@@ -32,27 +32,27 @@ abbrev pub Entry : Type 0
 Entry = Event × Option Outcome
 
 -- an output comes before all inputs
-abbrev pub with_output : AdapterLine → List OutputPoint → List InputPoint → OutputPoint → Option Draft
+abbrev pub with_output : AdapterLine → List OutputPoint → List InputPoint → OutputPoint → Option TraceBuilder
 with_output adapter outputs inputs output = if length inputs == 0 then Some (Points adapter (outputs ++ output ∷ []) inputs) else None
 
 -- a part of the outcome of the event that came last, whose number it has
-abbrev pub with_part : Config → List Entry → Entry → ℕ → Part → Option Draft
-with_part made_of entries last number told = if number == length entries + 1 then option_map (λ outcome. Events made_of entries (Some (last.0, Some outcome))) (recorded_with last.1 told) else None
+abbrev pub with_part : Config → List Entry → Entry → ℕ → Part → Option TraceBuilder
+with_part made_of entries last number parsed = if number == length entries + 1 then option_map (λ outcome. Events made_of entries (Some (last.0, Some outcome))) (recorded_with last.1 parsed) else None
 
 -- what was read so far, with what one line more tells; None where it may not stand there
-abbrev pub draft_with : Draft → Line → Option Draft
-draft_with Empty (line.Adapter adapter) = Some (Points adapter [] [])
-draft_with Empty (line.Scanner scanner) = Some (Slots scanner [])
-draft_with (Points adapter outputs inputs) (line.Output output) = with_output adapter outputs inputs output
-draft_with (Points adapter outputs inputs) (line.Input input) = Some (Points adapter outputs (inputs ++ input ∷ []))
-draft_with (Points adapter outputs inputs) (line.Config point) = Some (Configured adapter outputs inputs point)
-draft_with (Points adapter outputs inputs) (line.Heartbeat heartbeat) = Some (Events (config.Adapter (profile_with adapter outputs inputs None heartbeat)) [] None)
-draft_with (Configured adapter outputs inputs point) (line.Heartbeat heartbeat) = Some (Events (config.Adapter (profile_with adapter outputs inputs (Some point) heartbeat)) [] None)
-draft_with (Slots scanner slots) (line.Slot slot) = Some (Slots scanner (slots ++ slot ∷ []))
-draft_with (Slots scanner slots) (line.Event event) = Some (Events (config.Scanner (scanner_with scanner slots)) [] (Some (event, None)))
-draft_with (Events made_of entries last) (line.Event event) = Some (Events made_of (entries ++ option_to_list last) (Some (event, None)))
-draft_with (Events made_of entries (Some last)) (line.Recorded number told) = with_part made_of entries last number told
-draft_with draft told = None
+abbrev pub builder_with : TraceBuilder → TraceLine → Option TraceBuilder
+builder_with Empty (line.Adapter adapter) = Some (Points adapter [] [])
+builder_with Empty (line.Scanner scanner) = Some (Slots scanner [])
+builder_with (Points adapter outputs inputs) (line.Output output) = with_output adapter outputs inputs output
+builder_with (Points adapter outputs inputs) (line.Input input) = Some (Points adapter outputs (inputs ++ input ∷ []))
+builder_with (Points adapter outputs inputs) (line.Config point) = Some (Configured adapter outputs inputs point)
+builder_with (Points adapter outputs inputs) (line.Heartbeat heartbeat) = Some (Events (config.Adapter (profile_with adapter outputs inputs None heartbeat)) [] None)
+builder_with (Configured adapter outputs inputs point) (line.Heartbeat heartbeat) = Some (Events (config.Adapter (profile_with adapter outputs inputs (Some point) heartbeat)) [] None)
+builder_with (Slots scanner slots) (line.Slot slot) = Some (Slots scanner (slots ++ slot ∷ []))
+builder_with (Slots scanner slots) (line.Event event) = Some (Events (config.Scanner (scanner_with scanner slots)) [] (Some (event, None)))
+builder_with (Events made_of entries last) (line.Event event) = Some (Events made_of (entries ++ option_to_list last) (Some (event, None)))
+builder_with (Events made_of entries (Some last)) (line.Recorded number parsed) = with_part made_of entries last number parsed
+builder_with builder parsed = None
 
 -- whether a line is empty, or begins with `#`
 abbrev pub is_skipped : List ℕ → Bool
@@ -60,8 +60,8 @@ is_skipped [] = true
 is_skipped (first ∷ rest) = first == 35
 
 -- what was read so far, with one line more
-unfoldable pub draft_after : Draft → List ℕ → Option Draft
-draft_after draft text = if is_skipped text then Some draft else option_and_then (draft_with draft) (line_of text)
+unfoldable pub builder_after : TraceBuilder → List ℕ → Option TraceBuilder
+builder_after builder text = if is_skipped text then Some builder else option_and_then (builder_with builder) (line_of text)
 
 -- THE WHOLE TEXT
 
@@ -74,8 +74,8 @@ parts_of text = slice_split is_line_feed text
 
 -- What the lines so far come to: what was read, or the number of the first line that is bad. With one line
 -- more, of this number.
-abbrev pub state_after : ℕ → Result Draft ℕ → List ℕ → Result Draft ℕ
-state_after number (Ok draft) text = ok_or (draft_after draft text) number
+abbrev pub state_after : ℕ → Result TraceBuilder ℕ → List ℕ → Result TraceBuilder ℕ
+state_after number (Ok builder) text = ok_or (builder_after builder text) number
 state_after number (Err bad) text = Err bad
 
 -- a trace is told where its profile is a good one
@@ -88,27 +88,27 @@ abbrev pub judged_by : Config → List Entry → Result Trace TraceFault
 judged_by made_of entries = judged (record { config = made_of; events = entries }) (config_fault made_of)
 
 -- what was read when the text ends; the end is a bad line where the profile is not all there
-abbrev pub told : ℕ → Draft → Result Trace TraceFault
-told number (Slots scanner slots) = judged_by (config.Scanner (scanner_with scanner slots)) []
-told number (Events made_of entries last) = judged_by made_of (entries ++ option_to_list last)
-told number draft = Err (fault.BadLine number)
+abbrev pub parsed : ℕ → TraceBuilder → Result Trace TraceFault
+parsed number (Slots scanner slots) = judged_by (config.Scanner (scanner_with scanner slots)) []
+parsed number (Events made_of entries last) = judged_by made_of (entries ++ option_to_list last)
+parsed number builder = Err (fault.BadLine number)
 
 -- the end of the text; what no LF ends is a bad line
-abbrev pub ended : ℕ → Result Draft ℕ → List ℕ → Result Trace TraceFault
+abbrev pub ended : ℕ → Result TraceBuilder ℕ → List ℕ → Result Trace TraceFault
 ended number (Err bad) rest = Err (fault.BadLine bad)
-ended number (Ok draft) [] = told number draft
-ended number (Ok draft) (byte ∷ rest) = Err (fault.BadLine number)
+ended number (Ok builder) [] = parsed number builder
+ended number (Ok builder) (byte ∷ rest) = Err (fault.BadLine number)
 
 -- what the lines from this number on tell, after those before
-abbrev pub told_from : ℕ → Result Draft ℕ → List (List ℕ) → Result Trace TraceFault
-told_from number state [] = ended number state []
-told_from number state (last ∷ []) = ended number state last
-told_from number state (text ∷ next ∷ parts) = told_from (number + 1) (state_after number state text) (next ∷ parts)
+abbrev pub parsed_from : ℕ → Result TraceBuilder ℕ → List (List ℕ) → Result Trace TraceFault
+parsed_from number state [] = ended number state []
+parsed_from number state (last ∷ []) = ended number state last
+parsed_from number state (text ∷ next ∷ parts) = parsed_from (number + 1) (state_after number state text) (next ∷ parts)
 
 -- the trace that a text tells, or what is wrong with it: the number of the first bad line, or where none is
 -- bad that of the first fault of the profile
 unfoldable pub trace_reading : List ℕ → Result Trace TraceFault
-trace_reading text = told_from 1 (Ok Empty) (parts_of text)
+trace_reading text = parsed_from 1 (Ok Empty) (parts_of text)
 
 -- A function answers what the text tells, or that a growth of memory was refused.
 abbrev pub Answers : Result Trace TraceFault → Result Trace TraceFault → Type 0

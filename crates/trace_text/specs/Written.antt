@@ -9,7 +9,7 @@ use Rattle.cip_events.specs.Outcomes.{Outcome}
 use Rattle.trace_text.specs.declared.trace.Trace.{Trace}
 use Rattle.trace_words.specs.Words.{node_word, bytes_word, line_text}
 use Rattle.trace_text.specs.Reading.{Entry}
-use Rattle.trace_outcomes.specs.Told.{outcome_text}
+use Rattle.trace_outcomes.specs.Written.{outcome_text}
 use Rattle.trace_profiles.specs.Written.{profile_text}
 use Rattle.trace_profiles.specs.Slots.{scanner_text}
 

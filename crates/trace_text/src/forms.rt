@@ -7,7 +7,7 @@ use trace_profiles::{AdapterLine, HeartbeatLine, ScannerLine};
 
 /// What a line tells, wherever it stands.
 #[derive(Drop)]
-pub enum Line {
+pub enum TraceLine {
     Adapter(AdapterLine),
     Output(OutputPoint),
     Input(InputPoint),

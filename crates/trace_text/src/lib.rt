@@ -2,7 +2,7 @@
 //! what a device made of it.
 #![tactic(auto)]
 
-mod draft;
+mod builder;
 mod event_lines;
 mod forms;
 mod lines;

@@ -9,7 +9,7 @@ use crate::event_lines::{
     read_cut, read_datagram, read_frame, read_mode, read_read, read_request, read_start, read_stop,
     read_stream, read_tick, read_write,
 };
-use crate::forms::Line;
+use crate::forms::TraceLine;
 use std::alloc::Global;
 use std::str;
 use trace_outcomes::read_part;
@@ -22,7 +22,7 @@ use trace_words::{LineFault, Words, read_u64};
 ///
 /// The faults: `Bad` where it tells nothing, and `OutOfMemory`.
 #[tactic(auto, unfolding(crate::specs::Forms::line_of))]
-pub fn read_line(alloc: Global, line: &[u8]) -> Result<Line, LineFault>
+pub fn read_line(alloc: Global, line: &[u8]) -> Result<TraceLine, LineFault>
     ensures { Finds (line_of line.now) result }
 {
     if !is_ascii(line) {
@@ -40,47 +40,47 @@ fn is_ascii(line: &[u8]) -> bool
     line.iter().all(|byte| *byte < 128)
 }
 
-fn read_words(alloc: Global, words: &mut Words<'_>) -> Result<Line, LineFault>
+fn read_words(alloc: Global, words: &mut Words<'_>) -> Result<TraceLine, LineFault>
     ensures { Takes (line_reader (unread_words words.old)) result (unread_words words.new) }
 {
     let word = words.word()?;
     match word {
-        "adapter" => read_adapter(words).map(Line::Adapter),
-        "output" => read_output(words).map(Line::Output),
-        "input" => read_point(words).map(Line::Input),
-        "config" => read_point(words).map(Line::Config),
-        "heartbeat" => read_heartbeat(words).map(Line::Heartbeat),
-        "scanner" => read_scanner(words).map(Line::Scanner),
-        "slot" => read_slot(alloc, words).map(Line::Slot),
+        "adapter" => read_adapter(words).map(TraceLine::Adapter),
+        "output" => read_output(words).map(TraceLine::Output),
+        "input" => read_point(words).map(TraceLine::Input),
+        "config" => read_point(words).map(TraceLine::Config),
+        "heartbeat" => read_heartbeat(words).map(TraceLine::Heartbeat),
+        "scanner" => read_scanner(words).map(TraceLine::Scanner),
+        "slot" => read_slot(alloc, words).map(TraceLine::Slot),
         _ => read_event(alloc, words, word),
     }
 }
 
 /// What follows a word that begins no line of a profile.
-fn read_event(alloc: Global, words: &mut Words<'_>, word: &str) -> Result<Line, LineFault>
+fn read_event(alloc: Global, words: &mut Words<'_>, word: &str) -> Result<TraceLine, LineFault>
     ensures { Takes (meaning (drop 7 line_meanings) (numbered (number_of 64 word.now)) word.now (unread_words words.old)) result (unread_words words.new) }
 {
     match word {
-        "request" => read_request(alloc, words).map(Line::Event),
-        "stream" => read_stream(words).map(Line::Event),
-        "frame" => read_frame(alloc, words).map(Line::Event),
-        "cut" => read_cut(words).map(Line::Event),
-        "datagram" => read_datagram(alloc, words).map(Line::Event),
-        "write" => read_write(alloc, words).map(Line::Event),
-        "read" => read_read(words).map(Line::Event),
-        "tick" => read_tick(words).map(Line::Event),
-        "mode" => read_mode(words).map(Line::Event),
-        "start" => read_start(words).map(Line::Event),
-        "stop" => read_stop(words).map(Line::Event),
+        "request" => read_request(alloc, words).map(TraceLine::Event),
+        "stream" => read_stream(words).map(TraceLine::Event),
+        "frame" => read_frame(alloc, words).map(TraceLine::Event),
+        "cut" => read_cut(words).map(TraceLine::Event),
+        "datagram" => read_datagram(alloc, words).map(TraceLine::Event),
+        "write" => read_write(alloc, words).map(TraceLine::Event),
+        "read" => read_read(words).map(TraceLine::Event),
+        "tick" => read_tick(words).map(TraceLine::Event),
+        "mode" => read_mode(words).map(TraceLine::Event),
+        "start" => read_start(words).map(TraceLine::Event),
+        "stop" => read_stop(words).map(TraceLine::Event),
         _ => read_recorded(alloc, words, word),
     }
 }
 
 /// What follows the number of an event: a part of its outcome.
-fn read_recorded(alloc: Global, words: &mut Words<'_>, number: &str) -> Result<Line, LineFault>
+fn read_recorded(alloc: Global, words: &mut Words<'_>, number: &str) -> Result<TraceLine, LineFault>
     ensures { Takes (numbered (number_of 64 number.now) (unread_words words.old)) result (unread_words words.new) }
 {
     let number = read_u64(number).ok_or(LineFault::Bad)?;
     let part = read_part(alloc, words)?;
-    Ok(Line::Recorded(number, part))
+    Ok(TraceLine::Recorded(number, part))
 }

@@ -5,10 +5,10 @@
 
 ghost use Rattle.std.specs.Prelude.{◌≡◌, ◌<◌, ◌+◌, ◌∷◌, position, length, IfSome, IfNone, IfErr, IsOk, ◌↔◌, Some, None, [], Ok};
 ghost use Rattle.trace_words.specs.Reader.{Finds};
-ghost use Rattle.trace_text.specs.Reading.{is_line_feed, is_skipped, parts_of, draft_after, told, judged_by, trace_reading, Answers};
+ghost use Rattle.trace_text.specs.Reading.{is_line_feed, is_skipped, parts_of, builder_after, parsed, judged_by, trace_reading, Answers};
 ghost use Rattle.cip_tables.specs.Step.{config_fault};
 
-use crate::draft::{Draft, draft_with, with_last};
+use crate::builder::{TraceBuilder, builder_with, with_last};
 use crate::lines::read_line;
 use cip_tables::{Config, Event, ProfileFault};
 use cip_types::{Items, OutOfMemory};
@@ -58,12 +58,12 @@ impl From<OutOfMemory> for TraceFault {
 pub fn read_trace(alloc: Global, text: &[u8]) -> Result<Trace, TraceFault>
     ensures { Answers (trace_reading text.now) result }
 {
-    let mut draft = Draft::Empty;
+    let mut builder = TraceBuilder::Empty;
     let mut number = 1;
     let mut rest = text;
     while let Some((line, after)) = first_line(rest) {
-        draft = match draft_after(alloc, draft, line) {
-            Ok(draft) => draft,
+        builder = match builder_after(alloc, builder, line) {
+            Ok(builder) => builder,
             Err(LineFault::Bad) => return Err(TraceFault::BadLine(number)),
             Err(LineFault::OutOfMemory) => return Err(TraceFault::OutOfMemory),
         };
@@ -73,7 +73,7 @@ pub fn read_trace(alloc: Global, text: &[u8]) -> Result<Trace, TraceFault>
     if !rest.is_empty() {
         return Err(TraceFault::BadLine(number));
     }
-    told(alloc, draft, number)
+    parsed(alloc, builder, number)
 }
 
 /// The first line, without the LF that ends it, and what stands behind that. None where no LF is left.
@@ -95,15 +95,19 @@ fn line_len(text: &[u8]) -> Option<usize>
 }
 
 /// What was read so far, with one line more.
-#[tactic(auto, unfolding(crate::specs::Reading::draft_after))]
-fn draft_after(alloc: Global, draft: Draft, line: &[u8]) -> Result<Draft, LineFault>
-    ensures { Finds (draft_after draft line.now) result }
+#[tactic(auto, unfolding(crate::specs::Reading::builder_after))]
+fn builder_after(
+    alloc: Global,
+    builder: TraceBuilder,
+    line: &[u8],
+) -> Result<TraceBuilder, LineFault>
+    ensures { Finds (builder_after builder line.now) result }
 {
     if is_skipped(line) {
-        return Ok(draft);
+        return Ok(builder);
     }
-    let told = read_line(alloc, line)?;
-    draft_with(alloc, draft, told)
+    let parsed = read_line(alloc, line)?;
+    builder_with(alloc, builder, parsed)
 }
 
 /// Whether a line tells nothing.
@@ -117,17 +121,17 @@ fn is_skipped(line: &[u8]) -> bool
 }
 
 /// The trace that was read when the text ends, where one more line would have this number.
-fn told(alloc: Global, draft: Draft, number: u64) -> Result<Trace, TraceFault>
-    ensures { Answers (told number draft) result }
+fn parsed(alloc: Global, builder: TraceBuilder, number: u64) -> Result<Trace, TraceFault>
+    ensures { Answers (parsed number builder) result }
 {
-    match draft {
-        Draft::Slots { scanner, slots } => {
+    match builder {
+        TraceBuilder::Slots { scanner, slots } => {
             judged(
                 Config::Scanner(scanner_with(scanner, slots)),
                 Items::new(alloc),
             )
         }
-        Draft::Events {
+        TraceBuilder::Events {
             config,
             entries,
             last,

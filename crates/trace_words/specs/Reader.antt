@@ -47,8 +47,8 @@ meaning [] otherwise word = otherwise
 meaning (entry ∷ entries) otherwise word = if is_word entry.0 word then entry.1 else meaning entries otherwise word
 
 -- what a reader reads, told as another thing
-abbrev pub tells : {A B : Type 0} → (A → B) → Reader A → Reader B
-tells of read = do
+abbrev pub mapped : {A B : Type 0} → (A → B) → Reader A → Reader B
+mapped of read = do
   value ← read
   gives (of value)
 

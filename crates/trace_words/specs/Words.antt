@@ -40,9 +40,9 @@ abbrev pub general_word : ℕ → List ℕ
 general_word general = encode_lower (general ∷ [])
 
 -- an extended status, as four hexadecimal digits; a dash for none
-abbrev pub extra_word : Option ℕ → List ℕ
-extra_word None = codes "-"
-extra_word (Some extra) = encode_lower (to_be_bytes w16 extra)
+abbrev pub extended_word : Option ℕ → List ℕ
+extended_word None = codes "-"
+extended_word (Some extended) = encode_lower (to_be_bytes w16 extended)
 
 -- what happens to an output
 abbrev pub action_word : Action → List ℕ
@@ -120,12 +120,12 @@ general_of_bytes (byte ∷ next ∷ bytes) = None
 unfoldable pub general_of : List ℕ → Option ℕ
 general_of word = option_and_then general_of_bytes (digits_of word)
 
-abbrev pub extra_of_bytes : List ℕ → Option (Option ℕ)
-extra_of_bytes bytes = if length bytes == 2 then Some (Some (from_be_bytes w16 bytes)) else None
+abbrev pub extended_of_bytes : List ℕ → Option (Option ℕ)
+extended_of_bytes bytes = if length bytes == 2 then Some (Some (from_be_bytes w16 bytes)) else None
 
 -- the extended status that four digits of either case spell; none by a dash
-unfoldable pub extra_of : List ℕ → Option (Option ℕ)
-extra_of word = if is_dash word then Some None else option_and_then extra_of_bytes (digits_of word)
+unfoldable pub extended_of : List ℕ → Option (Option ℕ)
+extended_of word = if is_dash word then Some None else option_and_then extended_of_bytes (digits_of word)
 
 -- the addresses that words write, each an address
 abbrev pub all_nodes : List (List ℕ) → Option (List Node)

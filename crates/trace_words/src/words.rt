@@ -1,7 +1,7 @@
 //! The words of a line: numbers, addresses, bytes.
 
 ghost use Rattle.std.specs.Prelude.{◌≡◌, ◌↔◌, ◌==◌, [], IsOk, IsTrue, IfErr};
-ghost use Rattle.trace_words.specs.Words.{is_short_form, is_dash, number_of, node_of, nodes_of, action_of, bytes_of, digits_of, id_of, general_of, extra_of, instance_of};
+ghost use Rattle.trace_words.specs.Words.{is_short_form, is_dash, number_of, node_of, nodes_of, action_of, bytes_of, digits_of, id_of, general_of, extended_of, instance_of};
 ghost use Rattle.trace_words.specs.Reader.{Finds};
 
 use adapter_table::Action;
@@ -157,10 +157,10 @@ impl<'a> Words<'a> {
     }
 
     /// The next word as an extended status, or none.
-    pub fn extra(&mut self, alloc: Global) -> Result<Option<u16>, LineFault>
-        ensures { Takes (next_word extra_of (unread_words self.old)) result (unread_words self.new) }
+    pub fn extended(&mut self, alloc: Global) -> Result<Option<u16>, LineFault>
+        ensures { Takes (next_word extended_of (unread_words self.old)) result (unread_words self.new) }
     {
-        read_extra(alloc, self.word()?)
+        read_extended(alloc, self.word()?)
     }
 
     /// The next word as bytes.
@@ -321,9 +321,9 @@ fn read_general(alloc: Global, word: &str) -> Result<u8, LineFault>
 }
 
 /// An extended status as four hexadecimal digits of either case; `-` for none.
-#[tactic(auto, unfolding(crate::specs::Words::extra_of))]
-fn read_extra(alloc: Global, word: &str) -> Result<Option<u16>, LineFault>
-    ensures { Finds (extra_of word.now) result }
+#[tactic(auto, unfolding(crate::specs::Words::extended_of))]
+fn read_extended(alloc: Global, word: &str) -> Result<Option<u16>, LineFault>
+    ensures { Finds (extended_of word.now) result }
 {
     if is_dash(word) {
         return Ok(None);

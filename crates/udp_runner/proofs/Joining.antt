@@ -11,7 +11,7 @@ use Rattle.udp_runner.specs.declared.fault.PortFault.{PortFault}
 use Rattle.udp_runner.specs.declared.fault.RunFault.{RunFault}
 use Rattle.udp_runner.specs.declared.fault.RunFault.TheVariants as run
 use Rattle.udp_runner.specs.declared.input.Input.{Input}
-use Rattle.udp_runner.specs.Sending.{answer_sent, SendsSome}
+use Rattle.udp_runner.specs.Outputs.{answer_sent, SendsSome}
 use Rattle.udp_runner.specs.Tape.{Tape, rest_of, with_sent}
 use Rattle.udp_runner.specs.Turns.{Drives, Halts, Stops, all_sent, events_of, step_sent, turn_of}
 
@@ -65,8 +65,8 @@ drives_more es fs n m s s' s'' t t' t'' a b = record {
 -- one turn, and the turns that are left after it
 pub drives_turn : (left left' n m : ℕ) (ts ts' : List ℕ) (is is' : List (Option Input)) (s s' s'' : Tape) (t t' t'' : DeviceTable)
     → left ≡ suc left' → ts' ≡ rest_of ts → is' ≡ rest_of is → Drives (turn_of ts is) n s s' t t' → Drives (events_of left' ts' is') m s' s'' t' t'' → Drives (events_of left ts is) (n + m) s s'' t t''
-drives_turn left left' n m ts ts' is is' s s' s'' t t' t'' more times inputs a b =
-    rw more (drives_more (turn_of ts is) (events_of left' (rest_of ts) (rest_of is)) n m s s' s'' t t' t'' a (rw (times, inputs) at b))
+drives_turn left left' n m ts ts' is is' s s' s'' t t' t'' more times_ms inputs a b =
+    rw more (drives_more (turn_of ts is) (events_of left' (rest_of ts) (rest_of is)) n m s s' s'' t t' t'' a (rw (times_ms, inputs) at b))
 
 -- what a fault leaves undone, with events behind it that do not come any more
 pub halts_before : (fault : RunFault) (es fs : List Event) (s s' : Tape) (t t' : DeviceTable) → Halts fault es s s' t t' → Halts fault (es ++ fs) s s' t t'
@@ -121,8 +121,8 @@ stops_after fault es fs n s s' s'' t t' t'' a b = record {
 
 pub stops_turn : (fault : RunFault) (left left' n : ℕ) (ts ts' : List ℕ) (is is' : List (Option Input)) (s s' s'' : Tape) (t t' t'' : DeviceTable)
     → left ≡ suc left' → ts' ≡ rest_of ts → is' ≡ rest_of is → Drives (turn_of ts is) n s s' t t' → Stops fault (events_of left' ts' is') s' s'' t' t'' → Stops fault (events_of left ts is) s s'' t t''
-stops_turn fault left left' n ts ts' is is' s s' s'' t t' t'' more times inputs a b =
-    rw more (stops_after fault (turn_of ts is) (events_of left' (rest_of ts) (rest_of is)) n s s' s'' t t' t'' a (rw (times, inputs) at b))
+stops_turn fault left left' n ts ts' is is' s s' s'' t t' t'' more times_ms inputs a b =
+    rw more (stops_after fault (turn_of ts is) (events_of left' (rest_of ts) (rest_of is)) n s s' s'' t t' t'' a (rw (times_ms, inputs) at b))
 
 pub stops_in_turn : (fault : RunFault) (left left' : ℕ) (ts : List ℕ) (is : List (Option Input)) (s s' : Tape) (t t' : DeviceTable) → left ≡ suc left' → Stops fault (turn_of ts is) s s' t t' → Stops fault (events_of left ts is) s s' t t'
 stops_in_turn fault left left' ts is s s' t t' more a = rw more (stops_before fault (turn_of ts is) (events_of left' (rest_of ts) (rest_of is)) s s' t t' a)

@@ -2,16 +2,16 @@
 use Rattle.std.proofs.Common.{◌≡◌, ◌<◌, ℕ, ◌+◌, List, [], ◌∷◌, ◌++◌, length, take, drop, get_or, Result, Ok, Err, OnErr, refl, ap, ◌∙◌, sym, append_assoc, append-nil}
 use Rattle.std.specs.List.{flat_map}
 use Rattle.std.proofs.lemmas.List.{take_more, take-append-drop, drop_more}
-use Rattle.udp_runner.specs.declared.output.Sent.{Sent}
-use Rattle.udp_runner.specs.Sending.{SendsSome}
+use Rattle.udp_runner.specs.declared.output.SentOutput.{SentOutput}
+use Rattle.udp_runner.specs.Outputs.{SendsSome}
 use Rattle.udp_runner.specs.Tape.{Tape, with_sent}
 
-pub flat_map-append : {X : Type 0} (f : X → List Sent) (xs ys : List X) → flat_map f (xs ++ ys) ≡ flat_map f xs ++ flat_map f ys
+pub flat_map-append : {X : Type 0} (f : X → List SentOutput) (xs ys : List X) → flat_map f (xs ++ ys) ≡ flat_map f xs ++ flat_map f ys
 flat_map-append f [] ys = refl
 flat_map-append f (x ∷ xs) ys = ap (λ os. f x ++ os) (flat_map-append f xs ys) ∙ sym (append_assoc (f x) (flat_map f xs) (flat_map f ys))
 
 -- one more element is sent
-pub flat_map_take_more : {X : Type 0} (f : X → List Sent) (xs : List X) (i : ℕ) (x : X) → i < length xs → x ≡ get_or xs i x → flat_map f (take (i + 1) xs) ≡ flat_map f (take i xs) ++ f x
+pub flat_map_take_more : {X : Type 0} (f : X → List SentOutput) (xs : List X) (i : ℕ) (x : X) → i < length xs → x ≡ get_or xs i x → flat_map f (take (i + 1) xs) ≡ flat_map f (take i xs) ++ f x
 flat_map_take_more f xs i x h is =
     ap (flat_map f) (take_more xs i x h)
     ∙ flat_map-append f (take i xs) (get_or xs i x ∷ [])
@@ -19,7 +19,7 @@ flat_map_take_more f xs i x h is =
     ∙ ap (λ y. flat_map f (take i xs) ++ f y) (sym is)
 
 -- what is sent of all is what is sent of the first ones, of the next one, and of the others
-pub flat_map_parts : {X : Type 0} (f : X → List Sent) (xs : List X) (i : ℕ) (x : X) → i < length xs → x ≡ get_or xs i x → flat_map f xs ≡ flat_map f (take i xs) ++ (f x ++ flat_map f (drop (i + 1) xs))
+pub flat_map_parts : {X : Type 0} (f : X → List SentOutput) (xs : List X) (i : ℕ) (x : X) → i < length xs → x ≡ get_or xs i x → flat_map f xs ≡ flat_map f (take i xs) ++ (f x ++ flat_map f (drop (i + 1) xs))
 flat_map_parts f xs i x h is =
     ap (flat_map f) (sym (take-append-drop i xs))
     ∙ flat_map-append f (take i xs) (drop i xs)
@@ -27,14 +27,14 @@ flat_map_parts f xs i x h is =
     ∙ ap (λ y. flat_map f (take i xs) ++ (f y ++ flat_map f (drop (i + 1) xs))) (sym is)
 
 -- two lists are sent one after the other
-pub sends_both : (old middle new : Tape) (xs ys : List Sent) → middle ≡ with_sent old xs → new ≡ with_sent middle ys → new ≡ with_sent old (xs ++ ys)
+pub sends_both : (old middle new : Tape) (xs ys : List SentOutput) → middle ≡ with_sent old xs → new ≡ with_sent middle ys → new ≡ with_sent old (xs ++ ys)
 sends_both old middle new xs ys first second = second ∙ ap (λ (t : Tape). with_sent t ys) first ∙ ap (λ os. record old { sent = os }) (append_assoc old.sent xs ys)
 
 pub sends_none : (old : Tape) → old ≡ with_sent old []
 sends_none old = ap (λ os. record old { sent = os }) (sym (append-nil old.sent))
 
 -- a list that is sent in part, between one that was sent and one that is not
-pub some_within : (old middle new : Tape) (before some after all : List Sent) → middle ≡ with_sent old before → SendsSome middle new some → all ≡ before ++ (some ++ after) → SendsSome old new all
+pub some_within : (old middle new : Tape) (before some after all : List SentOutput) → middle ≡ with_sent old before → SendsSome middle new some → all ≡ before ++ (some ++ after) → SendsSome old new all
 some_within old middle new before some after all first part is = record {
   done = before ++ part.done;
   failed = part.failed;
@@ -48,7 +48,7 @@ some_within old middle new before some after all first part is = record {
 }
 
 -- one output that is not sent
-pub one_unsent : (old new : Tape) (o : Sent) → new ≡ old → SendsSome old new (o ∷ [])
+pub one_unsent : (old new : Tape) (o : SentOutput) → new ≡ old → SendsSome old new (o ∷ [])
 one_unsent old new o same = record { done = []; failed = o; unsent = []; parts = refl; sends = same ∙ sends_none old }
 
 pub on_err_is : {T E : Type 0} (r : Result T E) (Q : Type 0) → Q → OnErr r Q

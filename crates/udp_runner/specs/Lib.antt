@@ -1,3 +1,3 @@
 pub mod Tape
-pub mod Sending
+pub mod Outputs
 pub mod Turns

@@ -1,12 +1,12 @@
 -- What a port gives and was given to send.
 use Rattle.std.specs.Prelude.{List, [], ◌∷◌, ◌++◌, Option}
 use Rattle.udp_runner.specs.declared.input.Input.{Input}
-use Rattle.udp_runner.specs.declared.output.Sent.{Sent}
+use Rattle.udp_runner.specs.declared.output.SentOutput.{SentOutput}
 
 -- the answers to the next receives, and all that was sent
 pub record Tape : Type 0 where
   pub coming : List (Option Input)
-  pub sent : List Sent
+  pub sent : List SentOutput
 
 -- the first, where a list that is used up goes on with one value
 abbrev pub first_or : {X : Type 0} → X → List X → X
@@ -22,5 +22,5 @@ abbrev pub with_taken : Tape → Tape
 with_taken tape = record tape { coming = rest_of tape.coming }
 
 -- the tape after these were sent
-abbrev pub with_sent : Tape → List Sent → Tape
+abbrev pub with_sent : Tape → List SentOutput → Tape
 with_sent tape sent = record tape { sent = tape.sent ++ sent }

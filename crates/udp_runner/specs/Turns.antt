@@ -14,8 +14,8 @@ use Rattle.udp_runner.specs.declared.fault.RunFault.{RunFault}
 use Rattle.udp_runner.specs.declared.fault.RunFault.TheVariants as run
 use Rattle.udp_runner.specs.declared.input.Input.{Input}
 use Rattle.udp_runner.specs.declared.input.Input.TheVariants as input
-use Rattle.udp_runner.specs.declared.output.Sent.{Sent}
-use Rattle.udp_runner.specs.Sending.{answer_sent, SendsSome}
+use Rattle.udp_runner.specs.declared.output.SentOutput.{SentOutput}
+use Rattle.udp_runner.specs.Outputs.{answer_sent, SendsSome}
 use Rattle.udp_runner.specs.Tape.{Tape, first_or, rest_of}
 
 -- THE EVENTS
@@ -38,22 +38,22 @@ inputs_of (Some given) = event_of given ∷ []
 
 -- the events of one turn: the tick, then the input
 abbrev pub turn_of : List ℕ → List (Option Input) → List Event
-turn_of times coming = ticks_of (first_or 0 times) ++ inputs_of (first_or None coming)
+turn_of times_ms coming = ticks_of (first_or 0 times_ms) ++ inputs_of (first_or None coming)
 
 -- turn by turn, the tick and the input that the clock and the port give
 abbrev pub events_of : ℕ → List ℕ → List (Option Input) → List Event
-events_of zero times coming = []
-events_of (suc turns) times coming = turn_of times coming ++ events_of turns (rest_of times) (rest_of coming)
+events_of zero times_ms coming = []
+events_of (suc turns) times_ms coming = turn_of times_ms coming ++ events_of turns (rest_of times_ms) (rest_of coming)
 
 -- WHAT IS SENT
 
 -- what a step has sent: a refused one nothing
-abbrev pub step_sent : Result (Answer × DeviceTable) StepFault → List Sent
+abbrev pub step_sent : Result (Answer × DeviceTable) StepFault → List SentOutput
 step_sent (Ok next) = answer_sent next.0
 step_sent (Err fault) = []
 
 -- what the answers to the events have sent, in order
-abbrev pub all_sent : DeviceTable → List Event → List Sent
+abbrev pub all_sent : DeviceTable → List Event → List SentOutput
 all_sent table [] = []
 all_sent table (e ∷ es) = step_sent (step table e) ++ all_sent (table_of table (step table e)) es
 

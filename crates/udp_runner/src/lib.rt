@@ -13,6 +13,6 @@ mod sending;
 pub use fault::{PortFault, RunFault};
 pub use input::Input;
 pub use memory::{MemoryPort, SteppedClock};
-pub use output::{Output, Sent};
+pub use output::{Output, SentOutput};
 pub use port::{Clock, Port};
 pub use runner::drive;

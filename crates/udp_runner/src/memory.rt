@@ -1,11 +1,11 @@
 //! A port over memory, which tells all that goes through it, and a clock that is stepped.
 
 ghost use Rattle.std.specs.Prelude.{◌≡◌, ◌∷◌, ◌++◌, [], true, nat_eq, OnOk, OnErr};
-ghost use Rattle.udp_runner.specs.Sending.{view_output};
+ghost use Rattle.udp_runner.specs.Outputs.{view_output};
 
 use crate::fault::PortFault;
 use crate::input::Input;
-use crate::output::{Output, Sent};
+use crate::output::{Output, SentOutput};
 use crate::port::{Clock, Port};
 use cip_types::OutOfMemory;
 use std::alloc::Global;
@@ -19,7 +19,7 @@ use std::collections::VecDeque;
 pub struct MemoryPort {
     alloc: Global,
     inputs: VecDeque<Option<Input>>,
-    sent: Vec<Sent>,
+    sent: Vec<SentOutput>,
     failures: u64,
     calls: u64,
     fails_at: u64,
@@ -31,7 +31,7 @@ impl MemoryPort {
         ensures tape { ⟦<MemoryPort as Port>⟧.tape result ≡ record { coming = inputs.items; sent = [] } }
         ensures failed { ⟦<MemoryPort as Port>⟧.failed result ≡ 0 }
         ensures uncalled { result.calls ≡ 0 }
-        ensures told { result.fails_at ≡ fails_at }
+        ensures failing { result.fails_at ≡ fails_at }
     {
         MemoryPort {
             alloc,
@@ -44,7 +44,7 @@ impl MemoryPort {
     }
 
     /// All that was sent.
-    pub fn sent(&self) -> &[Sent]
+    pub fn sent(&self) -> &[SentOutput]
         ensures { result.now ≡ (⟦<MemoryPort as Port>⟧.tape self.now).sent }
     {
         self.sent.as_slice()
@@ -68,7 +68,7 @@ impl MemoryPort {
 }
 
 impl Port for MemoryPort {
-    ghost tells = { true };
+    ghost is_scripted = { true };
 
     ghost tape = { λ port. record { coming = port.inputs.items; sent = port.sent.items } };
 
@@ -105,7 +105,7 @@ impl Port for MemoryPort {
 }
 
 /// Keeps what is sent.
-fn keep(alloc: Global, sent: &mut Vec<Sent>, output: &Output<'_>) -> Result<(), OutOfMemory>
+fn keep(alloc: Global, sent: &mut Vec<SentOutput>, output: &Output<'_>) -> Result<(), OutOfMemory>
     ensures ok { OnOk result (sent.new.items ≡ sent.old.items ++ view_output output.now ∷ []) }
     ensures err { OnErr result (sent.new.items ≡ sent.old.items) }
 {
@@ -117,16 +117,16 @@ fn keep(alloc: Global, sent: &mut Vec<Sent>, output: &Output<'_>) -> Result<(), 
 /// A clock that is stepped: it gives times from a list, and then 0.
 #[derive(Drop)]
 pub struct SteppedClock {
-    pub times: VecDeque<u64>,
+    pub times_ms: VecDeque<u64>,
 }
 
 impl Clock for SteppedClock {
-    ghost tells = { true };
+    ghost is_scripted = { true };
 
-    ghost coming = { λ clock. clock.times.items };
+    ghost coming = { λ clock. clock.times_ms.items };
 
     fn passed(&mut self) -> u64 {
-        match self.times.pop_front() {
+        match self.times_ms.pop_front() {
             None => 0,
             Some(ms) => ms,
         }

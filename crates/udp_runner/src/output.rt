@@ -1,7 +1,7 @@
 //! What a port is given to send.
 
 ghost use Rattle.std.specs.Prelude.{◌≡◌, IfOk};
-ghost use Rattle.udp_runner.specs.Sending.{view_output};
+ghost use Rattle.udp_runner.specs.Outputs.{view_output};
 
 use cip_types::{Items, Node, OutOfMemory};
 use std::alloc::Global;
@@ -19,7 +19,7 @@ pub enum Output<'a> {
 
 /// One thing that went out over a port, with bytes of its own.
 #[derive(PartialEq, Drop)]
-pub enum Sent {
+pub enum SentOutput {
     /// A message over a stream.
     Frame { stream: u16, bytes: Items<u8> },
     /// A class 1 datagram to one node.
@@ -30,19 +30,19 @@ pub enum Sent {
 
 impl Output<'_> {
     /// The same with bytes of its own.
-    pub fn copy(&self, alloc: Global) -> Result<Sent, OutOfMemory>
+    pub fn copy(&self, alloc: Global) -> Result<SentOutput, OutOfMemory>
         ensures { IfOk result (λ sent. sent ≡ view_output self.now) }
     {
         Ok(match self {
-            Output::Frame { stream, bytes } => Sent::Frame {
+            Output::Frame { stream, bytes } => SentOutput::Frame {
                 stream: *stream,
                 bytes: Items::copy_of(alloc, bytes)?,
             },
-            Output::Datagram { node, bytes } => Sent::Datagram {
+            Output::Datagram { node, bytes } => SentOutput::Datagram {
                 node: *node,
                 bytes: Items::copy_of(alloc, bytes)?,
             },
-            Output::Close { stream } => Sent::Close { stream: *stream },
+            Output::Close { stream } => SentOutput::Close { stream: *stream },
         })
     }
 }

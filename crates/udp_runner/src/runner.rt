@@ -30,10 +30,10 @@ pub fn drive<P: Port, D: Device, C: Clock>(
     turns: u32,
 ) -> Result<u64, RunFault>
     requires { P.failed port.old < 2 ^ 64 - 1 }
-    ensures run { IfOk result (λ count. P.tells ≡ true → C.tells ≡ true → Drives (events_of turns (C.coming clock.old) (P.tape port.old).coming) count (P.tape port.old) (P.tape port.new) (D.table device.old) (D.table device.new)) }
-    ensures inputs { OnOk result (P.tells ≡ true → (P.tape port.new).coming ≡ drop turns (P.tape port.old).coming) }
-    ensures times { OnOk result (C.tells ≡ true → C.coming clock.new ≡ drop turns (C.coming clock.old)) }
-    ensures stopped { IfErr result (λ fault. P.tells ≡ true → C.tells ≡ true → Stops fault (events_of turns (C.coming clock.old) (P.tape port.old).coming) (P.tape port.old) (P.tape port.new) (D.table device.old) (D.table device.new)) }
+    ensures run { IfOk result (λ count. P.is_scripted ≡ true → C.is_scripted ≡ true → Drives (events_of turns (C.coming clock.old) (P.tape port.old).coming) count (P.tape port.old) (P.tape port.new) (D.table device.old) (D.table device.new)) }
+    ensures inputs { OnOk result (P.is_scripted ≡ true → (P.tape port.new).coming ≡ drop turns (P.tape port.old).coming) }
+    ensures times_ms { OnOk result (C.is_scripted ≡ true → C.coming clock.new ≡ drop turns (C.coming clock.old)) }
+    ensures stopped { IfErr result (λ fault. P.is_scripted ≡ true → C.is_scripted ≡ true → Stops fault (events_of turns (C.coming clock.old) (P.tape port.old).coming) (P.tape port.old) (P.tape port.new) (D.table device.old) (D.table device.new)) }
     ensures worked { OnOk result (P.failed port.new ≡ P.failed port.old) }
     ensures blamed { IfErr result (Blames (P.failed port.old) (P.failed port.new)) }
 {
@@ -51,11 +51,11 @@ fn turn<P: Port, D: Device, C: Clock>(
     clock: &mut C,
 ) -> Result<u64, RunFault>
     requires { P.failed port.old < 2 ^ 64 - 1 }
-    ensures run { IfOk result (λ count. P.tells ≡ true → C.tells ≡ true → Drives (turn_of (C.coming clock.old) (P.tape port.old).coming) count (P.tape port.old) (P.tape port.new) (D.table device.old) (D.table device.new)) }
-    ensures times { OnOk result (C.tells ≡ true → C.coming clock.new ≡ rest_of (C.coming clock.old)) }
-    ensures inputs { OnOk result (P.tells ≡ true → (P.tape port.new).coming ≡ rest_of (P.tape port.old).coming) }
+    ensures run { IfOk result (λ count. P.is_scripted ≡ true → C.is_scripted ≡ true → Drives (turn_of (C.coming clock.old) (P.tape port.old).coming) count (P.tape port.old) (P.tape port.new) (D.table device.old) (D.table device.new)) }
+    ensures times_ms { OnOk result (C.is_scripted ≡ true → C.coming clock.new ≡ rest_of (C.coming clock.old)) }
+    ensures inputs { OnOk result (P.is_scripted ≡ true → (P.tape port.new).coming ≡ rest_of (P.tape port.old).coming) }
     ensures few { IfOk result (λ count. count < 3) }
-    ensures stopped { IfErr result (λ fault. P.tells ≡ true → C.tells ≡ true → Stops fault (turn_of (C.coming clock.old) (P.tape port.old).coming) (P.tape port.old) (P.tape port.new) (D.table device.old) (D.table device.new)) }
+    ensures stopped { IfErr result (λ fault. P.is_scripted ≡ true → C.is_scripted ≡ true → Stops fault (turn_of (C.coming clock.old) (P.tape port.old).coming) (P.tape port.old) (P.tape port.new) (D.table device.old) (D.table device.new)) }
     ensures worked { OnOk result (P.failed port.new ≡ P.failed port.old) }
     ensures blamed { IfErr result (Blames (P.failed port.old) (P.failed port.new)) }
 {
@@ -68,10 +68,10 @@ fn turn<P: Port, D: Device, C: Clock>(
 /// The tick of a turn, if time passed.
 fn tick<P: Port, D: Device>(port: &mut P, device: &mut D, ms: u64) -> Result<u64, RunFault>
     requires { P.failed port.old < 2 ^ 64 - 1 }
-    ensures run { IfOk result (λ count. P.tells ≡ true → Drives (ticks_of ms) count (P.tape port.old) (P.tape port.new) (D.table device.old) (D.table device.new)) }
-    ensures inputs { OnOk result (P.tells ≡ true → (P.tape port.new).coming ≡ (P.tape port.old).coming) }
+    ensures run { IfOk result (λ count. P.is_scripted ≡ true → Drives (ticks_of ms) count (P.tape port.old) (P.tape port.new) (D.table device.old) (D.table device.new)) }
+    ensures inputs { OnOk result (P.is_scripted ≡ true → (P.tape port.new).coming ≡ (P.tape port.old).coming) }
     ensures few { IfOk result (λ count. count < 2) }
-    ensures stopped { IfErr result (λ fault. P.tells ≡ true → Stops fault (ticks_of ms) (P.tape port.old) (P.tape port.new) (D.table device.old) (D.table device.new)) }
+    ensures stopped { IfErr result (λ fault. P.is_scripted ≡ true → Stops fault (ticks_of ms) (P.tape port.old) (P.tape port.new) (D.table device.old) (D.table device.new)) }
     ensures worked { OnOk result (P.failed port.new ≡ P.failed port.old) }
     ensures blamed { IfErr result (Blames (P.failed port.old) (P.failed port.new)) }
 {
@@ -86,10 +86,10 @@ fn tick<P: Port, D: Device>(port: &mut P, device: &mut D, ms: u64) -> Result<u64
 /// The input of a turn, if something came.
 fn take_input<P: Port, D: Device>(port: &mut P, device: &mut D) -> Result<u64, RunFault>
     requires { P.failed port.old < 2 ^ 64 - 1 }
-    ensures run { IfOk result (λ count. P.tells ≡ true → Drives (inputs_of (first_or None (P.tape port.old).coming)) count (P.tape port.old) (P.tape port.new) (D.table device.old) (D.table device.new)) }
-    ensures inputs { OnOk result (P.tells ≡ true → (P.tape port.new).coming ≡ rest_of (P.tape port.old).coming) }
+    ensures run { IfOk result (λ count. P.is_scripted ≡ true → Drives (inputs_of (first_or None (P.tape port.old).coming)) count (P.tape port.old) (P.tape port.new) (D.table device.old) (D.table device.new)) }
+    ensures inputs { OnOk result (P.is_scripted ≡ true → (P.tape port.new).coming ≡ rest_of (P.tape port.old).coming) }
     ensures few { IfOk result (λ count. count < 2) }
-    ensures stopped { IfErr result (λ fault. P.tells ≡ true → Stops fault (inputs_of (first_or None (P.tape port.old).coming)) (P.tape port.old) (P.tape port.new) (D.table device.old) (D.table device.new)) }
+    ensures stopped { IfErr result (λ fault. P.is_scripted ≡ true → Stops fault (inputs_of (first_or None (P.tape port.old).coming)) (P.tape port.old) (P.tape port.new) (D.table device.old) (D.table device.new)) }
     ensures worked { OnOk result (P.failed port.new ≡ P.failed port.old) }
     ensures blamed { IfErr result (Blames (P.failed port.old) (P.failed port.new)) }
 {
@@ -103,9 +103,9 @@ fn take_input<P: Port, D: Device>(port: &mut P, device: &mut D) -> Result<u64, R
 /// What came, and what the device's answer has sent. A datagram goes straight to the device, which sends nothing for it.
 fn take<P: Port, D: Device>(port: &mut P, device: &mut D, input: Input) -> Result<(), RunFault>
     requires { P.failed port.old < 2 ^ 64 - 1 }
-    ensures run { OnOk result (P.tells ≡ true → Drives (event_of input ∷ []) 1 (P.tape port.old) (P.tape port.new) (D.table device.old) (D.table device.new)) }
-    ensures inputs { OnOk result (P.tells ≡ true → (P.tape port.new).coming ≡ (P.tape port.old).coming) }
-    ensures stopped { IfErr result (λ fault. P.tells ≡ true → Stops fault (event_of input ∷ []) (P.tape port.old) (P.tape port.new) (D.table device.old) (D.table device.new)) }
+    ensures run { OnOk result (P.is_scripted ≡ true → Drives (event_of input ∷ []) 1 (P.tape port.old) (P.tape port.new) (D.table device.old) (D.table device.new)) }
+    ensures inputs { OnOk result (P.is_scripted ≡ true → (P.tape port.new).coming ≡ (P.tape port.old).coming) }
+    ensures stopped { IfErr result (λ fault. P.is_scripted ≡ true → Stops fault (event_of input ∷ []) (P.tape port.old) (P.tape port.new) (D.table device.old) (D.table device.new)) }
     ensures worked { OnOk result (P.failed port.new ≡ P.failed port.old) }
     ensures blamed { IfErr result (Blames (P.failed port.old) (P.failed port.new)) }
 {
@@ -121,9 +121,9 @@ fn take<P: Port, D: Device>(port: &mut P, device: &mut D, input: Input) -> Resul
 /// One event, and what its answer has sent.
 fn act<P: Port, D: Device>(port: &mut P, device: &mut D, event: &Event) -> Result<(), RunFault>
     requires { P.failed port.old < 2 ^ 64 - 1 }
-    ensures run { OnOk result (P.tells ≡ true → Drives (event.now ∷ []) 1 (P.tape port.old) (P.tape port.new) (D.table device.old) (D.table device.new)) }
-    ensures inputs { OnOk result (P.tells ≡ true → (P.tape port.new).coming ≡ (P.tape port.old).coming) }
-    ensures stopped { IfErr result (λ fault. P.tells ≡ true → Stops fault (event.now ∷ []) (P.tape port.old) (P.tape port.new) (D.table device.old) (D.table device.new)) }
+    ensures run { OnOk result (P.is_scripted ≡ true → Drives (event.now ∷ []) 1 (P.tape port.old) (P.tape port.new) (D.table device.old) (D.table device.new)) }
+    ensures inputs { OnOk result (P.is_scripted ≡ true → (P.tape port.new).coming ≡ (P.tape port.old).coming) }
+    ensures stopped { IfErr result (λ fault. P.is_scripted ≡ true → Stops fault (event.now ∷ []) (P.tape port.old) (P.tape port.new) (D.table device.old) (D.table device.new)) }
     ensures worked { OnOk result (P.failed port.new ≡ P.failed port.old) }
     ensures blamed { IfErr result (Blames (P.failed port.old) (P.failed port.new)) }
 {

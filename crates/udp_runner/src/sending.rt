@@ -1,20 +1,20 @@
-//! Sending what an answer has sent: its frames, then its datagrams, then the ends of streams.
+//! Sends what an answer sends: its frames, then its datagrams, then the ends of streams.
 
 ghost use Rattle.std.specs.Prelude.{◌≡◌, ◌<◌, ◌+◌, ◌-◌, ◌^◌, true, OnOk, OnErr};
 ghost use Rattle.std.specs.List.{flat_map};
-ghost use Rattle.udp_runner.specs.Sending.{answer_sent, datagram_sent, frame_sent, notice_sent, SendsSome};
+ghost use Rattle.udp_runner.specs.Outputs.{answer_sent, datagram_sent, frame_sent, notice_sent, SendsSome};
 ghost use Rattle.udp_runner.specs.Tape.{with_sent};
 
 use crate::fault::PortFault;
 use crate::output::Output;
 use crate::port::Port;
-use cip_events::{Answer, Frame, Notice, Recipient, Sending};
+use cip_events::{Answer, Frame, Notice, OutgoingDatagram, Recipient};
 
 /// Sends all that an answer has sent.
 pub fn send_answer<P: Port>(port: &mut P, answer: &Answer) -> Result<(), PortFault>
     requires { P.failed port.old < 2 ^ 64 - 1 }
-    ensures sent { OnOk result (P.tells ≡ true → P.tape port.new ≡ with_sent (P.tape port.old) (answer_sent answer.now)) }
-    ensures some { OnErr result (P.tells ≡ true → SendsSome (P.tape port.old) (P.tape port.new) (answer_sent answer.now)) }
+    ensures sent { OnOk result (P.is_scripted ≡ true → P.tape port.new ≡ with_sent (P.tape port.old) (answer_sent answer.now)) }
+    ensures some { OnErr result (P.is_scripted ≡ true → SendsSome (P.tape port.old) (P.tape port.new) (answer_sent answer.now)) }
     ensures worked { OnOk result (P.failed port.new ≡ P.failed port.old) }
     ensures counted { OnErr result (P.failed port.new ≡ P.failed port.old + 1) }
 {
@@ -25,8 +25,8 @@ pub fn send_answer<P: Port>(port: &mut P, answer: &Answer) -> Result<(), PortFau
 
 fn send_frames<P: Port>(port: &mut P, frames: &[Frame]) -> Result<(), PortFault>
     requires { P.failed port.old < 2 ^ 64 - 1 }
-    ensures sent { OnOk result (P.tells ≡ true → P.tape port.new ≡ with_sent (P.tape port.old) (flat_map frame_sent frames.now)) }
-    ensures some { OnErr result (P.tells ≡ true → SendsSome (P.tape port.old) (P.tape port.new) (flat_map frame_sent frames.now)) }
+    ensures sent { OnOk result (P.is_scripted ≡ true → P.tape port.new ≡ with_sent (P.tape port.old) (flat_map frame_sent frames.now)) }
+    ensures some { OnErr result (P.is_scripted ≡ true → SendsSome (P.tape port.old) (P.tape port.new) (flat_map frame_sent frames.now)) }
     ensures worked { OnOk result (P.failed port.new ≡ P.failed port.old) }
     ensures counted { OnErr result (P.failed port.new ≡ P.failed port.old + 1) }
 {
@@ -38,8 +38,8 @@ fn send_frames<P: Port>(port: &mut P, frames: &[Frame]) -> Result<(), PortFault>
 
 fn send_frame<P: Port>(port: &mut P, frame: &Frame) -> Result<(), PortFault>
     requires { P.failed port.old < 2 ^ 64 - 1 }
-    ensures sent { OnOk result (P.tells ≡ true → P.tape port.new ≡ with_sent (P.tape port.old) (frame_sent frame.now)) }
-    ensures some { OnErr result (P.tells ≡ true → SendsSome (P.tape port.old) (P.tape port.new) (frame_sent frame.now)) }
+    ensures sent { OnOk result (P.is_scripted ≡ true → P.tape port.new ≡ with_sent (P.tape port.old) (frame_sent frame.now)) }
+    ensures some { OnErr result (P.is_scripted ≡ true → SendsSome (P.tape port.old) (P.tape port.new) (frame_sent frame.now)) }
     ensures worked { OnOk result (P.failed port.new ≡ P.failed port.old) }
     ensures counted { OnErr result (P.failed port.new ≡ P.failed port.old + 1) }
 {
@@ -52,10 +52,10 @@ fn send_frame<P: Port>(port: &mut P, frame: &Frame) -> Result<(), PortFault>
     }
 }
 
-fn send_datagrams<P: Port>(port: &mut P, datagrams: &[Sending]) -> Result<(), PortFault>
+fn send_datagrams<P: Port>(port: &mut P, datagrams: &[OutgoingDatagram]) -> Result<(), PortFault>
     requires { P.failed port.old < 2 ^ 64 - 1 }
-    ensures sent { OnOk result (P.tells ≡ true → P.tape port.new ≡ with_sent (P.tape port.old) (flat_map datagram_sent datagrams.now)) }
-    ensures some { OnErr result (P.tells ≡ true → SendsSome (P.tape port.old) (P.tape port.new) (flat_map datagram_sent datagrams.now)) }
+    ensures sent { OnOk result (P.is_scripted ≡ true → P.tape port.new ≡ with_sent (P.tape port.old) (flat_map datagram_sent datagrams.now)) }
+    ensures some { OnErr result (P.is_scripted ≡ true → SendsSome (P.tape port.old) (P.tape port.new) (flat_map datagram_sent datagrams.now)) }
     ensures worked { OnOk result (P.failed port.new ≡ P.failed port.old) }
     ensures counted { OnErr result (P.failed port.new ≡ P.failed port.old + 1) }
 {
@@ -66,10 +66,10 @@ fn send_datagrams<P: Port>(port: &mut P, datagrams: &[Sending]) -> Result<(), Po
 }
 
 /// Sends a copy of a datagram to each of its nodes.
-fn send_datagram<P: Port>(port: &mut P, sending: &Sending) -> Result<(), PortFault>
+fn send_datagram<P: Port>(port: &mut P, sending: &OutgoingDatagram) -> Result<(), PortFault>
     requires { P.failed port.old < 2 ^ 64 - 1 }
-    ensures sent { OnOk result (P.tells ≡ true → P.tape port.new ≡ with_sent (P.tape port.old) (datagram_sent sending.now)) }
-    ensures some { OnErr result (P.tells ≡ true → SendsSome (P.tape port.old) (P.tape port.new) (datagram_sent sending.now)) }
+    ensures sent { OnOk result (P.is_scripted ≡ true → P.tape port.new ≡ with_sent (P.tape port.old) (datagram_sent sending.now)) }
+    ensures some { OnErr result (P.is_scripted ≡ true → SendsSome (P.tape port.old) (P.tape port.new) (datagram_sent sending.now)) }
     ensures worked { OnOk result (P.failed port.new ≡ P.failed port.old) }
     ensures counted { OnErr result (P.failed port.new ≡ P.failed port.old + 1) }
 {
@@ -82,8 +82,8 @@ fn send_datagram<P: Port>(port: &mut P, sending: &Sending) -> Result<(), PortFau
 
 fn send_closes<P: Port>(port: &mut P, notices: &[Notice]) -> Result<(), PortFault>
     requires { P.failed port.old < 2 ^ 64 - 1 }
-    ensures sent { OnOk result (P.tells ≡ true → P.tape port.new ≡ with_sent (P.tape port.old) (flat_map notice_sent notices.now)) }
-    ensures some { OnErr result (P.tells ≡ true → SendsSome (P.tape port.old) (P.tape port.new) (flat_map notice_sent notices.now)) }
+    ensures sent { OnOk result (P.is_scripted ≡ true → P.tape port.new ≡ with_sent (P.tape port.old) (flat_map notice_sent notices.now)) }
+    ensures some { OnErr result (P.is_scripted ≡ true → SendsSome (P.tape port.old) (P.tape port.new) (flat_map notice_sent notices.now)) }
     ensures worked { OnOk result (P.failed port.new ≡ P.failed port.old) }
     ensures counted { OnErr result (P.failed port.new ≡ P.failed port.old + 1) }
 {
@@ -95,8 +95,8 @@ fn send_closes<P: Port>(port: &mut P, notices: &[Notice]) -> Result<(), PortFaul
 
 fn send_close<P: Port>(port: &mut P, notice: &Notice) -> Result<(), PortFault>
     requires { P.failed port.old < 2 ^ 64 - 1 }
-    ensures sent { OnOk result (P.tells ≡ true → P.tape port.new ≡ with_sent (P.tape port.old) (notice_sent notice.now)) }
-    ensures some { OnErr result (P.tells ≡ true → SendsSome (P.tape port.old) (P.tape port.new) (notice_sent notice.now)) }
+    ensures sent { OnOk result (P.is_scripted ≡ true → P.tape port.new ≡ with_sent (P.tape port.old) (notice_sent notice.now)) }
+    ensures some { OnErr result (P.is_scripted ≡ true → SendsSome (P.tape port.old) (P.tape port.new) (notice_sent notice.now)) }
     ensures worked { OnOk result (P.failed port.new ≡ P.failed port.old) }
     ensures counted { OnErr result (P.failed port.new ≡ P.failed port.old + 1) }
 {

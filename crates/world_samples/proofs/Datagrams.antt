@@ -13,7 +13,7 @@ use Rattle.table_samples.specs.Hex.{hex}
 use Rattle.table_samples.specs.Devices.{fresh, peer}
 use Rattle.table_samples.specs.Datagrams.{datagram, to_one}
 use Rattle.table_samples.specs.Rows.{connected, alive}
-use Rattle.world_samples.specs.Worlds.{Saying, neighbour, home, with_tables, after, says, tells, plainly}
+use Rattle.world_samples.specs.Worlds.{Saying, neighbour, home, with_tables, after, says, reports, plainly}
 use Rattle.world_samples.proofs.Playing.{playing}
 
 -- the common adapter has a connection with a producer
@@ -29,7 +29,7 @@ numbered number = datagram 0x20000002 number 1 (hex "00 00 00 00")
 
 a_datagram_goes_out :
     says producing (ticks 1 ∷ [])
-    ≡ tells 0 (Tick 1) (record { frames = []; datagrams = to_one peer (numbered 1) ∷ []; verdict = Done; notices = [] }) ∷ []
+    ≡ reports 0 (Tick 1) (record { frames = []; datagrams = to_one peer (numbered 1) ∷ []; verdict = Done; notices = [] }) ∷ []
 unfolding playing
 a_datagram_goes_out = refl
 
@@ -43,7 +43,7 @@ what_is_sent_is_kept = refl
 
 -- the datagram comes to a device that has no such connection
 abbrev unknown : ℕ → ℕ → Saying
-unknown device number = tells device (Datagram home (numbered number)) (plainly (Delivered UnknownId))
+unknown device number = reports device (Datagram home (numbered number)) (plainly (Delivered UnknownId))
 
 it_comes_in_its_sender_s_name :
     says (after producing (ticks 1 ∷ ticks 10 ∷ [])) (Deliver 0 1 ∷ Deliver 1 1 ∷ Deliver 2 1 ∷ [])

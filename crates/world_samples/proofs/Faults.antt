@@ -12,7 +12,7 @@ use Rattle.segment_world.specs.declared.act.Act.TheVariants.{Local, Deliver, Nex
 use Rattle.segment_world.specs.declared.act.ActFault.TheVariants.{NoSuchDevice, NeverSent, StreamEmpty, NoSuchStream, Step}
 use Rattle.segment_world.specs.declared.act.Call.TheVariants as call
 use Rattle.segment_world.specs.declared.fault.WorldFault.TheVariants.{SameIncarnation, SameNode, Profile as BadProfile}
-use Rattle.segment_world.specs.World.{opened_if, most_streams}
+use Rattle.segment_world.specs.World.{opened_if, most_stream_numbers}
 use Rattle.segment_world.specs.Configs.{world_fault}
 use Rattle.table_samples.specs.Devices.{common}
 use Rattle.world_samples.specs.Worlds.{neighbour, home, two, knowing, ended, over, says, said, nothing}
@@ -39,13 +39,13 @@ unfolding playing
 no_stream_from_a_device_to_itself = refl
 
 -- stream number 65,535 is the last one
-the_last_number : said (opened_if 0 1 two true (nat_lt 65535 most_streams)) ≡ nothing
+the_last_number : said (opened_if 0 1 two true (nat_lt 65535 most_stream_numbers)) ≡ nothing
 the_last_number = refl
 
-all_numbers_are_given : said (opened_if 0 1 two true (nat_lt 65536 most_streams)) ≡ Err NoSuchStream
+all_numbers_are_given : said (opened_if 0 1 two true (nat_lt 65536 most_stream_numbers)) ≡ Err NoSuchStream
 all_numbers_are_given = refl
 
-a_device_before_its_number : said (opened_if 0 0 two false (nat_lt 65536 most_streams)) ≡ Err NoSuchDevice
+a_device_before_its_number : said (opened_if 0 0 two false (nat_lt 65536 most_stream_numbers)) ≡ Err NoSuchDevice
 a_device_before_its_number = refl
 
 no_such_stream : says two (NextFrame 0 Forth ∷ NextFrame 0 Back ∷ CutStream 0 ∷ CutStream 7 ∷ []) ≡ Err NoSuchStream ∷ Err NoSuchStream ∷ Err NoSuchStream ∷ Err NoSuchStream ∷ []

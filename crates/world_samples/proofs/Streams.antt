@@ -7,14 +7,14 @@ use Rattle.cip_events.specs.declared.event.StepFault.TheVariants.{NotAllowedNow}
 use Rattle.cip_events.specs.declared.event.Verdict.TheVariants.{Done}
 use Rattle.cip_tables.specs.Run.{table_after}
 use Rattle.stream_queues.specs.declared.direction.Direction.TheVariants.{Forth, Back}
-use Rattle.stream_queues.specs.Streams.{Item, Opening, Queued, Ending, Side, Stream, frames_sent, notices_told}
+use Rattle.stream_queues.specs.Streams.{QueueItem, Opening, Queued, Ending, Side, Stream, frames_sent, notices_applied}
 use Rattle.segment_world.specs.declared.act.Act.TheVariants.{NextFrame, OpenStream, CutStream}
 use Rattle.segment_world.specs.declared.act.ActFault.TheVariants.{StreamEmpty, NoSuchStream, Step}
 use Rattle.segment_world.specs.World.{World}
 use Rattle.table_samples.specs.Hex.{hex}
 use Rattle.table_samples.specs.Devices.{fresh, common, other}
 use Rattle.table_samples.specs.Messages.{message, register}
-use Rattle.world_samples.specs.Worlds.{neighbour, home, two, with_tables, knowing, unknowing, living, ended, over, after, says, nothing, tells, takes}
+use Rattle.world_samples.specs.Worlds.{neighbour, home, two, with_tables, knowing, unknowing, living, ended, over, after, says, nothing, reports, takes}
 use Rattle.world_samples.proofs.Playing.{playing}
 
 -- ---- a stream opens
@@ -52,7 +52,7 @@ registered = message 0x65 1 0 (hex "01 00 00 00")
 -- the answer waits for the other end, behind what waited there
 a_frame_is_taken_and_answered :
     says (over (living (knowing (Queued register ∷ [])) (unknowing (Opening ∷ []))) accepted) (NextFrame 0 Forth ∷ NextFrame 0 Forth ∷ [])
-    ≡ tells 1 (Frame 0 register) (record { frames = record { to = to.Stream 0; bytes = registered } ∷ []; datagrams = []; verdict = Done; notices = [] })
+    ≡ reports 1 (Frame 0 register) (record { frames = record { to = to.Stream 0; bytes = registered } ∷ []; datagrams = []; verdict = Done; notices = [] })
     ∷ Err StreamEmpty ∷ []
 unfolding playing
 a_frame_is_taken_and_answered = refl
@@ -137,12 +137,12 @@ abbrev unregister : List ℕ
 unregister = message 0x66 1 0 []
 
 -- what is left of the stream when the second device closes it
-abbrev closed : List Item → Side → List Stream
+abbrev closed : List QueueItem → Side → List Stream
 closed rest back = (after (over (living (knowing (Queued unregister ∷ rest)) back) in_session) (NextFrame 0 Forth ∷ [])).streams
 
 a_device_tells_that_it_closes :
     says (over (living (knowing (Queued unregister ∷ [])) (knowing [])) in_session) (NextFrame 0 Forth ∷ [])
-    ≡ tells 1 (Frame 0 unregister) (record { frames = []; datagrams = []; verdict = Done; notices = StreamClosed 0 ∷ [] }) ∷ []
+    ≡ reports 1 (Frame 0 unregister) (record { frames = []; datagrams = []; verdict = Done; notices = StreamClosed 0 ∷ [] }) ∷ []
 unfolding playing
 a_device_tells_that_it_closes = refl
 
@@ -158,17 +158,17 @@ nor_does_it_where_it_never_knew = refl
 
 -- the first device closes, where it has the stream
 the_first_closes :
-    notices_told 0 (living (knowing (Queued register ∷ [])) (knowing (Queued registered ∷ [])) ∷ []) (StreamClosed 0 ∷ [])
+    notices_applied 0 (living (knowing (Queued register ∷ [])) (knowing (Queued registered ∷ [])) ∷ []) (StreamClosed 0 ∷ [])
     ≡ ended (knowing (Ending ∷ [])) (knowing []) ∷ []
 unfolding playing
 the_first_closes = refl
 
-another_device_closes_nothing : notices_told 2 (idle ∷ []) (StreamClosed 0 ∷ []) ≡ idle ∷ []
+another_device_closes_nothing : notices_applied 2 (idle ∷ []) (StreamClosed 0 ∷ []) ≡ idle ∷ []
 unfolding playing
 another_device_closes_nothing = refl
 
 what_has_closed_is_no_stream :
     says (over (living (knowing (Queued unregister ∷ [])) (knowing [])) in_session) (NextFrame 0 Forth ∷ CutStream 0 ∷ NextFrame 0 Forth ∷ [])
-    ≡ tells 1 (Frame 0 unregister) (record { frames = []; datagrams = []; verdict = Done; notices = StreamClosed 0 ∷ [] }) ∷ Err NoSuchStream ∷ Err StreamEmpty ∷ []
+    ≡ reports 1 (Frame 0 unregister) (record { frames = []; datagrams = []; verdict = Done; notices = StreamClosed 0 ∷ [] }) ∷ Err NoSuchStream ∷ Err StreamEmpty ∷ []
 unfolding playing
 what_has_closed_is_no_stream = refl

@@ -8,10 +8,10 @@ use Rattle.cip_events.specs.declared.event.Verdict.TheVariants.{Done}
 use Rattle.adapter_table.specs.declared.profile.Profile.{Profile}
 use Rattle.cip_tables.specs.declared.table.Config.TheVariants as config
 use Rattle.cip_tables.specs.declared.table.DeviceTable.{DeviceTable}
-use Rattle.stream_queues.specs.Streams.{Item, Side, Stream}
+use Rattle.stream_queues.specs.Streams.{QueueItem, Side, Stream}
 use Rattle.segment_world.specs.declared.act.Act.{Act}
 use Rattle.segment_world.specs.declared.act.ActFault.{ActFault}
-use Rattle.segment_world.specs.World.{World, Told, Happened, happens}
+use Rattle.segment_world.specs.World.{World, ReportedEvent, Happened, happens}
 use Rattle.segment_world.specs.Configs.{opening_world}
 use Rattle.table_samples.specs.Devices.{common, other}
 
@@ -36,10 +36,10 @@ with_tables first second = record two { tables = first ∷ second ∷ [] }
 -- ---- streams
 
 -- an end that has taken the mark that the stream opens, and one that has not, with what waits for each
-abbrev pub knowing : List Item → Side
+abbrev pub knowing : List QueueItem → Side
 knowing queue = record { taken = true; queue = queue }
 
-abbrev pub unknowing : List Item → Side
+abbrev pub unknowing : List QueueItem → Side
 unknowing queue = record { taken = false; queue = queue }
 
 -- a stream from the first device to the second, with what waits for the second and for the first
@@ -60,7 +60,7 @@ over s w = record w { streams = s ∷ [] }
 
 -- what an act says: its event, if it is one, or its fault
 abbrev pub Saying : Type 0
-Saying = Result (Option Told) ActFault
+Saying = Result (Option ReportedEvent) ActFault
 
 abbrev pub said : Happened → Saying
 said (Ok done) = Ok done.0
@@ -87,8 +87,8 @@ says w (act ∷ acts) = said (happens w act) ∷ says (left w (happens w act)) a
 abbrev pub nothing : Saying
 nothing = Ok None
 
-abbrev pub tells : ℕ → Event → Answer → Saying
-tells device event answer = Ok (Some (record { device = device; event = event; answer = answer }))
+abbrev pub reports : ℕ → Event → Answer → Saying
+reports device event answer = Ok (Some (record { device = device; event = event; answer = answer }))
 
 -- nothing but a verdict
 abbrev pub plainly : Verdict → Answer
@@ -96,4 +96,4 @@ plainly verdict = record { frames = []; datagrams = []; verdict = verdict; notic
 
 -- the event comes to a device that says nothing
 abbrev pub takes : ℕ → Event → Saying
-takes device event = tells device event (plainly Done)
+takes device event = reports device event (plainly Done)

@@ -5,7 +5,7 @@ use Rattle.cip_epath.specs.declared.fault.PathFault.{PathFault}
 use Rattle.cip_epath.specs.declared.fault.PathFault.TheVariants as fault
 use Rattle.cip_epath.specs.declared.path.Target.{Target}
 use Rattle.cip_epath.specs.declared.segment.LogicalType.TheVariants.{Class, Instance, Attribute}
-use Rattle.cip_epath.specs.Key.{KeyFields}
+use Rattle.cip_epath.specs.ElectronicKey.{KeyFields}
 use Rattle.cip_epath.specs.Segment.{SegmentValue, logical}
 use Rattle.cip_epath.specs.Path.{PathFields, Role, key_role, class_role, point_role, data_role, roles, inhibits, arrangement, IsPath, IsTarget}
 use Rattle.cip_epath.specs.Reading.{with_points, with_class, with_key, with_inhibits, arranged_path, arranged_target}

@@ -6,7 +6,7 @@ use Rattle.cip_epath.specs.declared.fault.PathFault.{PathFault}
 use Rattle.cip_epath.specs.declared.fault.PathFault.TheVariants as fault
 use Rattle.cip_epath.specs.declared.segment.LogicalType.{LogicalType}
 use Rattle.cip_epath.specs.declared.segment.LogicalType.TheVariants.{Class, Instance, Member, ConnectionPoint, Attribute}
-use Rattle.cip_epath.specs.Key.{KeyFields}
+use Rattle.cip_epath.specs.ElectronicKey.{KeyFields}
 use Rattle.cip_epath.specs.Segment.{logical, key, bytes, inhibit, type_code, logical_byte}
 use Rattle.cip_epath.specs.Path.{SegmentBegins, BeginsNone, IsOtherKey, IsFaultOf}
 use Rattle.cip_epath.specs.Reading.{◌>>=◌, number_at, data_at, key_fields_at, key_at, value_at, segment_at}

@@ -6,7 +6,7 @@ use Rattle.std.proofs.lemmas.List.{take-append-drop, length-take}
 use Rattle.cip_epath.specs.declared.fault.PathFault.{PathFault}
 use Rattle.cip_epath.specs.declared.fault.PathFault.TheVariants as fault
 use Rattle.cip_epath.specs.declared.segment.LogicalType.{LogicalType}
-use Rattle.cip_epath.specs.Key.{KeyFields}
+use Rattle.cip_epath.specs.ElectronicKey.{KeyFields}
 use Rattle.cip_epath.specs.Segment.{SegmentValue, logical, key, bytes, inhibit, KeyFits, key_text, revision_byte, logical_byte, IsSegmentText}
 use Rattle.cip_epath.specs.Reading.{◌>>=◌, number_at, data_at, key_fields_at, key_at, value_at, segment_at}
 use Rattle.cip_types.specs.FieldLaws.{IsBytes, IsBytes-drop, Takes, wide16, wide32}

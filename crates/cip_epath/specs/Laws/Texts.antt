@@ -6,7 +6,7 @@ use Rattle.std.proofs.lemmas.List.{length-append}
 use Rattle.std.proofs.lemmas.Bool.{ltb-true, cases_Bool}
 use Rattle.cip_epath.specs.declared.path.Target.{Target}
 use Rattle.cip_epath.specs.declared.segment.LogicalType.{LogicalType}
-use Rattle.cip_epath.specs.Key.{KeyFields}
+use Rattle.cip_epath.specs.ElectronicKey.{KeyFields}
 use Rattle.cip_epath.specs.Segment.{SegmentValue, logical, key, bytes, inhibit, KeyFits, IsLogicalText, IsSegmentText}
 use Rattle.cip_epath.specs.Path.{PathFields, IsPath, IsTarget, IsTextOf, AreSegmentTexts}
 use Rattle.cip_epath.specs.Written.{logical_text, segment_text, path_segments, path_text, target_segments, target_text, AreWords, PathFits, TargetFits}

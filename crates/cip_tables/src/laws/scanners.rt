@@ -4,8 +4,8 @@
 
 ghost use Rattle.std.specs.Prelude.{◌≡◌, ◌≤◌, length};
 ghost use Rattle.cip_tables.specs.ScannerRuns.{RunsFoldEvents, OverWholeRuns, OverFreshRuns, OverScannerRuns, HoldsLastImages, HoldsLastImagesOrZeros, HoldsLastOutputs, HoldsLastOutputsOrZeros, AcceptsAfter, OpensAbove, OpensWithNewId};
-ghost use Rattle.cip_tables.specs.Scanners.{OverEveryScanner, EachPlace, HasLengths, IsOpenAsWanted, ClosesAsWanted, IsNumberedBelow};
-ghost use Rattle.scanner_table.specs.Slots.{places};
+ghost use Rattle.cip_tables.specs.Scanners.{OverEveryScanner, EachSlot, HasLengths, IsOpenAsDesired, ClosesAsDesired, IsNumberedBelow};
+ghost use Rattle.scanner_table.specs.Slots.{indexed_slots};
 ghost use Rattle.scanner_table.specs.Whole.{IdsDiffer, RequestsDiffer, StreamsDiffer};
 ghost use Rattle.scanner_laws.specs.Counters.{CountsOn};
 ghost use Rattle.scanner_laws.specs.Deadlines.{SlotsWaitInTime};
@@ -27,7 +27,7 @@ pub fn tables_are_whole()
 }
 
 /// There are as many slots as the profile has.
-pub fn slots_stand_in_their_places()
+pub fn slots_match_the_profile()
     ensures { OverEveryScanner (λ t. length t.slots ≡ length t.profile.slots) }
 {
     tables_are_whole();
@@ -35,29 +35,29 @@ pub fn slots_stand_in_their_places()
 
 /// The bytes that a slot sends and those that it gathered are as many as its points have.
 pub fn slots_have_their_lengths()
-    ensures { OverEveryScanner (λ t. EachPlace HasLengths (places t)) }
+    ensures { OverEveryScanner (λ t. EachSlot HasLengths (indexed_slots t)) }
 {
     tables_are_whole();
 }
 
 /// A slot that is not to be open does not open: none but one that is to be is opening or open, or fell silent and
 /// is to be tried again.
-pub fn slots_open_as_wanted()
-    ensures { OverEveryScanner (λ t. EachPlace IsOpenAsWanted (places t)) }
+pub fn slots_open_as_desired()
+    ensures { OverEveryScanner (λ t. EachSlot IsOpenAsDesired (indexed_slots t)) }
 {
     tables_are_whole();
 }
 
 /// None but a slot that is not to be open closes.
-pub fn slots_close_as_wanted()
-    ensures { OverEveryScanner (λ t. EachPlace ClosesAsWanted (places t)) }
+pub fn slots_close_as_desired()
+    ensures { OverEveryScanner (λ t. EachSlot ClosesAsDesired (indexed_slots t)) }
 {
     tables_are_whole();
 }
 
 /// The T->O id of an established slot is that of no other established slot of its target.
 pub fn ids_are_distinct()
-    ensures { OverEveryScanner (λ t. IdsDiffer (places t)) }
+    ensures { OverEveryScanner (λ t. IdsDiffer (indexed_slots t)) }
 {
     tables_are_whole();
 }
@@ -72,7 +72,7 @@ pub fn requests_are_distinct()
 /// The request that a slot waits for, and the one that its connection was opened by, have numbers below the next
 /// one.
 pub fn requests_are_below_the_next()
-    ensures { OverEveryScanner (λ t. EachPlace (λ place. IsNumberedBelow t.next_request place.slot.state) (places t)) }
+    ensures { OverEveryScanner (λ t. EachSlot (λ indexed. IsNumberedBelow t.next_request indexed.slot.state) (indexed_slots t)) }
 {
     tables_are_whole();
 }

@@ -13,7 +13,7 @@ use Rattle.std.specs.Ordering.{ordering_then}
 use Rattle.std.specs.FinMap.{get, same_map, nat_cmp-IsAntisymmetric, get-retain_keys}
 use Rattle.std.specs.Cmp.{nat_cmp_total}
 use Rattle.futures.specs.LinkedLists.{LinkedLists}
-use Rattle.timer_wheel.specs.declared.place.Timer.{Timer}
+use Rattle.timer_wheel.specs.declared.timer.Timer.{Timer}
 use Rattle.timer_wheel.specs.declared.Token.{Token}
 use Rattle.timer_wheel.specs.Timers.{Deadlines, IsDue, later_than, ComesBefore, Fires}
 use Rattle.timer_wheel.specs.Layout.{armed_of, IsAt, IsLaidOut, IsSplit, TakesDue}
@@ -65,8 +65,8 @@ module _ (before now : ℕ) (slots : LinkedLists) (ts : List (Option Timer)) (ar
   left q None is same = sym (later_of-none now armed q (sym same ∙ is))
   left q (Some d) is same = sym (later_of-later now armed q d (sym same ∙ is) (left_later before now slots ts q d laid is))
 
-  gone : (q : ℕ) (t : Timer) → Contains due t → t.token.0 ≡ q → get (armed_of ts) q ≡ later_of now armed q
-  gone q t in_due same =
+  removed : (q : ℕ) (t : Timer) → Contains due t → t.token.0 ≡ q → get (armed_of ts) q ≡ later_of now armed q
+  removed q t in_due same =
       let old = split.taken t in_due in
       ap (get (armed_of ts)) (sym same) ∙ old.2 ∙ sym (ap (later_of now armed) (sym same) ∙ later_of-due now armed t.token.0 t.deadline old.0 old.1)
 
@@ -76,7 +76,7 @@ module _ (before now : ℕ) (slots : LinkedLists) (ts : List (Option Timer)) (ar
       same_map nat_cmp_total nat_cmp-IsAntisymmetric _ _ (λ q.
       elim (split.others q) [
         | inl same ↦ left q (get (armed_of ts) q) refl same
-        | inr found ↦ gone q found.0 found.1 found.2
+        | inr found ↦ removed q found.0 found.1 found.2
       ] ∙ sym (get-later_than now armed q))
 
   -- each token that is due was taken out

@@ -6,7 +6,7 @@ use Rattle.std.proofs.lemmas.List.Sums.{sum_by-cons}
 use Rattle.std.specs.Ordering.{nat_cmp, eq_by_cmp}
 use Rattle.std.specs.Cmp.{nat_cmp_total, unsigned_tied}
 use Rattle.std.specs.FinMap.{get, insert, remove, len, same_map, nat_cmp-IsAntisymmetric, get-insert, get-remove, get-empty, len-insert, len-empty}
-use Rattle.timer_wheel.specs.declared.place.Timer.{Timer}
+use Rattle.timer_wheel.specs.declared.timer.Timer.{Timer}
 use Rattle.timer_wheel.specs.Timers.{Deadlines}
 use Rattle.timer_wheel.specs.Layout.{timer_at, timer_count, armed_of, IsUnique}
 

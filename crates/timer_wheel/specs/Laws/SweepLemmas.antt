@@ -7,11 +7,11 @@ use Rattle.std.proofs.lemmas.List.Quantifiers.{all_pairs_push}
 use Rattle.std.specs.FinMap.{get}
 use Rattle.futures.specs.LinkedLists.{LinkedLists, list_of, Moves}
 use Rattle.timer_wheel.specs.Marks.{AllEmpty}
-use Rattle.timer_wheel.specs.declared.place.Timer.{Timer}
-use Rattle.timer_wheel.specs.Place.{slot_of}
+use Rattle.timer_wheel.specs.declared.timer.Timer.{Timer}
+use Rattle.timer_wheel.specs.Levels.{slot_of}
 use Rattle.timer_wheel.specs.Layout.{timer_at, timer_count, armed_of, IsUnique, Agree, IsPlaced, IsAt, IsLaidOut, IsSplit, TakesDue, Clears}
 use Rattle.timer_wheel.specs.Laws.MapLemmas.{get-remove_same, get-remove_other, get-armed_of, armed_of-clear, IsUnique-clear, timer_count-clear, timer_within}
-use Rattle.timer_wheel.specs.Laws.PlaceLemmas.{slot_of-bound, Stays}
+use Rattle.timer_wheel.specs.Laws.LevelLemmas.{slot_of-bound, Stays}
 
 -- so far, what was taken out is due, and each timer stands where it belongs or waits in a slot from this one on
 pub record Emptying (before now from : ℕ) (slots : LinkedLists) (timers timers' : List (Option Timer)) (due due' : List Timer) (len len' cap cap' : ℕ) : Type 0 where
@@ -94,7 +94,7 @@ pub TakesDue-one : (now : ℕ) (due : List Timer) (ts : List (Option Timer)) (ke
 TakesDue-one now due ts key t unique is late armed split =
     let there = get-armed_of ts key t unique is in
     let clear = armed_of-clear ts key t unique is in
-    let gone : (q : ℕ) → q ≡ t.token.0 → get (armed_of (set ts key None)) q ≡ None =
+    let removed : (q : ℕ) → q ≡ t.token.0 → get (armed_of (set ts key None)) q ≡ None =
     λ q same. ap (λ m. get m q) clear ∙ get-remove_same (armed_of ts) t.token.0 q same in
     let kept : (q : ℕ) → q ≢ t.token.0 → get (armed_of (set ts key None)) q ≡ get (armed_of ts) q =
     λ q differs. ap (λ m. get m q) clear ∙ get-remove_other (armed_of ts) t.token.0 q differs in
@@ -113,7 +113,7 @@ TakesDue-one now due ts key t unique is late armed split =
                   | inr found ↦ absurd (apart found.0 found.1 found.2)
                 ] in
                 subst (λ (y : Timer). (get armed y.token.0 ≡ Some y.deadline) × (y.deadline ≤ now) × (get (armed_of (set ts key None)) y.token.0 ≡ None)) same
-                (armed_there, late, gone t.token.0 refl)
+                (armed_there, late, removed t.token.0 refl)
           ];
       others = λ q.
           elim (cases_eq q t.token.0) [

@@ -1,6 +1,6 @@
 use Rattle.std.proofs.Common.{arith}
 use Rattle.adapter_table.specs.Points.{zeroed_value}
-use Rattle.cip_types.specs.Places.{map_more}
+use Rattle.cip_types.specs.Indices.{map_more}
 use Rattle.assembly_set.proofs.values.zero_point.Goals as goal
 
 pub loop-value-preserved : goal.loop-value-preserved

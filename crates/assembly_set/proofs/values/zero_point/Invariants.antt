@@ -1,5 +1,5 @@
 use Rattle.adapter_table.specs.Points.{zeroed_value}
-use Rattle.cip_types.specs.Places.{Mapped}
+use Rattle.cip_types.specs.Indices.{Mapped}
 use Rattle.assembly_set.proofs.values.zero_point.Given as goal
 
 abbrev pub invariant-loop-value : goal.invariant-loop-value

@@ -12,7 +12,7 @@ pub loop-rest-smaller : goal.loop-rest-smaller
 loop-rest-smaller c = segment_shrinks _ _ _ c.loop-rest.invariant.fits c.in_ok-segment.ensures
 
 pub loop-rest-preserved : goal.loop-rest-preserved
-loop-rest-preserved c = let h = path_then _ _ _ _ _ _ c.loop-rest.invariant c.in_ok-segment.ensures in rw (c.then-draft.ensures, c.then-inhibits.ensures) h
+loop-rest-preserved c = let h = path_then _ _ _ _ _ _ c.loop-rest.invariant c.in_ok-segment.ensures in rw (c.then-builder.ensures, c.then-inhibits.ensures) h
 
 pub returns-in_err-segment : goal.returns-in_err-segment
 returns-in_err-segment c =

@@ -10,9 +10,9 @@ fits c =
     let o_t_id : Fits w32 c.args.opened.now.o_t_id.0 = search rules in
     let t_o_id : Fits w32 c.args.opened.now.t_o_id.0 = search rules in
     let triad = c.put_triad.ensures.fits in
-    let o_t_api : Fits w32 c.args.opened.now.o_t_api = search rules in
-    let t_o_api : Fits w32 c.args.opened.now.t_o_api = search rules in
-    (o_t_id.fits, (t_o_id.fits, (triad.0, (triad.1.0, (triad.1.1.0, (o_t_api.fits, (t_o_api.fits, (omega arith, (omega arith, tt)))))))))
+    let o_t_api_us : Fits w32 c.args.opened.now.o_t_api_us = search rules in
+    let t_o_api_us : Fits w32 c.args.opened.now.t_o_api_us = search rules in
+    (o_t_id.fits, (t_o_id.fits, (triad.0, (triad.1.0, (triad.1.1.0, (o_t_api_us.fits, (t_o_api_us.fits, (omega arith, (omega arith, tt)))))))))
 
 pub returns : goal.returns
 unfolding opened_text
@@ -23,6 +23,6 @@ returns c =
           (appended c.put_bytes.new.out.items c.put_u32.new.out.items _ (to_le_bytes w32 o.o_t_id.0) _ c.in_ok-put_u32.ensures.ok
           (appended c.put_u32.new.out.items c.put_u32-2.new.out.items _ (to_le_bytes w32 o.t_o_id.0) _ c.in_ok-put_u32-2.ensures.ok
           (appended c.put_u32-2.new.out.items c.put_triad.new.out.items _ (fields_text triad_widths (triad_numbers o.triad)) _ c.in_ok-put_triad.ensures.text
-          (appended c.put_triad.new.out.items c.put_u32-3.new.out.items _ (to_le_bytes w32 o.o_t_api) _ c.in_ok-put_u32-3.ensures.ok
-          (appended c.put_u32-3.new.out.items c.put_u32-4.new.out.items c.put_bytes-2.new.out.items (to_le_bytes w32 o.t_o_api) (0 ∷ 0 ∷ []) c.in_ok-put_u32-4.ensures.ok c.in_ok-put_bytes-2.ensures.ok))))),
+          (appended c.put_triad.new.out.items c.put_u32-3.new.out.items _ (to_le_bytes w32 o.o_t_api_us) _ c.in_ok-put_u32-3.ensures.ok
+          (appended c.put_u32-3.new.out.items c.put_u32-4.new.out.items c.put_bytes-2.new.out.items (to_le_bytes w32 o.t_o_api_us) (0 ∷ 0 ∷ []) c.in_ok-put_u32-4.ensures.ok c.in_ok-put_bytes-2.ensures.ok))))),
     )

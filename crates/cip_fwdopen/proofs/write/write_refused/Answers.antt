@@ -8,9 +8,9 @@ use Rattle.cip_fwdopen.proofs.write.write_refused.Goals as goal
 fits : (c : goal.After-refused_bytes) → RefusedFits c.args.fault c.args.triad
 fits c =
     let general : Fits w8 c.args.fault.general = search rules in
-    let extra : IfSome c.args.fault.extra (λ code. code < 2 ^ 16) = search rules in
+    let extended : IfSome c.args.fault.extended (λ code. code < 2 ^ 16) = search rules in
     let triad : IfSome c.args.triad TriadFits = search rules in
-    record { refuses = c.requires; general = general.fits; extra = extra; triad = triad }
+    record { refuses = c.requires; general = general.fits; extended = extended; triad = triad }
 
 pub returns-clause-is_text : goal.returns-clause-is_text
 returns-clause-is_text c =

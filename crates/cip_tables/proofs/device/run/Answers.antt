@@ -6,9 +6,9 @@ use Rattle.cip_tables.proofs.device.run.Goals as goal
 
 pub loop-event-preserved : goal.loop-event-preserved
 loop-event-preserved g c = record {
-  told =
+  reported =
       rw (c.push_reserved.ensures.items, take_more c.args.events.now c.loop-event.event-index c.event-item.result (omega arith), ← c.event-item.is)
-      (Runs_more _ _ _ _ _ _ _ c.loop-event.invariant.told c.step-outcome.ensures.step);
+      (Runs_more _ _ _ _ _ _ _ c.loop-event.invariant.reported c.step-outcome.ensures.step);
   count = omega arith;
   room = omega arith;
 }
@@ -16,11 +16,11 @@ loop-event-preserved g c = record {
 pub returns : goal.returns
 returns g c =
     let table = g.D.Device.table in
-    let ran = run_all (table c.args.device.now) (table c.loop-event.device) c.args.events.now c.loop-event.outcomes.items c.loop-event.event-index (omega arith) c.loop-event.invariant.told in
+    let ran = run_all (table c.args.device.now) (table c.loop-event.device) c.args.events.now c.loop-event.outcomes.items c.loop-event.event-index (omega arith) c.loop-event.invariant.reported in
     let folds = run_folds (table c.args.device.now) c.args.events.now c.loop-event.outcomes.items (table c.loop-event.device) ran in
     record {
       run = ran;
-      outcomes = folds.told;
+      outcomes = folds.reported;
       table = folds.table;
       sound = run_sound c.tables_are_sound.ensures.steps c.steps_keep_tables_whole.ensures _ c.args.events.now c.loop-event.outcomes.items _ ran;
       whole = λ whole. run_whole c.tables_are_whole.ensures.steps c.steps_keep_tables_whole.ensures _ _ c.args.events.now c.loop-event.outcomes.items whole ran;

@@ -7,7 +7,7 @@ abbrev pub invariant-loop-event : goal.invariant-loop-event
 invariant-loop-event g l =
     let table = g.D.Device.table in
     record {
-      told : Runs (table l.fn.device) (take l.event-index l.events) l.outcomes.items (table l.device);
+      reported : Runs (table l.fn.device) (take l.event-index l.events) l.outcomes.items (table l.device);
       count : vec_len l.outcomes ≡ l.event-index;
       room : length l.events ≤ vec_capacity l.outcomes;
     }

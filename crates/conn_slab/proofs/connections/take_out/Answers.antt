@@ -7,7 +7,7 @@ use Rattle.conn_slab.specs.Index.{items_of}
 use Rattle.conn_slab.specs.Records.{row_of, is_of, key_for, left_by}
 use Rattle.conn_slab.specs.Layout.{IsServed, IsBalanced}
 use Rattle.conn_slab.proofs.Lookups.{filter_none, items_keys}
-use Rattle.conn_slab.proofs.Listed.{triad_is, find_rows, without_rows, lone_items, found_all, live, out_of, fewer}
+use Rattle.conn_slab.proofs.RowLemmas.{triad_is, find_rows, without_rows, lone_items, found_all, live, out_of, fewer}
 use Rattle.conn_slab.proofs.connections.take_out.Goals as goal
 
 none_of : (c : goal.After-from_residual) → find (is_of (key_for c.args.triad)) (items_of c.args.records.now c.args.by_triad.now.entries) ≡ None
@@ -18,8 +18,8 @@ same_items c =
     c.take_record.ensures.rest ∙ ap (λ n. filter (λ r. not (is_of n r)) (items_of c.args.records.now c.args.by_triad.now.entries)) c.key_for.ensures
     ∙ filter_none (is_of (key_for c.args.triad)) (items_of c.args.records.now c.args.by_triad.now.entries) (none_of c)
 
-pub returns-in_err-record-clause-tied : goal.returns-in_err-record-clause-tied
-returns-in_err-record-clause-tied c = record {
+pub returns-in_err-record-clause-consistent : goal.returns-in_err-record-clause-consistent
+returns-in_err-record-clause-consistent c = record {
   filed = c.take_record.ensures.filed;
   balanced = subst (IsBalanced c.args.pool.now) (sym (same_items c)) c.requires.balanced;
   few = subst (λ (rs : List Record). length rs ≤ 64) (sym (same_items c)) c.requires.few;
@@ -57,12 +57,12 @@ out : (c : goal.After-leave) → IsBalanced (left_by c.in_ok-record.record.produ
     × (map (row_of (left_by c.in_ok-record.record.producer c.args.pool.now)) (filter (λ r. not (is_of (key_for c.args.triad) r)) (items_of c.args.records.now c.args.by_triad.now.entries)) ≡ map (row_of c.args.pool.now) (filter (λ r. not (is_of (key_for c.args.triad) r)) (items_of c.args.records.now c.args.by_triad.now.entries)))
 out c =
     let rs = items_of c.args.records.now c.args.by_triad.now.entries in
-    let keys = items_keys c.args.records.now c.args.by_place.now.entries c.args.by_triad.now.entries c.requires.filed.by_name in
+    let keys = items_keys c.args.records.now c.args.by_source.now.entries c.args.by_triad.now.entries c.requires.filed.by_name in
     out_of c.args.pool.now rs (is_of (key_for c.args.triad)) c.in_ok-record.record c.len-groups.ensures.groups c.requires.balanced
     (lone_items (key_for c.args.triad) rs _ keys c.requires.filed.distinct) (found c)
 
-pub returns-clause-tied : goal.returns-clause-tied
-returns-clause-tied c =
+pub returns-clause-consistent : goal.returns-clause-consistent
+returns-clause-consistent c =
     let rs = items_of c.args.records.now c.args.by_triad.now.entries in
     let less = fewer (λ r. not (is_of (key_for c.args.triad) r)) rs in
     let few = c.requires.few in

@@ -9,11 +9,11 @@ whole c =
     let put = rw c.unwrap.ensures at c.insert.ensures.entries in
     let finds = rw c.unwrap.ensures at c.insert.ensures.updates in
     let placed = rw c.unwrap-2.ensures at c.insert-2.ensures.updates in
-    added c.args.records.now c.args.by_triad.now.entries c.args.by_place.now.entries c.requires.filed
+    added c.args.records.now c.args.by_triad.now.entries c.args.by_source.now.entries c.requires.filed
     c.insert_reserved-key.new.self c.insert.new.self.entries c.insert-2.new.self.entries c.insert_reserved-key.result c.args.opened
-    c.key_for-name.result c.place_of-place.result c.key_for-name.ensures c.place_of-place.ensures
+    c.key_for-name.result c.source_of-place.result c.key_for-name.ensures c.source_of-place.ensures
     c.insert_reserved-key.ensures.was_vacant c.insert_reserved-key.ensures.updates
-    c.requires.new_triad c.requires.new_place
+    c.requires.new_triad c.requires.new_source
     put finds.0 c.insert.ensures.unique placed.0
 
 pub returns-clause-filed : goal.returns-clause-filed

@@ -1,4 +1,4 @@
-use Rattle.cip_types.specs.Places.{Mapped}
+use Rattle.cip_types.specs.Indices.{Mapped}
 use Rattle.mcast_pool.specs.Groups.{produced_if_due}
 use Rattle.mcast_pool.proofs.groups.produce_all.Given as goal
 

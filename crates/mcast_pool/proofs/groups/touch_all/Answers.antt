@@ -1,5 +1,5 @@
 use Rattle.std.proofs.Common.{arith}
-use Rattle.cip_types.specs.Places.{map_more}
+use Rattle.cip_types.specs.Indices.{map_more}
 use Rattle.mcast_pool.specs.Groups.{touched}
 use Rattle.mcast_pool.proofs.Places.{fits_mapped}
 use Rattle.mcast_pool.proofs.groups.touch_all.Goals as goal

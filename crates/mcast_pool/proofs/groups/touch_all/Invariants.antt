@@ -1,4 +1,4 @@
-use Rattle.cip_types.specs.Places.{Mapped}
+use Rattle.cip_types.specs.Indices.{Mapped}
 use Rattle.mcast_pool.specs.Groups.{touched}
 use Rattle.mcast_pool.proofs.groups.touch_all.Given as goal
 

@@ -4,7 +4,7 @@ use Rattle.std.proofs.lemmas.Bool.Decides.{nat_tests}
 use Rattle.std.proofs.lemmas.List.{get_or_default}
 use Rattle.mcast_pool.specs.declared.group.Group.{Group}
 use Rattle.mcast_pool.specs.Groups.{has_number, one_less, is_last}
-use Rattle.mcast_pool.proofs.Places.{first_at, found_there, gone_there, less_there, serves_index}
+use Rattle.mcast_pool.proofs.Places.{first_at, found_there, removed_there, less_there, serves_index}
 use Rattle.mcast_pool.proofs.groups.unsubscribe.Goals as goal
 
 pub overflow_sub-group : goal.overflow_sub-group
@@ -23,7 +23,7 @@ pub returns-then-is_last-clause-groups : goal.returns-then-is_last-clause-groups
 returns-then-is_last-clause-groups c =
     let first = first_at (has_number c.args.number) c.args.groups.now.items c.args.at c.index.result.now c.requires.place in
     let one : is_last c.index.result.now ≡ true = let is = c.if-is_last.true in grind (arith, nat_tests) in
-    c.remove.ensures.items ∙ gone_there c.args.number c.args.groups.now.items c.args.at c.index.result.now first (ap is_last (sym c.index.ensures) ∙ one)
+    c.remove.ensures.items ∙ removed_there c.args.number c.args.groups.now.items c.args.at c.index.result.now first (ap is_last (sym c.index.ensures) ∙ one)
 
 pub returns-else-is_last-clause-last : goal.returns-else-is_last-clause-last
 returns-else-is_last-clause-last c =

@@ -1,4 +1,4 @@
-use Rattle.cip_types.specs.Places.{Mapped}
+use Rattle.cip_types.specs.Indices.{Mapped}
 use Rattle.mcast_pool.specs.Groups.{written_and_changed}
 use Rattle.mcast_pool.proofs.groups.write_all.Given as goal
 

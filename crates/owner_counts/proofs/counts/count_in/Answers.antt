@@ -8,5 +8,5 @@ use Rattle.owner_counts.proofs.counts.count_in.Goals as goal
 pub returns-in-None-clause-counts : goal.returns-in-None-clause-counts
 returns-in-None-clause-counts c =
     let none : find (is_at c.args.point) c.args.counts.now.items ≡ None =
-    no_place c.args.point c.args.counts.now.items (ap (position (is_at c.args.point)) (sym c.deref.ensures.value) ∙ sym c.place_of.ensures ∙ c.in-None.is) in
+    no_place c.args.point c.args.counts.now.items (ap (position (is_at c.args.point)) (sym c.deref.ensures.value) ∙ sym c.index_of.ensures ∙ c.in-None.is) in
     c.push_reserved.ensures.items ∙ more_last c.args.point c.args.counts.now.items none

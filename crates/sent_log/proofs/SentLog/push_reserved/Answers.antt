@@ -1,6 +1,6 @@
 use Rattle.std.proofs.Common.{◌≡◌, ◌++◌, ◌∷◌, [], length, sym, ap, ◌∙◌, arith}
 use Rattle.sent_log.specs.Log.{Log}
-use Rattle.sent_log.specs.Places.{sent_in}
+use Rattle.sent_log.specs.Spans.{sent_in}
 use Rattle.sent_log.proofs.Appending.{pushed_within, pushed_sent}
 use Rattle.sent_log.proofs.SentLog.push_reserved.Goals as goal
 
@@ -17,7 +17,7 @@ returns-clause-sent c =
     let made = c.in-Ok.ensures in
     let begins : c.len-start.result ≡ length c.self.inside.bytes.items = grind arith in
     let ends : c.len-end.result ≡ length c.extend_from_slice.new.self.items = grind arith in
-    ap (λ places. sent_in c.extend_from_slice.new.self.items places) c.push_reserved.ensures.items
+    ap (λ spans. sent_in c.extend_from_slice.new.self.items spans) c.push_reserved.ensures.items
     ∙ pushed_sent c.self.inside.bytes.items c.args.bytes.now c.extend_from_slice.new.self.items _ c.args.from _ _ c.self.invariant made.items begins ends
     ∙ ap (λ (l : Log). l.sent ++ (record { from = c.args.from; bytes = c.args.bytes.now }) ∷ []) c.self.view_is
 

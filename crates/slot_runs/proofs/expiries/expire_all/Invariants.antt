@@ -1,11 +1,11 @@
 use Rattle.std.proofs.Common.{◌≡◌, drop}
-use Rattle.scanner_table.specs.Ticks.{all_expired, expired, expired_places}
-use Rattle.slot_drafts.specs.Drafts.{view_draft, followed}
-use Rattle.slot_runs.proofs.Standing.{Remains}
+use Rattle.scanner_table.specs.Ticks.{all_expired, expired, expired_slots}
+use Rattle.slot_transactions.specs.Transactions.{view_transaction, followed}
+use Rattle.slot_runs.proofs.SlotNumbers.{Remains}
 use Rattle.slot_runs.proofs.expiries.expire_all.Given as goal
 
 abbrev pub invariant-loop-expiry : goal.invariant-loop-expiry
 invariant-loop-expiry l = record {
-  remains : Remains expired (followed (view_draft l.profile l.fn.draft) (all_expired (view_draft l.profile l.fn.draft).table)) (view_draft l.profile l.draft) (drop l.expiry-index (expired_places (view_draft l.profile l.fn.draft).table));
-  clock : l.draft.present.clock ≡ l.fn.draft.present.clock;
+  remains : Remains expired (followed (view_transaction l.profile l.fn.transaction) (all_expired (view_transaction l.profile l.fn.transaction).table)) (view_transaction l.profile l.transaction) (drop l.expiry-index (expired_slots (view_transaction l.profile l.fn.transaction).table));
+  clock : l.transaction.scanner.clock ≡ l.fn.transaction.scanner.clock;
 }

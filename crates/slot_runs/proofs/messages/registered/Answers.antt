@@ -3,8 +3,8 @@ use Rattle.std.proofs.lemmas.Bool.Decides.{nat_tests}
 use Rattle.cip_encap.specs.Message.{view_message}
 use Rattle.scanner_table.specs.declared.table.ScannerTable.{ScannerTable}
 use Rattle.scanner_table.specs.Encapsulation.{registered}
-use Rattle.slot_places.specs.Places.{table_of}
-use Rattle.slot_drafts.specs.Drafts.{view_draft}
+use Rattle.slot_places.specs.Views.{table_of}
+use Rattle.slot_transactions.specs.Transactions.{view_transaction}
 use Rattle.slot_runs.proofs.Answering.{table_done}
 use Rattle.slot_runs.proofs.messages.registered.Goals as goal
 
@@ -12,4 +12,4 @@ pub returns : goal.returns
 returns c =
     let profile = c.args.profile.now in
     let zero : (c.args.message.now.context == 0) ≡ true = grind (arith, nat_tests) in
-    rw zero (table_done (λ (t : ScannerTable). registered t c.args.stream (view_message c.args.message.now)) (table_of profile c.args.present.now) (view_draft profile c.in_ok-draft.draft) (view_draft profile c.register.new.draft) (c.in_ok-draft.ensures.effect profile) c.in_ok-register.ensures.effect)
+    rw zero (table_done (λ (t : ScannerTable). registered t c.args.stream (view_message c.args.message.now)) (table_of profile c.args.scanner.now) (view_transaction profile c.in_ok-transaction.transaction) (view_transaction profile c.register.new.transaction) (c.in_ok-transaction.ensures.effect profile) c.in_ok-register.ensures.effect)

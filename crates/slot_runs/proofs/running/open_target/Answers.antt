@@ -1,10 +1,10 @@
 use Rattle.std.proofs.Common.{◌≡◌, subst, IfOk}
 use Rattle.scanner_table.specs.Effects.{Effect}
-use Rattle.slot_drafts.specs.Drafts.{view_draft, followed}
-use Rattle.slot_runs.proofs.Chosen.{target_is}
+use Rattle.slot_transactions.specs.Transactions.{view_transaction, followed}
+use Rattle.slot_runs.proofs.Selected.{target_is}
 use Rattle.slot_runs.proofs.running.open_target.Goals as goal
 
 pub returns-clause-effect : goal.returns-clause-effect
 returns-clause-effect c =
-    let d = view_draft c.args.profile.now c.args.draft.now in
-    subst (λ (e : Effect). IfOk c.run.result (λ x. view_draft c.args.profile.now c.run.new.draft ≡ followed d e)) (target_is c.args.target d.table) c.run.ensures.effect
+    let d = view_transaction c.args.profile.now c.args.transaction.now in
+    subst (λ (e : Effect). IfOk c.run.result (λ x. view_transaction c.args.profile.now c.run.new.transaction ≡ followed d e)) (target_is c.args.target d.table) c.run.ensures.effect

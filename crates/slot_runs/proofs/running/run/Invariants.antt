@@ -1,11 +1,11 @@
 use Rattle.std.proofs.Common.{◌≡◌}
-use Rattle.slot_drafts.specs.Drafts.{view_draft, followed}
-use Rattle.slot_runs.specs.Runs.{effect_of, chosen, run}
+use Rattle.slot_transactions.specs.Transactions.{view_transaction, followed}
+use Rattle.slot_runs.specs.Runs.{effect_of, selected, run}
 use Rattle.slot_runs.proofs.Remaining.{left}
 use Rattle.slot_runs.proofs.running.run.Given as goal
 
 abbrev pub invariant-loop-number : goal.invariant-loop-number
 invariant-loop-number l = record {
-  adds : followed (view_draft l.profile l.fn.draft) (run l.moved l.which (view_draft l.profile l.fn.draft).table) ≡ followed (view_draft l.profile l.draft) (left (effect_of l.moved) (chosen l.which) l.number (view_draft l.profile l.draft).table);
-  clock : l.draft.present.clock ≡ l.fn.draft.present.clock;
+  adds : followed (view_transaction l.profile l.fn.transaction) (run l.action l.which (view_transaction l.profile l.fn.transaction).table) ≡ followed (view_transaction l.profile l.transaction) (left (effect_of l.action) (selected l.which) l.number (view_transaction l.profile l.transaction).table);
+  clock : l.transaction.scanner.clock ≡ l.fn.transaction.scanner.clock;
 }

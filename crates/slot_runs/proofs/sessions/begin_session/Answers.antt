@@ -1,8 +1,8 @@
 use Rattle.std.proofs.Common.{◌≡◌, IfOk, subst}
 use Rattle.scanner_table.specs.Opening.{target_opened}
-use Rattle.slot_drafts.specs.Drafts.{Drafted, view_draft, followed}
+use Rattle.slot_transactions.specs.Transactions.{Progress, view_transaction, followed}
 use Rattle.slot_runs.proofs.sessions.begin_session.Goals as goal
 
 pub returns-clause-effect : goal.returns-clause-effect
 returns-clause-effect c =
-    subst (λ (d : Drafted). IfOk c.open_target.result (λ x. view_draft c.args.profile.now c.open_target.new.draft ≡ followed d (target_opened c.args.stream.peer d.table))) (c.set_stage.ensures.effect c.args.profile.now) c.open_target.ensures.effect
+    subst (λ (d : Progress). IfOk c.open_target.result (λ x. view_transaction c.args.profile.now c.open_target.new.transaction ≡ followed d (target_opened c.args.stream.peer d.table))) (c.set_stage.ensures.effect c.args.profile.now) c.open_target.ensures.effect

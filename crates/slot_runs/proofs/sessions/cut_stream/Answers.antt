@@ -1,8 +1,8 @@
 use Rattle.std.proofs.Common.{◌≡◌, IfOk, subst}
 use Rattle.scanner_table.specs.Closing.{target_lost}
-use Rattle.slot_drafts.specs.Drafts.{Drafted, view_draft, followed}
+use Rattle.slot_transactions.specs.Transactions.{Progress, view_transaction, followed}
 use Rattle.slot_runs.proofs.sessions.cut_stream.Goals as goal
 
 pub returns-clause-effect : goal.returns-clause-effect
 returns-clause-effect c =
-    subst (λ (d : Drafted). IfOk c.lose_target.result (λ x. view_draft c.args.profile.now c.lose_target.new.draft ≡ followed d (target_lost c.args.stream.peer d.table))) (c.cut_stream.ensures.effect c.args.profile.now) c.lose_target.ensures.effect
+    subst (λ (d : Progress). IfOk c.lose_target.result (λ x. view_transaction c.args.profile.now c.lose_target.new.transaction ≡ followed d (target_lost c.args.stream.peer d.table))) (c.cut_stream.ensures.effect c.args.profile.now) c.lose_target.ensures.effect

@@ -1,8 +1,8 @@
 use Rattle.std.proofs.Common.{sym, ◌∙◌}
 use Rattle.scanner_table.specs.declared.table.Stage.TheVariants.{Unused}
-use Rattle.slot_drafts.specs.Drafts.{view_draft, with_staged}
+use Rattle.slot_transactions.specs.Transactions.{view_transaction, with_staged}
 use Rattle.slot_runs.proofs.Remaining.{adds_nothing}
 use Rattle.slot_runs.proofs.sessions.fail_session.Goals as goal
 
 pub returns-clause-effect : goal.returns-clause-effect
-returns-clause-effect c = c.set_stage.ensures.effect c.args.profile.now ∙ sym (adds_nothing (with_staged c.args.stream.number Unused (view_draft c.args.profile.now c.args.draft.now)))
+returns-clause-effect c = c.set_stage.ensures.effect c.args.profile.now ∙ sym (adds_nothing (with_staged c.args.stream.number Unused (view_transaction c.args.profile.now c.args.transaction.now)))

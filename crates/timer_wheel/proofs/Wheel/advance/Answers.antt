@@ -1,7 +1,7 @@
 use Rattle.std.proofs.Common.{◌≡◌, ◌+◌, ◌++◌, List, length, map, take, arith, ap, ◌∙◌, subst, length-append, length-take-le, take_all}
 use Rattle.std.proofs.lemmas.List.{length-map, with_items_is}
 use Rattle.std.specs.FinMap.{len}
-use Rattle.timer_wheel.specs.declared.place.Timer.{Timer}
+use Rattle.timer_wheel.specs.declared.timer.Timer.{Timer}
 use Rattle.timer_wheel.specs.Timers.{Timers, later_than, Fires}
 use Rattle.timer_wheel.specs.Layout.{armed_of, timer_count}
 use Rattle.timer_wheel.specs.Laws.MapLemmas.{len-armed_of}

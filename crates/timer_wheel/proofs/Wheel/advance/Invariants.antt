@@ -1,5 +1,5 @@
 use Rattle.std.proofs.Common.{◌≡◌, ◌++◌, map, take, vec_capacity}
-use Rattle.timer_wheel.specs.declared.place.Timer.{Timer}
+use Rattle.timer_wheel.specs.declared.timer.Timer.{Timer}
 use Rattle.timer_wheel.proofs.Wheel.advance.Given as goal
 
 abbrev pub invariant-loop-timer : goal.invariant-loop-timer

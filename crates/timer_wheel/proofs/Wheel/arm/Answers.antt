@@ -2,7 +2,7 @@ use Rattle.std.proofs.Common.{◌≡◌, length, arith, ap, ◌∙◌, length-se
 use Rattle.std.specs.FinMap.{len, get, insert}
 use Rattle.timer_wheel.specs.Timers.{Timers}
 use Rattle.timer_wheel.specs.Layout.{armed_of}
-use Rattle.timer_wheel.specs.Laws.PlaceLemmas.{slot_of-bound}
+use Rattle.timer_wheel.specs.Laws.LevelLemmas.{slot_of-bound}
 use Rattle.timer_wheel.proofs.WheelLemmas.{some_free, IsSound-arm, armed_of-arm, same_timers}
 use Rattle.timer_wheel.proofs.Wheel.arm.Goals as goal
 

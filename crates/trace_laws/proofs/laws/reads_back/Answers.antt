@@ -1,6 +1,6 @@
 use Rattle.trace_laws.proofs.NodeLaws.{nodes_back}
 use Rattle.trace_laws.proofs.TraceLaws.{trace_back}
-use Rattle.trace_laws.proofs.WordLaws.{number_back, node_back, bytes_back, id_back, general_back, extra_back, action_back}
+use Rattle.trace_laws.proofs.WordLaws.{number_back, node_back, bytes_back, id_back, general_back, extended_back, action_back}
 use Rattle.trace_laws.proofs.laws.reads_back.Goals as goal
 
 pub returns-clause-numbers : goal.returns-clause-numbers
@@ -18,8 +18,8 @@ returns-clause-ids c = id_back
 pub returns-clause-general : goal.returns-clause-general
 returns-clause-general c = general_back
 
-pub returns-clause-extra : goal.returns-clause-extra
-returns-clause-extra c = extra_back
+pub returns-clause-extended : goal.returns-clause-extended
+returns-clause-extended c = extended_back
 
 pub returns-clause-actions : goal.returns-clause-actions
 returns-clause-actions c = action_back

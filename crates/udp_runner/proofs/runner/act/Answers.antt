@@ -6,9 +6,9 @@ use Rattle.udp_runner.proofs.runner.act.Goals as goal
 pub returns-in_err-answer-clause-stopped : goal.returns-in_err-answer-clause-stopped
 returns-in_err-answer-clause-stopped g c =
     let p = err_from_is_err_and c.from_residual.result c.from_residual.ensures.1 in
-    rw (p.1, p.2) (λ tells. stops_stepping _ _ _ _ _ _ c.in_err-answer.ensures.step refl)
+    rw (p.1, p.2) (λ is_scripted. stops_stepping _ _ _ _ _ _ c.in_err-answer.ensures.step refl)
 
 pub returns-in_err-send_answer-clause-stopped : goal.returns-in_err-send_answer-clause-stopped
 returns-in_err-send_answer-clause-stopped g c =
     let p = err_from_is_err_and c.from_residual-in_err-send_answer.result c.from_residual-in_err-send_answer.ensures.1 in
-    rw (p.1, p.2) (λ tells. stops_sending _ _ _ _ _ _ _ c.in_ok-answer.ensures.step (c.in_err-send_answer.ensures.some tells))
+    rw (p.1, p.2) (λ is_scripted. stops_sending _ _ _ _ _ _ _ c.in_ok-answer.ensures.step (c.in_err-send_answer.ensures.some is_scripted))

@@ -11,16 +11,16 @@ loop-preserved g c =
       few = omega (arith, turn.few);
       counted = turn.worked ∙ c.loop.invariant.counted;
       inputs = λ port. turn.inputs port ∙ ap rest_of (c.loop.invariant.inputs port) ∙ rest_of-drop _ c.loop.counter;
-      times = λ clock. turn.times clock ∙ ap rest_of (c.loop.invariant.times clock) ∙ rest_of-drop _ c.loop.counter;
+      times_ms = λ clock. turn.times_ms clock ∙ ap rest_of (c.loop.invariant.times_ms clock) ∙ rest_of-drop _ c.loop.counter;
       runs = λ port clock m s t left.
           let more : c.args.turns - c.loop.counter ≡ suc (c.args.turns - (c.loop.counter + 1)) = omega arith in
           rw add_assoc
           (c.loop.invariant.runs port clock (c.in_ok-count.field-0 + m) s t
-          (drives_turn _ _ _ _ _ _ _ _ _ _ _ _ _ _ more (turn.times clock) (turn.inputs port) (turn.run port clock) left));
+          (drives_turn _ _ _ _ _ _ _ _ _ _ _ _ _ _ more (turn.times_ms clock) (turn.inputs port) (turn.run port clock) left));
       stops = λ port clock fault s t left.
           let more : c.args.turns - c.loop.counter ≡ suc (c.args.turns - (c.loop.counter + 1)) = omega arith in
           c.loop.invariant.stops port clock fault s t
-          (stops_turn fault _ _ _ _ _ _ _ _ _ _ _ _ _ more (turn.times clock) (turn.inputs port) (turn.run port clock) left);
+          (stops_turn fault _ _ _ _ _ _ _ _ _ _ _ _ _ more (turn.times_ms clock) (turn.inputs port) (turn.run port clock) left);
     }
 
 pub returns-in_err-count-clause-stopped : goal.returns-in_err-count-clause-stopped
@@ -41,7 +41,7 @@ returns-clause-inputs g c = λ port.
     let all : c.loop.counter ≡ c.args.turns = omega arith in
     c.loop.invariant.inputs port ∙ ap (λ k. drop k (g.P.Port.tape c.args.port.now).coming) all
 
-pub returns-clause-times : goal.returns-clause-times
-returns-clause-times g c = λ clock.
+pub returns-clause-times_ms : goal.returns-clause-times_ms
+returns-clause-times_ms g c = λ clock.
     let all : c.loop.counter ≡ c.args.turns = omega arith in
-    c.loop.invariant.times clock ∙ ap (λ k. drop k (g.C.Clock.coming c.args.clock.now)) all
+    c.loop.invariant.times_ms clock ∙ ap (λ k. drop k (g.C.Clock.coming c.args.clock.now)) all

@@ -14,14 +14,14 @@ invariant-loop g l =
     record {
       few : l.count ≤ 2 * l.counter;
       counted : g.P.Port.failed l.port ≡ g.P.Port.failed l.initial.port;
-      inputs : g.P.Port.tells ≡ true → (tape l.port).coming ≡ drop l.counter (tape l.initial.port).coming;
-      times : g.C.Clock.tells ≡ true → coming l.clock ≡ drop l.counter (coming l.initial.clock);
+      inputs : g.P.Port.is_scripted ≡ true → (tape l.port).coming ≡ drop l.counter (tape l.initial.port).coming;
+      times_ms : g.C.Clock.is_scripted ≡ true → coming l.clock ≡ drop l.counter (coming l.initial.clock);
       runs :
-          g.P.Port.tells ≡ true → g.C.Clock.tells ≡ true → (m : ℕ) (s : Tape) (t : DeviceTable)
+          g.P.Port.is_scripted ≡ true → g.C.Clock.is_scripted ≡ true → (m : ℕ) (s : Tape) (t : DeviceTable)
           → Drives (events_of (l.turns - l.counter) (coming l.clock) (tape l.port).coming) m (tape l.port) s (table l.device) t
           → Drives (events_of l.turns (coming l.initial.clock) (tape l.initial.port).coming) (l.count + m) (tape l.initial.port) s (table l.initial.device) t;
       stops :
-          g.P.Port.tells ≡ true → g.C.Clock.tells ≡ true → (fault : RunFault) (s : Tape) (t : DeviceTable)
+          g.P.Port.is_scripted ≡ true → g.C.Clock.is_scripted ≡ true → (fault : RunFault) (s : Tape) (t : DeviceTable)
           → Stops fault (events_of (l.turns - l.counter) (coming l.clock) (tape l.port).coming) (tape l.port) s (table l.device) t
           → Stops fault (events_of l.turns (coming l.initial.clock) (tape l.initial.port).coming) (tape l.initial.port) s (table l.initial.device) t;
     }

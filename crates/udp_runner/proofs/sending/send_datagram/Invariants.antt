@@ -1,6 +1,6 @@
 use Rattle.std.proofs.Common.{◌≡◌, take, true}
 use Rattle.std.specs.List.{flat_map}
-use Rattle.udp_runner.specs.Sending.{copy_to}
+use Rattle.udp_runner.specs.Outputs.{copy_to}
 use Rattle.udp_runner.specs.Tape.{with_sent}
 use Rattle.udp_runner.proofs.sending.send_datagram.Given as goal
 
@@ -8,5 +8,5 @@ abbrev pub invariant-loop-node : goal.invariant-loop-node
 invariant-loop-node g l =
     record {
       counted : g.P.Port.failed l.port ≡ g.P.Port.failed l.initial.port;
-      sends : g.P.Port.tells ≡ true → g.P.Port.tape l.port ≡ with_sent (g.P.Port.tape l.initial.port) (flat_map (copy_to l.bytes) (take l.node-index l.node-items));
+      sends : g.P.Port.is_scripted ≡ true → g.P.Port.tape l.port ≡ with_sent (g.P.Port.tape l.initial.port) (flat_map (copy_to l.bytes) (take l.node-index l.node-items));
     }

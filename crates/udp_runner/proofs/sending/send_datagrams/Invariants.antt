@@ -1,6 +1,6 @@
 use Rattle.std.proofs.Common.{◌≡◌, take, true}
 use Rattle.std.specs.List.{flat_map}
-use Rattle.udp_runner.specs.Sending.{datagram_sent}
+use Rattle.udp_runner.specs.Outputs.{datagram_sent}
 use Rattle.udp_runner.specs.Tape.{with_sent}
 use Rattle.udp_runner.proofs.sending.send_datagrams.Given as goal
 
@@ -8,5 +8,5 @@ abbrev pub invariant-loop-sending : goal.invariant-loop-sending
 invariant-loop-sending g l =
     record {
       counted : g.P.Port.failed l.port ≡ g.P.Port.failed l.initial.port;
-      sends : g.P.Port.tells ≡ true → g.P.Port.tape l.port ≡ with_sent (g.P.Port.tape l.initial.port) (flat_map datagram_sent (take l.sending-index l.datagrams));
+      sends : g.P.Port.is_scripted ≡ true → g.P.Port.tape l.port ≡ with_sent (g.P.Port.tape l.initial.port) (flat_map datagram_sent (take l.sending-index l.datagrams));
     }

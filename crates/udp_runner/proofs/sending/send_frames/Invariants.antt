@@ -1,6 +1,6 @@
 use Rattle.std.proofs.Common.{◌≡◌, take, true}
 use Rattle.std.specs.List.{flat_map}
-use Rattle.udp_runner.specs.Sending.{frame_sent}
+use Rattle.udp_runner.specs.Outputs.{frame_sent}
 use Rattle.udp_runner.specs.Tape.{with_sent}
 use Rattle.udp_runner.proofs.sending.send_frames.Given as goal
 
@@ -8,5 +8,5 @@ abbrev pub invariant-loop-frame : goal.invariant-loop-frame
 invariant-loop-frame g l =
     record {
       counted : g.P.Port.failed l.port ≡ g.P.Port.failed l.initial.port;
-      sends : g.P.Port.tells ≡ true → g.P.Port.tape l.port ≡ with_sent (g.P.Port.tape l.initial.port) (flat_map frame_sent (take l.frame-index l.frames));
+      sends : g.P.Port.is_scripted ≡ true → g.P.Port.tape l.port ≡ with_sent (g.P.Port.tape l.initial.port) (flat_map frame_sent (take l.frame-index l.frames));
     }

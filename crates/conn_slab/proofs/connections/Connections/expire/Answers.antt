@@ -17,7 +17,7 @@ returns-in_default-clause-found c =
     let own = c.self.inside in
     let none : running_key own.records (lookup (same_key (key_for c.args.triad)) own.by_triad.entries) ≡ None =
     ap (λ n. running_key own.records (lookup (same_key n) own.by_triad.entries)) (sym c.key_for.ensures) ∙ ap (running_key own.records) (sym c.get.ensures.value) ∙ sym c.running.ensures ∙ c.in_default.is in
-    sym (unexpired own.records own.by_triad.entries own.by_place.entries own.pool c.self.invariant c.args.triad none).0 ∙ ap (list_any (holds_triad c.args.triad)) c.self.view_is
+    sym (unexpired own.records own.by_triad.entries own.by_source.entries own.pool c.self.invariant c.args.triad none).0 ∙ ap (list_any (holds_triad c.args.triad)) c.self.view_is
 
 pub returns-in_default-clause-rows : goal.returns-in_default-clause-rows
 returns-in_default-clause-rows c =
@@ -25,21 +25,21 @@ returns-in_default-clause-rows c =
     let none : running_key own.records (lookup (same_key (key_for c.args.triad)) own.by_triad.entries) ≡ None =
     ap (λ n. running_key own.records (lookup (same_key n) own.by_triad.entries)) (sym c.key_for.ensures) ∙ ap (running_key own.records) (sym c.get.ensures.value) ∙ sym c.running.ensures ∙ c.in_default.is in
     let P : List Row → Type 0 = λ rows. rows ≡ map (timed_out_if c.args.triad) rows in
-    subst P c.self.view_is (sym (unexpired own.records own.by_triad.entries own.by_place.entries own.pool c.self.invariant c.args.triad none).1)
+    subst P c.self.view_is (sym (unexpired own.records own.by_triad.entries own.by_source.entries own.pool c.self.invariant c.args.triad none).1)
 
 pub leave-requires : goal.leave-requires
 leave-requires c =
     let own = c.self.inside in
     let some : running_key own.records (lookup (same_key (key_for c.args.triad)) own.by_triad.entries) ≡ Some (c.in-Some.key, c.in-Some.number) =
     ap (λ n. running_key own.records (lookup (same_key n) own.by_triad.entries)) (sym c.key_for.ensures) ∙ ap (running_key own.records) (sym c.get.ensures.value) ∙ sym c.running.ensures ∙ c.in-Some.is in
-    (expired own.records own.by_triad.entries own.by_place.entries own.pool c.self.invariant c.args.triad c.in-Some.key c.in-Some.number c.index_mut-record.result.now c.len-groups.ensures.groups some c.index_mut-record.ensures.value).in_use
+    (expired own.records own.by_triad.entries own.by_source.entries own.pool c.self.invariant c.args.triad c.in-Some.key c.in-Some.number c.index_mut-record.result.now c.len-groups.ensures.groups some c.index_mut-record.ensures.value).in_use
 
 pub invariant_of-self : goal.invariant_of-self
 invariant_of-self c =
     let own = c.self.inside in
     let some : running_key own.records (lookup (same_key (key_for c.args.triad)) own.by_triad.entries) ≡ Some (c.in-Some.key, c.in-Some.number) =
     ap (λ n. running_key own.records (lookup (same_key n) own.by_triad.entries)) (sym c.key_for.ensures) ∙ ap (running_key own.records) (sym c.get.ensures.value) ∙ sym c.running.ensures ∙ c.in-Some.is in
-    let all = expired own.records own.by_triad.entries own.by_place.entries own.pool c.self.invariant c.args.triad c.in-Some.key c.in-Some.number c.index_mut-record.result.now c.len-groups.ensures.groups some c.index_mut-record.ensures.value in
+    let all = expired own.records own.by_triad.entries own.by_source.entries own.pool c.self.invariant c.args.triad c.in-Some.key c.in-Some.number c.index_mut-record.result.now c.len-groups.ensures.groups some c.index_mut-record.ensures.value in
     rw c.leave.ensures.groups all.kept
 
 pub returns-clause-found : goal.returns-clause-found
@@ -47,7 +47,7 @@ returns-clause-found c =
     let own = c.self.inside in
     let some : running_key own.records (lookup (same_key (key_for c.args.triad)) own.by_triad.entries) ≡ Some (c.in-Some.key, c.in-Some.number) =
     ap (λ n. running_key own.records (lookup (same_key n) own.by_triad.entries)) (sym c.key_for.ensures) ∙ ap (running_key own.records) (sym c.get.ensures.value) ∙ sym c.running.ensures ∙ c.in-Some.is in
-    let all = expired own.records own.by_triad.entries own.by_place.entries own.pool c.self.invariant c.args.triad c.in-Some.key c.in-Some.number c.index_mut-record.result.now c.len-groups.ensures.groups some c.index_mut-record.ensures.value in
+    let all = expired own.records own.by_triad.entries own.by_source.entries own.pool c.self.invariant c.args.triad c.in-Some.key c.in-Some.number c.index_mut-record.result.now c.len-groups.ensures.groups some c.index_mut-record.ensures.value in
     sym all.found ∙ ap (list_any (holds_triad c.args.triad)) c.self.view_is
 
 pub returns-clause-rows : goal.returns-clause-rows
@@ -55,6 +55,6 @@ returns-clause-rows c =
     let own = c.self.inside in
     let some : running_key own.records (lookup (same_key (key_for c.args.triad)) own.by_triad.entries) ≡ Some (c.in-Some.key, c.in-Some.number) =
     ap (λ n. running_key own.records (lookup (same_key n) own.by_triad.entries)) (sym c.key_for.ensures) ∙ ap (running_key own.records) (sym c.get.ensures.value) ∙ sym c.running.ensures ∙ c.in-Some.is in
-    let all = expired own.records own.by_triad.entries own.by_place.entries own.pool c.self.invariant c.args.triad c.in-Some.key c.in-Some.number c.index_mut-record.result.now c.len-groups.ensures.groups some c.index_mut-record.ensures.value in
+    let all = expired own.records own.by_triad.entries own.by_source.entries own.pool c.self.invariant c.args.triad c.in-Some.key c.in-Some.number c.index_mut-record.result.now c.len-groups.ensures.groups some c.index_mut-record.ensures.value in
     ap (λ (pool : List Group). map (row_of pool) (items_of (with_value own.records c.in-Some.key (record c.index_mut-record.result.now { producer = None })) own.by_triad.entries)) c.leave.ensures.groups
     ∙ all.rows ∙ ap (map (timed_out_if c.args.triad)) c.self.view_is

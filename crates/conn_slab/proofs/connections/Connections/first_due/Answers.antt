@@ -1,4 +1,4 @@
-use Rattle.conn_slab.proofs.Resting.{rows_rest}
+use Rattle.conn_slab.proofs.DueBounds.{rows_rest}
 use Rattle.conn_slab.specs.Index.{items_of}
 use Rattle.conn_slab.proofs.connections.Connections.first_due.Goals as goal
 

@@ -1,19 +1,19 @@
 use Rattle.std.proofs.Common.{◌≡◌, ◌∙◌, [], ◌∷◌, ◌++◌, Some, None, find, length, sym, ap, refl, arith, vec_capacity}
 use Rattle.std.specs.Option.{option_map}
-use Rattle.mcast_pool.specs.Groups.{begun, producer_of, serves, place_for, joined_group, joined_by}
+use Rattle.mcast_pool.specs.Groups.{begun, producer_of, serves, index_for, joined_group, joined_by}
 use Rattle.mcast_pool.proofs.Places.{not_joined, joined_found, joined_at, found_there, first_at}
 use Rattle.mcast_pool.proofs.Keeping.{pool_joined, pool_more, no_more_groups}
-use Rattle.mcast_pool.proofs.Joining.{told_of, joined_as, begun_as, not_served}
+use Rattle.mcast_pool.proofs.Joining.{join_result_of, joined_as, begun_as, not_served}
 use Rattle.mcast_pool.proofs.pool.Pool.join.Goals as goal
 
 -- the place is that of the group in the list
-placed : (c : goal.After-told) → place_for c.args.shared c.args.producer.point c.self.inside.groups.items ≡ Some c.in-Some.at
-placed c = ap (place_for c.args.shared c.args.producer.point) (sym c.deref.ensures.value) ∙ sym c.place_for.ensures ∙ c.in-Some.is
+placed : (c : goal.After-join_result) → index_for c.args.shared c.args.producer.point c.self.inside.groups.items ≡ Some c.in-Some.at
+placed c = ap (index_for c.args.shared c.args.producer.point) (sym c.deref.ensures.value) ∙ sym c.index_for.ensures ∙ c.in-Some.is
 
-unplaced : (c : goal.After-told-in-None) → place_for c.args.shared c.args.producer.point c.self.inside.groups.items ≡ None
-unplaced c = ap (place_for c.args.shared c.args.producer.point) (sym c.deref.ensures.value) ∙ sym c.place_for.ensures ∙ c.in-None.is
+unplaced : (c : goal.After-join_result-in-None) → index_for c.args.shared c.args.producer.point c.self.inside.groups.items ≡ None
+unplaced c = ap (index_for c.args.shared c.args.producer.point) (sym c.deref.ensures.value) ∙ sym c.index_for.ensures ∙ c.in-None.is
 
-found : (c : goal.After-told) → find (serves c.args.producer.point) c.self.inside.groups.items ≡ joined_group c.args.shared c.args.producer.point c.self.inside.groups.items
+found : (c : goal.After-join_result) → find (serves c.args.producer.point) c.self.inside.groups.items ≡ joined_group c.args.shared c.args.producer.point c.self.inside.groups.items
 found c =
     let at = joined_at c.args.shared c.args.producer.point c.self.inside.groups.items c.in-Some.at (placed c) in
     let new = begun c.args.producer c.args.shared c.args.api in
@@ -29,7 +29,7 @@ pub push_reserved-requires : goal.push_reserved-requires
 push_reserved-requires c =
     let few = rw (← c.self.view_is) at c.requires.few in
     let none = no_more_groups c.self.inside.groups.items c.self.invariant.each in
-    let room = c.self.invariant.room in
+    let space = c.self.invariant.space in
     let len = ap (λ l. length l) c.deref.ensures.value in
     let long = c.deref.ensures.len in
     omega arith
@@ -44,8 +44,8 @@ invariant_of-self-in-None c =
 
 pub returns-in-Some-clause-joined : goal.returns-in-Some-clause-joined
 returns-in-Some-clause-joined c =
-    rw (← c.self.view_is) (told_of c.args.producer c.subscribe-serving.result (joined_group c.args.shared c.args.producer.point c.self.inside.groups.items) c.told.result
-    (c.subscribe-serving.ensures.producer ∙ ap (option_map producer_of) (found c)) c.told.ensures)
+    rw (← c.self.view_is) (join_result_of c.args.producer c.subscribe-serving.result (joined_group c.args.shared c.args.producer.point c.self.inside.groups.items) c.join_result.result
+    (c.subscribe-serving.ensures.producer ∙ ap (option_map producer_of) (found c)) c.join_result.ensures)
 
 pub returns-in-Some-clause-groups : goal.returns-in-Some-clause-groups
 returns-in-Some-clause-groups c =
@@ -53,7 +53,7 @@ returns-in-Some-clause-groups c =
 
 pub returns-in-None-clause-joined : goal.returns-in-None-clause-joined
 returns-in-None-clause-joined c =
-    rw (← c.self.view_is) (c.told-in-None.ensures ∙ ap (joined_by c.args.producer) (sym (not_joined c.args.shared c.args.producer.point c.self.inside.groups.items (unplaced c))))
+    rw (← c.self.view_is) (c.join_result-in-None.ensures ∙ ap (joined_by c.args.producer) (sym (not_joined c.args.shared c.args.producer.point c.self.inside.groups.items (unplaced c))))
 
 pub returns-in-None-clause-groups : goal.returns-in-None-clause-groups
 returns-in-None-clause-groups c =

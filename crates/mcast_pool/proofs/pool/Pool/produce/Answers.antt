@@ -13,7 +13,7 @@ use Rattle.mcast_pool.proofs.pool.Pool.produce.Goals as goal
 pub unwrap-at-requires : goal.unwrap-at-requires
 unwrap-at-requires c =
     let may = rw (← c.self.view_is) at c.requires.may in
-    is_placed (has_number c.args.number) c.self.inside.groups.items c.place_of.result (c.place_of.ensures ∙ ap (position (has_number c.args.number)) c.deref.ensures.value)
+    is_placed (has_number c.args.number) c.self.inside.groups.items c.index_of.result (c.index_of.ensures ∙ ap (position (has_number c.args.number)) c.deref.ensures.value)
     (may_be c.args.clock (numbered c.args.number c.self.inside.groups.items) may)
 
 pub invariant_of-self : goal.invariant_of-self
@@ -23,7 +23,7 @@ invariant_of-self c =
 
 pub returns-clause-datagram : goal.returns-clause-datagram
 returns-clause-datagram c =
-    let at = ap (position (has_number c.args.number)) (sym c.deref.ensures.value) ∙ sym c.place_of.ensures ∙ c.unwrap-at.ensures in
+    let at = ap (position (has_number c.args.number)) (sym c.deref.ensures.value) ∙ sym c.index_of.ensures ∙ c.unwrap-at.ensures in
     let said : Group → List ℕ = λ (group : Group). c.args.out.now.items ++ datagram_text (production_datagram group.producer.id group.producer.production c.args.input.now) in
     rw (← c.self.view_is) (ap (λ l. Some l) c.append_datagram.ensures ∙ ap (λ group. Some (said group)) c.index.ensures
     ∙ ap (option_map said) (sym (found_there (has_number c.args.number) c.self.inside.groups.items c.unwrap-at.result c.index.result.now (first_at (has_number c.args.number) c.self.inside.groups.items c.unwrap-at.result c.index.result.now at))))

@@ -8,19 +8,19 @@ use Rattle.owner_counts.proofs.Counting.{one_at, length_few}
 use Rattle.owner_counts.proofs.Counted.{drives_at, supports_at, counts_in_more, total_in_more, filter_more, all_filtered_more}
 use Rattle.owner_counts.proofs.rules.Rules.joined.Goals as goal
 
-pub count_in_if-requires-clause-room : goal.count_in_if-requires-clause-room
-count_in_if-requires-clause-room c =
+pub count_in_if-requires-clause-space : goal.count_in_if-requires-clause-space
+count_in_if-requires-clause-space c =
     let few : total c.self.inside.owners.items < 64 = rw (← c.self.view_is) at c.requires.owners in
     let long = length_few c.self.inside.owners.items c.self.invariant.owners in
-    let room = c.self.invariant.owner_room in
+    let space = c.self.invariant.owner_space in
     let len = c.self.inside.owners.ok.0 in
     omega arith
 
-pub count_in_if-requires-2-clause-room : goal.count_in_if-requires-2-clause-room
-count_in_if-requires-2-clause-room c =
+pub count_in_if-requires-2-clause-space : goal.count_in_if-requires-2-clause-space
+count_in_if-requires-2-clause-space c =
     let few : total c.self.inside.supporters.items < 64 = rw (← c.self.view_is) at c.requires.supporters in
     let long = length_few c.self.inside.supporters.items c.self.invariant.supporters in
-    let room = c.self.invariant.supporter_room in
+    let space = c.self.invariant.supporter_space in
     let len = c.self.inside.supporters.ok.0 in
     omega arith
 
@@ -36,8 +36,8 @@ invariant_of-self c =
       supporters = counts_in_more c.is_supporter.result row.produced own.supporters.items c.self.invariant.supporters;
       few_owners = total_in_more c.is_driver.result row.consumed own.owners.items few;
       few_supporters = total_in_more c.is_supporter.result row.produced own.supporters.items others;
-      owner_room = c.self.invariant.owner_room;
-      supporter_room = c.self.invariant.supporter_room;
+      owner_space = c.self.invariant.owner_space;
+      supporter_space = c.self.invariant.supporter_space;
     })
 
 pub returns : goal.returns

@@ -22,8 +22,8 @@ invariant_of-self c =
       supporters = counts_in_less c.is_supporter.result row.produced own.supporters.items c.self.invariant.supporters supporter;
       few_owners = total_in_less c.is_driver.result row.consumed own.owners.items c.self.invariant.few_owners;
       few_supporters = total_in_less c.is_supporter.result row.produced own.supporters.items c.self.invariant.few_supporters;
-      owner_room = c.self.invariant.owner_room;
-      supporter_room = c.self.invariant.supporter_room;
+      owner_space = c.self.invariant.owner_space;
+      supporter_space = c.self.invariant.supporter_space;
     })
 
 pub returns : goal.returns

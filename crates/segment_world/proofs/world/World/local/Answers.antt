@@ -5,22 +5,22 @@ use Rattle.segment_world.proofs.world.World.local.Goals as goal
 
 pub returns-in-Ok-call_at : goal.returns-in-Ok-call_at
 returns-in-Ok-call_at g c =
-    let mid : World = (record { nodes = c.self.inside.nodes.items; tables = c.self.inside.members.items; sent = c.self.inside.log.sent; streams = c.self.inside.streams.streams }) in
+    let mid : World = (record { nodes = c.self.inside.nodes.items; tables = c.self.inside.devices.items; sent = c.self.inside.log.sent; streams = c.self.inside.streams.streams }) in
     let event = event_of_call c.args.call.now in
-    done_so (comes c.args.device event c.args.self.now) c.args.self.now mid c.args.device event c.in-Ok-call_at.answer c.in-Some.node c.call_at.new.members.items c.spread.new.log.sent c.spread.new.streams.streams
+    done_so (comes c.args.device event c.args.self.now) c.args.self.now mid c.args.device event c.in-Ok-call_at.answer c.in-Some.node c.call_at.new.devices.items c.fan_out.new.log.sent c.fan_out.new.streams.streams
     (ap (comes c.args.device event) (sym c.self.view_is))
     c.in-Ok-call_at.ensures
     (ap (λ l. slice_get l c.args.device) (sym c.deref.ensures.value) ∙ sym c.node_of.ensures ∙ c.in-Some.is)
-    (rw c.make_room.ensures.sent at c.spread.ensures.sent)
-    (rw c.make_room.ensures.streams at c.spread.ensures.streams)
+    (rw c.reserve_answer.ensures.sent at c.fan_out.ensures.sent)
+    (rw c.reserve_answer.ensures.streams at c.fan_out.ensures.streams)
 
 pub returns-in-Err : goal.returns-in-Err
 returns-in-Err g c =
     let event = event_of_call c.args.call.now in
-    undone_so (comes c.args.device event c.args.self.now) c.args.self.now c.args.self.now c.args.device event c.in-Err.fault _ c.self.inside.members.items c.call_at.new.members.items _ c.make_room.new.log.sent _ c.make_room.new.streams.streams
+    undone_so (comes c.args.device event c.args.self.now) c.args.self.now c.args.self.now c.args.device event c.in-Err.fault _ c.self.inside.devices.items c.call_at.new.devices.items _ c.reserve_answer.new.log.sent _ c.reserve_answer.new.streams.streams
     c.self.view_is
     refl
     (sym (ap (λ (w : World). w.tables) c.self.view_is))
     c.in-Err.ensures
-    c.make_room.ensures.sent
-    c.make_room.ensures.streams
+    c.reserve_answer.ensures.sent
+    c.reserve_answer.ensures.streams

@@ -6,29 +6,29 @@ use Rattle.segment_world.proofs.world.World.next_frame.Goals as goal
 
 pub returns-in-Ok-step_at : goal.returns-in-Ok-step_at
 returns-in-Ok-step_at g c =
-    let seen : World = record { nodes = c.self.inside.nodes.items; tables = c.self.inside.members.items; sent = c.self.inside.log.sent; streams = c.self.inside.streams.streams } in
+    let seen : World = record { nodes = c.self.inside.nodes.items; tables = c.self.inside.devices.items; sent = c.self.inside.log.sent; streams = c.self.inside.streams.streams } in
     let n = c.args.stream in
     let d = c.args.direction in
-    let coming = c.in-Ok.coming in
-    let is = c.in-Ok.ensures.coming in
+    let arrival = c.in-Ok.arrival in
+    let is = c.in-Ok.ensures.arrival in
     let answer = c.in-Ok-step_at.answer in
-    done_so (taken_at n d c.args.self.now (slice_get c.args.self.now.streams n)) c.args.self.now (without_front n d seen) coming.device coming.event answer coming.node c.step_at.new.members.items c.spread.new.log.sent c.spread.new.streams.streams
-    (is.is ∙ ap (λ (w : World). comes coming.device coming.event (without_front n d w)) (sym c.self.view_is))
+    done_so (taken_at n d c.args.self.now (slice_get c.args.self.now.streams n)) c.args.self.now (without_front n d seen) arrival.device arrival.event answer arrival.node c.step_at.new.devices.items c.fan_out.new.log.sent c.fan_out.new.streams.streams
+    (is.is ∙ ap (λ (w : World). comes arrival.device arrival.event (without_front n d w)) (sym c.self.view_is))
     c.in-Ok-step_at.ensures
-    (ap (λ (w : World). slice_get w.nodes coming.device) c.self.view_is ∙ is.node)
-    (rw c.make_room.ensures.sent at c.spread.ensures.sent)
-    (c.spread.ensures.streams ∙ ap (answered coming.device answer) (c.take_front.ensures.streams ∙ ap (with_stream (taken_from d) n) c.make_room.ensures.streams))
+    (ap (λ (w : World). slice_get w.nodes arrival.device) c.self.view_is ∙ is.node)
+    (rw c.reserve_answer.ensures.sent at c.fan_out.ensures.sent)
+    (c.fan_out.ensures.streams ∙ ap (answered arrival.device answer) (c.take_front.ensures.streams ∙ ap (with_stream (taken_from d) n) c.reserve_answer.ensures.streams))
 
 pub returns : goal.returns
 returns g c =
     let n = c.args.stream in
     let d = c.args.direction in
-    let coming = c.in-Ok.coming in
-    let is = c.in-Ok.ensures.coming in
-    undone_so (taken_at n d c.args.self.now (slice_get c.args.self.now.streams n)) c.args.self.now (without_front n d c.args.self.now) coming.device coming.event c.in-Err-step_at.fault _ c.self.inside.members.items c.step_at.new.members.items _ c.make_room.new.log.sent _ c.make_room.new.streams.streams
+    let arrival = c.in-Ok.arrival in
+    let is = c.in-Ok.ensures.arrival in
+    undone_so (taken_at n d c.args.self.now (slice_get c.args.self.now.streams n)) c.args.self.now (without_front n d c.args.self.now) arrival.device arrival.event c.in-Err-step_at.fault _ c.self.inside.devices.items c.step_at.new.devices.items _ c.reserve_answer.new.log.sent _ c.reserve_answer.new.streams.streams
     c.self.view_is
     is.is
     (sym (ap (λ (w : World). w.tables) c.self.view_is))
     c.in-Err-step_at.ensures
-    c.make_room.ensures.sent
-    c.make_room.ensures.streams
+    c.reserve_answer.ensures.sent
+    c.reserve_answer.ensures.streams

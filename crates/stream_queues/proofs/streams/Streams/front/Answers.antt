@@ -1,9 +1,9 @@
 use Rattle.std.proofs.Common.{◌≡◌, ℕ, List, slice_get, cond, not, Bool, true, false, Option, Some, None, refl, sym, ap, ◌∙◌}
 use Rattle.stream_queues.specs.declared.direction.Direction.{Direction}
-use Rattle.stream_queues.specs.declared.waiting.Waiting.{Waiting}
-use Rattle.stream_queues.specs.declared.links.Link.{Link}
-use Rattle.stream_queues.specs.declared.links.End.{End}
-use Rattle.stream_queues.specs.Streams.{Item, Opening, Queued, Ending}
+use Rattle.stream_queues.specs.declared.waiting.QueuedFrame.{QueuedFrame}
+use Rattle.stream_queues.specs.declared.links.StreamLink.{StreamLink}
+use Rattle.stream_queues.specs.declared.links.StreamEnd.{StreamEnd}
+use Rattle.stream_queues.specs.Streams.{QueueItem, Opening, Queued, Ending}
 use Rattle.stream_queues.specs.Links.{end_of}
 use Rattle.stream_queues.specs.Fronts.{front_of}
 use Rattle.stream_queues.specs.Queues.{Queues, streams_in, stream_in}
@@ -18,15 +18,15 @@ returns-in_default c =
     ∙ ap (λ (q : Queues). front_of c.args.direction (slice_get q.streams c.args.number)) c.self.view_is
 
 -- a front of the stream as it is seen
-seen_front : (d : Direction) (ws : List Waiting) (links : List Link) (n : ℕ) (link : Link) (q : Queues) (front : Option Item) → slice_get links n ≡ Some link → streams_in 0 ws links ≡ q.streams → front_of d (Some (stream_in n ws link)) ≡ front → front ≡ front_of d (slice_get q.streams n)
+seen_front : (d : Direction) (ws : List QueuedFrame) (links : List StreamLink) (n : ℕ) (link : StreamLink) (q : Queues) (front : Option QueueItem) → slice_get links n ≡ Some link → streams_in 0 ws links ≡ q.streams → front_of d (Some (stream_in n ws link)) ≡ front → front ≡ front_of d (slice_get q.streams n)
 seen_front d ws links n link q front is view so =
     sym so ∙ sym (ap (front_of d) (get_some ws links n link is)) ∙ ap (λ ss. front_of d (slice_get ss n)) view
 
-ends_so : (d : Direction) (link : Link) (end : End) (b : _) → end ≡ end_of d link → end.ending ≡ b → (end_of d link).ending ≡ b
-ends_so d link end b is ending = ap (λ (e : End). e.ending) (sym is) ∙ ending
+ends_so : (d : Direction) (link : StreamLink) (end : StreamEnd) (b : _) → end ≡ end_of d link → end.ending ≡ b → (end_of d link).ending ≡ b
+ends_so d link end b is ending = ap (λ (e : StreamEnd). e.ending) (sym is) ∙ ending
 
-taken_so : (d : Direction) (link : Link) (end : End) (b : _) → end ≡ end_of d link → end.taken ≡ b → (end_of d link).taken ≡ b
-taken_so d link end b is taken = ap (λ (e : End). e.taken) (sym is) ∙ taken
+taken_so : (d : Direction) (link : StreamLink) (end : StreamEnd) (b : _) → end ≡ end_of d link → end.taken ≡ b → (end_of d link).taken ≡ b
+taken_so d link end b is taken = ap (λ (e : StreamEnd). e.taken) (sym is) ∙ taken
 
 not_true : (b : Bool) → not b ≡ true → b ≡ false
 not_true true is = absurd (let e = is in cc)

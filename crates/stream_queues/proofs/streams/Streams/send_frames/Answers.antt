@@ -11,7 +11,7 @@ loop-frame-preserved c =
     let inv = c.loop-frame.invariant in
     record {
       sent = sent_more c.args.device c.loop-frame.self.streams c.send_frame.new.self.streams _ c.args.frames.now c.loop-frame.frame-index c.frame-item.result c.loop-frame-test.true c.frame-item.is inv.sent c.send_frame.ensures.streams;
-      room = omega (arith, inv.room, c.send_frame.ensures.room);
+      space = omega (arith, inv.space, c.send_frame.ensures.space);
       short = (short_more c.args.frames.now c.loop-frame.frame-index c.frame-item.result c.loop-frame-test.true c.frame-item.is inv.short).1;
     }
 

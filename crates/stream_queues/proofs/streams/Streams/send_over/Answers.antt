@@ -1,6 +1,6 @@
 use Rattle.std.proofs.Common.{◌≡◌, ◌++◌, ◌∷◌, [], ℕ, List, Some, None, sym, ap, ◌∙◌}
 use Rattle.stream_queues.specs.declared.direction.Direction.{Direction}
-use Rattle.stream_queues.specs.declared.waiting.Waiting.{Waiting}
+use Rattle.stream_queues.specs.declared.waiting.QueuedFrame.{QueuedFrame}
 use Rattle.stream_queues.specs.Streams.{sent_over}
 use Rattle.stream_queues.specs.Queues.{Queues}
 use Rattle.stream_queues.proofs.Live.{live_push, way_living}
@@ -18,7 +18,7 @@ returns-in_default-way_from-clause-streams c =
     (unsent_way c.args.number c.self.inside.waiting.items c.in-Some.link c.args.device c.args.bytes.now (sym c.way_from.ensures ∙ c.in_default-way_from.is))
     (ap (λ (q : Queues). q.streams) c.self.view_is)
 
-pushed : (bytes same : List ℕ) (n : ℕ) (d : Direction) (ws ws' : List Waiting) → same ≡ bytes → ws' ≡ ws ++ (record { stream = n; direction = d; bytes = same }) ∷ [] → ws' ≡ ws ++ (record { stream = n; direction = d; bytes = bytes }) ∷ []
+pushed : (bytes same : List ℕ) (n : ℕ) (d : Direction) (ws ws' : List QueuedFrame) → same ≡ bytes → ws' ≡ ws ++ (record { stream = n; direction = d; bytes = same }) ∷ [] → ws' ≡ ws ++ (record { stream = n; direction = d; bytes = bytes }) ∷ []
 pushed bytes same n d ws ws' is pushed_is = pushed_is ∙ ap (λ (b : List ℕ). ws ++ (record { stream = n; direction = d; bytes = b }) ∷ []) is
 
 pub invariant_of-self : goal.invariant_of-self

@@ -1,0 +1,728 @@
+//! An adapter over any table of connections.
+
+mod streams;
+
+ghost use Rattle.std.specs.Prelude.{◌≡◌, ◌≢◌, ◌+◌, ◌^◌, ◌∷◌, [], Ok, Err, Some, None, Result, IfOk, IfErr, ◌<◌, ◌≤◌, IsTrue, false, true, find, length};
+ghost use Rattle.std.specs.Option.{option_map, ForSome};
+ghost use Rattle.cip_fwdopen.specs.Open.{view_open};
+ghost use Rattle.cip_fwdopen.specs.Close.{view_close};
+ghost use Rattle.cip_router.specs.Replies.{view_reply};
+ghost use Rattle.adapter_table.specs.Checks.{Gives, config_bytes, admission, view_admission, drawn_ids};
+ghost use Rattle.adapter_table.specs.Opening.{opened_row, opened_production, opened_state, opened_t_o_id, connection_id, configured};
+ghost use Rattle.cip_router.specs.Requests.{router_request_reading};
+ghost use Rattle.adapter_table.specs.Requests.{requested, served, admitted_open, served_open, router_refusal, known_close, served_close, served_assembly, is_value_attribute};
+ghost use Rattle.adapter_replies.specs.Routes.{peer_of, routed, routed_answer, IsWritable};
+ghost use Rattle.adapter_table.specs.Closing.{closed_values};
+ghost use Rattle.cip_datagram.specs.Datagram.{view_datagram};
+ghost use Rattle.cip_datagram.specs.Header.{header_at};
+ghost use Rattle.adapter_table.specs.Datagrams.{is_for, run_data, accepted_values, delivered, found_datagram, received};
+ghost use Rattle.adapter_table.specs.Productions.{produces_on_change, is_due};
+ghost use Rattle.adapter_table.specs.Ticks.{clocked_table, has_expired, advanced, expired_values, tick};
+ghost use Rattle.connection_table.specs.Tables.{advanced_rows};
+ghost use Rattle.adapter_table.specs.Shapes.{len_of};
+ghost use Rattle.adapter_table.specs.Whole.{IsWhole};
+ghost use Rattle.adapter_table.specs.Step.{adapter_step, write, read, written_table, changed_table, write_answer, written};
+ghost use Rattle.cip_events.specs.Outcomes.{Follows};
+ghost use Rattle.cip_tables.specs.Step.{is_datagram};
+ghost use Rattle.assembly_set.specs.Assemblies.{config_len, is_output, write_fault};
+ghost use Rattle.std.specs.List.{list_any};
+
+use adapter_replies::{
+    Route, address_of, copied_streams, notices_answer, opened_address, opened_reply,
+    opening_notices, plain_answer, reply_answer, unserved_answer,
+};
+use adapter_table::drives;
+use adapter_table::laws::{admitted_requests_fit, applied_data_fit, tables_are_whole};
+use app_rules::{View, admit, drawn_ids};
+use assembly_set::AssemblySet;
+use cip_datagram::{Datagram, read_datagram, read_header};
+use cip_fwdopen::{CloseRequest, OpenRequest};
+use cip_tables::{
+    AdapterTable, Admission, Answer, Config, Delivery, Device, DeviceTable, Event, NewFault,
+    Outcome, Production, Refusal, Reply, RouterRequest, Row, State, Status, StepFault, Stream,
+    TableCopy, Verdict, read_router_request,
+};
+use cip_types::{ConnId, Items, Ms, Node, OutOfMemory};
+use connection_list::{expired, expired_rows, expiry_notices, sent_when_due, staying};
+use connection_table::ConnectionTable;
+use std::alloc::Global;
+use std::marker::Model;
+
+/// The milliseconds that the first watchdog waits at least.
+const FIRST_WATCHDOG: u64 = 10_000;
+
+/// What the incarnation counts in a connection id.
+const INCARNATION: u32 = 1 << 24;
+
+/// The longest tick, and the end of the clock, in milliseconds.
+const LONGEST_TICK: u32 = 60_000;
+
+const CLOCK_END: u64 = 1 << 48;
+
+/// The service that reads an attribute, and the attribute that is an assembly's value.
+const GET_ATTRIBUTE_SINGLE: u8 = 0x0E;
+
+const VALUE: u32 = 3;
+
+/// An adapter over a table of connections, which contracts see as its table.
+///
+/// It keeps the allocator that it was made with. What is special to a table is behind the contract of
+/// `ConnectionTable`, and shows in no outcome.
+#[derive(Drop)]
+pub struct Adapter<T: ConnectionTable> {
+    alloc: Global,
+    assemblies: AssemblySet,
+    table: T,
+    clock: Ms,
+    next_id: u32,
+    streams: Vec<Stream>,
+}
+
+impl<T: ConnectionTable> Model for Adapter<T> {
+    ghost use Rattle.adapter_table.specs.declared.table.AdapterTable.{AdapterTable};
+    ghost use Rattle.adapter_table.specs.Whole.{IsWhole};
+
+    ghost Value = { AdapterTable };
+
+    ghost view = { λ a. record { profile = a.assemblies.profile; rows = T.rows a.table; values = a.assemblies.values; clock = a.clock; next_id = a.next_id; streams = a.streams.items } };
+
+    ghost invariant = { λ a. IsWhole (record { profile = a.assemblies.profile; rows = T.rows a.table; values = a.assemblies.values; clock = a.clock; next_id = a.next_id; streams = a.streams.items }) };
+}
+
+// OPENING
+
+impl<T: ConnectionTable> Adapter<T> {
+    /// What the configuration holds.
+    fn config_bytes(&self) -> Option<&[u8]>
+        ensures { option_map (λ lent. lent.now) result ≡ config_bytes self.now.values self.now.profile.config }
+    {
+        match self.assemblies.profile().config {
+            Some(config) => self.assemblies.read(config.instance).ok(),
+            None => None,
+        }
+    }
+
+    /// What a request to open a connection is admitted as, or why it is refused. Takes no memory.
+    fn judge<'a>(&self, request: &OpenRequest<'a>) -> Result<Admission<'a>, Refusal>
+        ensures { Gives view_admission result (admission self.now (view_open request.now)) }
+    {
+        let view = View {
+            profile: self.assemblies.profile(),
+            config: self.config_bytes(),
+            connections: &self.table,
+            next_id: self.next_id,
+        };
+        admit(&view, request)
+    }
+
+    /// The producer that a connection begins.
+    fn production(&self, peer: Node, admission: &Admission<'_>) -> Production
+        ensures { result ≡ opened_production self.now peer (view_admission admission.now) }
+    {
+        let point = admission.produced;
+        Production {
+            producer: self.next_id,
+            sequence: 1,
+            count: 0,
+            written: true,
+            due: self.clock,
+            address: address_of(self.assemblies.profile(), peer, admission.multicast, point),
+            trigger: admission.trigger,
+            inhibit: admission.inhibit,
+            last: None,
+        }
+    }
+
+    /// The state of a connection that is opened: it shares a producer, or begins one.
+    fn opened_state(&self, peer: Node, admission: &Admission<'_>) -> State
+        ensures { result ≡ opened_state self.now peer (view_admission admission.now) admission.now.group }
+    {
+        match admission.group {
+            Some(member) => member.state,
+            None => State::Established(self.production(peer, admission)),
+        }
+    }
+
+    fn connection_id(&self, counter: u32) -> ConnId
+        requires { counter ≤ 16777215 }
+        ensures { result ≡ connection_id self.now.profile counter }
+    {
+        ConnId(u32::from(self.assemblies.profile().incarnation) * INCARNATION + counter)
+    }
+
+    /// The T->O id of a connection that is opened.
+    fn opened_t_o_id(
+        &self,
+        request: &OpenRequest<'_>,
+        multicast: bool,
+        group: Option<Row>,
+    ) -> ConnId
+        requires { self.now.next_id + drawn_ids multicast group ≤ 16777216 }
+        ensures { result ≡ opened_t_o_id self.now (view_open request.now) multicast group }
+    {
+        let Some(member) = group else {
+            if multicast {
+                return self.connection_id(self.next_id + 1);
+            }
+            return request.t_o_id;
+        };
+        member.t_o_id
+    }
+
+    /// The connection that an admitted request opens.
+    #[tactic(auto, unfolding(adapter_table::specs::Opening::opened_row))]
+    fn opened_row(&self, peer: Node, request: &OpenRequest<'_>, admission: &Admission<'_>) -> Row
+        requires waits { admission.now.watchdog.0 ≤ 5120000 }
+        requires left { self.now.next_id + drawn_ids admission.now.multicast admission.now.group ≤ 16777216 }
+        requires draws { 1 ≤ drawn_ids admission.now.multicast admission.now.group }
+        ensures { result ≡ opened_row self.now peer (view_open request.now) (view_admission admission.now) }
+    {
+        Row {
+            triad: request.triad,
+            peer,
+            kind: admission.kind,
+            consumed: admission.consumed,
+            produced: admission.produced,
+            o_t_id: self.connection_id(self.next_id),
+            t_o_id: self.opened_t_o_id(request, admission.multicast, admission.group),
+            o_t_api_ms: admission.o_t_api_ms,
+            t_o_api_ms: admission.t_o_api_ms,
+            multiplier: request.multiplier,
+            multicast: admission.multicast,
+            opening: self.next_id,
+            last: None,
+            deadline: Ms(self.clock.0 + FIRST_WATCHDOG.max(admission.watchdog.0)),
+            state: self.opened_state(peer, admission),
+        }
+    }
+
+    /// Opens the connection of an admitted request.
+    #[tactic(auto, unfolding(adapter_table::specs::Requests::admitted_open, adapter_table::specs::Opening::opened_table))]
+    fn open(
+        &mut self,
+        route: Route,
+        large: bool,
+        request: &OpenRequest<'_>,
+        admitted: &Admission<'_>,
+    ) -> Outcome
+        requires { admission self.old (view_open request.now) ≡ Ok (view_admission admitted.now) }
+        ensures { Follows (Ok (routed self.old route (Some (admitted_open self.old (peer_of route) large (view_open request.now) (view_admission admitted.now))))) self.old result self.new }
+    {
+        tables_are_whole();
+        admitted_requests_fit();
+        let row = self.opened_row(route.peer(), request, admitted);
+        let notices = opening_notices(self.alloc, self.table.replaced(row.triad), &row)?;
+        let reply = Reply::Opened(large, opened_reply(&row));
+        let answer = reply_answer(self.alloc, route, &reply, opened_address(&row), notices)?;
+        self.table.open(row)?;
+        configure(&mut self.assemblies, admitted.segment);
+        self.next_id += drawn_ids(admitted.multicast, admitted.group);
+        Ok(answer)
+    }
+
+    /// A Forward_Open of either size.
+    #[tactic(auto, unfolding(adapter_table::specs::Requests::served_open))]
+    fn forward_open(&mut self, route: Route, large: bool, request: &OpenRequest<'_>) -> Outcome
+        ensures { Follows (Ok (routed self.old route (Some (served_open self.old (peer_of route) large (view_open request.now))))) self.old result self.new }
+    {
+        match self.judge(request) {
+            Ok(admitted) => self.open(route, large, request, &admitted),
+            Err(why) => {
+                let service = if large { 0x5B } else { 0x54 };
+                let reply = Reply::Refused(service, why.fault(), Some(request.triad));
+                Ok(self.reply(route, reply)?)
+            }
+        }
+    }
+}
+
+// OTHER REQUESTS
+
+impl<T: ConnectionTable> Adapter<T> {
+    fn reply(&self, route: Route, reply: Reply<'_>) -> Result<Answer, OutOfMemory>
+        requires { IsWritable (view_reply reply) }
+        ensures { IfOk result (λ answer. answer ≡ routed_answer route (view_reply reply.entry) None []) }
+    {
+        reply_answer(self.alloc, route, &reply, None, Vec::new(self.alloc))
+    }
+
+    /// A request that the message router refuses.
+    fn refuse(&mut self, route: Route, service: u8, why: Status) -> Outcome
+        ensures { Follows (Ok (routed self.old route (Some (router_refusal self.old service why)))) self.old result self.new }
+    {
+        Ok(self.reply(route, Reply::Refused(service, why.fault(), None))?)
+    }
+
+    /// The close of a connection.
+    #[tactic(auto, unfolding(adapter_table::specs::Closing::closed_table))]
+    fn close(&mut self, route: Route, row: &Row) -> Outcome
+        ensures { Follows (Ok (routed self.old route (Some (known_close self.old row.now)))) self.old result self.new }
+    {
+        tables_are_whole();
+        let notices = self.table.closed_notices(self.alloc, row.triad)?;
+        let reply = Reply::Closed(row.triad);
+        let answer = reply_answer(self.alloc, route, &reply, None, notices)?;
+        lose_owner(&mut self.assemblies, row);
+        self.table.close(row.triad);
+        Ok(answer)
+    }
+
+    /// A Forward_Close.
+    #[tactic(auto, unfolding(adapter_table::specs::Requests::served_close))]
+    fn forward_close(&mut self, route: Route, request: &CloseRequest<'_>) -> Outcome
+        ensures { Follows (Ok (routed self.old route (Some (served_close self.old (view_close request.now))))) self.old result self.new }
+    {
+        match self.table.find(request.triad) {
+            Some(row) => self.close(route, &row),
+            None => {
+                let fault = Refusal::NotFound.fault();
+                let reply = Reply::Refused(0x4E, fault, Some(request.triad));
+                Ok(self.reply(route, reply)?)
+            }
+        }
+    }
+
+    /// A service of an assembly instance.
+    #[tactic(auto, unfolding(adapter_table::specs::Requests::served_assembly))]
+    fn assembly(
+        &mut self,
+        route: Route,
+        service: u8,
+        instance: u32,
+        attribute: Option<u32>,
+        body: &[u8],
+    ) -> Outcome
+        ensures { Follows (Ok (routed self.old route (Some (served_assembly self.old service instance attribute body.now)))) self.old result self.new }
+    {
+        let Ok(value) = self.assemblies.read(instance) else {
+            return self.refuse(route, service, Status::PathDestination);
+        };
+        if service != GET_ATTRIBUTE_SINGLE {
+            return self.refuse(route, service, Status::Service);
+        }
+        if !is_value_attribute(attribute) {
+            return self.refuse(route, service, Status::Attribute);
+        }
+        if !body.is_empty() {
+            return self.refuse(route, service, Status::TooMuchData);
+        }
+        Ok(self.reply(route, Reply::Got(value))?)
+    }
+
+    /// A request that comes on a route, or bytes that are none.
+    fn serve(&mut self, route: Route, bytes: &[u8]) -> Outcome
+        ensures { Follows (Ok (routed self.old route (served self.old (peer_of route) (router_request_reading bytes.now)))) self.old result self.new }
+    {
+        match read_router_request(bytes) {
+            RouterRequest::Nothing => Ok(unserved_answer(self.alloc, route)?),
+            RouterRequest::Refused(service, why) => self.refuse(route, service, why),
+            RouterRequest::Closing(request) => self.forward_close(route, &request),
+            RouterRequest::Assembly(service, instance, attribute, body) => {
+                self.assembly(route, service, instance, attribute, body)
+            }
+            RouterRequest::Opening(large, request) => self.forward_open(route, large, &request),
+        }
+    }
+
+    /// A request of a peer.
+    #[tactic(auto, unfolding(adapter_table::specs::Requests::requested), using(adapter_replies::specs::RouteLaws::routed_to_peer))]
+    fn request(&mut self, peer: Node, bytes: &[u8]) -> Outcome
+        ensures { Follows (Ok (requested self.old peer bytes.now)) self.old result self.new }
+    {
+        self.serve(Route::Peer(peer), bytes)
+    }
+}
+
+// DATAGRAMS
+
+impl<T: ConnectionTable> Adapter<T> {
+    /// A datagram of a peer: where the connection that it is for has accepted it, its data stand at the output,
+    /// or the idle action is done, as its delivery says.
+    #[tactic(auto, unfolding(adapter_table::specs::Datagrams::accepted_table))]
+    fn receive_datagram(&mut self, peer: Node, datagram: &Datagram<'_>) -> Delivery
+        ensures { found_datagram self.old peer (view_datagram datagram.now) (find (is_for peer datagram.now.connection.0) self.old.rows) ≡ delivered result self.new }
+    {
+        tables_are_whole();
+        applied_data_fit();
+        let profile = self.assemblies.profile();
+        let Some(received) = self.table.receive(profile, self.clock, peer, datagram) else {
+            return Delivery::UnknownId;
+        };
+        let delivery = received.delivery;
+        accept_values(&mut self.assemblies, received.consumed, datagram, delivery);
+        delivery
+    }
+
+    /// The bytes of a datagram of a peer.
+    #[tactic(auto, unfolding(adapter_table::specs::Datagrams::received))]
+    fn receive(&mut self, peer: Node, bytes: &[u8]) -> Delivery
+        ensures { received self.old peer bytes.now ≡ delivered result self.new }
+    {
+        match read_datagram(bytes) {
+            Ok(datagram) => self.receive_datagram(peer, &datagram),
+            Err(_) => Delivery::Malformed,
+        }
+    }
+}
+
+/// The data behind a run/idle header.
+fn run_data<'a>(datagram: &Datagram<'a>) -> &'a [u8]
+    ensures { result.now ≡ run_data (header_at (view_datagram datagram.now).payload) }
+{
+    match read_header(datagram.data) {
+        Some((_, data)) => data,
+        None => &[],
+    }
+}
+
+/// What a datagram with this delivery does to the output of its connection. Takes no memory.
+fn accept_values(
+    assemblies: &mut AssemblySet,
+    point: u32,
+    datagram: &Datagram<'_>,
+    delivery: Delivery,
+)
+    requires output { delivery ≡ Delivery.Applied → IsTrue (is_output assemblies.old.profile point) }
+    requires right_length { delivery ≡ Delivery.Applied → len_of assemblies.old.profile point ≡ Some (length (run_data (header_at (view_datagram datagram.now).payload))) }
+    ensures { assemblies.new ≡ record assemblies.old { values = accepted_values assemblies.old.profile point (view_datagram datagram.now) delivery assemblies.old.values } }
+{
+    match delivery {
+        Delivery::Applied => assemblies.apply(point, run_data(datagram)),
+        Delivery::Idle => assemblies.idle(point),
+        Delivery::Heartbeat | Delivery::Duplicate => {}
+        Delivery::Old | Delivery::UnknownId | Delivery::WrongSize | Delivery::Malformed => {}
+    }
+}
+
+// TIME
+
+impl<T: ConnectionTable> Adapter<T> {
+    /// Goes on at another time, some connections having timed out.
+    fn pass(&mut self, clock: Ms, timed_out: &[Row])
+        requires whole { IsWhole (record self.old { rows = advanced_rows clock self.old.rows; values = expired_values self.old.profile timed_out.now self.old.values; clock = clock }) }
+        requires time { clock.0 ≤ 2 ^ 48 }
+        ensures { self.new ≡ record self.old { rows = advanced_rows clock self.old.rows; values = expired_values self.old.profile timed_out.now self.old.values; clock = clock } }
+    {
+        lose_owners(&mut self.assemblies, timed_out);
+        self.clock = clock;
+        self.table.advance(clock);
+    }
+
+    /// Milliseconds pass, and connections time out.
+    #[inline(never)]
+    #[tactic(auto, unfolding(adapter_table::specs::Ticks::clocked_table, adapter_table::specs::Ticks::expired_table, adapter_table::specs::Ticks::produced_table))]
+    fn expire(&mut self, ms: u32) -> Outcome
+        requires { self.old.clock.0 + ms ≤ 2 ^ 48 }
+        ensures { Follows (Ok (advanced (clocked_table self.old ms))) self.old result self.new }
+    {
+        tables_are_whole();
+        let clock = Ms(self.clock.0 + u64::from(ms));
+        let rows = self.table.to_vec(self.alloc)?;
+        let timed_out = expired(self.alloc, &rows, clock)?;
+        let after = expired_rows(self.alloc, &rows, clock)?;
+        let notices = expiry_notices(self.alloc, &timed_out, &after)?;
+        let left = staying(self.alloc, &after)?;
+        let datagrams = sent_when_due(self.alloc, &left, &self.assemblies, clock)?;
+        self.pass(clock, &timed_out);
+        Ok(notices_answer(self.alloc, datagrams, notices))
+    }
+
+    /// Milliseconds pass in which no connection times out.
+    #[inline(never)]
+    fn produce(&mut self, ms: u32) -> Outcome
+        requires time { self.old.clock.0 + ms ≤ 2 ^ 48 }
+        requires unexpired { list_any (has_expired (record { 0 = self.old.clock.0 + ms })) self.old.rows ≡ false }
+        ensures { Follows (Ok (advanced (clocked_table self.old ms))) self.old result self.new }
+    {
+        tables_are_whole();
+        let clock = Ms(self.clock.0 + u64::from(ms));
+        let datagrams = self
+            .table
+            .sent_when_due(self.alloc, &self.assemblies, clock)?;
+        self.clock = clock;
+        self.table.produce(clock);
+        Ok(notices_answer(self.alloc, datagrams, Vec::new(self.alloc)))
+    }
+
+    /// Milliseconds pass in which no connection times out and no producer is due.
+    #[inline(always)]
+    fn wait(&mut self, ms: u32) -> Outcome
+        requires time { self.old.clock.0 + ms ≤ 2 ^ 48 }
+        requires unexpired { list_any (has_expired (record { 0 = self.old.clock.0 + ms })) self.old.rows ≡ false }
+        requires none_due { list_any (is_due (record { 0 = self.old.clock.0 + ms })) self.old.rows ≡ false }
+        ensures { Follows (Ok (advanced (clocked_table self.old ms))) self.old result self.new }
+    {
+        self.clock = Ms(self.clock.0 + u64::from(ms));
+        Ok(plain_answer(self.alloc, Verdict::Done))
+    }
+
+    /// Whether the deadline of a connection has come at a later time.
+    #[inline(always)]
+    fn has_expired(&mut self, clock: Ms) -> bool
+        ensures expired { result ≡ list_any (has_expired clock) self.old.rows }
+        ensures same { self.new ≡ self.old }
+    {
+        self.table.has_expired(clock)
+    }
+
+    /// Milliseconds pass that do not lead past the end of the clock.
+    #[inline(always)]
+    fn advance(&mut self, ms: u32) -> Outcome
+        requires { self.old.clock.0 + ms ≤ 2 ^ 48 }
+        ensures { Follows (Ok (advanced (clocked_table self.old ms))) self.old result self.new }
+    {
+        let clock = Ms(self.clock.0 + u64::from(ms));
+        if self.has_expired(clock) {
+            return self.expire(ms);
+        }
+        if self.table.is_due(clock) {
+            return self.produce(ms);
+        }
+        self.wait(ms)
+    }
+
+    /// Milliseconds pass.
+    #[inline(always)]
+    #[tactic(auto, unfolding(adapter_table::specs::Ticks::tick))]
+    fn tick(&mut self, ms: u32) -> Outcome
+        ensures { Follows (tick self.old ms) self.old result self.new }
+    {
+        if ms > LONGEST_TICK {
+            return Err(StepFault::TickTooLong);
+        }
+        if self.clock.0 + u64::from(ms) > CLOCK_END {
+            return Err(StepFault::ClockEnd);
+        }
+        self.advance(ms)
+    }
+}
+
+/// Does the fault action of each output that one of the connections drives. Takes no memory.
+fn lose_owners(assemblies: &mut AssemblySet, timed_out: &[Row])
+    ensures { assemblies.new ≡ record assemblies.old { values = expired_values assemblies.old.profile timed_out.now assemblies.old.values } }
+{
+    for row in timed_out {
+        lose_owner(assemblies, row);
+    }
+}
+
+// POINTS
+
+impl<T: ConnectionTable> Adapter<T> {
+    /// Puts other bytes at an input, and its producers have done what that asks of them.
+    #[tactic(auto, unfolding(adapter_table::specs::Step::written_table, adapter_table::specs::Step::changed_table))]
+    fn put(&mut self, point: u32, bytes: &[u8])
+        requires { write_fault self.old.profile point (length bytes.now) ≡ None }
+        ensures { self.new ≡ changed_table (written_table self.old point bytes.now) point }
+    {
+        tables_are_whole();
+        let _written = self.assemblies.write(point, bytes);
+        self.table.write(self.clock, point);
+    }
+
+    /// Sets what an input holds, where no producer produces at once.
+    #[tactic(auto, unfolding(adapter_table::specs::Step::written_table))]
+    fn write_quietly(&mut self, point: u32, bytes: &[u8]) -> Outcome
+        requires input { write_fault self.old.profile point (length bytes.now) ≡ None }
+        requires quiet { list_any (produces_on_change self.old.clock point) self.old.rows ≡ false }
+        ensures answer { result ≡ Ok (write_answer (written_table self.old point bytes.now) point bytes.now) }
+        ensures table { self.new ≡ changed_table (written_table self.old point bytes.now) point }
+    {
+        self.put(point, bytes);
+        Ok(plain_answer(self.alloc, Verdict::Done))
+    }
+
+    /// Sets what an input holds, and its change-of-state producers produce.
+    #[tactic(auto, unfolding(adapter_table::specs::Step::written_table, adapter_table::specs::Step::changed_table))]
+    fn write_on_change(&mut self, point: u32, bytes: &[u8]) -> Outcome
+        requires input { write_fault self.old.profile point (length bytes.now) ≡ None }
+        requires short { length bytes.now ≤ 1400 }
+        ensures { Follows (Ok (written (written_table self.old point bytes.now) point bytes.now)) self.old result self.new }
+    {
+        let datagrams = self
+            .table
+            .sent_on_change(self.alloc, self.clock, point, bytes)?;
+        self.put(point, bytes);
+        Ok(notices_answer(self.alloc, datagrams, Vec::new(self.alloc)))
+    }
+
+    /// Sets what an input holds.
+    #[tactic(auto, unfolding(adapter_table::specs::Step::write))]
+    fn write(&mut self, point: u32, bytes: &[u8]) -> Outcome
+        ensures step { Follows (write self.old point bytes.now) self.old result self.new }
+        ensures no_memory { list_any (produces_on_change self.old.clock point) self.old.rows ≡ false → result ≢ Err StepFault.OutOfMemory }
+    {
+        let Some(input) = self.assemblies.input(point) else {
+            return Err(StepFault::NoSuchPoint);
+        };
+        if bytes.len() as u64 != input.len {
+            return Err(StepFault::WrongLength);
+        }
+        if self.table.produces_at_once(self.clock, point) {
+            return self.write_on_change(point, bytes);
+        }
+        self.write_quietly(point, bytes)
+    }
+
+    /// What a point holds.
+    #[tactic(auto, unfolding(adapter_table::specs::Step::read))]
+    fn read(&mut self, point: u32) -> Outcome
+        ensures { Follows (read self.old point) self.old result self.new }
+    {
+        let value = Items::copy_of(self.alloc, self.assemblies.read(point)?)?;
+        Ok(plain_answer(self.alloc, Verdict::Value(value)))
+    }
+}
+
+fn is_value_attribute(attribute: Option<u32>) -> bool
+    ensures { result ≡ is_value_attribute attribute }
+{
+    match attribute {
+        Some(attribute) => attribute == VALUE,
+        None => false,
+    }
+}
+
+/// Stores a data segment at the configuration, where there is one to store. Takes no memory.
+#[tactic(auto, using(crate::proofs::Admitted::configured_none))]
+fn configure(assemblies: &mut AssemblySet, segment: Option<&[u8]>)
+    requires { ForSome (option_map (λ lent. lent.now) segment) (λ bytes. config_len assemblies.old.profile ≡ Some (length bytes)) }
+    ensures { assemblies.new ≡ record assemblies.old { values = configured assemblies.old.profile.config (option_map (λ lent. lent.now) segment.entry) assemblies.old.values } }
+{
+    if let Some(segment) = segment {
+        assemblies.configure(segment);
+    }
+}
+
+/// Does the fault action of the output that a connection drives, if it drives one. Takes no memory.
+fn lose_owner(assemblies: &mut AssemblySet, row: &Row)
+    ensures { assemblies.new ≡ record assemblies.old { values = closed_values assemblies.old.profile row.now assemblies.old.values } }
+{
+    if drives(row, row.consumed) {
+        assemblies.lose(row.consumed);
+    }
+}
+
+// EVENTS
+
+impl<T: ConnectionTable> Adapter<T> {
+    /// Any event. A tick at which nothing is to be done is cheaper where `step` stands in its caller.
+    #[inline(never)]
+    fn take(&mut self, event: &Event) -> Outcome
+        ensures step { Follows (adapter_step self.old event.now) self.old result self.new }
+        ensures no_memory { is_datagram event.now ≡ true → result ≢ Err StepFault.OutOfMemory }
+    {
+        match event {
+            Event::Request { peer, bytes } => self.request(*peer, bytes.as_slice()),
+            Event::StreamOpened { stream, peer } => self.open_stream(*stream, *peer),
+            Event::Frame { stream, bytes } => self.frame(*stream, bytes.as_slice()),
+            Event::StreamCut { stream } => self.cut_stream(*stream),
+            Event::Datagram { peer, bytes } => {
+                let delivery = self.receive(*peer, bytes.as_slice());
+                Ok(plain_answer(self.alloc, Verdict::Delivered(delivery)))
+            }
+            Event::Write { point, bytes } => self.write(*point, bytes.as_slice()),
+            Event::Read { point } => self.read(*point),
+            Event::Tick { ms } => self.tick(*ms),
+            Event::Mode { .. } | Event::Start { .. } | Event::Stop { .. } => {
+                Err(StepFault::NotAllowedNow)
+            }
+        }
+    }
+}
+
+impl<T: ConnectionTable> Device for Adapter<T> {
+    ghost use Rattle.cip_tables.specs.declared.table.DeviceTable.{DeviceTable};
+
+    ghost table = { λ adapter. DeviceTable.Adapter adapter };
+
+    ghost ADAPTER = { true };
+
+    const ADAPTER: bool = true;
+
+    fn new(alloc: Global, config: Config) -> Result<Self, NewFault> {
+        let profile = match config {
+            Config::Adapter(profile) => profile,
+            Config::Scanner(scanner) => {
+                scanner.check()?;
+                return Err(NewFault::WrongKind);
+            }
+        };
+        profile.check()?;
+        let assemblies = AssemblySet::new(alloc, &profile)?;
+        Ok(Adapter {
+            alloc,
+            assemblies,
+            table: T::new(alloc)?,
+            clock: Ms(0),
+            next_id: 1,
+            streams: Vec::new(alloc),
+        })
+    }
+
+    #[inline(always)]
+    #[tactic(auto, unfolding(cip_tables::specs::Step::step), using(cip_tables::specs::FollowLaws::adapter_follows))]
+    fn step(&mut self, event: &Event) -> Outcome {
+        match event {
+            Event::Tick { ms } => self.tick(*ms),
+            _ => self.take(event),
+        }
+    }
+
+    #[tactic(auto, unfolding(cip_tables::specs::Step::step))]
+    fn deliver(&mut self, peer: Node, bytes: &[u8]) -> Delivery {
+        self.receive(peer, bytes)
+    }
+
+    #[tactic(auto, unfolding(cip_tables::specs::Step::step), using(cip_tables::specs::FollowLaws::adapter_follows))]
+    fn write_point(&mut self, point: u32, bytes: &[u8]) -> Outcome {
+        self.write(point, bytes)
+    }
+
+    #[tactic(auto, unfolding(cip_tables::specs::Step::step, adapter_table::specs::Step::read))]
+    fn read_point(&self, point: u32) -> Result<&[u8], StepFault> {
+        Ok(self.assemblies.read(point)?)
+    }
+
+    fn copy(&self) -> Result<TableCopy, OutOfMemory> {
+        Ok(TableCopy::adapter(AdapterTable {
+            profile: self.assemblies.profile().copy(self.alloc)?,
+            rows: Items::from_vec(self.table.to_vec(self.alloc)?),
+            values: self.assemblies.copy_values(self.alloc)?,
+            clock: self.clock,
+            next_id: self.next_id,
+            streams: Items::copy_of(self.alloc, &self.streams)?,
+        }))
+    }
+
+    fn is_whole(&self) {
+        let _clock = self.clock;
+    }
+}
+
+impl<T: ConnectionTable> Adapter<T> {
+    ghost use Rattle.cip_events.specs.Faults.{IsRefusedAs};
+    ghost use Rattle.cip_tables.specs.declared.table.DeviceTable.{DeviceTable};
+    ghost use Rattle.cip_tables.specs.Step.{is_adapter};
+
+    /// The adapter whose table is the copied one.
+    ///
+    /// The faults, in order: `WrongKind` where the copy is of a scanner's table, `OutOfMemory`.
+    pub fn from_copy(alloc: Global, copy: &TableCopy) -> Result<Self, NewFault>
+        ensures table { IfOk result (λ adapter. DeviceTable.Adapter adapter ≡ copy.now) }
+        ensures fault { IfErr result (λ fault. IsRefusedAs None (is_adapter copy.now) fault) }
+    {
+        let DeviceTable::Adapter(table) = copy.table() else {
+            return Err(NewFault::WrongKind);
+        };
+        let assemblies = AssemblySet::holding(alloc, &table.profile, table.values.as_slice())?;
+        Ok(Adapter {
+            alloc,
+            assemblies,
+            table: T::holding(alloc, table.rows.as_slice())?,
+            clock: table.clock,
+            next_id: table.next_id,
+            streams: copied_streams(alloc, table.streams.as_slice())?,
+        })
+    }
+}

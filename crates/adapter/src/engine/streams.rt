@@ -1,0 +1,220 @@
+//! Streams of peers, and the messages that come over them.
+
+ghost use Rattle.std.specs.Prelude.{◌≡◌, ◌∷◌, [], Ok, IfOk, Some};
+ghost use Rattle.cip_events.specs.declared.event.Notice.TheVariants.{StreamClosed};
+ghost use Rattle.cip_events.specs.declared.event.Verdict.TheVariants.{Done};
+ghost use Rattle.adapter_table.specs.Encapsulation.{frame, misfit_answer, framed, refusal, handled, session_begun, register_session, unregister_session, send_rr_data};
+ghost use Rattle.adapter_table.specs.Streams.{stream_opened, stream_cut, without_stream, registered_table};
+ghost use Rattle.cip_router.specs.Commands.{command_of};
+ghost use Rattle.cip_events.specs.Outcomes.{Follows};
+ghost use Rattle.adapter_replies.specs.Routes.{view_reply_header, view_frame_reply, IsWritableFrame, framed_answer};
+
+use super::Adapter;
+use adapter_replies::{
+    FrameReply, FrameView, ReplyHeader, Route, add_stream, drop_stream, ended_answer, find_stream,
+    frame_answer, has_session, is_protocol, is_taken, plain_answer, read_frame, register_stream,
+    session_of,
+};
+use adapter_table::laws::tables_are_whole;
+use cip_encap::read_items;
+use cip_tables::{Answer, Command, EncapStatus, Outcome, StepFault, Stream, Verdict};
+use cip_types::{Node, OutOfMemory};
+use connection_table::ConnectionTable;
+
+// STREAMS
+
+impl<T: ConnectionTable> Adapter<T> {
+    /// A peer opens a stream.
+    #[tactic(auto, unfolding(adapter_table::specs::Streams::stream_opened, adapter_table::specs::Streams::with_stream))]
+    pub(crate) fn open_stream(&mut self, number: u16, peer: Node) -> Outcome
+        ensures { Follows (stream_opened self.old number peer) self.old result self.new }
+    {
+        if is_taken(&self.streams, number) {
+            return Err(StepFault::NotAllowedNow);
+        }
+        tables_are_whole();
+        let stream = Stream {
+            number,
+            peer,
+            registered: false,
+        };
+        add_stream(&mut self.streams, stream)?;
+        Ok(plain_answer(self.alloc, Verdict::Done))
+    }
+
+    /// A stream breaks, or its peer ends it.
+    #[tactic(auto, unfolding(adapter_table::specs::Streams::stream_cut))]
+    pub(crate) fn cut_stream(&mut self, number: u16) -> Outcome
+        ensures { Follows (stream_cut self.old number) self.old result self.new }
+    {
+        let Some(stream) = find_stream(&self.streams, number) else {
+            return Err(StepFault::NotAllowedNow);
+        };
+        self.drop_stream(stream.number);
+        Ok(plain_answer(self.alloc, Verdict::Done))
+    }
+}
+
+// SESSIONS
+
+impl<T: ConnectionTable> Adapter<T> {
+    /// The stream is not open any more.
+    #[tactic(auto, unfolding(adapter_table::specs::Streams::without_stream))]
+    fn drop_stream(&mut self, number: u16)
+        ensures { self.new ≡ without_stream self.old number }
+    {
+        tables_are_whole();
+        drop_stream(&mut self.streams, number);
+    }
+
+    /// A session is registered on the stream.
+    #[tactic(auto, unfolding(adapter_table::specs::Streams::registered_table))]
+    fn register_stream(&mut self, number: u16)
+        ensures { self.new ≡ registered_table self.old number }
+    {
+        tables_are_whole();
+        register_stream(&mut self.streams, number);
+    }
+
+    fn answer_frame(
+        &self,
+        number: u16,
+        reply_header: ReplyHeader,
+        reply: &FrameReply<'_>,
+    ) -> Result<Answer, OutOfMemory>
+        requires { IsWritableFrame (view_frame_reply reply.now) }
+        ensures { IfOk result (λ answer. answer ≡ framed_answer number (view_reply_header reply_header) (view_frame_reply reply.now) []) }
+    {
+        frame_answer(
+            self.alloc,
+            number,
+            reply_header,
+            reply,
+            Vec::new(self.alloc),
+        )
+    }
+
+    /// A message that is refused.
+    fn refuse_frame(&mut self, number: u16, reply_header: ReplyHeader, why: EncapStatus) -> Outcome
+        ensures { Follows (Ok (framed number (view_reply_header reply_header) (refusal self.old why))) self.old result self.new }
+    {
+        Ok(self.answer_frame(number, reply_header, &FrameReply::Refused(why))?)
+    }
+
+    /// A session begins.
+    fn begin_session(&mut self, stream: &Stream, reply_header: ReplyHeader) -> Outcome
+        ensures { Follows (Ok (framed stream.now.number (view_reply_header reply_header) (session_begun self.old stream.now))) self.old result self.new }
+    {
+        let reply = FrameReply::Registered(session_of(stream));
+        let answer = self.answer_frame(stream.number, reply_header, &reply)?;
+        self.register_stream(stream.number);
+        Ok(answer)
+    }
+
+    /// RegisterSession.
+    fn register_session(
+        &mut self,
+        stream: &Stream,
+        reply_header: ReplyHeader,
+        body: &[u8],
+    ) -> Outcome
+        ensures { Follows (Ok (framed stream.now.number (view_reply_header reply_header) (register_session self.old stream.now body.now))) self.old result self.new }
+    {
+        if body.len() != 4 {
+            return self.refuse_frame(stream.number, reply_header, EncapStatus::InvalidLength);
+        }
+        if !is_protocol(body) {
+            return Ok(self.answer_frame(stream.number, reply_header, &FrameReply::OtherVersion)?);
+        }
+        if stream.registered {
+            return self.refuse_frame(stream.number, reply_header, EncapStatus::InvalidCommand);
+        }
+        self.begin_session(stream, reply_header)
+    }
+
+    /// A session ends, and its stream with it.
+    fn end_session(&mut self, number: u16) -> Outcome
+        ensures { Follows (Ok (record { frames = []; datagrams = []; verdict = Done; notices = StreamClosed number ∷ [] }, without_stream self.old number)) self.old result self.new }
+    {
+        let answer = ended_answer(self.alloc, number)?;
+        self.drop_stream(number);
+        Ok(answer)
+    }
+
+    /// UnRegisterSession.
+    fn unregister_session(&mut self, stream: &Stream, reply_header: ReplyHeader) -> Outcome
+        ensures { Follows (Ok (framed stream.now.number (view_reply_header reply_header) (unregister_session self.old stream.now reply_header.session))) self.old result self.new }
+    {
+        if has_session(stream, reply_header.session) {
+            return self.end_session(stream.number);
+        }
+        Ok(plain_answer(self.alloc, Verdict::Done))
+    }
+}
+
+// FRAMES
+
+impl<T: ConnectionTable> Adapter<T> {
+    /// SendRRData.
+    #[tactic(auto, using(adapter_replies::specs::RouteLaws::routed_over_stream))]
+    fn send_rr_data(&mut self, stream: &Stream, reply_header: ReplyHeader, body: &[u8]) -> Outcome
+        ensures { Follows (Ok (framed stream.now.number (view_reply_header reply_header) (send_rr_data self.old stream.now reply_header.session body.now))) self.old result self.new }
+    {
+        if !has_session(stream, reply_header.session) {
+            return self.refuse_frame(stream.number, reply_header, EncapStatus::InvalidSession);
+        }
+        let Ok(packet) = read_items(body) else {
+            return self.refuse_frame(stream.number, reply_header, EncapStatus::IncorrectData);
+        };
+        let route = Route::Stream(stream.number, stream.peer, reply_header);
+        self.serve(route, packet.data)
+    }
+
+    /// A whole message, by its command.
+    #[tactic(auto, unfolding(adapter_table::specs::Encapsulation::handled))]
+    fn handle(&mut self, stream: &Stream, reply_header: ReplyHeader, body: &[u8]) -> Outcome
+        ensures { Follows (Ok (framed stream.now.number (view_reply_header reply_header) (handled self.old stream.now (view_reply_header reply_header) body.now (command_of reply_header.command)))) self.old result self.new }
+    {
+        match Command::of(reply_header.command) {
+            Command::Nop => Ok(plain_answer(self.alloc, Verdict::Done)),
+            Command::ListServices => Ok(self.answer_frame(
+                stream.number,
+                reply_header,
+                &FrameReply::Services,
+            )?),
+            Command::RegisterSession => self.register_session(stream, reply_header, body),
+            Command::UnregisterSession => self.unregister_session(stream, reply_header),
+            Command::SendRrData => self.send_rr_data(stream, reply_header, body),
+            Command::Other => self.refuse_frame(
+                stream.number,
+                reply_header,
+                EncapStatus::InvalidCommand,
+            ),
+        }
+    }
+
+    /// A header whose length field is wrong.
+    fn misfit(&mut self, number: u16, reply_header: ReplyHeader) -> Outcome
+        ensures { Follows (Ok (misfit_answer self.old number (view_reply_header reply_header))) self.old result self.new }
+    {
+        if Command::of(reply_header.command).is_silent() {
+            return Ok(plain_answer(self.alloc, Verdict::BadFrame));
+        }
+        self.refuse_frame(number, reply_header, EncapStatus::InvalidLength)
+    }
+
+    /// The bytes of a frame that came over a stream.
+    #[tactic(auto, unfolding(adapter_table::specs::Encapsulation::frame))]
+    pub(crate) fn frame(&mut self, number: u16, bytes: &[u8]) -> Outcome
+        ensures { Follows (frame self.old number bytes.now) self.old result self.new }
+    {
+        let Some(stream) = find_stream(&self.streams, number) else {
+            return Err(StepFault::NotAllowedNow);
+        };
+        match read_frame(bytes) {
+            FrameView::Headless => Ok(plain_answer(self.alloc, Verdict::BadFrame)),
+            FrameView::Misfit(reply_header) => self.misfit(stream.number, reply_header),
+            FrameView::Whole(reply_header, body) => self.handle(&stream, reply_header, body),
+        }
+    }
+}

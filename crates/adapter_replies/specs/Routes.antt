@@ -1,0 +1,99 @@
+-- Where the replies of a device go, and what it says of a frame (Volume 2, chapter 2, encapsulation messages).
+use Rattle.std.specs.Prelude.{ℕ, List, [], ◌∷◌, Option, Some, None}
+use Rattle.cip_types.specs.declared.names.Node.{Node}
+use Rattle.cip_encap.specs.Message.{message_text}
+use Rattle.cip_router.specs.declared.command.EncapStatus.TheVariants as status
+use Rattle.cip_events.specs.declared.event.Answer.{Answer}
+use Rattle.cip_events.specs.declared.event.Frame.{Frame}
+use Rattle.cip_events.specs.declared.event.Notice.{Notice}
+use Rattle.cip_events.specs.declared.event.Recipient.TheVariants as recipient
+use Rattle.cip_events.specs.declared.event.Verdict.TheVariants.{Done, BadFrame}
+use Rattle.adapter_table.specs.declared.table.AdapterTable.{AdapterTable}
+use Rattle.cip_router.specs.Replies.{ReplyFields, GetsFew, HasStatus, view_reply}
+use Rattle.adapter_table.specs.Requests.{Next, Served, reply_frame}
+use Rattle.cip_events.specs.Answers.{plain_answer}
+use Rattle.cip_router.specs.Frames as frames
+use Rattle.cip_router.specs.Frames.{FrameFields, reply_message}
+use Rattle.adapter_table.specs.Encapsulation.{reply_frames}
+use Rattle.adapter_replies.specs.declared.routes.ReplyHeader.{ReplyHeader}
+use Rattle.adapter_replies.specs.declared.routes.Route.{Route}
+use Rattle.adapter_replies.specs.declared.routes.Route.TheVariants as route
+use Rattle.adapter_replies.specs.declared.frames.FrameView.{FrameView}
+use Rattle.adapter_replies.specs.declared.frames.FrameView.TheVariants as view
+use Rattle.adapter_replies.specs.declared.replies.FrameReply.{FrameReply}
+use Rattle.adapter_replies.specs.declared.replies.FrameReply.TheVariants as reply
+
+-- WHAT THE PROGRAM'S VALUES ARE IN THE DEFINITIONS
+
+abbrev pub view_reply_header : ReplyHeader → frames.ReplyHeader
+view_reply_header e = record { command = e.command; session = e.session; context = e.context }
+
+-- a frame, wherever its data lie in memory
+abbrev pub view_frame : FrameView → FrameFields
+view_frame view.Headless = frames.headless
+view_frame (view.Misfit reply_header) = frames.misfit (view_reply_header reply_header)
+view_frame (view.Whole reply_header body) = frames.whole (view_reply_header reply_header) body.now
+
+-- the reply to a frame, likewise
+abbrev pub view_frame_reply : FrameReply → frames.FrameReply
+view_frame_reply reply.Services = frames.services
+view_frame_reply (reply.Registered session) = frames.registered session
+view_frame_reply reply.OtherVersion = frames.other_version
+view_frame_reply (reply.Router answer address) = frames.router_reply (view_reply answer) address
+view_frame_reply (reply.Refused why) = frames.refused why
+
+-- a reply of the router that can be written
+pub record IsWritable (answer : ReplyFields) : Type 0 where
+  pub status : HasStatus answer
+  pub few : GetsFew answer
+
+-- the same of the reply to a frame
+abbrev pub IsWritableFrame : frames.FrameReply → Type 0
+IsWritableFrame frames.services = Unit {0}
+IsWritableFrame (frames.registered session) = Unit {0}
+IsWritableFrame frames.other_version = Unit {0}
+IsWritableFrame (frames.router_reply answer address) = IsWritable answer
+IsWritableFrame (frames.refused why) = Unit {0}
+
+-- ROUTES
+
+-- the peer whose request it is
+abbrev pub peer_of : Route → Node
+peer_of (route.Peer peer) = peer
+peer_of (route.Stream number peer reply_header) = peer
+
+-- the frame with a reply, and in a frame over a stream the multicast address of a connection that was opened
+abbrev pub routed_frame : Route → ReplyFields → Option Node → Frame
+routed_frame (route.Peer peer) answer address = reply_frame peer answer
+routed_frame (route.Stream number peer reply_header) answer address = record {
+  to = recipient.Stream number;
+  bytes = message_text (reply_message (view_reply_header reply_header) (frames.router_reply answer address));
+}
+
+-- an answer with the reply to a frame
+abbrev pub framed_answer : ℕ → frames.ReplyHeader → frames.FrameReply → List Notice → Answer
+framed_answer number reply_header answer notices = record {
+  frames = reply_frames number reply_header (Some answer);
+  datagrams = [];
+  verdict = Done;
+  notices = notices;
+}
+
+-- what is answered where a route brings no request
+abbrev pub unserved_answer : Route → Answer
+unserved_answer (route.Peer peer) = plain_answer BadFrame
+unserved_answer (route.Stream number peer reply_header) = framed_answer number (view_reply_header reply_header) (frames.refused status.IncorrectData) []
+
+-- an answer with the reply to a request
+abbrev pub routed_answer : Route → ReplyFields → Option Node → List Notice → Answer
+routed_answer way answer address notices = record {
+  frames = routed_frame way answer address ∷ [];
+  datagrams = [];
+  verdict = Done;
+  notices = notices;
+}
+
+-- the answer to what was served of a request, and the table after it
+abbrev pub routed : AdapterTable → Route → Option Served → Next
+routed t way None = (unserved_answer way, t)
+routed t way (Some s) = (routed_answer way s.reply s.address s.notices, s.table)

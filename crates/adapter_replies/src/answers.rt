@@ -1,0 +1,181 @@
+//! Answers that are made before anything changes.
+
+ghost use Rattle.std.specs.Prelude.{◌≡◌, ◌∷◌, ◌++◌, [], IfOk, ◌≤◌};
+ghost use Rattle.cip_router.specs.Replies.{view_reply};
+ghost use Rattle.adapter_table.specs.Opening.{opened_reply, opened_address, replaced_notices};
+ghost use Rattle.cip_events.specs.Answers.{plain_answer};
+ghost use Rattle.adapter_replies.specs.Routes.{view_reply_header, view_frame_reply, IsWritable, IsWritableFrame, routed_frame, routed_answer, framed_answer, unserved_answer};
+
+use crate::replies::{FrameReply, write_frame_reply};
+use crate::routes::{ReplyHeader, Route};
+use adapter_table::{Row, State};
+use cip_events::{Answer, Frame, Notice, OutgoingDatagram, Recipient, Verdict};
+use cip_fwdopen::Opened;
+use cip_router::{EncapStatus, Reply};
+use cip_types::{Items, Node, OutOfMemory, Triad};
+use std::alloc::Global;
+
+/// An answer with no bytes. Takes no memory.
+pub fn plain_answer(alloc: Global, verdict: Verdict) -> Answer
+    ensures { result ≡ plain_answer verdict }
+{
+    Answer {
+        frames: Items::new(alloc),
+        datagrams: Items::new(alloc),
+        verdict,
+        notices: Items::new(alloc),
+    }
+}
+
+/// An answer with datagrams and notices. Takes no memory.
+pub fn notices_answer(
+    alloc: Global,
+    datagrams: Vec<OutgoingDatagram>,
+    notices: Vec<Notice>,
+) -> Answer
+    ensures { result ≡ record { frames = []; datagrams = datagrams.items; verdict = Verdict.Done; notices = notices.items } }
+{
+    Answer {
+        frames: Items::new(alloc),
+        datagrams: Items::from_vec(datagrams),
+        verdict: Verdict::Done,
+        notices: Items::from_vec(notices),
+    }
+}
+
+/// An answer with one frame.
+fn answer_of(alloc: Global, frame: Frame, notices: Vec<Notice>) -> Result<Answer, OutOfMemory>
+    ensures { IfOk result (λ answer. answer ≡ record { frames = frame ∷ []; datagrams = []; verdict = Verdict.Done; notices = notices.items }) }
+{
+    Ok(Answer {
+        frames: Items::one(alloc, frame)?,
+        datagrams: Items::new(alloc),
+        verdict: Verdict::Done,
+        notices: Items::from_vec(notices),
+    })
+}
+
+/// The frame with a reply, and over a stream with the multicast address of a connection that it opened.
+fn routed_frame(
+    alloc: Global,
+    route: Route,
+    reply: &Reply<'_>,
+    address: Option<Node>,
+) -> Result<Frame, OutOfMemory>
+    requires { IsWritable (view_reply reply.now) }
+    ensures { IfOk result (λ frame. frame ≡ routed_frame route (view_reply reply.now) address) }
+{
+    match route {
+        Route::Peer(peer) => Ok(Frame {
+            to: Recipient::Peer(peer),
+            bytes: Items::from_vec(reply.write(alloc)?),
+        }),
+        Route::Stream(number, _, reply_header) => {
+            let reply = FrameReply::Router(*reply, address);
+            Ok(Frame {
+                to: Recipient::Stream(number),
+                bytes: Items::from_vec(write_frame_reply(alloc, reply_header, &reply)?),
+            })
+        }
+    }
+}
+
+/// The answer with a reply on its route. Want of memory is the only fault.
+pub fn reply_answer(
+    alloc: Global,
+    route: Route,
+    reply: &Reply<'_>,
+    address: Option<Node>,
+    notices: Vec<Notice>,
+) -> Result<Answer, OutOfMemory>
+    // A value that is replied has at most 1,400 bytes, and a refusal a status that says so.
+    requires { IsWritable (view_reply reply.now) }
+    ensures { IfOk result (λ answer. answer ≡ routed_answer route (view_reply reply.now) address notices.items) }
+{
+    let frame = routed_frame(alloc, route, reply, address)?;
+    answer_of(alloc, frame, notices)
+}
+
+/// The answer with the reply to a frame of a stream. Want of memory is the only fault.
+pub fn frame_answer(
+    alloc: Global,
+    number: u16,
+    reply_header: ReplyHeader,
+    reply: &FrameReply<'_>,
+    notices: Vec<Notice>,
+) -> Result<Answer, OutOfMemory>
+    requires { IsWritableFrame (view_frame_reply reply.now) }
+    ensures { IfOk result (λ answer. answer ≡ framed_answer number (view_reply_header reply_header) (view_frame_reply reply.now) notices.items) }
+{
+    let frame = Frame {
+        to: Recipient::Stream(number),
+        bytes: Items::from_vec(write_frame_reply(alloc, reply_header, reply)?),
+    };
+    answer_of(alloc, frame, notices)
+}
+
+/// The answer where a route brings no request. Want of memory is the only fault.
+pub fn unserved_answer(alloc: Global, route: Route) -> Result<Answer, OutOfMemory>
+    ensures { IfOk result (λ answer. answer ≡ unserved_answer route) }
+{
+    match route {
+        Route::Peer(_) => Ok(plain_answer(alloc, Verdict::BadFrame)),
+        Route::Stream(number, _, reply_header) => {
+            let reply = FrameReply::Refused(EncapStatus::IncorrectData);
+            frame_answer(alloc, number, reply_header, &reply, Vec::new(alloc))
+        }
+    }
+}
+
+/// The answer where a stream ended with its session. Want of memory is the only fault.
+pub fn ended_answer(alloc: Global, number: u16) -> Result<Answer, OutOfMemory>
+    ensures { IfOk result (λ answer. answer ≡ record { frames = []; datagrams = []; verdict = Verdict.Done; notices = Notice.StreamClosed number ∷ [] }) }
+{
+    let mut notices = Vec::new(alloc);
+    notices.push(Notice::StreamClosed(number))?;
+    Ok(notices_answer(alloc, Vec::new(alloc), notices))
+}
+
+/// What is told of an opening: the connection that makes room, and the new one.
+pub fn opening_notices(
+    alloc: Global,
+    replaced: Option<Triad>,
+    row: &Row,
+) -> Result<Vec<Notice>, OutOfMemory>
+    ensures { IfOk result (λ notices. notices.items ≡ replaced_notices replaced ++ Notice.Opened row.now.triad row.now.o_t_id ∷ []) }
+{
+    let mut notices = Vec::new(alloc);
+    if let Some(replaced) = replaced {
+        notices.push(Notice::Replaced(replaced))?;
+    }
+    notices.push(Notice::Opened(row.triad, row.o_t_id))?;
+    Ok(notices)
+}
+
+/// What the reply to an opening says.
+pub fn opened_reply(row: &Row) -> Opened
+    requires o_t { row.now.o_t_api_ms ≤ 10000 }
+    requires t_o { row.now.t_o_api_ms ≤ 10000 }
+    ensures { result ≡ opened_reply row.now }
+{
+    Opened {
+        o_t_id: row.o_t_id,
+        t_o_id: row.t_o_id,
+        triad: row.triad,
+        o_t_api_us: 1000 * row.o_t_api_ms,
+        t_o_api_us: 1000 * row.t_o_api_ms,
+    }
+}
+
+/// The multicast address that the datagrams of an opened connection go to, if they go to one.
+pub fn opened_address(row: &Row) -> Option<Node>
+    ensures { result ≡ opened_address row.now }
+{
+    if !row.multicast {
+        return None;
+    }
+    match row.state {
+        State::Established(production) => Some(production.address),
+        State::TimedOut => None,
+    }
+}

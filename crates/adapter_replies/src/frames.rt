@@ -1,0 +1,45 @@
+//! What a frame says.
+
+ghost use Rattle.std.specs.Prelude.{◌≡◌};
+ghost use Rattle.std.specs.Str.{bytes_eq};
+ghost use Rattle.cip_router.specs.Frames.{frame_reading, protocol_text};
+ghost use Rattle.adapter_replies.specs.Routes.{view_frame};
+
+use crate::replies::PROTOCOL;
+use crate::routes::ReplyHeader;
+use cip_encap::{read_message, read_message_header};
+
+/// The bytes of a frame, by what they say.
+///
+/// Volume 2, chapter 2, encapsulation messages.
+#[derive(Clone, Copy)]
+pub enum FrameView<'a> {
+    /// Too few bytes for a header.
+    Headless,
+    /// A header whose length field is not the length of the bytes behind it.
+    Misfit(ReplyHeader),
+    /// A whole message, with its data.
+    Whole(ReplyHeader, &'a [u8]),
+}
+
+/// What the bytes of a frame say. Status and options of a request are not looked at.
+pub fn read_frame(bytes: &[u8]) -> FrameView<'_>
+    ensures { view_frame result ≡ frame_reading bytes.now }
+{
+    match read_message(bytes) {
+        Ok(message) => FrameView::Whole(ReplyHeader::of_message(&message), message.data),
+        Err(_) => match read_message_header(bytes) {
+            Some((header, _rest)) => FrameView::Misfit(ReplyHeader::of_header(&header)),
+            None => FrameView::Headless,
+        },
+    }
+}
+
+/// Whether the data of RegisterSession ask for protocol version 1, without option flags.
+///
+/// Volume 2, chapter 2, RegisterSession.
+pub fn is_protocol(body: &[u8]) -> bool
+    ensures { result ≡ bytes_eq body.now protocol_text }
+{
+    body == PROTOCOL.as_slice()
+}

@@ -1,0 +1,131 @@
+//! The messages that answer frames.
+
+ghost use Rattle.std.specs.Prelude.{◌≡◌, ◌≤◌, IfOk, length};
+ghost use Rattle.cip_encap.specs.Message.{message_text};
+ghost use Rattle.cip_router.specs.Replies.{view_reply};
+ghost use Rattle.cip_router.specs.Frames.{headed_reply, reply_message, router_reply, socket_of};
+ghost use Rattle.adapter_replies.specs.Routes.{view_reply_header, view_frame_reply, IsWritable, IsWritableFrame};
+
+use crate::routes::ReplyHeader;
+use cip_encap::{MessageView, SocketAddress, write_items, write_message};
+use cip_router::{EncapStatus, Reply};
+use cip_types::{Node, OutOfMemory};
+use std::alloc::Global;
+
+/// One service item: its count, type, length, version, flags (TCP, and class 1 over UDP) and name.
+const SERVICES: [u8; 26] = [
+    1, 0, 0, 1, 20, 0, 1, 0, 0x20, 1, b'C', b'o', b'm', b'm', b'u', b'n', b'i', b'c', b'a', b't',
+    b'i', b'o', b'n', b's', 0, 0,
+];
+
+/// Protocol version 1, without option flags.
+pub const PROTOCOL: [u8; 4] = [1, 0, 0, 0];
+
+/// The UDP port of class 1 datagrams.
+const DATAGRAM_PORT: u16 = 2222;
+
+/// What is replied to a frame.
+///
+/// Volume 2, chapter 2, encapsulation commands.
+#[derive(Clone, Copy)]
+pub enum FrameReply<'a> {
+    /// The services of the device.
+    Services,
+    /// The session that began, by its handle.
+    Registered(u32),
+    /// The protocol version that is served in place of another.
+    OtherVersion,
+    /// A reply of the message router, with the multicast address of a connection that it opened.
+    Router(Reply<'a>, Option<Node>),
+    /// A refusal.
+    Refused(EncapStatus),
+}
+
+/// The socket that the datagrams of a multicast address go to.
+fn socket_of(address: Node) -> SocketAddress
+    ensures { result ≡ socket_of address }
+{
+    SocketAddress {
+        port: DATAGRAM_PORT,
+        address,
+    }
+}
+
+/// The message that sends back the command and the sender context of its request.
+fn write_headed_reply(
+    alloc: Global,
+    reply_header: ReplyHeader,
+    session: u32,
+    status: u32,
+    body: &[u8],
+) -> Result<Vec<u8>, OutOfMemory>
+    requires { length body.now ≤ 65535 }
+    ensures { IfOk result (λ v. v.items ≡ message_text (headed_reply (view_reply_header reply_header) session status body.now)) }
+{
+    let message = MessageView {
+        command: reply_header.command,
+        session,
+        status,
+        context: reply_header.context,
+        options: 0,
+        data: body,
+    };
+    write_message(alloc, &message)
+}
+
+/// The message of a reply of the message router.
+fn write_router(
+    alloc: Global,
+    reply_header: ReplyHeader,
+    reply: &Reply<'_>,
+    address: Option<Node>,
+) -> Result<Vec<u8>, OutOfMemory>
+    requires { IsWritable (view_reply reply.now) }
+    ensures { IfOk result (λ v. v.items ≡ message_text (reply_message (view_reply_header reply_header) (router_reply (view_reply reply.now) address))) }
+{
+    let data = reply.write(alloc)?;
+    let items = write_items(alloc, &data, address.map(socket_of))?;
+    write_headed_reply(alloc, reply_header, reply_header.session, 0, &items)
+}
+
+/// The message of a reply to a frame. Want of memory is the only fault.
+///
+/// Volume 2, chapter 2, encapsulation commands and status codes.
+pub fn write_frame_reply(
+    alloc: Global,
+    reply_header: ReplyHeader,
+    reply: &FrameReply<'_>,
+) -> Result<Vec<u8>, OutOfMemory>
+    // A value that is replied has at most 1,400 bytes, and a refusal a status that says so.
+    requires { IsWritableFrame (view_frame_reply reply.now) }
+    ensures { IfOk result (λ v. v.items ≡ message_text (reply_message (view_reply_header reply_header) (view_frame_reply reply.now))) }
+{
+    match reply {
+        FrameReply::Services => write_headed_reply(
+            alloc,
+            reply_header,
+            reply_header.session,
+            0,
+            &SERVICES,
+        ),
+        FrameReply::Registered(session) => write_headed_reply(
+            alloc,
+            reply_header,
+            *session,
+            0,
+            &PROTOCOL,
+        ),
+        FrameReply::OtherVersion => {
+            let status = EncapStatus::UnsupportedVersion.code();
+            write_headed_reply(alloc, reply_header, 0, status, &PROTOCOL)
+        }
+        FrameReply::Router(reply, address) => write_router(alloc, reply_header, reply, *address),
+        FrameReply::Refused(why) => write_headed_reply(
+            alloc,
+            reply_header,
+            reply_header.session,
+            why.code(),
+            &[],
+        ),
+    }
+}

@@ -1,5 +1,0 @@
-use Rattle.carried_ids.proofs.Carrying.{steps_carry}
-use Rattle.carried_ids.proofs.ids_are_carried.Goals as goal
-
-pub returns : goal.returns
-returns c = steps_carry c.reads_back.ensures.items c.answers_are_small.ensures

@@ -1,5 +1,0 @@
-use Rattle.carried_ids.proofs.Carrying.{steps_keep_from}
-use Rattle.carried_ids.proofs.ids_are_drawn_with_openings.Goals as goal
-
-pub returns : goal.returns
-returns c = steps_keep_from c.reads_back.ensures.items c.answers_are_small.ensures

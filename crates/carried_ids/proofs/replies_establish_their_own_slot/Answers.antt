@@ -1,5 +1,0 @@
-use Rattle.carried_ids.proofs.Carrying.{replies_establish}
-use Rattle.carried_ids.proofs.replies_establish_their_own_slot.Goals as goal
-
-pub returns : goal.returns
-returns c = replies_establish c.reads_back.ensures.items c.answers_are_small.ensures

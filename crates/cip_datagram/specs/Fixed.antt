@@ -1,7 +1,0 @@
--- The fixed part of a datagram, as the program keeps it. Only functions within the crate speak of this.
-use Rattle.std.specs.Prelude.{ℕ, List, [], ◌∷◌}
-use Rattle.cip_datagram.specs.declared.fixed.Fixed.{Fixed}
-
--- the numbers in their order
-abbrev pub numbers_of : Fixed → List ℕ
-numbers_of f = f.items ∷ f.address ∷ f.address_len ∷ f.connection ∷ f.sequence ∷ f.connected ∷ f.len ∷ f.count ∷ []

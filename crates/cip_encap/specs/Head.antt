@@ -1,7 +1,0 @@
--- The front of items, as the program keeps it. Only functions within the crate speak of this.
-use Rattle.std.specs.Prelude.{ℕ, List, [], ◌∷◌}
-use Rattle.cip_encap.specs.declared.head.Head.{Head}
-
--- the numbers in front of the data of items, in their order
-abbrev pub head_numbers : Head → List ℕ
-head_numbers h = h.interface ∷ h.timeout ∷ h.count ∷ h.address ∷ h.address_len ∷ h.kind ∷ h.len ∷ []

@@ -1,5 +1,0 @@
-use Rattle.std.proofs.Common.{rules}
-use Rattle.cip_router.proofs.asked.asked_object.Goals as goal
-
-pub returns-then-target-eq4 : goal.returns-then-target-eq4
-returns-then-target-eq4 c = search rules

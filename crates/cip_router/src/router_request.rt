@@ -1,0 +1,106 @@
+//! What a request to the message router asks.
+
+ghost use Rattle.std.specs.Prelude.{◌≡◌};
+ghost use Rattle.cip_fwdopen.specs.Open.{open_reading};
+ghost use Rattle.cip_fwdopen.specs.Close.{close_reading};
+ghost use Rattle.cip_fwdopen.specs.Request.{view_request};
+ghost use Rattle.cip_router.specs.Requests.{router_request_reading, request_to_manager, request_to_open, request_to_close, request_to_object, data_status, view_router_request};
+
+use crate::refusal::Status;
+use cip_fwdopen::{
+    CloseRequest, OpenRequest, ReadFault, Request, read_close, read_open, read_request,
+};
+
+/// A request by what it asks.
+///
+/// Volume 1, chapter 2, message router request, and chapter 3, Connection Manager services.
+#[derive(Clone, Copy)]
+pub enum RouterRequest<'a> {
+    /// There is not even a service.
+    Nothing,
+    /// The router refuses this service by itself.
+    Refused(u8, Status),
+    /// The close of a connection.
+    Closing(CloseRequest<'a>),
+    /// A service of an assembly instance: the service, the instance, the attribute and the data.
+    Assembly(u8, u32, Option<u32>, &'a [u8]),
+    /// A connection, by a Forward_Open or (`true`) a Large_Forward_Open.
+    Opening(bool, OpenRequest<'a>),
+}
+
+/// The status for data of a service that do not read.
+fn data_status(fault: ReadFault) -> Status
+    ensures { result ≡ data_status fault }
+{
+    match fault {
+        ReadFault::NotEnough => Status::NotEnoughData,
+        ReadFault::TooMuch => Status::TooMuchData,
+        ReadFault::Path(_) => Status::PathSegment,
+    }
+}
+
+fn request_to_open(service: u8, large: bool, body: &[u8]) -> RouterRequest<'_>
+    ensures { view_router_request result ≡ request_to_open service large (open_reading large body.now) }
+{
+    match read_open(large, body) {
+        Ok(request) => RouterRequest::Opening(large, request),
+        Err(fault) => RouterRequest::Refused(service, data_status(fault)),
+    }
+}
+
+fn request_to_close(service: u8, body: &[u8]) -> RouterRequest<'_>
+    ensures { view_router_request result ≡ request_to_close service (close_reading body.now) }
+{
+    match read_close(body) {
+        Ok(request) => RouterRequest::Closing(request),
+        Err(fault) => RouterRequest::Refused(service, data_status(fault)),
+    }
+}
+
+fn request_to_manager(service: u8, body: &[u8]) -> RouterRequest<'_>
+    ensures { view_router_request result ≡ request_to_manager service body.now }
+{
+    match service {
+        0x54 => request_to_open(service, false, body),
+        0x5B => request_to_open(service, true, body),
+        0x4E => request_to_close(service, body),
+        _ => RouterRequest::Refused(service, Status::Service),
+    }
+}
+
+fn request_to_object<'a>(request: Request<'a>) -> RouterRequest<'a>
+    ensures { view_router_request result ≡ request_to_object (view_request request.entry) }
+{
+    let target = request.target;
+    if target.class == 6 && target.instance == 1 {
+        return request_to_manager(request.service, request.body);
+    }
+    if target.class == 4 {
+        return RouterRequest::Assembly(
+            request.service,
+            target.instance,
+            target.attribute,
+            request.body,
+        );
+    }
+    RouterRequest::Refused(request.service, Status::PathDestination)
+}
+
+/// What the bytes of a request ask. Takes no memory.
+///
+/// The router refuses, in this order: bytes that end within the request path (status 0x13), a path that
+/// is no class and instance (0x04), another object than the Connection Manager and the assemblies (0x05),
+/// another service of the Connection Manager than its opens and its close (0x08), their data too short
+/// (0x13) or too long (0x15).
+#[tactic(auto, unfolding(crate::specs::Requests::router_request_reading))]
+pub fn read_router_request(bytes: &[u8]) -> RouterRequest<'_>
+    ensures { view_router_request result ≡ router_request_reading bytes.now }
+{
+    let [service, ..] = bytes else {
+        return RouterRequest::Nothing;
+    };
+    match read_request(bytes) {
+        Ok(request) => request_to_object(request),
+        Err(fault) => RouterRequest::Refused(*service, data_status(fault)),
+    }
+}

@@ -1,0 +1,103 @@
+//! Productions that are due.
+
+ghost use Rattle.std.specs.Prelude.{◌≡◌, ◌≤◌, ◌^◌, map, filter, length, IfOk};
+ghost use Rattle.cip_productions.specs.Productions.{sent};
+ghost use Rattle.adapter_table.specs.Productions.{is_due, due_producers, input_of, due_production, due_productions, produced_row};
+ghost use Rattle.adapter_table.specs.Whole.{RowsFit};
+
+use crate::order::ProducerOrder;
+use crate::producers::{datagram, producers};
+use adapter_table::{Row, is_due, produced_row};
+use assembly_set::AssemblySet;
+use cip_events::OutgoingDatagram;
+use cip_productions::Producer;
+use cip_types::{Ms, OutOfMemory};
+use list_order::sorted;
+use std::alloc::Global;
+
+fn due_only(alloc: Global, rows: &[Row], clock: Ms) -> Result<Vec<Row>, OutOfMemory>
+    ensures { IfOk result (λ due. due.items ≡ filter (is_due clock) rows.now) }
+{
+    Ok(
+        rows.iter()
+            .copied()
+            .filter(|row| is_due(row, clock))
+            .collect(alloc)?,
+    )
+}
+
+/// The producers that are due, by when they are and then by their numbers.
+fn due_producers(alloc: Global, rows: &[Row], clock: Ms) -> Result<Vec<Producer>, OutOfMemory>
+    ensures { IfOk result (λ due. due.items ≡ due_producers clock rows.now) }
+{
+    let due = due_only(alloc, rows, clock)?;
+    let producers = producers(alloc, &due)?;
+    sorted(alloc, &producers, &ProducerOrder::Due)
+}
+
+/// What the input of a producer holds.
+fn input_of<'a>(assemblies: &'a AssemblySet, producer: &Producer) -> &'a [u8]
+    ensures value { result.now ≡ input_of assemblies.now.values producer.now }
+    ensures short { length result.now ≤ 65533 }
+{
+    match assemblies.read(producer.point) {
+        Ok(input) => input,
+        Err(_) => &[],
+    }
+}
+
+/// What a producer that is due sends.
+fn due_datagram(
+    alloc: Global,
+    rows: &[Row],
+    assemblies: &AssemblySet,
+    producer: &Producer,
+) -> Result<OutgoingDatagram, OutOfMemory>
+    ensures { IfOk result (λ datagram. datagram ≡ sent (due_production rows.now assemblies.now.values producer.now)) }
+{
+    datagram(alloc, rows, input_of(assemblies, producer), producer)
+}
+
+/// What these producers send.
+fn datagrams(
+    alloc: Global,
+    rows: &[Row],
+    assemblies: &AssemblySet,
+    due: &[Producer],
+) -> Result<Vec<OutgoingDatagram>, OutOfMemory>
+    ensures { IfOk result (λ datagrams. datagrams.items ≡ map sent (map (due_production rows.now assemblies.now.values) due.now)) }
+{
+    let mut datagrams = Vec::new(alloc);
+    for producer in due {
+        datagrams.push(due_datagram(alloc, rows, assemblies, producer)?)?;
+    }
+    Ok(datagrams)
+}
+
+/// What the producers that are due send: one datagram each.
+///
+/// Volume 1, chapter 3, class 1 transport; Volume 2, chapter 3, multicast connections.
+pub fn sent_when_due(
+    alloc: Global,
+    rows: &[Row],
+    assemblies: &AssemblySet,
+    clock: Ms,
+) -> Result<Vec<OutgoingDatagram>, OutOfMemory>
+    ensures { IfOk result (λ datagrams. datagrams.items ≡ map sent (due_productions clock rows.now assemblies.now.values)) }
+{
+    let due = due_producers(alloc, rows, clock)?;
+    datagrams(alloc, rows, assemblies, &due)
+}
+
+/// The producers that are due have produced. Takes no memory.
+///
+/// Volume 1, chapter 3, production triggers.
+pub fn produce_rows(rows: &mut [Row], clock: Ms)
+    requires fit { RowsFit rows.old }
+    requires time { clock.0 ≤ 2 ^ 48 }
+    ensures { rows.new ≡ map (produced_row clock) rows.old }
+{
+    for row in rows.iter_mut() {
+        *row = produced_row(*row, clock);
+    }
+}

@@ -1,5 +1,0 @@
-use Rattle.std.proofs.Common.{rules}
-use Rattle.connection_rows.proofs.changes.producers_on_change.Goals as goal
-
-pub returns : goal.returns
-returns c = search rules

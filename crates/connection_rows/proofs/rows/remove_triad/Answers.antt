@@ -1,7 +1,0 @@
-use Rattle.std.proofs.Common.{rules, not}
-use Rattle.std.proofs.lemmas.Fn.{filter_same}
-use Rattle.adapter_table.specs.Rows.{has_triad}
-use Rattle.connection_rows.proofs.rows.remove_triad.Goals as goal
-
-pub returns : goal.returns
-returns c = filter_same _ (λ row. not (has_triad c.args.triad row)) _ (λ x b f' called. (search rules, search rules)) _ _ c.retain.ensures.filtered

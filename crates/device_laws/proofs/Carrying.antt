@@ -1,0 +1,237 @@
+-- What each step of a device does with ids, and what establishes a slot of a scanner.
+use Rattle.std.proofs.Common.{◌≡◌, ◌≤◌, ◌<◌, ◌⊎◌, inl, inr, ℕ, ◌+◌, ◌*◌, ◌^◌, ◌==◌, Bool, true, false, cond, List, [], ◌∷◌, ◌++◌, Option, Some, None, Result, Ok, Err, refl, sym, ◌∙◌, ap, subst, append_assoc, arith}
+use Rattle.std.specs.List.{AllByRecursion, Contains}
+use Rattle.std.proofs.lemmas.Bool.Decides.{nat_tests}
+use Rattle.std.proofs.lemmas.List.Elements.{Contains-append_left, Contains-append_right, Contains-push}
+use Rattle.cip_types.specs.declared.names.ConnId.{ConnId}
+use Rattle.cip_encap.specs.declared.packet.ItemFault.{ItemFault}
+use Rattle.cip_encap.specs.Message.{MessageFields}
+use Rattle.cip_encap.specs.Packet.{PacketFields}
+use Rattle.cip_encap.specs.PacketReading.{packet_reading}
+use Rattle.cip_encap.specs.ReadsBack.{ItemsReadBack}
+use Rattle.cip_events.specs.declared.event.Answer.{Answer}
+use Rattle.cip_events.specs.declared.event.Event.{Event}
+use Rattle.cip_events.specs.declared.event.StepFault.{StepFault}
+use Rattle.cip_fwdopen.specs.declared.reply.Opened.{Opened}
+use Rattle.conn_state.specs.Answers.{is_requested_id}
+use Rattle.conn_state.specs.declared.names.Link.{Link}
+use Rattle.conn_state.specs.declared.names.Requested.{Requested}
+use Rattle.adapter_table.specs.declared.table.AdapterTable.{AdapterTable}
+use Rattle.adapter_table.specs.Requests.{Next}
+use Rattle.adapter_table.specs.Step.{adapter_step}
+use Rattle.scanner_table.specs.declared.profile.ScannerProfile.{ScannerProfile}
+use Rattle.scanner_table.specs.declared.profile.SlotConfig.{SlotConfig}
+use Rattle.scanner_table.specs.declared.slot.SlotState.{SlotState}
+use Rattle.scanner_table.specs.declared.slot.SlotState.TheVariants.{Idle, Opening, Established, TimedOut, Closing}
+use Rattle.scanner_table.specs.declared.table.ScannerTable.{ScannerTable}
+use Rattle.scanner_table.specs.Requests.{connection_id, next_t_o_id, id_or_zero}
+use Rattle.scanner_table.specs.Effects.{Next as ScannerNext}
+use Rattle.scanner_table.specs.Replies.{packet_answer, command_answer, open_answer}
+use Rattle.scanner_table.specs.Slots.{IndexedSlot, indexed_slots}
+use Rattle.scanner_table.specs.Step.{scanner_step}
+use Rattle.scanner_laws.specs.Newest.{came_from}
+use Rattle.cip_tables.specs.declared.table.DeviceTable.{DeviceTable}
+use Rattle.cip_tables.specs.declared.table.DeviceTable.TheVariants.{Adapter, Scanner}
+use Rattle.cip_tables.specs.Step.{DeviceNext, as_adapter, as_scanner, step}
+use Rattle.cip_tables.specs.Whole.{IsWholeDevice, next_id_of}
+use Rattle.device_laws.specs.Sizes.{IsSmall, AnswersAreSmall}
+use Rattle.device_laws.specs.Ids.{ReplyIds, PacketIds, MessageIds, FrameIds, AnswerIds, RowIds, IdsFromTo, EventIds, RequestedId, LinkIds, StateIds, Replied}
+use Rattle.device_laws.specs.Carrying.{Passes, TableIds, StepsCarryIds, IsFrom, WantsFrom, StateFrom, StepsKeepFrom, Stands, IsAnswered, StateCame, SlotCame, RepliesEstablish}
+use Rattle.device_laws.proofs.Texts.{either, same_again, Cuts}
+use Rattle.device_laws.proofs.AdapterIds as adapters
+use Rattle.device_laws.proofs.AdapterIds.{adapter_holds}
+use Rattle.device_laws.proofs.Slots.{OfSlots, SlotsHold, CanDraw, Kept}
+use Rattle.device_laws.proofs.ScannerIds as scanners
+use Rattle.device_laws.proofs.ScannerIds.{Sends, scanner_holds}
+
+-- ---- what steps answer is small
+
+abbrev ok_of : DeviceNext → Result DeviceNext StepFault
+ok_of n = Ok n
+
+ok_inside : (p q : DeviceNext) → ok_of p ≡ ok_of q → p ≡ q
+ok_inside p q e = cc
+
+next_same : (a b : Answer) (x y : DeviceTable) (said : Result DeviceNext StepFault) → said ≡ Ok (a, x) → said ≡ Ok (b, y) → (a ≡ b) × (x ≡ y)
+next_same a b x y said one other =
+    let e = ok_inside (a, x) (b, y) (sym one ∙ other) in
+    (ap (λ (p : DeviceNext). p.0) e, ap (λ (p : DeviceNext). p.1) e)
+
+-- ---- ids
+
+cuts_passing : (ids : ℕ → Bool) → ((id : ℕ) → Passes ids id → id < 2 ^ 32) → Cuts (Passes ids)
+cuts_passing ids fits id passes = subst (Passes ids) (sym (same_again id (fits id passes))) passes
+
+-- the state of a slot, by its ids alone
+abbrev ById : (ℕ → Type 0) → OfSlots
+ById P number config state = StateIds P state
+
+reported_packet : (P : ℕ → Type 0) (large : Bool) (reading : Result PacketFields ItemFault) → PacketIds P reading → ReplyIds P (packet_answer large reading)
+reported_packet P large (Err fault) ids = tt
+reported_packet P large (Ok packet) ids = ids.reported large
+
+reported_ids : (P : ℕ → Type 0) (large : Bool) (m : MessageFields) → PacketIds P (packet_reading m.payload) → ReplyIds P (open_answer large m)
+unfolding open_answer
+reported_ids P large m ids =
+    either (ReplyIds P) (m.status == 0) (command_answer large m) _
+    (either (ReplyIds P) (m.command == 0x006F) (packet_answer large (packet_reading m.payload)) _ (reported_packet P large (packet_reading m.payload) ids) tt) tt
+
+-- the ids that a reply tells came with the event
+replied_ids : (P : ℕ → Type 0) (t : ScannerTable) (happens : Event) (config : SlotConfig) (request : ℕ) (success : Opened) → Replied t happens config.target request success → EventIds P happens → P success.o_t_id.0 × P success.t_o_id.0
+replied_ids P t happens config request success replied ids =
+    let frame : FrameIds P replied.bytes = subst (EventIds P) replied.is ids in
+    let packet : PacketIds P (packet_reading replied.message.payload) = subst (MessageIds P) replied.reads frame in
+    subst (ReplyIds P) replied.tells (reported_ids P replied.large replied.message packet)
+
+requested_drawn : (P : ℕ → Type 0) (t now : ScannerTable) (config : SlotConfig) (to : ℕ) (multicast : Bool) → config.multicast ≡ multicast → CanDraw t to now config → IdsFromTo P t.profile.incarnation t.next_id to → RequestedId P (cond multicast None (Some (connection_id now.profile now.next_id)))
+requested_drawn P t now config to true is can drawn = tt
+requested_drawn P t now config to false is can drawn =
+    let under = can.left is in
+    let counts = can.counts in
+    subst (λ (p : ScannerProfile). P (p.incarnation * 2 ^ 24 + now.next_id)) (sym counts.profile) (drawn now.next_id counts.ids under)
+
+next_requested_id : (P : ℕ → Type 0) (t now : ScannerTable) (config : SlotConfig) (to : ℕ) → CanDraw t to now config → IdsFromTo P t.profile.incarnation t.next_id to → RequestedId P (next_t_o_id now config)
+next_requested_id P t now config to can drawn = requested_drawn P t now config to config.multicast refl can drawn
+
+zero_or : (P : ℕ → Type 0) (id : Option ConnId) → P 0 → RequestedId P id → P (id_or_zero id).0
+zero_or P None zero_passes requested = zero_passes
+zero_or P (Some id) zero_passes requested = requested
+
+ids_kept : (P : ℕ → Type 0) (t : ScannerTable) (to : ℕ) (happens : Event) → IdsFromTo P t.profile.incarnation t.next_id to → EventIds P happens → Kept (ById P) t to happens
+ids_kept P t to happens drawn ids = record {
+  rests = λ number config. tt;
+  times_out = λ number config c is. is;
+  closes = λ number config c close same is. subst (LinkIds P) (sym same) is;
+  goes_on = λ number config c d opening link is. subst (LinkIds P) (sym link) is;
+  opens = λ number config now o can request requested. let e = ap (λ (w : Requested). w.t_o_id) requested in subst (RequestedId P) (sym e) (next_requested_id P t now config to can drawn);
+  establishes = λ number config o success c waits replied asked opening link is. subst (LinkIds P) (sym link) (replied_ids P t happens config o.request success replied ids);
+}
+
+adapter_carries : (P Q : ℕ → Type 0) (t : AdapterTable) (said : Result Next StepFault) (a : Answer) (next : DeviceTable) → as_adapter said ≡ Ok (a, next) → adapters.OkHolds P Q (next_id_of next) said → IsSmall a → (u : AdapterTable) × (next ≡ Adapter u) × AnswerIds P a × AllByRecursion (RowIds P Q) u.rows
+adapter_carries P Q t (Err fault) a next is holds small = absurd cc
+adapter_carries P Q t (Ok n) a next is holds small =
+    let same = next_same n.0 a (Adapter n.1) next (Ok (n.0, Adapter n.1)) refl is in
+    let small_n : IsSmall n.0 = subst IsSmall (sym same.0) small in
+    let counts : next_id_of (Adapter n.1) ≡ next_id_of next = ap next_id_of same.1 in
+    let h = holds (omega (arith, counts)) small_n in
+    (n.1, sym same.1, subst (AnswerIds P) same.0 h.0, h.1)
+
+scanner_carries : (G : OfSlots) (P : ℕ → Type 0) (said : Result ScannerNext StepFault) (a : Answer) (next : DeviceTable) → as_scanner said ≡ Ok (a, next) → scanners.OkHolds G P (next_id_of next) said → IsSmall a → (u : ScannerTable) × (next ≡ Scanner u) × AnswerIds P a × SlotsHold G u
+scanner_carries G P (Err fault) a next is holds small = absurd cc
+scanner_carries G P (Ok n) a next is holds small =
+    let same = next_same n.0 a (Scanner n.1) next (Ok (n.0, Scanner n.1)) refl is in
+    let small_n : IsSmall n.0 = subst IsSmall (sym same.0) small in
+    let counts : next_id_of (Scanner n.1) ≡ next_id_of next = ap next_id_of same.1 in
+    let h = holds (omega (arith, counts)) small_n in
+    (n.1, sym same.1, subst (AnswerIds P) same.0 h.0, h.1)
+
+pub steps_carry : ItemsReadBack → AnswersAreSmall → StepsCarryIds
+unfolding step
+steps_carry back few ids openings (Adapter t) happens a next is whole fits zero_passes drawn numbers event_ids table =
+    let small = few (Adapter t) happens a next whole is in
+    let done = adapter_carries (Passes ids) (Passes openings) t (adapter_step t happens) a next is
+    (adapter_holds back (Passes ids) (Passes openings) (cuts_passing ids fits) (next_id_of next) t happens (drawn, numbers) event_ids table) small in
+    (subst (TableIds ids openings) (sym done.1) done.3, done.2)
+steps_carry back few ids openings (Scanner t) happens a next is whole fits zero_passes drawn numbers event_ids table =
+    let small = few (Scanner t) happens a next whole is in
+    let done = scanner_carries (ById (Passes ids)) (Passes ids) (scanner_step t happens) a next is
+    (scanner_holds back (ById (Passes ids)) (Passes ids) (cuts_passing ids fits) (λ number config c link. link.0) (next_id_of next) t happens
+    (ids_kept (Passes ids) t (next_id_of next) happens drawn event_ids)
+    (λ now config can. zero_or (Passes ids) (next_t_o_id now config) zero_passes (next_requested_id (Passes ids) t now config (next_id_of next) can drawn)) table) small in
+    (subst (TableIds ids openings) (sym done.1) done.3, done.2)
+
+-- ---- openings of a scanner
+
+abbrev Anything : ℕ → Type 0
+Anything id = Unit {0}
+
+-- a step keeps what each move of a slot keeps
+scanner_keeps : ItemsReadBack → AnswersAreSmall → (G : OfSlots) (t : ScannerTable) (happens : Event) (a : Answer) (next : ScannerTable) → scanner_step t happens ≡ Ok (a, next) → IsWholeDevice (Scanner t) → Kept G t next.next_id happens → SlotsHold G t → SlotsHold G next
+unfolding step
+scanner_keeps back few G t happens a next is whole kept slots =
+    let stepped : step (Scanner t) happens ≡ Ok (a, Scanner next) = ap as_scanner is in
+    let small = few (Scanner t) happens a (Scanner next) whole stepped in
+    let holds = scanner_holds back G Anything (λ id any. tt) (λ number config c g. tt) next.next_id t happens kept (λ now config can. tt) slots in
+    let h : scanners.NextHolds G Anything next.next_id (a, next) = subst (scanners.OkHolds G Anything next.next_id) is holds in
+    (h (omega arith) small).1
+
+-- ---- ids that are drawn with openings
+
+abbrev From : ScannerProfile → ℕ → ℕ → OfSlots
+From profile request first number config state = config.multicast ≡ false → StateFrom profile request first state
+
+wants_from : (t now : ScannerTable) (config : SlotConfig) (to first : ℕ) (multicast : Bool) → config.multicast ≡ multicast → multicast ≡ false → CanDraw t to now config → first ≤ t.next_id → to ≤ 2 ^ 24 → WantsFrom t.profile first (cond multicast None (Some (connection_id now.profile now.next_id)))
+wants_from t now config to first true is single can below room = absurd cc
+wants_from t now config to first false is single can below room =
+    let under = can.left is in
+    let counts = can.counts in
+    record { counter = now.next_id; is = ap (λ (p : ScannerProfile). connection_id p now.next_id) counts.profile; begins = omega (arith, below, counts.ids); ends = omega (arith, under, room) }
+
+id_same : (a b : ConnId) → (a.0 == b.0) ≡ true → a ≡ b
+id_same a b is = let e : a.0 ≡ b.0 = grind (arith, nat_tests) in ap (λ (n : ℕ). conn n) e where
+  conn : ℕ → ConnId
+  conn n = record { 0 = n }
+
+requested_from : (profile : ScannerProfile) (first : ℕ) (requested : Option ConnId) (id : ConnId) → is_requested_id requested id ≡ true → WantsFrom profile first requested → IsFrom profile first id
+requested_from profile first None id is wants = absurd wants
+requested_from profile first (Some asked) id is wants = subst (IsFrom profile first) (id_same asked id is) wants
+
+from_kept : (request first : ℕ) (t : ScannerTable) (to : ℕ) (happens : Event) → first ≤ t.next_id → to ≤ 2 ^ 24 → Kept (From t.profile request first) t to happens
+from_kept request first t to happens below room = record {
+  rests = λ number config single. tt;
+  times_out = λ number config c is single. tt;
+  closes = λ number config c close same is single. tt;
+  goes_on = λ number config c d opening link is single over.
+      let before = is single (omega (arith, over, opening)) in
+      subst (IsFrom t.profile first) (ap (λ (l : Link). l.t_o_id) (sym link)) before;
+  opens = λ number config now o can asked requested single over.
+      subst (WantsFrom t.profile first) (sym (ap (λ (w : Requested). w.t_o_id) requested)) (wants_from t now config to first config.multicast refl single can below room);
+  establishes = λ number config o success c waits replied asked opening link is single over.
+      let before = is single (omega (arith, over, opening)) in
+      subst (IsFrom t.profile first) (ap (λ (l : Link). l.t_o_id) (sym link)) (requested_from t.profile first o.requested.t_o_id success.t_o_id asked before);
+}
+
+pub steps_keep_from : ItemsReadBack → AnswersAreSmall → StepsKeepFrom
+steps_keep_from back few request first t happens a next is whole below room slots =
+    scanner_keeps back few (From t.profile request first) t happens a next is whole (from_kept request first t next.next_id happens below room) slots
+
+-- ---- what establishes a slot
+
+abbrev Came : ScannerTable → Event → OfSlots
+Came t happens number config state = StateCame t happens number state
+
+came_same : (t : ScannerTable) (happens : Event) (number a b : ℕ) → b ≡ a → Stands t number a ⊎ IsAnswered t happens number a → Stands t number b ⊎ IsAnswered t happens number b
+came_same t happens number a b same is = subst (λ (n : ℕ). Stands t number n ⊎ IsAnswered t happens number n) (sym same) is
+
+came_kept : (t : ScannerTable) (to : ℕ) (happens : Event) → Kept (Came t happens) t to happens
+came_kept t to happens = record {
+  rests = λ number config. tt;
+  times_out = λ number config c is. tt;
+  closes = λ number config c close same is. tt;
+  goes_on = λ number config c d opening link is. came_same t happens number c.opening d.opening opening is;
+  opens = λ number config now o can asked requested. tt;
+  establishes = λ number config o success c waits replied asked opening link is.
+      came_same t happens number o.request c.opening opening
+      (inr (record { config = config; opening = o; waits = waits; request_is = refl; success = success; replied = replied }));
+}
+
+equal_is : (n : ℕ) → (n == n) ≡ true
+equal_is n = grind (arith, nat_tests)
+
+stands_now : (t : ScannerTable) (happens : Event) (indexed : IndexedSlot) (state : SlotState) → Contains (indexed_slots t) indexed → indexed.slot.state ≡ state → StateCame t happens indexed.number state
+stands_now t happens indexed Idle there is = tt
+stands_now t happens indexed (Opening o) there is = tt
+stands_now t happens indexed (Established c) there is =
+    inl (record { indexed = indexed; there = there; number_is = refl; state = ap (came_from c.opening) is ∙ equal_is c.opening })
+stands_now t happens indexed (TimedOut link) there is = tt
+stands_now t happens indexed (Closing c) there is = tt
+
+stand_from : (t : ScannerTable) (happens : Event) (before rest : List IndexedSlot) → indexed_slots t ≡ before ++ rest → AllByRecursion (SlotCame t happens) rest
+stand_from t happens before [] is = tt
+stand_from t happens before (indexed ∷ rest) is =
+    let there : Contains (indexed_slots t) indexed = subst (λ (l : List IndexedSlot). Contains l indexed) (sym is) (Contains-append_right before (indexed ∷ rest) indexed (Contains-append_left (indexed ∷ []) rest indexed (Contains-push [] indexed))) in
+    (stands_now t happens indexed indexed.slot.state there refl, stand_from t happens (before ++ indexed ∷ []) rest (is ∙ sym (append_assoc before (indexed ∷ []) rest)))
+
+pub replies_establish : ItemsReadBack → AnswersAreSmall → RepliesEstablish
+replies_establish back few t happens a next is whole =
+    scanner_keeps back few (Came t happens) t happens a next is whole (came_kept t next.next_id happens) (stand_from t happens [] (indexed_slots t) refl)

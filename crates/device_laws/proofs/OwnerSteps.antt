@@ -1,0 +1,224 @@
+-- Each step leaves an output its owner, unless a notice of its answer tells that the owner has ended.
+use Rattle.std.proofs.Common.{◌≡◌, ℕ, ◌+◌, ◌==◌, nat_lt, Bool, true, false, cond, not, List, [], ◌∷◌, length, find, Option, Some, None, Result, Ok, Err, refl, subst}
+use Rattle.std.specs.List.{list_any}
+use Rattle.std.specs.Result.{result_ok}
+use Rattle.std.specs.Str.{bytes_eq}
+use Rattle.cip_types.specs.declared.names.Node.{Node}
+use Rattle.cip_datagram.specs.declared.datagram.DatagramFault.{DatagramFault}
+use Rattle.cip_datagram.specs.Datagram.{DatagramFields}
+use Rattle.cip_datagram.specs.Reading.{datagram_reading}
+use Rattle.cip_encap.specs.declared.packet.ItemFault.{ItemFault}
+use Rattle.cip_encap.specs.Packet.{PacketFields}
+use Rattle.cip_encap.specs.PacketReading.{packet_reading}
+use Rattle.cip_epath.specs.Reading.{path_reading}
+use Rattle.cip_events.specs.declared.event.Event.{Event}
+use Rattle.cip_events.specs.declared.event.Event.TheVariants.{Request, StreamOpened, Frame, StreamCut, Datagram, Write, Read, Tick, Mode, Start, Stop}
+use Rattle.cip_events.specs.declared.event.Notice.TheVariants.{StreamClosed}
+use Rattle.cip_events.specs.declared.event.StepFault.{StepFault}
+use Rattle.cip_events.specs.declared.event.StepFault.TheVariants.{NotAllowedNow, TickTooLong, ClockEnd, WrongLength}
+use Rattle.cip_events.specs.declared.event.Verdict.TheVariants.{Done}
+use Rattle.cip_events.specs.Answers.{plain_answer, is_accepted}
+use Rattle.cip_events.specs.Clock.{longest_tick, clock_end}
+use Rattle.cip_fwdopen.specs.Open.{OpenFields}
+use Rattle.cip_fwdopen.specs.Close.{CloseFields}
+use Rattle.cip_router.specs.declared.command.Command.{Command}
+use Rattle.cip_router.specs.declared.command.Command.TheVariants as command
+use Rattle.cip_router.specs.declared.command.EncapStatus.TheVariants as encap
+use Rattle.cip_router.specs.declared.refusal.Refusal.{Refusal}
+use Rattle.cip_router.specs.declared.refusal.Refusal.TheVariants.{InUse}
+use Rattle.cip_router.specs.Requests.{RouterRequestFields, nothing, refused, closing, assembly, opening, router_request_reading}
+use Rattle.cip_router.specs.Commands.{command_of, is_silent}
+use Rattle.cip_router.specs.Frames.{ReplyHeader, FrameFields, headless, misfit, whole, frame_reading, protocol_text}
+use Rattle.adapter_table.specs.declared.profile.InputPoint.{InputPoint}
+use Rattle.adapter_table.specs.declared.row.Row.{Row}
+use Rattle.adapter_table.specs.declared.table.AdapterTable.{AdapterTable}
+use Rattle.adapter_table.specs.declared.table.Stream.{Stream}
+use Rattle.adapter_table.specs.Profiles.{is_at}
+use Rattle.adapter_table.specs.Points.{bytes_at}
+use Rattle.adapter_table.specs.Rows.{has_triad, holds_triad}
+use Rattle.adapter_table.specs.Checks.{Check, check, first_of, segment_check, points_of, Points, judged, view_of, verdict, Admitted, admission}
+use Rattle.adapter_table.specs.Opening.{opened_row, opened_table, opened_notices}
+use Rattle.adapter_table.specs.Requests.{Next, Served, judged_open, admitted_open, served_open, close_of, served_close, is_value_attribute, assembly_of, served_assembly, served, answered, requested}
+use Rattle.adapter_table.specs.Streams.{is_stream, is_taken, with_stream, without_stream, has_session, registered_table, stream_opened, cut_of, stream_cut}
+use Rattle.adapter_table.specs.Encapsulation.{Handled, refusal, unanswered, session_begun, session_ended, register_session, request_replied, packet_replied, handled, frame_answer, frame_of, frame}
+use Rattle.adapter_table.specs.Datagrams.{is_for, row_delivery, accepted_table, delivered, found_datagram, datagram_of, received}
+use Rattle.adapter_table.specs.Ticks.{clocked_table, advanced, tick}
+use Rattle.adapter_table.specs.Step.{adapter_step, read, read_of, write, write_of, written, written_table}
+use Rattle.adapter_table.specs.Whole.{IsWhole}
+use Rattle.adapter_table.specs.Laws.{EffectsKeep}
+use Rattle.device_laws.proofs.OwnerEffects.{KeepsOwner, unchanged, keeps_fed, keeps_written, keeps_closed, keeps_opened, keeps_advanced}
+
+-- a choice between two things that keep it
+either : {A : Type 0} (P : A → Type 0) (b : Bool) (x y : A) → P x → P y → P (cond b x y)
+either P true x y first second = first
+either P false x y first second = second
+
+-- ---- an opening that is admitted
+
+judged_passes : (request : OpenFields) (points : Result Points Refusal) (c : Check) (admitted : Admitted) → judged request points c ≡ Ok admitted → c ≡ None
+judged_passes request points (Some why) admitted is = absurd cc
+judged_passes request points None admitted is = refl
+
+second_passes : (first : Check) (fails : Bool) (why : Refusal) (rest : List Check) → first_of (first ∷ check fails why ∷ rest) ≡ None → fails ≡ false
+second_passes None false why rest none = refl
+second_passes None true why rest none = absurd cc
+second_passes (Some other) fails why rest none = absurd cc
+
+-- no established connection has its triad, by the second check
+triad_is_free : (t : AdapterTable) (request : OpenFields) (admitted : Admitted) → admission t request ≡ Ok admitted → list_any (holds_triad request.triad) t.rows ≡ false
+unfolding verdict
+triad_is_free t request admitted is =
+    let points = points_of (view_of t request.triad) request (result_ok (path_reading request.path)) in
+    second_passes (segment_check (path_reading request.path)) (list_any (holds_triad request.triad) t.rows) InUse _ (judged_passes request points _ admitted is)
+
+-- each opening that is admitted keeps the owner
+abbrev OpeningsKeep : ℕ → AdapterTable → Type 0
+OpeningsKeep point t =
+    (peer : Node) (request : OpenFields) (admitted : Admitted) → admission t request ≡ Ok admitted →
+    KeepsOwner point t (opened_notices t.rows (opened_row t peer request admitted)) (opened_table t (opened_row t peer request admitted) admitted)
+
+openings_keep : EffectsKeep IsWhole → (point : ℕ) (t : AdapterTable) → IsWhole t → OpeningsKeep point t
+openings_keep effects point t holds = λ peer request admitted is.
+    keeps_opened point t peer request admitted (opened_notices t.rows (opened_row t peer request admitted))
+    (triad_is_free t request admitted is) holds.sound.producers.openings_rise ((effects.opened t peer request admitted is holds).sound.one_owner point)
+
+-- ---- requests
+
+abbrev ServedKeeps : ℕ → AdapterTable → Served → Type 0
+ServedKeeps point t s = KeepsOwner point t s.notices s.table
+
+keeps_judged : (point : ℕ) (t : AdapterTable) → OpeningsKeep point t → (peer : Node) (large : Bool) (request : OpenFields) (said : Result Admitted Refusal) → admission t request ≡ said → ServedKeeps point t (judged_open t peer large request said)
+unfolding admitted_open
+keeps_judged point t opens peer large request (Err why) is = unchanged point t []
+keeps_judged point t opens peer large request (Ok admitted) is = opens peer request admitted is
+
+keeps_close : (point : ℕ) (t : AdapterTable) (request : CloseFields) (found : Option Row) → ServedKeeps point t (close_of t request found)
+keeps_close point t request None = unchanged point t []
+keeps_close point t request (Some row) = keeps_closed point t row
+
+keeps_assembly : (point : ℕ) (t : AdapterTable) (service : ℕ) (attribute : Option ℕ) (body : List ℕ) (found : Option (List ℕ)) → ServedKeeps point t (assembly_of t service attribute body found)
+keeps_assembly point t service attribute body None = unchanged point t []
+keeps_assembly point t service attribute body (Some value) =
+    let same = unchanged point t [] in
+    either (ServedKeeps point t) (not (service == 0x0E)) _ _ same
+    (either (ServedKeeps point t) (not (is_value_attribute attribute)) _ _ same
+    (either (ServedKeeps point t) (not (length body == 0)) _ _ same same))
+
+-- the same of what is served, where something is
+abbrev AnyKeeps : ℕ → AdapterTable → Option Served → Type 0
+AnyKeeps point t None = Unit {0}
+AnyKeeps point t (Some s) = ServedKeeps point t s
+
+keeps_served : (point : ℕ) (t : AdapterTable) → OpeningsKeep point t → (peer : Node) (asked : RouterRequestFields) → AnyKeeps point t (served t peer asked)
+unfolding served_open served_close served_assembly
+keeps_served point t opens peer nothing = tt
+keeps_served point t opens peer (refused service why) = unchanged point t []
+keeps_served point t opens peer (closing request) = keeps_close point t request (find (has_triad request.triad) t.rows)
+keeps_served point t opens peer (assembly service instance attribute body) = keeps_assembly point t service attribute body (bytes_at t.values instance)
+keeps_served point t opens peer (opening large request) = keeps_judged point t opens peer large request (admission t request) refl
+
+-- an answer and the next table keep the owner
+abbrev NextKeeps : ℕ → AdapterTable → Next → Type 0
+NextKeeps point t next = KeepsOwner point t next.0.notices next.1
+
+keeps_answered : (point : ℕ) (t : AdapterTable) (peer : Node) (s : Option Served) → AnyKeeps point t s → NextKeeps point t (answered t peer s)
+keeps_answered point t peer None keeps = unchanged point t []
+keeps_answered point t peer (Some s) keeps = keeps
+
+-- ---- frames
+
+abbrev HandledKeeps : ℕ → AdapterTable → Handled → Type 0
+HandledKeeps point t done = KeepsOwner point t done.notices done.table
+
+keeps_register : (point : ℕ) (t : AdapterTable) (stream : Stream) (body : List ℕ) → HandledKeeps point t (register_session t stream body)
+unfolding registered_table
+keeps_register point t stream body =
+    let same = unchanged point t [] in
+    either (HandledKeeps point t) (not (length body == 4)) _ _ same
+    (either (HandledKeeps point t) (not (bytes_eq body protocol_text)) _ _ same
+    (either (HandledKeeps point t) stream.registered (refusal t encap.InvalidCommand) (session_begun t stream) same same))
+
+keeps_replied : (point : ℕ) (t : AdapterTable) (s : Option Served) → AnyKeeps point t s → HandledKeeps point t (request_replied t s)
+keeps_replied point t None keeps = unchanged point t []
+keeps_replied point t (Some s) keeps = keeps
+
+keeps_packet : (point : ℕ) (t : AdapterTable) → OpeningsKeep point t → (peer : Node) (reading : Result PacketFields ItemFault) → HandledKeeps point t (packet_replied t peer reading)
+keeps_packet point t opens peer (Err fault) = unchanged point t []
+keeps_packet point t opens peer (Ok packet) = keeps_replied point t (served t peer (router_request_reading packet.payload)) (keeps_served point t opens peer (router_request_reading packet.payload))
+
+keeps_handled : (point : ℕ) (t : AdapterTable) → OpeningsKeep point t → (stream : Stream) (reply_header : ReplyHeader) (body : List ℕ) (asked : Command) → HandledKeeps point t (handled t stream reply_header body asked)
+unfolding handled without_stream
+keeps_handled point t opens stream reply_header body command.RegisterSession = keeps_register point t stream body
+keeps_handled point t opens stream reply_header body command.UnregisterSession =
+    either (HandledKeeps point t) (has_session stream reply_header.session) (session_ended t stream) (unanswered t) (unchanged point t (StreamClosed stream.number ∷ [])) (unchanged point t [])
+keeps_handled point t opens stream reply_header body command.SendRrData =
+    either (HandledKeeps point t) (has_session stream reply_header.session) _ _ (keeps_packet point t opens stream.peer (packet_reading body)) (unchanged point t [])
+keeps_handled point t opens stream reply_header body _ = unchanged point t []
+
+keeps_frame : (point : ℕ) (t : AdapterTable) → OpeningsKeep point t → (stream : Stream) (fields : FrameFields) → NextKeeps point t (frame_answer t stream fields)
+keeps_frame point t opens stream headless = unchanged point t []
+keeps_frame point t opens stream (misfit reply_header) = either (NextKeeps point t) (is_silent (command_of reply_header.command)) _ _ (unchanged point t []) (unchanged point t [])
+keeps_frame point t opens stream (whole reply_header body) = keeps_handled point t opens stream reply_header body (command_of reply_header.command)
+
+-- ---- datagrams
+
+keeps_found : (point : ℕ) (t : AdapterTable) (peer : Node) (d : DatagramFields) (found : Option Row) → NextKeeps point t (found_datagram t peer d found)
+keeps_found point t peer d None = unchanged point t []
+keeps_found point t peer d (Some row) =
+    let delivery = row_delivery t.profile row d in
+    either (NextKeeps point t) (is_accepted (row_delivery t.profile row d)) (delivered delivery (accepted_table t peer d row delivery)) (delivered delivery t)
+    (keeps_fed point t peer d row delivery []) (unchanged point t [])
+
+keeps_datagram : (point : ℕ) (t : AdapterTable) (peer : Node) (reading : Result DatagramFields DatagramFault) → NextKeeps point t (datagram_of t peer reading)
+keeps_datagram point t peer (Err fault) = unchanged point t []
+keeps_datagram point t peer (Ok d) = keeps_found point t peer d (find (is_for peer d.connection) t.rows)
+
+-- ---- a step that gives an answer
+
+-- where the step gives an answer, it keeps the owner
+abbrev OkKeeps : ℕ → AdapterTable → Result Next StepFault → Type 0
+OkKeeps point t (Ok next) = NextKeeps point t next
+OkKeeps point t (Err fault) = Unit {0}
+
+ok_framed : (point : ℕ) (t : AdapterTable) → OpeningsKeep point t → (bytes : List ℕ) (found : Option Stream) → OkKeeps point t (frame_of t bytes found)
+ok_framed point t opens bytes None = tt
+ok_framed point t opens bytes (Some stream) = keeps_frame point t opens stream (frame_reading bytes)
+
+ok_cut : (point : ℕ) (t : AdapterTable) (found : Option Stream) → OkKeeps point t (cut_of t found)
+unfolding without_stream
+ok_cut point t None = tt
+ok_cut point t (Some stream) = unchanged point t []
+
+ok_written : (point : ℕ) (t : AdapterTable) (input : ℕ) (bytes : List ℕ) (found : Option InputPoint) → OkKeeps point t (write_of t input bytes found)
+ok_written point t input bytes None = tt
+ok_written point t input bytes (Some there) =
+    either (OkKeeps point t) (length bytes == there.len) (Ok (written (written_table t input bytes) input bytes)) (Err WrongLength) (keeps_written point t input bytes []) tt
+
+ok_read : (point : ℕ) (t : AdapterTable) (found : Option (List ℕ)) → OkKeeps point t (read_of t found)
+ok_read point t None = tt
+ok_read point t (Some bytes) = unchanged point t []
+
+ok_ticked : (point : ℕ) (t : AdapterTable) (ms : ℕ) → OkKeeps point t (tick t ms)
+unfolding tick
+ok_ticked point t ms =
+    either (OkKeeps point t) (nat_lt longest_tick ms) (Err TickTooLong) _ tt
+    (either (OkKeeps point t) (nat_lt clock_end (t.clock.0 + ms)) (Err ClockEnd) (Ok (advanced (clocked_table t ms))) tt (keeps_advanced point t ms))
+
+ok_step : (point : ℕ) (t : AdapterTable) → OpeningsKeep point t → (event : Event) → OkKeeps point t (adapter_step t event)
+unfolding requested received read write frame stream_cut stream_opened with_stream
+ok_step point t opens (Request peer bytes) = keeps_answered point t peer (served t peer (router_request_reading bytes)) (keeps_served point t opens peer (router_request_reading bytes))
+ok_step point t opens (StreamOpened number peer) =
+    either (OkKeeps point t) (is_taken t.streams number) (Err NotAllowedNow) (Ok (plain_answer Done, with_stream t number peer)) tt (unchanged point t [])
+ok_step point t opens (Frame number bytes) = ok_framed point t opens bytes (find (is_stream number) t.streams)
+ok_step point t opens (StreamCut number) = ok_cut point t (find (is_stream number) t.streams)
+ok_step point t opens (Datagram peer bytes) = keeps_datagram point t peer (datagram_reading bytes)
+ok_step point t opens (Write input bytes) = ok_written point t input bytes (find (is_at input) t.profile.inputs)
+ok_step point t opens (Read other) = ok_read point t (bytes_at t.values other)
+ok_step point t opens (Tick ms) = ok_ticked point t ms
+ok_step point t opens (Mode run) = tt
+ok_step point t opens (Start slot) = tt
+ok_step point t opens (Stop slot) = tt
+
+-- each step from a whole table that gives an answer keeps the owner, unless the answer tells its end
+pub step_keeps : EffectsKeep IsWhole → (point : ℕ) (t : AdapterTable) (event : Event) (next : Next) → IsWhole t → adapter_step t event ≡ Ok next → KeepsOwner point t next.0.notices next.1
+step_keeps effects point t event next holds is = subst (OkKeeps point t) is (ok_step point t (openings_keep effects point t holds) event)

@@ -1,0 +1,230 @@
+-- A scanner's answers are small.
+use Rattle.std.proofs.Common.{◌≡◌, ◌≤◌, ℕ, ◌+◌, ◌^◌, ◌==◌, nat_lt, Bool, true, false, cond, List, [], length, map, find, Option, Some, None, Result, Ok, Err, refl, sym, subst, arith}
+use Rattle.std.proofs.lemmas.Bool.Decides.{nat_tests}
+use Rattle.std.specs.Option.{IfSome}
+use Rattle.cip_types.specs.declared.names.Node.{Node}
+use Rattle.cip_datagram.specs.declared.datagram.DatagramFault.{DatagramFault}
+use Rattle.cip_datagram.specs.Datagram.{DatagramFields}
+use Rattle.cip_datagram.specs.Reading.{datagram_reading}
+use Rattle.cip_encap.specs.declared.message.EncapFault.{EncapFault}
+use Rattle.cip_encap.specs.Message.{MessageFields}
+use Rattle.cip_encap.specs.Reading.{message_reading}
+use Rattle.cip_events.specs.declared.event.Delivery.TheVariants.{Applied, Duplicate, Old, UnknownId, WrongSize, Malformed}
+use Rattle.cip_events.specs.declared.event.Event.{Event}
+use Rattle.cip_events.specs.declared.event.Event.TheVariants as event
+use Rattle.cip_events.specs.declared.event.OutgoingDatagram.{OutgoingDatagram}
+use Rattle.cip_events.specs.declared.event.StepFault.TheVariants as fault
+use Rattle.cip_events.specs.declared.event.Verdict.TheVariants.{Done, BadFrame, Ignored, Value, Delivered}
+use Rattle.cip_events.specs.Clock.{longest_tick, clock_end}
+use Rattle.cip_productions.specs.Acceptance.{accepts_sequence, is_duplicate}
+use Rattle.cip_productions.specs.Kinds.{is_owner}
+use Rattle.cip_productions.specs.Productions.{sent}
+use Rattle.scanner_table.specs.declared.slot.Connection.{Connection}
+use Rattle.scanner_table.specs.declared.slot.SlotState.{SlotState}
+use Rattle.scanner_table.specs.declared.slot.SlotState.TheVariants.{Idle, Opening, Established, Closing}
+use Rattle.scanner_table.specs.declared.table.ScannerTable.{ScannerTable}
+use Rattle.scanner_table.specs.declared.table.Stage.{Stage}
+use Rattle.scanner_table.specs.declared.table.Stage.TheVariants.{Waiting, Up, Unused}
+use Rattle.scanner_table.specs.declared.table.TargetStream.{TargetStream}
+use Rattle.scanner_table.specs.Requests.{is_large, sent_frame}
+use Rattle.scanner_table.specs.Closing.{idle_slot, target_lost, slot_resigned, closed_within, stopped, stopped_at}
+use Rattle.scanner_table.specs.Datagrams.{is_for, accepted_table, delivered, accepted, sized, connected, state_received, received_at, received_as, received}
+use Rattle.scanner_table.specs.Effects.{Next, Effect, changed, sent_answer, done}
+use Rattle.scanner_table.specs.Encapsulation.{registering_on, stream_opened, cut_of, stream_cut, is_registered, session_begun, session_failed, registered, ignored, is_awaiting, replied, replied_to, reported, frame_answer, frame_of, frame}
+use Rattle.scanner_table.specs.Points.{write_length, write_at, write, read_at, read, mode, desired_slot, started, start_state, start_at, start, stop_of, stop, output_written}
+use Rattle.scanner_table.specs.Productions.{due_productions}
+use Rattle.scanner_table.specs.Profiles.{profile_fault}
+use Rattle.scanner_table.specs.Replies.{open_answer, answered}
+use Rattle.scanner_table.specs.Sessions.{is_stream, is_taken, without_stream, with_stage, session_with}
+use Rattle.scanner_table.specs.Slots.{IndexedSlot, indexed_slots, slot_at, is_numbered, with_slot}
+use Rattle.scanner_table.specs.Step.{scanner_step}
+use Rattle.scanner_table.specs.Ticks.{clocked_table, advanced, ticked, tick}
+use Rattle.scanner_table.specs.Whole.{IsWhole}
+use Rattle.device_laws.specs.Sizes.{IsShortFrame, IsShortDatagram, IsSmall}
+use Rattle.device_laws.proofs.Answers.{both_small, plain_small, AnswersSmall}
+use Rattle.device_laws.proofs.Few.{Few, few_none, few_one, few_most, few_mapped, each_found, either}
+use Rattle.device_laws.proofs.ScannerDatagrams.{due_few}
+use Rattle.device_laws.proofs.ScannerFrames.{AsksFew, Asks, few_slots, opened_asks, target_asks, closed_asks, IsQuiet, lost_quiet, answered_quiet, advanced_asks}
+use Rattle.device_laws.proofs.ScannerRequests.{IsShortRequest, registration_short}
+
+-- ---- answers of effects
+
+abbrev NextSmall : Next → Type 0
+NextSmall next = IsSmall next.0
+
+effect_small : (effect : Effect) (datagrams : List OutgoingDatagram) → Asks 64 effect → Few 64 IsShortDatagram datagrams → IsSmall (sent_answer effect datagrams)
+effect_small effect datagrams asks few =
+    both_small (map sent_frame effect.sent) datagrams Done effect.notices (few_mapped 64 IsShortRequest IsShortFrame sent_frame (λ request short. short) effect.sent asks) few
+
+done_small : (effect : Effect) → Asks 64 effect → IsSmall (done effect).0
+done_small effect asks = effect_small effect [] asks (few_none 64 IsShortDatagram)
+
+once_small : (effect : Effect) → Asks 1 effect → IsSmall (done effect).0
+once_small effect asks = done_small effect (few_most 64 1 IsShortRequest effect.sent (omega arith) asks)
+
+quiet_small : (t : ScannerTable) (effect : Effect) → IsQuiet t effect → IsSmall (done effect).0
+quiet_small t effect quiet = done_small effect (subst (Few 64 IsShortRequest) (sym quiet.silent) (few_none 64 IsShortRequest))
+
+-- ---- streams and messages
+
+opened_small : (t : ScannerTable) (number : ℕ) (target : Node) → AnswersSmall (stream_opened t number target)
+unfolding stream_opened
+opened_small t number target =
+    either (AnswersSmall {T = ScannerTable}) (is_taken t.streams number target) (Err fault.NotAllowedNow) (Ok (done (registering_on t number target))) tt (once_small (registering_on t number target) (few_one 1 IsShortRequest _ (omega arith) (registration_short number)))
+
+cuts_small : (t : ScannerTable) (found : Option TargetStream) → AnswersSmall (cut_of t found)
+cuts_small t None = tt
+cuts_small t (Some stream) = quiet_small (without_stream t stream.number) (target_lost stream.peer (without_stream t stream.number)) (lost_quiet stream.peer (without_stream t stream.number))
+
+cut_small : (t : ScannerTable) (number : ℕ) → AnswersSmall (stream_cut t number)
+unfolding stream_cut
+cut_small t number = cuts_small t (find (is_stream number) t.streams)
+
+registered_asks : (t : ScannerTable) (stream : TargetStream) (m : MessageFields) → profile_fault t.profile ≡ None → Asks 64 (registered t stream m)
+registered_asks t stream m none =
+    either (Asks 64) (is_registered m) (session_begun t stream m.session) (session_failed t stream) (target_asks stream.peer (with_stage t stream.number (Up m.session)) none) (few_none 64 IsShortRequest)
+
+replied_small : (t : ScannerTable) (indexed : IndexedSlot) (m : MessageFields) (state : SlotState) → IsSmall (replied t indexed m state).0
+replied_small t indexed m (Opening o) = quiet_small t (answered t indexed o (open_answer (is_large indexed.config) m)) (answered_quiet t indexed o (open_answer (is_large indexed.config) m))
+replied_small t indexed m (Closing c) = done_small (changed t indexed (idle_slot indexed.slot) []) (few_none 64 IsShortRequest)
+replied_small t indexed m other = plain_small Ignored
+
+awaited_small : (t : ScannerTable) (m : MessageFields) (found : Option IndexedSlot) → IsSmall (replied_to t m found).0
+awaited_small t m None = plain_small Ignored
+awaited_small t m (Some indexed) = replied_small t indexed m indexed.slot.state
+
+reported_small : (t : ScannerTable) (stream : TargetStream) (m : MessageFields) (stage : Stage) → profile_fault t.profile ≡ None → IsSmall (reported t stream m stage).0
+reported_small t stream m Waiting none = either NextSmall (m.context == 0) (done (registered t stream m)) (ignored t) (done_small (registered t stream m) (registered_asks t stream m none)) (plain_small Ignored)
+reported_small t stream m (Up handle) none = awaited_small t m (find (is_awaiting stream.peer m.context) (indexed_slots t))
+reported_small t stream m Unused none = plain_small Ignored
+
+message_small : (t : ScannerTable) (stream : TargetStream) (reading : Result MessageFields EncapFault) → profile_fault t.profile ≡ None → IsSmall (frame_answer t stream reading).0
+message_small t stream (Err why) none = plain_small BadFrame
+message_small t stream (Ok m) none = reported_small t stream m stream.stage none
+
+found_small : (t : ScannerTable) (bytes : List ℕ) (found : Option TargetStream) → profile_fault t.profile ≡ None → AnswersSmall (frame_of t bytes found)
+found_small t bytes None none = tt
+found_small t bytes (Some stream) none = message_small t stream (message_reading bytes) none
+
+frame_small : (t : ScannerTable) (number : ℕ) (bytes : List ℕ) → profile_fault t.profile ≡ None → AnswersSmall (frame t number bytes)
+unfolding frame
+frame_small t number bytes none = found_small t bytes (find (is_stream number) t.streams) none
+
+-- ---- datagrams
+
+connected_small : (t : ScannerTable) (indexed : IndexedSlot) (d : DatagramFields) (c : Connection) → IsSmall (connected t indexed d c).0
+connected_small t indexed d c =
+    either NextSmall (length d.payload == indexed.config.in_len) (sized t indexed d c) (delivered WrongSize t)
+    (either NextSmall (accepts_sequence c.last d.sequence) (accepted t indexed d c) (delivered Old t)
+    (either NextSmall (is_duplicate c.last d.count) (delivered Duplicate (accepted_table t indexed d c indexed.slot.image)) (delivered Applied (accepted_table t indexed d c d.payload)) (plain_small (Delivered Duplicate)) (plain_small (Delivered Applied)))
+    (plain_small (Delivered Old)))
+    (plain_small (Delivered WrongSize))
+
+state_small : (t : ScannerTable) (indexed : IndexedSlot) (d : DatagramFields) (state : SlotState) → IsSmall (state_received t indexed d state).0
+state_small t indexed d (Established c) = connected_small t indexed d c
+state_small t indexed d other = plain_small (Delivered UnknownId)
+
+slot_small : (t : ScannerTable) (d : DatagramFields) (found : Option IndexedSlot) → IsSmall (received_at t d found).0
+slot_small t d None = plain_small (Delivered UnknownId)
+slot_small t d (Some indexed) = state_small t indexed d indexed.slot.state
+
+read_as_small : (t : ScannerTable) (peer : Node) (reading : Result DatagramFields DatagramFault) → IsSmall (received_as t peer reading).0
+read_as_small t peer (Err why) = plain_small (Delivered Malformed)
+read_as_small t peer (Ok d) = slot_small t d (find (is_for peer d.connection) (indexed_slots t))
+
+received_small : (t : ScannerTable) (peer : Node) (bytes : List ℕ) → IsSmall (received t peer bytes).0
+unfolding received
+received_small t peer bytes = read_as_small t peer (datagram_reading bytes)
+
+-- ---- the application
+
+writes_small : (t : ScannerTable) (bytes : List ℕ) (found : Option IndexedSlot) → AnswersSmall (write_at t bytes found)
+writes_small t bytes None = tt
+writes_small t bytes (Some indexed) =
+    either (AnswersSmall {T = ScannerTable}) (is_owner indexed.config.kind) (write_length t indexed bytes) (Err fault.NotAllowedNow)
+    (either (AnswersSmall {T = ScannerTable}) (length bytes == indexed.config.out_len) (Ok (output_written t indexed bytes)) (Err fault.WrongLength) (plain_small Done) tt) tt
+
+write_small : (t : ScannerTable) (number : ℕ) (bytes : List ℕ) → AnswersSmall (write t number bytes)
+unfolding write
+write_small t number bytes = writes_small t bytes (slot_at t number)
+
+reads_small : (t : ScannerTable) (found : Option IndexedSlot) → AnswersSmall (read_at t found)
+reads_small t None = tt
+reads_small t (Some indexed) = plain_small (Value indexed.slot.image)
+
+read_small : (t : ScannerTable) (number : ℕ) → AnswersSmall (read t number)
+unfolding read
+read_small t number = reads_small t (slot_at t number)
+
+mode_small : (t : ScannerTable) (run : Bool) → IsSmall (mode t run).0
+unfolding mode
+mode_small t run = plain_small Done
+
+-- ---- starts and stops
+
+state_started : (t : ScannerTable) (indexed : IndexedSlot) (state : SlotState) → AsksFew indexed → AnswersSmall (start_state t indexed state)
+state_started t indexed Idle few =
+    let slot = desired_slot t indexed.slot in
+    either (AnswersSmall {T = ScannerTable}) indexed.slot.desired_up (Err fault.NotAllowedNow) (Ok (done (started t indexed slot))) tt (once_small (started t indexed slot) (opened_asks (with_slot t indexed.number slot) (record indexed { slot = slot }) few))
+state_started t indexed other few = tt
+
+state_stopped : (t : ScannerTable) (indexed : IndexedSlot) (state : SlotState) → AsksFew indexed → AnswersSmall (stop_of (stopped t indexed state))
+state_stopped t indexed Idle few = either (λ said. AnswersSmall (stop_of said)) indexed.slot.desired_up (Ok (slot_resigned t indexed)) (Err fault.NotAllowedNow) (done_small (slot_resigned t indexed) (few_none 64 IsShortRequest)) tt
+state_stopped t indexed (Established c) few = once_small (closed_within t indexed c (session_with t indexed.config.target)) (closed_asks t indexed c (session_with t indexed.config.target) few)
+state_stopped t indexed (Closing c) few = tt
+state_stopped t indexed other few = done_small (slot_resigned t indexed) (few_none 64 IsShortRequest)
+
+-- the slot that is found is one of those that ask little
+found_asks : (t : ScannerTable) (number : ℕ) → profile_fault t.profile ≡ None → IfSome (slot_at t number) AsksFew
+found_asks t number none = each_found AsksFew (is_numbered number) (indexed_slots t) (few_slots t none).each
+
+starts_small : (t : ScannerTable) (found : Option IndexedSlot) → IfSome found AsksFew → AnswersSmall (start_at t found)
+starts_small t None few = tt
+starts_small t (Some indexed) few = state_started t indexed indexed.slot.state few
+
+start_small : (t : ScannerTable) (number : ℕ) → profile_fault t.profile ≡ None → AnswersSmall (start t number)
+unfolding start
+start_small t number none = starts_small t (slot_at t number) (found_asks t number none)
+
+stops_small : (t : ScannerTable) (found : Option IndexedSlot) → IfSome found AsksFew → AnswersSmall (stop_of (stopped_at t found))
+stops_small t None few = tt
+stops_small t (Some indexed) few = state_stopped t indexed indexed.slot.state few
+
+stop_small : (t : ScannerTable) (number : ℕ) → profile_fault t.profile ≡ None → AnswersSmall (stop t number)
+unfolding stop
+stop_small t number none = stops_small t (slot_at t number) (found_asks t number none)
+
+-- ---- a tick
+
+-- what becomes of connections within a tick keeps a table whole
+abbrev pub AdvancesWhole : Type 0
+AdvancesWhole = (t : ScannerTable) (ms : ℕ) → t.clock.0 + ms ≤ 2 ^ 48 → IsWhole t → IsWhole (advanced (clocked_table t ms)).table
+
+within : (n : ℕ) → nat_lt clock_end n ≡ false → n ≤ 2 ^ 48
+within n is = grind (arith, nat_tests)
+
+tick_step : (a b : Bool) → AdvancesWhole → (t : ScannerTable) (ms : ℕ) → nat_lt clock_end (t.clock.0 + ms) ≡ b → IsWhole t → AnswersSmall (cond a (Err fault.TickTooLong) (cond b (Err fault.ClockEnd) (Ok (ticked (advanced (clocked_table t ms))))))
+tick_step true b advance t ms is whole = tt
+tick_step false true advance t ms is whole = tt
+tick_step false false advance t ms is whole =
+    let effect = advanced (clocked_table t ms) in
+    effect_small effect (map sent (due_productions effect.table)) (advanced_asks (clocked_table t ms) whole.faultless) (due_few effect.table (advance t ms (within (t.clock.0 + ms) is) whole))
+
+tick_small : AdvancesWhole → (t : ScannerTable) (ms : ℕ) → IsWhole t → AnswersSmall (tick t ms)
+unfolding tick
+tick_small advance t ms whole = tick_step (nat_lt longest_tick ms) (nat_lt clock_end (t.clock.0 + ms)) advance t ms refl whole
+
+-- ---- the step
+
+pub scanner_small : AdvancesWhole → (t : ScannerTable) (happens : Event) → IsWhole t → AnswersSmall (scanner_step t happens)
+scanner_small advance t (event.Request peer bytes) whole = tt
+scanner_small advance t (event.StreamOpened stream peer) whole = opened_small t stream peer
+scanner_small advance t (event.Frame stream bytes) whole = frame_small t stream bytes whole.faultless
+scanner_small advance t (event.StreamCut stream) whole = cut_small t stream
+scanner_small advance t (event.Datagram peer bytes) whole = received_small t peer bytes
+scanner_small advance t (event.Write point bytes) whole = write_small t point bytes
+scanner_small advance t (event.Read point) whole = read_small t point
+scanner_small advance t (event.Tick ms) whole = tick_small advance t ms whole
+scanner_small advance t (event.Mode run) whole = mode_small t run
+scanner_small advance t (event.Start slot) whole = start_small t slot whole.faultless
+scanner_small advance t (event.Stop slot) whole = stop_small t slot whole.faultless

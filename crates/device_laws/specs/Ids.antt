@@ -1,0 +1,153 @@
+-- Where connection ids stand: in the requests and replies that a frame can be read as, in a datagram, and in the
+-- table of a device (Volume 1, chapter 3, network connection ids).
+use Rattle.std.specs.Prelude.{◌≡◌, ℕ, find, ◌+◌, ◌*◌, ◌^◌, ◌<◌, ◌≤◌, Bool, List, Option, Some, None, Result, Ok, Err}
+use Rattle.std.specs.List.{AllByRecursion}
+use Rattle.cip_datagram.specs.declared.datagram.DatagramFault.{DatagramFault}
+use Rattle.cip_datagram.specs.Datagram.{DatagramFields}
+use Rattle.cip_datagram.specs.Reading.{datagram_reading}
+use Rattle.cip_encap.specs.declared.message.EncapFault.{EncapFault}
+use Rattle.cip_encap.specs.declared.packet.ItemFault.{ItemFault}
+use Rattle.cip_encap.specs.Message.{MessageFields}
+use Rattle.cip_encap.specs.Reading.{message_reading}
+use Rattle.cip_encap.specs.Packet.{PacketFields}
+use Rattle.cip_encap.specs.PacketReading.{packet_reading}
+use Rattle.cip_events.specs.declared.event.Answer.{Answer}
+use Rattle.cip_events.specs.declared.event.Event.{Event}
+use Rattle.cip_events.specs.declared.event.Event.TheVariants.{Request, StreamOpened, StreamCut, Datagram, Write, Read, Tick, Mode, Start, Stop}
+use Rattle.cip_events.specs.declared.event.Event.TheVariants as event
+use Rattle.cip_events.specs.declared.event.Frame.{Frame}
+use Rattle.cip_events.specs.declared.event.Reason.{Reason}
+use Rattle.cip_events.specs.declared.event.OutgoingDatagram.{OutgoingDatagram}
+use Rattle.cip_fwdopen.specs.declared.reply.OpenAnswer.{OpenAnswer}
+use Rattle.cip_fwdopen.specs.declared.reply.OpenAnswer.TheVariants as answer
+use Rattle.cip_fwdopen.specs.Reply.{open_reply_reading}
+use Rattle.cip_router.specs.Requests.{RouterRequestFields, nothing, refused, closing, assembly, opening, router_request_reading}
+use Rattle.adapter_table.specs.declared.row.Row.{Row}
+use Rattle.cip_types.specs.declared.names.ConnId.{ConnId}
+use Rattle.cip_types.specs.declared.names.Node.{Node}
+use Rattle.cip_fwdopen.specs.declared.reply.Opened.{Opened}
+use Rattle.conn_state.specs.declared.names.Link.{Link}
+use Rattle.scanner_table.specs.declared.slot.SlotState.{SlotState}
+use Rattle.scanner_table.specs.declared.slot.SlotState.TheVariants.{Idle, Opening, Established, TimedOut, Closing}
+use Rattle.scanner_table.specs.declared.table.ScannerTable.{ScannerTable}
+use Rattle.scanner_table.specs.declared.table.TargetStream.{TargetStream}
+use Rattle.scanner_table.specs.Sessions.{is_stream}
+use Rattle.scanner_table.specs.Replies.{reply_answer, open_answer}
+
+-- FRAMES
+
+-- it holds of the T->O id of a request to open
+abbrev pub RequestIds : (ℕ → Type 0) → RouterRequestFields → Type 0
+RequestIds P nothing = Unit {0}
+RequestIds P (refused service why) = Unit {0}
+RequestIds P (closing request) = Unit {0}
+RequestIds P (assembly service instance attribute body) = Unit {0}
+RequestIds P (opening large request) = P request.t_o_id.0
+
+-- it holds of both ids that the success of an opening tells
+abbrev pub ReplyIds : (ℕ → Type 0) → Result OpenAnswer Reason → Type 0
+ReplyIds P (Err why) = Unit {0}
+ReplyIds P (Ok (answer.Refused refusal)) = Unit {0}
+ReplyIds P (Ok (answer.Opened opened)) = P opened.o_t_id.0 × P opened.t_o_id.0
+
+-- it holds of each id that these bytes tell: those that ask, and those that answer
+pub record PayloadIds (P : ℕ → Type 0) (payload : List ℕ) : Type 0 where
+  pub asked : RequestIds P (router_request_reading payload)
+  pub reported : (large : Bool) → ReplyIds P (reply_answer large (open_reply_reading payload))
+
+abbrev pub PacketIds : (ℕ → Type 0) → Result PacketFields ItemFault → Type 0
+PacketIds P (Err fault) = Unit {0}
+PacketIds P (Ok packet) = PayloadIds P packet.payload
+
+abbrev pub MessageIds : (ℕ → Type 0) → Result MessageFields EncapFault → Type 0
+MessageIds P (Err fault) = Unit {0}
+MessageIds P (Ok m) = PacketIds P (packet_reading m.payload)
+
+-- it holds of each id that a frame tells, whoever reads it
+abbrev pub FrameIds : (ℕ → Type 0) → List ℕ → Type 0
+FrameIds P bytes = MessageIds P (message_reading bytes)
+
+-- DATAGRAMS
+
+abbrev pub ReadId : (ℕ → Type 0) → Result DatagramFields DatagramFault → Type 0
+ReadId P (Err fault) = Unit {0}
+ReadId P (Ok d) = P d.connection
+
+-- it holds of the id of a datagram
+abbrev pub DatagramId : (ℕ → Type 0) → List ℕ → Type 0
+DatagramId P bytes = ReadId P (datagram_reading bytes)
+
+-- ANSWERS
+
+abbrev pub HasFrameIds : (ℕ → Type 0) → Frame → Type 0
+HasFrameIds P frame = FrameIds P frame.bytes
+
+abbrev pub HasDatagramId : (ℕ → Type 0) → OutgoingDatagram → Type 0
+HasDatagramId P outgoing = DatagramId P outgoing.bytes
+
+-- it holds of each id that an answer sends
+pub record AnswerIds (P : ℕ → Type 0) (answer : Answer) : Type 0 where
+  pub frames : AllByRecursion (HasFrameIds P) answer.frames
+  pub datagrams : AllByRecursion (HasDatagramId P) answer.datagrams
+
+-- AN ADAPTER
+
+-- it holds of both ids of a connection, and the other of its opening number
+pub record RowIds (P Q : ℕ → Type 0) (row : Row) : Type 0 where
+  pub o_t : P row.o_t_id.0
+  pub t_o : P row.t_o_id.0
+  pub opening : Q row.opening
+
+-- it holds of each number from one on and below another
+abbrev pub FromTo : (ℕ → Type 0) → ℕ → ℕ → Type 0
+FromTo P from to = (n : ℕ) → from ≤ n → n < to → P n
+
+-- of each id of an incarnation whose counter is so
+abbrev pub IdsFromTo : (ℕ → Type 0) → ℕ → ℕ → ℕ → Type 0
+IdsFromTo P incarnation from to = FromTo (λ counter. P (incarnation * 2 ^ 24 + counter)) from to
+
+-- an event in a world: no request comes but over a stream
+abbrev pub EventIds : (ℕ → Type 0) → Event → Type 0
+EventIds P (Request peer bytes) = ⊥
+EventIds P (StreamOpened stream peer) = Unit {0}
+EventIds P (event.Frame stream bytes) = FrameIds P bytes
+EventIds P (StreamCut stream) = Unit {0}
+EventIds P (Datagram peer bytes) = Unit {0}
+EventIds P (Write point bytes) = Unit {0}
+EventIds P (Read point) = Unit {0}
+EventIds P (Tick ms) = Unit {0}
+EventIds P (Mode run) = Unit {0}
+EventIds P (Start slot) = Unit {0}
+EventIds P (Stop slot) = Unit {0}
+
+-- A SCANNER
+
+-- the id that an opening asks for, if it asks for one
+abbrev pub RequestedId : (ℕ → Type 0) → Option ConnId → Type 0
+RequestedId P None = Unit {0}
+RequestedId P (Some id) = P id.0
+
+abbrev pub LinkIds : (ℕ → Type 0) → Link → Type 0
+LinkIds P link = P link.o_t_id.0 × P link.t_o_id.0
+
+-- it holds of each id of a slot in this state
+abbrev pub StateIds : (ℕ → Type 0) → SlotState → Type 0
+StateIds P Idle = Unit {0}
+StateIds P (Opening o) = RequestedId P o.requested.t_o_id
+StateIds P (Established c) = LinkIds P c.link
+StateIds P (TimedOut link) = LinkIds P link
+StateIds P (Closing c) = LinkIds P c.link
+
+-- of a reply that comes over a stream with the target and answers the request of this number: a success, with these ids
+pub record Replied (t : ScannerTable) (happens : Event) (target : Node) (request : ℕ) (opened : Opened) : Type 0 where
+  pub stream : ℕ
+  pub bytes : List ℕ
+  pub is : happens ≡ event.Frame stream bytes
+  pub over : TargetStream
+  pub found : find (is_stream stream) t.streams ≡ Some over
+  pub peer : over.peer.0 ≡ target.0
+  pub message : MessageFields
+  pub reads : message_reading bytes ≡ Ok message
+  pub context : message.context ≡ request
+  pub large : Bool
+  pub tells : open_answer large message ≡ Ok (answer.Opened opened)

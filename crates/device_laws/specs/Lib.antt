@@ -1,0 +1,4 @@
+pub mod Sizes
+pub mod Turns
+pub mod Ids
+pub mod Carrying

@@ -1,0 +1,126 @@
+-- Producers and whom they serve, taken up from one connection after another.
+use Rattle.std.proofs.Common.{◌≡◌, ◌≤◌, ℕ, zero, suc, ◌+◌, ◌-◌, Bool, true, false, ◌||◌, ◌==◌, List, [], ◌∷◌, ◌++◌, length, map, take, drop, Option, Some, None, refl, sym, ◌∙◌, ap, subst, arith}
+use Rattle.std.specs.List.{list_any, filter_map}
+use Rattle.std.proofs.lemmas.List.{append-nil, append_assoc}
+use Rattle.std.proofs.lemmas.List.Elements.{filter_map-append}
+use Rattle.cip_types.specs.declared.names.Node.{Node}
+use Rattle.cip_types.specs.Firsts.{IsTransitive, first_more}
+use Rattle.cip_types.specs.Order.{first_of_each, unless}
+use Rattle.adapter_table.specs.declared.row.Row.{Row}
+use Rattle.adapter_table.specs.Productions.{consumers}
+use Rattle.due_datagrams.specs.declared.consumer_table.Entry.{Entry}
+use Rattle.due_datagrams.specs.ConsumerTables.{ProducerConsumers, number_in, same_number, numbers, consumers_of, consumers_by_producer, nodes_in, consumers_in, AreWithin, has_number, is_of, more_by}
+use Rattle.due_datagrams.proofs.Logic.{same_by, map_append, drop_front, length_append, take_whole}
+
+-- ---- entries whose nodes stand in front of others
+
+take_front : (count : ℕ) (xs ys : List Node) → count ≤ length xs → take count (xs ++ ys) ≡ take count xs
+take_front zero xs ys le = refl
+take_front (suc count) [] ys le = absurd (omega arith)
+take_front (suc count) (x ∷ xs) ys le = ap (λ (l : List Node). x ∷ l) (take_front count xs ys (omega arith))
+
+part_front : (first count : ℕ) (xs ys : List Node) → first + count ≤ length xs → take count (drop first (xs ++ ys)) ≡ take count (drop first xs)
+part_front zero count xs ys le = take_front count xs ys (omega arith)
+part_front (suc first) count [] ys le = absurd (omega arith)
+part_front (suc first) count (x ∷ xs) ys le = part_front first count xs ys (omega arith)
+
+pub served_still : (nodes more : List Node) (entries : List Entry) → AreWithin (length nodes) entries → map (consumers_in (nodes ++ more)) entries ≡ map (consumers_in nodes) entries
+served_still nodes more [] within = refl
+served_still nodes more (entry ∷ entries) within =
+    ap (λ (l : List Node). record { number = entry.number; nodes = l } ∷ map (consumers_in (nodes ++ more)) entries) (part_front entry.first entry.count nodes more within.0)
+    ∙ ap (λ (l : List ProducerConsumers). consumers_in nodes entry ∷ l) (served_still nodes more entries within.1)
+
+pub within_more : (len more : ℕ) (entries : List Entry) → AreWithin len entries → len ≤ more → AreWithin more entries
+within_more len more [] within le = tt
+within_more len more (entry ∷ entries) within le = (omega (arith, within.0), within_more len more entries within.1 le)
+
+pub within_last : (len : ℕ) (entries : List Entry) (entry : Entry) → AreWithin len entries → entry.first + entry.count ≤ len → AreWithin len (entries ++ entry ∷ [])
+within_last len [] entry within le = (le, tt)
+within_last len (next ∷ entries) entry within le = (within.0, within_last len entries entry within.1 le)
+
+-- the nodes of a new entry are those that were put last
+pub last_nodes : (nodes added : List Node) (entry : Entry) → entry.first ≡ length nodes → entry.count ≡ length added → nodes_in (nodes ++ added) entry ≡ added
+last_nodes nodes added entry first count =
+    ap (λ (n : ℕ). take entry.count (drop n (nodes ++ added))) first
+    ∙ ap (take entry.count) (drop_front nodes added)
+    ∙ ap (λ (n : ℕ). take n added) count ∙ take_whole added
+
+pub entry_added : (rows : List Row) (number : ℕ) (entries new : List Entry) (nodes old : List Node) (entry : Entry) (all : ℕ) → AreWithin (length old) entries → nodes ≡ old ++ consumers number rows → new ≡ entries ++ entry ∷ [] → entry.number ≡ number → entry.first ≡ length old → all ≡ length nodes → entry.count ≡ all - entry.first → (map (consumers_in nodes) new ≡ map (consumers_in old) entries ++ consumers_of rows number ∷ []) × AreWithin (length nodes) new
+entry_added rows number entries new nodes old entry all within are is same first whole count =
+    let added = consumers number rows in
+    let len : length nodes ≡ length old + length (consumers number rows) = ap (length {A = Node}) are ∙ length_append old (consumers number rows) in
+    let long : entry.count ≡ length (consumers number rows) = omega (arith, len, first, whole, count) in (
+      ap (map (consumers_in nodes)) is
+          ∙ map_append (consumers_in nodes) entries (entry ∷ [])
+          ∙ ap (λ (l : List Node). map (consumers_in l) entries ++ consumers_in l entry ∷ []) are
+          ∙ ap (λ (l : List ProducerConsumers). l ++ consumers_in (old ++ consumers number rows) entry ∷ []) (served_still old (consumers number rows) entries within)
+          ∙ ap (λ (s : ProducerConsumers). map (consumers_in old) entries ++ s ∷ []) (ap (λ (l : List Node). record { number = entry.number; nodes = l }) (last_nodes old (consumers number rows) entry first long) ∙ ap (λ (n : ℕ). record { number = n; nodes = consumers number rows }) same),
+      subst (AreWithin (length nodes)) (sym is) (within_last (length nodes) entries entry (within_more (length old) (length nodes) entries within (omega (arith, len))) (omega (arith, len, long, first))),
+    )
+
+pub any_entry : (number : ℕ) (nodes : List Node) (entries : List Entry) → list_any (has_number number) (map (consumers_in nodes) entries) ≡ list_any (is_of number) entries
+any_entry number nodes [] = refl
+any_entry number nodes (entry ∷ entries) = ap (λ b. is_of number entry || b) (any_entry number nodes entries)
+
+-- ---- one more connection
+
+numbers_transitive : IsTransitive same_number
+numbers_transitive = λ x y z xy yz. same_by x y z xy yz
+
+any_producer : (rows : List Row) (number : ℕ) (known : List ℕ) → list_any (has_number number) (map (consumers_of rows) known) ≡ list_any (λ first. same_number first number) known
+any_producer rows number [] = refl
+any_producer rows number (n ∷ known) = ap (λ b. (n == number) || b) (any_producer rows number known)
+
+serve_step : (b : Bool) (rows : List Row) (known : List ℕ) (number : ℕ) → map (consumers_of rows) (known ++ unless b number) ≡ map (consumers_of rows) known ++ unless b (consumers_of rows number)
+serve_step true rows known number = map_append (consumers_of rows) known []
+serve_step false rows known number = map_append (consumers_of rows) known (number ∷ [])
+
+abbrev listed : Option ℕ → List ℕ
+listed None = []
+listed (Some n) = n ∷ []
+
+numbers_by : (front : List Row) (row : Row) (o : Option ℕ) → number_in row ≡ o → filter_map number_in (front ++ row ∷ []) ≡ filter_map number_in front ++ listed o
+numbers_by front row o is = filter_map-append number_in front (row ∷ []) ∙ ap (λ (l : List ℕ). filter_map number_in front ++ l) (one row o is) where
+  one : (row : Row) (o : Option ℕ) → number_in row ≡ o → filter_map number_in (row ∷ []) ≡ listed o
+  one row None is = rw is refl
+  one row (Some n) is = rw is refl
+
+served_by : (rows front : List Row) (row : Row) (o : Option ℕ) → number_in row ≡ o → map (consumers_of rows) (numbers (front ++ row ∷ [])) ≡ map (consumers_of rows) (numbers front) ++ more_by rows (map (consumers_of rows) (numbers front)) o
+served_by rows front row None is =
+    ap (λ (l : List ℕ). map (consumers_of rows) (first_of_each same_number l)) (numbers_by front row None is ∙ append-nil (filter_map number_in front))
+    ∙ sym (append-nil (map (consumers_of rows) (numbers front)))
+served_by rows front row (Some number) is =
+    ap (λ (l : List ℕ). map (consumers_of rows) (first_of_each same_number l)) (numbers_by front row (Some number) is)
+    ∙ ap (map (consumers_of rows)) (first_more same_number numbers_transitive (filter_map number_in front) number)
+    ∙ serve_step (list_any (λ first. same_number first number) (numbers front)) rows (numbers front) number
+    ∙ ap (λ b. map (consumers_of rows) (numbers front) ++ unless b (consumers_of rows number)) (sym (any_producer rows number (numbers front)))
+
+-- those of the connections so far
+pub record TakenUp (rows rest : List Row) (consumer_table : List ProducerConsumers) : Type 0 where
+  pub front : List Row
+  pub split : front ++ rest ≡ rows
+  pub are : consumer_table ≡ map (consumers_of rows) (numbers front)
+
+pub taken_none : (rows : List Row) → TakenUp rows rows []
+taken_none rows = record { front = []; split = refl; are = refl }
+
+pub taken_more : (rows rest : List Row) (row : Row) (consumer_table new : List ProducerConsumers) → TakenUp rows (row ∷ rest) consumer_table → new ≡ consumer_table ++ more_by rows consumer_table (number_in row) → TakenUp rows rest new
+taken_more rows rest row consumer_table new so is = record {
+  front = so.front ++ row ∷ [];
+  split = append_assoc so.front (row ∷ []) rest ∙ so.split;
+  are = is ∙ ap (λ (l : List ProducerConsumers). l ++ more_by rows l (number_in row)) so.are ∙ sym (served_by rows so.front row (number_in row) refl);
+}
+
+pub taken_all : (rows : List Row) (consumer_table : List ProducerConsumers) → TakenUp rows [] consumer_table → consumer_table ≡ consumers_by_producer rows
+taken_all rows consumer_table so = so.are ∙ ap (λ (l : List Row). map (consumers_of rows) (numbers l)) (sym (append-nil so.front) ∙ so.split)
+
+-- a producer that is there adds nothing, and another one stands last
+pub known : (rows : List Row) (nodes : List Node) (entries lent : List Entry) (o : Option ℕ) (number : ℕ) (b : Bool) → o ≡ Some number → b ≡ list_any (is_of number) lent → lent ≡ entries → b ≡ true → map (consumers_in nodes) entries ≡ map (consumers_in nodes) entries ++ more_by rows (map (consumers_in nodes) entries) o
+known rows nodes entries lent o number b is has same holds =
+    let any : list_any (has_number number) (map (consumers_in nodes) entries) ≡ true = any_entry number nodes entries ∙ sym (has ∙ ap (list_any (is_of number)) same) ∙ holds in
+    rw (is, any) (sym (append-nil (map (consumers_in nodes) entries)))
+
+pub added : (rows : List Row) (nodes : List Node) (entries lent : List Entry) (o : Option ℕ) (number : ℕ) (b : Bool) (new : List ProducerConsumers) → o ≡ Some number → b ≡ list_any (is_of number) lent → lent ≡ entries → b ≡ false → new ≡ map (consumers_in nodes) entries ++ consumers_of rows number ∷ [] → new ≡ map (consumers_in nodes) entries ++ more_by rows (map (consumers_in nodes) entries) o
+added rows nodes entries lent o number b new is has same fails last =
+    let any : list_any (has_number number) (map (consumers_in nodes) entries) ≡ false = any_entry number nodes entries ∙ sym (has ∙ ap (list_any (is_of number)) same) ∙ fails in
+    rw (is, any) last

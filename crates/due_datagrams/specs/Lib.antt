@@ -1,0 +1,4 @@
+pub mod Turns
+pub mod Keys
+pub mod ConsumerTables
+pub mod ConsumerLaws

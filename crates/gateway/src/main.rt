@@ -1,0 +1,58 @@
+//! A worked gateway: a scanner and an adapter in one process. The scanner gathers the input of a field device, and the
+//! adapter shows it to a controller as its own input; what the controller sends goes to the field device's output.
+#![tactic(auto)]
+
+mod field;
+mod gateway;
+
+use eip::{Device, Event, FastAdapter, Items, OutOfMemory, StepFault};
+use example_profiles::{CONTROLLER, FORWARD_OPEN, INPUT, OUTPUT, RUN_DATA};
+use field::{connect, exchange};
+use gateway::Gateway;
+use std::alloc::Global;
+
+fn main(rt: HostRuntime) -> anyhow::Result<()> {
+    let alloc = rt.alloc();
+    let mut gateway = Gateway::new(alloc)?;
+    let mut device = field::device(alloc)?;
+    connect(alloc, &mut gateway.scanner, &mut device)?;
+    println!(rt; "{}", upwards(alloc, &mut gateway, &mut device)?)?;
+    println!(rt; "{}", downwards(alloc, &mut gateway, &mut device)?)?;
+    Ok(())
+}
+
+/// The field device's application sets its input, which arrives at the gateway's own input.
+fn upwards(
+    alloc: Global,
+    gateway: &mut Gateway,
+    device: &mut FastAdapter,
+) -> Result<String, StepFault> {
+    let _written = device.write_point(INPUT, &[5, 6, 7, 8])?;
+    exchange(&mut gateway.scanner, device, 10)?;
+    gateway.carry()?;
+    let input = gateway.adapter.read_point(INPUT)?;
+    Ok(holds(alloc, "the gateway's input", input)?)
+}
+
+/// A controller owns the gateway's output and sends data in run mode, which arrive at the field device's output.
+fn downwards(
+    alloc: Global,
+    gateway: &mut Gateway,
+    device: &mut FastAdapter,
+) -> Result<String, StepFault> {
+    let _opened = gateway.adapter.step(&Event::Request {
+        peer: CONTROLLER,
+        bytes: Items::copy_of(alloc, &FORWARD_OPEN)?,
+    })?;
+    let _delivery = gateway.adapter.deliver(CONTROLLER, &RUN_DATA);
+    gateway.carry()?;
+    exchange(&mut gateway.scanner, device, 10)?;
+    let output = device.read_point(OUTPUT)?;
+    Ok(holds(alloc, "the field device's output", output)?)
+}
+
+/// What a point holds, in words.
+fn holds(alloc: Global, point: &str, bytes: &[u8]) -> Result<String, OutOfMemory> {
+    let digits = hex::encode(alloc, bytes)?;
+    Ok(format!(in alloc; "{point} holds {digits}")?)
+}

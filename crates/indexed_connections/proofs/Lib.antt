@@ -1,0 +1,10 @@
+mod Lone
+mod Expiring
+mod Dropping
+mod Whole
+mod Prefixes
+mod Replacing
+mod Times
+mod Removals
+mod Counted
+mod ProducerConsumers

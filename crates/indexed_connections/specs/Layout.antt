@@ -1,0 +1,21 @@
+-- What belongs together in `IndexedConnections`. No public clause cites this module.
+use Rattle.std.specs.Prelude.{ℕ, ◌≡◌, ◌≤◌, Bool, true, false, List}
+use Rattle.std.specs.List.{list_any}
+use Rattle.adapter_table.specs.declared.row.Row.{Row}
+use Rattle.conn_slab.specs.Bounds.{first_end, AllNotDueBefore}
+use Rattle.conn_slab.specs.Connections.{is_listening}
+use Rattle.owner_counts.specs.Counts.{Counts, AreCounted}
+use Rattle.due_datagrams.specs.ConsumerTables.{ProducerConsumers, consumers_by_producer}
+
+-- bounds on the times of connections: no watchdog runs out before the one, and no producer is due before the other
+pub record IsBounded (rows : List Row) (next_watchdog next_production : ℕ) : Type 0 where
+  pub last : next_watchdog ≤ first_end rows
+  pub rest : AllNotDueBefore next_production rows
+
+-- connections with their counts and bounds, whether there may be listen-only ones among them, and whom their producers
+-- serve, where it is known
+pub record AreConsistent (rows : List Row) (counts : Counts) (listening : Bool) (next_watchdog next_production : ℕ) (consumers_valid : Bool) (consumer_table : List ProducerConsumers) : Type 0 where
+  pub bounded : IsBounded rows next_watchdog next_production
+  pub counted : AreCounted counts rows
+  pub serving : consumers_valid ≡ true → consumer_table ≡ consumers_by_producer rows
+  pub quiet : listening ≡ false → list_any is_listening rows ≡ false

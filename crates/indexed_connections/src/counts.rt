@@ -1,0 +1,97 @@
+//! Connections that come and go, with running counts of their owners and supporters.
+
+ghost use Rattle.std.specs.Prelude.{◌≡◌, ◌≤◌, ◌++◌, ◌∷◌, [], OnOk, OnErr, IfOk, map, length};
+ghost use Rattle.adapter_table.specs.Closing.{without_triad};
+ghost use Rattle.adapter_table.specs.Sound.{TriadsDiffer};
+ghost use Rattle.conn_slab.specs.Connections.{AreConnections, without, timed_out_if};
+ghost use Rattle.owner_counts.specs.Counts.{AreCounted};
+ghost use Rattle.indexed_connections.specs.CountChanges.{named, HaveJoined, AreLess};
+
+use adapter_table::Row;
+use cip_types::{OutOfMemory, Triad};
+use conn_slab::Connections;
+use owner_counts::Rules;
+use std::alloc::Global;
+
+/// Counts of these connections. Want of memory is the only fault.
+pub fn counted(alloc: Global, rows: &[Row]) -> Result<Rules, OutOfMemory>
+    requires { length rows.now ≤ 64 }
+    ensures { IfOk result (λ rules. AreCounted rules rows.now) }
+{
+    let mut rules = Rules::new(alloc)?;
+    for row in rows {
+        rules.joined(row);
+    }
+    Ok(rules)
+}
+
+/// Counts without a connection that had joined, where there is one. Takes no memory.
+fn forget(rules: &mut Rules, removed: Option<Row>)
+    requires { HaveJoined removed rules.old }
+    ensures { AreLess removed rules.old rules.new }
+{
+    if let Some(row) = removed {
+        rules.left(&row);
+    }
+}
+
+/// The connection of the triad, where one is named.
+fn named(connections: &Connections, triad: Option<Triad>) -> Option<Row>
+    ensures { result ≡ named triad connections.now }
+{
+    match triad {
+        Some(triad) => connections.of(triad),
+        None => None,
+    }
+}
+
+/// Puts a connection last. Where a triad is named, the connection of that triad is taken out. Want of memory is
+/// the only fault, and then nothing is changed.
+///
+/// Volume 1, chapter 3, Forward_Open.
+pub fn open(
+    connections: &mut Connections,
+    rules: &mut Rules,
+    removed: Option<Triad>,
+    row: Row,
+) -> Result<(), OutOfMemory>
+    requires counted { AreCounted rules.old connections.old }
+    requires differ { TriadsDiffer connections.old }
+    requires next { AreConnections (without removed connections.old ++ row ∷ []) }
+    ensures rows { OnOk result (connections.new ≡ without removed connections.old ++ row ∷ []) }
+    ensures unchanged { OnErr result (connections.new ≡ connections.old) }
+    ensures counted { AreCounted rules.new connections.new }
+{
+    let replaced_row = named(connections, removed);
+    connections.open(removed, row)?;
+    forget(rules, replaced_row);
+    rules.joined(&row);
+    Ok(())
+}
+
+/// Takes the connection of a triad out, in any state. Takes no memory.
+///
+/// Volume 1, chapter 3, Forward_Close.
+pub fn close(connections: &mut Connections, rules: &mut Rules, triad: Triad)
+    requires counted { AreCounted rules.old connections.old }
+    requires differ { TriadsDiffer connections.old }
+    ensures rows { connections.new ≡ without_triad triad connections.old }
+    ensures counted { AreCounted rules.new connections.new }
+{
+    let removed = connections.close(triad);
+    forget(rules, removed);
+}
+
+/// Lets the established connection of a triad time out. Takes no memory.
+///
+/// Volume 1, chapter 3, inactivity watchdog.
+pub fn time_out(connections: &mut Connections, rules: &mut Rules, triad: Triad)
+    requires counted { AreCounted rules.old connections.old }
+    requires differ { TriadsDiffer connections.old }
+    ensures rows { connections.new ≡ map (timed_out_if triad) connections.old }
+    ensures counted { AreCounted rules.new connections.new }
+{
+    let removed = connections.of(triad);
+    connections.expire(triad);
+    forget(rules, removed);
+}

@@ -1,0 +1,322 @@
+//! The table.
+
+ghost use Rattle.std.specs.Prelude.{◌≡◌, ◌||◌, ◌∷◌, [], true, IfOk};
+ghost use Rattle.std.specs.List.{list_any};
+ghost use Rattle.adapter_table.specs.Ticks.{has_expired};
+ghost use Rattle.cip_events.specs.declared.event.Notice.{Notice};
+ghost use Rattle.conn_slab.specs.Bounds.{NotDueBefore, AllNotDueBefore};
+ghost use Rattle.conn_slab.specs.Connections.{is_listening};
+ghost use Rattle.due_datagrams.specs.ConsumerTables.{consumers_by_producer};
+
+use crate::counts::{close, counted, open};
+use crate::expiry::{drop_unsupported, expire};
+use crate::from_list::{from_rows, replaced};
+use crate::queries::{
+    first_expired, first_member, first_timed_out, is_any_due, is_any_established, is_any_on_change,
+    is_listening,
+};
+use adapter_table::{MOST_ROWS, Profile, Row, State};
+use app_rules::ConnectionsView;
+use assembly_set::AssemblySet;
+use cip_datagram::Datagram;
+use cip_events::{Notice, OutgoingDatagram};
+use cip_types::{Ms, Node, OutOfMemory, Triad};
+use connection_list::{close_notices, sent_on_change, sent_when_due, written_rows};
+use connection_table::{ConnectionTable, ReceivedDatagram};
+use due_datagrams::{ConsumerTable, due_datagrams};
+use owner_counts::Rules;
+use std::alloc::Global;
+use std::marker::Model;
+
+/// Connections in a slab, running counts of their owners and supporters, bounds on their times, and whom their
+/// producers serve.
+///
+/// A datagram finds its connection by peer and O->T id, and a tick at which nothing happens compares two times.
+#[derive(Drop)]
+pub struct IndexedConnections {
+    connections: conn_slab::Connections,
+    rules: Rules,
+    /// Where this is false, none is an established listen-only one.
+    listening: bool,
+    /// No watchdog runs out before this.
+    next_watchdog: u64,
+    /// No producer is due before this.
+    next_production: u64,
+    /// Whether it is known whom each producer serves.
+    consumers_valid: bool,
+    consumer_table: ConsumerTable,
+}
+
+impl Model for IndexedConnections {
+    ghost use Rattle.std.specs.Prelude.{List};
+    ghost use Rattle.adapter_table.specs.declared.row.Row.{Row};
+    ghost use Rattle.indexed_connections.specs.Layout.{AreConsistent};
+
+    ghost Value = { List Row };
+
+    ghost view = { λ t. t.connections };
+
+    ghost invariant = { λ t. AreConsistent t.connections t.rules t.listening t.next_watchdog t.next_production t.consumers_valid t.consumer_table };
+}
+
+/// When the producer of a connection is due; that of one that has timed out never is.
+fn due_of(row: &Row) -> u64
+    ensures { NotDueBefore result row.now }
+{
+    match row.state {
+        State::Established(production) => production.due.0,
+        State::TimedOut => u64::MAX,
+    }
+}
+
+/// Whether there may be listen-only connections with one more.
+fn listens_with(listening: bool, row: &Row) -> bool
+    ensures { result ≡ (listening || is_listening row.now) }
+{
+    listening || is_listening(row)
+}
+
+/// A time before which no producer is due: the known one, until it has come.
+fn next_due_from(connections: &conn_slab::Connections, clock: Ms, next_production: u64) -> u64
+    requires { AllNotDueBefore next_production connections.now }
+    ensures { AllNotDueBefore result connections.now }
+{
+    if clock.0 < next_production {
+        return next_production;
+    }
+    connections.first_due()
+}
+
+/// Whether it is known whom each producer serves, which is found out where it is asked for. Takes no memory.
+fn refresh_consumers(
+    consumer_table: &mut ConsumerTable,
+    connections: &conn_slab::Connections,
+    consumers_valid: bool,
+    needed: bool,
+) -> bool
+    requires { consumers_valid ≡ true → consumer_table.old ≡ consumers_by_producer connections.now }
+    ensures { result ≡ true → consumer_table.new ≡ consumers_by_producer connections.now }
+{
+    if consumers_valid || !needed {
+        return consumers_valid;
+    }
+    consumer_table.rebuild(connections)
+}
+
+/// That the connection of a triad is closed, and no other one is lost.
+fn lone_close_notice(alloc: Global, triad: Triad) -> Result<Vec<Notice>, OutOfMemory>
+    ensures { IfOk result (λ notices. notices.items ≡ Notice.Closed triad ∷ []) }
+{
+    let mut notices = Vec::new(alloc);
+    notices.push(Notice::Closed(triad))?;
+    Ok(notices)
+}
+
+impl IndexedConnections {
+    /// Whether the deadline of a connection has come, where a bound has. The bounds are put right, and whom producers
+    /// serve is found out where one may be due. Takes no memory.
+    #[inline(never)]
+    fn look(&mut self, clock: Ms) -> bool
+        ensures expired { result ≡ list_any (has_expired clock) self.old }
+        ensures same { self.new ≡ self.old }
+    {
+        self.next_production = next_due_from(&self.connections, clock, self.next_production);
+        let needed = clock.0 >= self.next_production;
+        self.consumers_valid = refresh_consumers(
+            &mut self.consumer_table,
+            &self.connections,
+            self.consumers_valid,
+            needed,
+        );
+        if clock.0 < self.next_watchdog {
+            return false;
+        }
+        self.next_watchdog = self.connections.first_end();
+        first_expired(self.connections.rows(), clock).is_some()
+    }
+}
+
+impl ConnectionsView for IndexedConnections {
+    ghost rows = { λ t. t };
+
+    fn is_open(&self, triad: Triad) -> bool {
+        self.connections.is_open(triad)
+    }
+
+    fn has_established(&self) -> bool {
+        is_any_established(self.connections.rows())
+    }
+
+    fn is_driven(&self, point: u32) -> bool {
+        self.rules.owners(point) != 0
+    }
+
+    fn group_of(&self, point: u32) -> Option<Row> {
+        first_member(self.connections.rows(), point)
+    }
+
+    fn is_supported(&self, point: u32) -> bool {
+        self.rules.supporters(point) != 0
+    }
+
+    fn is_full(&self) -> bool {
+        self.connections.len() >= MOST_ROWS
+    }
+
+    fn has_timed_out(&self) -> bool {
+        first_timed_out(self.connections.rows()).is_some()
+    }
+}
+
+impl ConnectionTable for IndexedConnections {
+    fn new(alloc: Global) -> Result<Self, OutOfMemory> {
+        Ok(IndexedConnections {
+            connections: conn_slab::Connections::new(alloc)?,
+            rules: Rules::new(alloc)?,
+            listening: false,
+            next_watchdog: u64::MAX,
+            next_production: u64::MAX,
+            consumers_valid: false,
+            consumer_table: ConsumerTable::new(alloc)?,
+        })
+    }
+
+    fn holding(alloc: Global, rows: &[Row]) -> Result<Self, OutOfMemory> {
+        let connections = from_rows(alloc, rows)?;
+        let rules = counted(alloc, rows)?;
+        let listening = connections.has_listeners();
+        let next_watchdog = connections.first_end();
+        let next_production = connections.first_due();
+        Ok(IndexedConnections {
+            connections,
+            rules,
+            listening,
+            next_watchdog,
+            next_production,
+            consumers_valid: false,
+            consumer_table: ConsumerTable::new(alloc)?,
+        })
+    }
+
+    fn to_vec(&self, alloc: Global) -> Result<Vec<Row>, OutOfMemory> {
+        self.connections.to_vec(alloc)
+    }
+
+    fn find(&self, triad: Triad) -> Option<Row> {
+        self.connections.of(triad)
+    }
+
+    fn replaced(&self, triad: Triad) -> Option<Triad> {
+        replaced(&self.connections, triad)
+    }
+
+    fn open(&mut self, row: Row) -> Result<(), OutOfMemory> {
+        let removed = replaced(&self.connections, row.triad);
+        open(&mut self.connections, &mut self.rules, removed, row)?;
+        self.next_watchdog = self.next_watchdog.min(row.deadline.0);
+        self.next_production = self.next_production.min(due_of(&row));
+        self.listening = listens_with(self.listening, &row);
+        self.consumers_valid = false;
+        Ok(())
+    }
+
+    fn closed_notices(&self, alloc: Global, triad: Triad) -> Result<Vec<Notice>, OutOfMemory> {
+        if !self.listening {
+            return lone_close_notice(alloc, triad);
+        }
+        let rows = self.connections.to_vec(alloc)?;
+        close_notices(alloc, &rows, triad)
+    }
+
+    fn close(&mut self, triad: Triad) {
+        self.consumers_valid = false;
+        close(&mut self.connections, &mut self.rules, triad);
+        drop_unsupported(&mut self.connections, &mut self.rules, self.listening);
+    }
+
+    fn receive(
+        &mut self,
+        profile: &Profile,
+        clock: Ms,
+        peer: Node,
+        datagram: &Datagram<'_>,
+    ) -> Option<ReceivedDatagram> {
+        let received = self.connections.receive(profile, clock, peer, datagram)?;
+        self.next_watchdog = self.next_watchdog.min(received.deadline.0);
+        Some(ReceivedDatagram {
+            delivery: received.delivery,
+            consumed: received.consumed,
+        })
+    }
+
+    #[inline(always)]
+    fn has_expired(&mut self, clock: Ms) -> bool {
+        if clock.0 < self.next_production && clock.0 < self.next_watchdog {
+            return false;
+        }
+        self.look(clock)
+    }
+
+    #[inline(always)]
+    fn is_due(&self, clock: Ms) -> bool {
+        if clock.0 < self.next_production {
+            return false;
+        }
+        is_any_due(self.connections.rows(), clock)
+    }
+
+    fn sent_when_due(
+        &self,
+        alloc: Global,
+        assemblies: &AssemblySet,
+        clock: Ms,
+    ) -> Result<Vec<OutgoingDatagram>, OutOfMemory> {
+        if self.consumers_valid {
+            return due_datagrams(
+                alloc,
+                &self.consumer_table,
+                &self.connections,
+                assemblies,
+                clock,
+            );
+        }
+        let rows = self.connections.to_vec(alloc)?;
+        sent_when_due(alloc, &rows, assemblies, clock)
+    }
+
+    fn produce(&mut self, clock: Ms) {
+        self.connections.produce(clock);
+        self.next_production = self.connections.first_due();
+    }
+
+    fn advance(&mut self, clock: Ms) {
+        self.consumers_valid = false;
+        expire(&mut self.connections, &mut self.rules, clock);
+        drop_unsupported(&mut self.connections, &mut self.rules, self.listening);
+        self.listening = self.connections.has_listeners();
+        self.connections.produce(clock);
+        self.next_watchdog = self.connections.first_end();
+        self.next_production = self.connections.first_due();
+    }
+
+    fn produces_at_once(&self, clock: Ms, point: u32) -> bool {
+        is_any_on_change(self.connections.rows(), clock, point)
+    }
+
+    fn sent_on_change(
+        &self,
+        alloc: Global,
+        clock: Ms,
+        point: u32,
+        input: &[u8],
+    ) -> Result<Vec<OutgoingDatagram>, OutOfMemory> {
+        let rows = self.connections.to_vec(alloc)?;
+        let written = written_rows(alloc, &rows, point)?;
+        sent_on_change(alloc, &written, clock, point, input)
+    }
+
+    fn write(&mut self, clock: Ms, point: u32) {
+        self.connections.write(point, clock);
+        self.next_production = self.connections.first_due();
+    }
+}

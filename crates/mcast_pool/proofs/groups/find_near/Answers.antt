@@ -1,9 +1,0 @@
-use Rattle.std.proofs.Common.{◌≡◌, ◌<◌, true, length, rules}
-use Rattle.mcast_pool.proofs.Places.{near}
-use Rattle.mcast_pool.proofs.groups.find_near.Goals as goal
-
-pub returns : goal.returns
-returns c =
-    let within : c.args.place < length c.args.groups.now = search rules in
-    let has : c.has_number.result ≡ true = search rules in
-    near c.args.number c.args.groups.now c.args.place _ c.has_number.result c.requires within c.has_number.ensures has

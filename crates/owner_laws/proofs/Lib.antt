@@ -1,6 +1,0 @@
-mod OneOwner
-mod OwnerEffects
-mod OwnerSteps
-mod TurnRuns
-mod TurnReading
-mod TurnSamples

@@ -1,0 +1,116 @@
+//! One stream of a port.
+
+ghost use Rattle.std.specs.Prelude.{◌≡◌, OnOk, OnErr};
+ghost use Rattle.port_streams.specs.StreamInputs.{ReceivesBytes, begun, ended, given_of, left_of, takes_bytes};
+
+use crate::waiting::MessageQueue;
+use cip_encap::{SplitFault, Splitter};
+use cip_types::{Node, OutOfMemory};
+use std::alloc::Global;
+use udp_runner::Input;
+
+/// One stream of a port: the peer at its other end, the socket under it, whether its beginning was told and
+/// whether its end came, the bytes behind its last whole message, and the messages that wait to be given.
+#[derive(Drop)]
+pub struct PortStream<S> {
+    peer: Node,
+    socket: S,
+    reported: bool,
+    ended: bool,
+    splitter: Splitter,
+    waiting: MessageQueue,
+}
+
+impl<S: Drop> PortStream<S> {
+    /// A stream that begins. Takes no memory.
+    pub fn begin(alloc: Global, peer: Node, socket: S) -> Self
+        ensures { result ≡ begun peer socket }
+    {
+        PortStream {
+            peer,
+            socket,
+            reported: false,
+            ended: false,
+            splitter: Splitter::new(alloc),
+            waiting: MessageQueue::none(alloc),
+        }
+    }
+
+    /// The socket under the stream.
+    pub fn socket(&self) -> &S
+        ensures { result.now ≡ self.now.socket }
+    {
+        &self.socket
+    }
+
+    /// Whether the end of the stream came.
+    pub fn has_ended(&self) -> bool
+        ensures { result ≡ self.now.ended }
+    {
+        self.ended
+    }
+
+    /// Whether bytes are to be read: the beginning was told, the end did not come, and no message waits.
+    pub fn takes_bytes(&self) -> bool
+        ensures { result ≡ takes_bytes self.now }
+    {
+        self.reported && !self.ended && self.waiting.is_empty()
+    }
+
+    /// Bytes of the stream came. Where it takes none, they are dropped. Want of memory is the only fault, after
+    /// which the stream is as it was.
+    pub fn receive(&mut self, piece: &[u8]) -> Result<(), OutOfMemory>
+        ensures received { OnOk result (ReceivesBytes (takes_bytes self.old) self.old piece.now self.new) }
+        ensures err { OnErr result (self.new ≡ self.old) }
+    {
+        if !self.takes_bytes() {
+            return Ok(());
+        }
+        match self.splitter.feed(piece) {
+            Ok(messages) => {
+                self.waiting = MessageQueue::of(messages);
+                Ok(())
+            }
+            Err(SplitFault::TooLong) => {
+                self.ended = true;
+                Ok(())
+            }
+            Err(SplitFault::OutOfMemory) => Err(OutOfMemory),
+        }
+    }
+
+    /// The end of the stream came. Takes no memory.
+    pub fn end(&mut self)
+        ensures { self.new ≡ ended self.old }
+    {
+        self.ended = true;
+    }
+
+    /// What is given of the stream of this number next, and what is left of it: first its beginning, then its
+    /// messages, last its end. Takes no memory.
+    pub fn next(mut self, number: u16) -> (Option<Input>, Option<Self>)
+        ensures given { result.0 ≡ given_of number self }
+        ensures left { result.1 ≡ left_of self }
+    {
+        if !self.reported {
+            let peer = self.peer;
+            self.reported = true;
+            let opened = Input::Opened {
+                stream: number,
+                peer,
+            };
+            return (Some(opened), Some(self));
+        }
+        if let Some(bytes) = self.waiting.pop() {
+            let frame = Input::Frame {
+                stream: number,
+                bytes,
+            };
+            return (Some(frame), Some(self));
+        }
+        if self.ended {
+            return (Some(Input::Cut { stream: number }), None);
+        }
+        (None, Some(self))
+    }
+}

@@ -1,0 +1,72 @@
+//! Events that come over streams.
+
+ghost use Rattle.std.specs.Prelude.{◌≡◌, IfOk, slice_get, slice_index_or};
+ghost use Rattle.stream_queues.specs.Fronts.{view_front};
+ghost use Rattle.segment_world.specs.World.{event_of_item};
+ghost use Rattle.segment_world.specs.Arrivals.{receiver_in, sender_in};
+
+use cip_events::Event;
+use cip_types::{Items, Node, OutOfMemory};
+use std::alloc::Global;
+use stream_queues::{Direction, Endpoints, QueueFront};
+
+/// An event that is to come to a device, and the device's address.
+#[derive(Drop)]
+pub struct Arrival {
+    pub device: u32,
+    pub node: Node,
+    pub event: Event,
+}
+
+/// The device that takes what runs in a direction.
+pub fn receiver_of(endpoints: Endpoints, direction: Direction) -> u32
+    ensures { result ≡ receiver_in direction endpoints }
+{
+    match direction {
+        Direction::Forth => endpoints.to,
+        Direction::Back => endpoints.from,
+    }
+}
+
+/// The device that sends what runs in a direction.
+pub fn sender_of(endpoints: Endpoints, direction: Direction) -> u32
+    ensures { result ≡ sender_in direction endpoints }
+{
+    match direction {
+        Direction::Forth => endpoints.from,
+        Direction::Back => endpoints.to,
+    }
+}
+
+/// The address of a device.
+pub fn node_of(nodes: &[Node], device: u32) -> Option<Node>
+    ensures { result ≡ slice_get nodes.now device }
+{
+    nodes.get(device as usize).copied()
+}
+
+/// The address of a device that is known to be there.
+pub fn known_node(nodes: &[Node], device: u32) -> Node
+    ensures { result ≡ slice_index_or nodes.now device (record { 0 = 0 }) }
+{
+    node_of(nodes, device).unwrap_or(Node(0))
+}
+
+/// What waits first on a stream, as an event of the end that takes it.
+pub fn event_of_front(
+    alloc: Global,
+    stream: u16,
+    peer: Node,
+    front: QueueFront<'_>,
+) -> Result<Event, OutOfMemory>
+    ensures { IfOk result (λ event. event ≡ event_of_item stream peer (view_front front.entry)) }
+{
+    match front {
+        QueueFront::Opening => Ok(Event::StreamOpened { stream, peer }),
+        QueueFront::Frame(bytes) => Ok(Event::Frame {
+            stream,
+            bytes: Items::copy_of(alloc, bytes)?,
+        }),
+        QueueFront::Ending => Ok(Event::StreamCut { stream }),
+    }
+}

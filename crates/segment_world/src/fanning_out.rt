@@ -1,0 +1,67 @@
+//! What a device sends.
+
+ghost use Rattle.std.specs.Prelude.{◌≡◌, ◌≤◌, ◌++◌, ◌*◌, map, length, OnOk};
+ghost use Rattle.std.specs.List.{AllByRecursion};
+ghost use Rattle.cip_events.specs.Answers.{plain_answer};
+ghost use Rattle.device_laws.specs.Sizes.{IsSmall, IsShortDatagram};
+ghost use Rattle.stream_queues.specs.Streams.{answered};
+ghost use Rattle.segment_world.specs.AnswerSpace.{HasSpace};
+ghost use Rattle.segment_world.specs.World.{sent_by};
+
+use cip_events::{Answer, OutgoingDatagram, Verdict};
+use cip_types::{Items, Node, OutOfMemory};
+use sent_log::SentLog;
+use std::alloc::Global;
+use stream_queues::Streams;
+
+/// How many datagrams an answer has at most, and how many bytes they have together.
+const MOST_DATAGRAMS: usize = 64;
+
+const MOST_BYTES: usize = 64 * 2_048;
+
+/// Makes room for an answer of any device. Whatever it answers, all that was sent and all that waits stays.
+pub fn reserve_answer(log: &mut SentLog, streams: &mut Streams) -> Result<(), OutOfMemory>
+    ensures sent { log.new.sent ≡ log.old.sent }
+    ensures streams { streams.new.streams ≡ streams.old.streams }
+    ensures space { OnOk result (HasSpace log.new streams.new) }
+{
+    log.reserve(MOST_DATAGRAMS, MOST_BYTES)?;
+    streams.reserve_answer()
+}
+
+/// Appends the datagrams of an answer, for which there is room, to all that was sent.
+fn send_datagrams(log: &mut SentLog, node: Node, datagrams: &[OutgoingDatagram])
+    requires texts { length datagrams.now ≤ log.old.texts }
+    requires bytes { 2048 * length datagrams.now ≤ log.old.bytes }
+    requires short { AllByRecursion IsShortDatagram datagrams.now }
+    ensures { log.new.sent ≡ log.old.sent ++ map (sent_by node) datagrams.now }
+{
+    for datagram in datagrams {
+        log.push_reserved(node, datagram.bytes.as_slice());
+    }
+}
+
+/// Sends what a device's answer has, for which there is room, and ends the streams that it tells the end of. Takes
+/// no memory.
+pub fn fan_out(log: &mut SentLog, streams: &mut Streams, device: u32, node: Node, answer: &Answer)
+    requires space { HasSpace log.old streams.old }
+    requires small { IsSmall answer.now }
+    ensures sent { log.new.sent ≡ log.old.sent ++ map (sent_by node) answer.now.datagrams }
+    ensures streams { streams.new.streams ≡ answered device answer.now streams.old.streams }
+{
+    send_datagrams(log, node, answer.datagrams.as_slice());
+    streams.send_frames(device, answer.frames.as_slice());
+    streams.apply_notices(device, answer.notices.as_slice());
+}
+
+/// An answer with nothing to send. Takes no memory.
+pub fn plain_answer(alloc: Global, verdict: Verdict) -> Answer
+    ensures { result ≡ plain_answer verdict }
+{
+    Answer {
+        frames: Items::new(alloc),
+        datagrams: Items::new(alloc),
+        verdict,
+        notices: Items::new(alloc),
+    }
+}

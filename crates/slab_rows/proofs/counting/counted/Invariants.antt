@@ -1,6 +1,0 @@
-use Rattle.std.proofs.Common.{take}
-use Rattle.owner_counts.specs.Counts.{AreCounted}
-use Rattle.slab_rows.proofs.counting.counted.Given as goal
-
-abbrev pub invariant-loop-row : goal.invariant-loop-row
-invariant-loop-row l = AreCounted l.rules (take l.row-index l.rows)

@@ -1,7 +1,0 @@
-use Rattle.std.proofs.Common.{arith}
-use Rattle.slab_rows.proofs.Prefixes.{first_ones}
-use Rattle.slab_rows.proofs.filling.filled.Goals as goal
-
-pub open-requires : goal.open-requires
-open-requires c =
-    rw c.loop-row.invariant (first_ones c.args.rows.now c.loop-row.row-index _ (omega arith) c.requires)

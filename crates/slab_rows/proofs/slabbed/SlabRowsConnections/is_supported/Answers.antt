@@ -1,9 +1,0 @@
-use Rattle.std.proofs.Common.{◌∙◌, ap}
-use Rattle.std.specs.List.{list_any}
-use Rattle.cip_productions.specs.declared.kind.Kind.TheVariants.{ListenOnly}
-use Rattle.adapter_table.specs.Rows.{supports}
-use Rattle.slab_rows.proofs.Gone.{any_counted}
-use Rattle.slab_rows.proofs.slabbed.SlabRowsConnections.is_supported.Goals as goal
-
-pub returns : goal.returns
-returns c = any_counted (supports ListenOnly c.args.point) c.self.inside.connections c.supporters.result (c.supporters.ensures ∙ c.self.invariant.counted.supporters c.args.point) ∙ ap (list_any (supports ListenOnly c.args.point)) c.self.view_is

@@ -1,4 +1,0 @@
-pub mod Found
-pub mod Steps
-pub mod Asks
-pub mod Faultless

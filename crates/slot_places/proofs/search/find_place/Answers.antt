@@ -1,8 +1,0 @@
-use Rattle.std.proofs.Common.{arith}
-use Rattle.scanner_table.specs.Slots.{places_from}
-use Rattle.slot_places.specs.Places.{passes}
-use Rattle.slot_places.proofs.PlaceLemmas.{none_found}
-use Rattle.slot_places.proofs.search.find_place.Goals as goal
-
-pub returns : goal.returns
-returns c = none_found (passes c.args.test) (places_from 0 c.args.configs.now c.args.slots.now) c.loop-index.index c.args.configs.now c.args.slots.now (omega (arith, c.min-index-end.ensures)) c.loop-index.invariant

@@ -1,7 +1,0 @@
-use Rattle.std.proofs.Common.{◌≡◌, find, drop}
-use Rattle.scanner_table.specs.Slots.{places_from}
-use Rattle.slot_places.specs.Places.{passes}
-use Rattle.slot_places.proofs.search.find_place.Given as goal
-
-abbrev pub invariant-loop-index : goal.invariant-loop-index
-invariant-loop-index l = find (passes l.test) (places_from 0 l.configs l.slots) ≡ find (passes l.test) (places_from l.index (drop l.index l.configs) (drop l.index l.slots))

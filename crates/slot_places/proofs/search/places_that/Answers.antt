@@ -1,9 +1,0 @@
-use Rattle.std.proofs.Common.{arith, map}
-use Rattle.scanner_table.specs.Slots.{places_from}
-use Rattle.std.proofs.Common.{filter}
-use Rattle.slot_places.specs.Places.{view_place, passes}
-use Rattle.slot_places.proofs.PlaceLemmas.{all_gathered}
-use Rattle.slot_places.proofs.search.places_that.Goals as goal
-
-pub returns : goal.returns
-returns c = all_gathered (passes c.args.test) (map view_place c.loop-index.found.items) (filter (passes c.args.test) (places_from 0 c.args.configs.now c.args.slots.now)) c.loop-index.index c.args.configs.now c.args.slots.now (omega (arith, c.min-index-end.ensures)) c.loop-index.invariant

@@ -1,0 +1,47 @@
+-- What the types of this crate are in the definitions.
+use Rattle.std.specs.Prelude.{ℕ, Bool, if◌then◌else◌}
+use Rattle.scanner_table.specs.declared.profile.ScannerProfile.{ScannerProfile}
+use Rattle.scanner_table.specs.declared.table.ScannerTable.{ScannerTable}
+use Rattle.scanner_table.specs.declared.slot.Slot.{Slot}
+use Rattle.scanner_table.specs.Slots.{IndexedSlot, is_numbered}
+use Rattle.scanner_table.specs.Opening.{is_ready_slot}
+use Rattle.scanner_table.specs.Replies.{uses_id}
+use Rattle.scanner_table.specs.Encapsulation.{is_awaiting}
+use Rattle.scanner_table.specs.Datagrams.{is_for}
+use Rattle.scanner_table.specs.Ticks.{has_expired, is_overdue}
+use Rattle.scanner_table.specs.Productions.{is_due}
+use Rattle.slot_places.specs.declared.indexed_slots.SlotView.{SlotView}
+use Rattle.slot_places.specs.declared.search.SlotTest.{SlotTest}
+use Rattle.slot_places.specs.declared.search.SlotTest.TheVariants.{For, Awaiting, UsesId, Ready, Expired, Overdue, Due}
+use Rattle.slot_places.specs.declared.scanner.ScannerState.{ScannerState}
+
+-- a place, wherever its parts lie in memory
+abbrev pub view_slot : SlotView → IndexedSlot
+view_slot view = record { number = view.number; config = view.config.now; slot = view.slot.now }
+
+-- the table of a scanner with this profile
+abbrev pub table_of : ScannerProfile → ScannerState → ScannerTable
+table_of profile scanner = record {
+  profile = profile;
+  slots = scanner.slots.items;
+  run = scanner.run;
+  clock = scanner.clock;
+  next_id = scanner.next_id;
+  next_serial = scanner.next_serial;
+  next_request = scanner.next_request;
+  streams = scanner.streams.items;
+}
+
+-- what is asked of a place
+abbrev pub passes : SlotTest → IndexedSlot → Bool
+passes (For peer id) = is_for peer id.0
+passes (Awaiting target number) = is_awaiting target number
+passes (UsesId number target id) = uses_id number target id
+passes (Ready clock) = is_ready_slot clock
+passes (Expired clock) = has_expired clock
+passes (Overdue clock) = is_overdue clock
+passes (Due clock) = is_due clock
+
+-- another slot stands in the place of a number
+abbrev pub changed_slot : ℕ → Slot → IndexedSlot → IndexedSlot
+changed_slot number slot indexed = if is_numbered number indexed then record indexed { slot = slot } else indexed

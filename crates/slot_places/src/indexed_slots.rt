@@ -1,0 +1,39 @@
+//! Places of slots.
+
+ghost use Rattle.std.specs.Prelude.{◌≡◌, find};
+ghost use Rattle.std.specs.Option.{option_map};
+ghost use Rattle.scanner_table.specs.Slots.{is_numbered, indexed_from};
+ghost use Rattle.slot_places.specs.Views.{view_slot};
+
+use scanner_table::{Slot, SlotConfig};
+
+/// A slot with its number and what the profile says of it.
+#[derive(Clone, Copy)]
+pub struct SlotView<'a> {
+    pub number: u32,
+    pub config: &'a SlotConfig,
+    pub slot: &'a Slot,
+}
+
+/// The place of a number, if there are so many slots. Takes no memory.
+#[tactic(auto, using(crate::proofs::SlotLemmas::few_configs, crate::proofs::SlotLemmas::few_slots))]
+pub fn slot_at<'a>(
+    configs: &'a [SlotConfig],
+    slots: &'a [Slot],
+    number: u32,
+) -> Option<SlotView<'a>>
+    ensures { option_map view_slot result ≡ find (is_numbered number) (indexed_from 0 configs.now slots.now) }
+{
+    let index = number as usize;
+    if index >= configs.len() {
+        return None;
+    }
+    if index >= slots.len() {
+        return None;
+    }
+    Some(SlotView {
+        number,
+        config: &configs[index],
+        slot: &slots[index],
+    })
+}

@@ -1,0 +1,85 @@
+//! A scanner's table beside its profile, and the sessions of its streams.
+
+ghost use Rattle.std.specs.Prelude.{◌≡◌, IfOk, find, option_and_then};
+ghost use Rattle.scanner_table.specs.declared.profile.ScannerProfile.{ScannerProfile};
+ghost use Rattle.scanner_table.specs.Sessions.{is_to, session_at, session_on};
+ghost use Rattle.slot_places.specs.Views.{table_of};
+
+use cip_types::{Ms, Node, OutOfMemory};
+use scanner_table::{Session, Slot, Stage, TargetStream, copy_of_slots};
+use std::alloc::Global;
+
+/// A scanner's table without its profile: its slots in the profile's order, whether its application runs, its
+/// clock, the counter part of the next connection id, the serial number of the next opening, the number of the
+/// next request, and the streams that are open, in the order in which they were opened.
+#[derive(Drop)]
+pub struct ScannerState {
+    pub slots: Vec<Slot>,
+    pub run: bool,
+    pub clock: Ms,
+    pub next_id: u32,
+    pub next_serial: u16,
+    pub next_request: u64,
+    pub streams: Vec<TargetStream>,
+}
+
+fn copy_of_streams(
+    alloc: Global,
+    streams: &[TargetStream],
+) -> Result<Vec<TargetStream>, OutOfMemory>
+    ensures { IfOk result (λ copies. copies.items ≡ streams.now) }
+{
+    Ok(Vec::from_slice(alloc, streams)?)
+}
+
+impl ScannerState {
+    /// A copy of the table.
+    pub fn copy(&self, alloc: Global) -> Result<ScannerState, OutOfMemory>
+        ensures { IfOk result (λ copy. (profile : ScannerProfile) → table_of profile copy ≡ table_of profile self.now) }
+    {
+        let slots = copy_of_slots(alloc, &self.slots)?;
+        let streams = copy_of_streams(alloc, &self.streams)?;
+        Ok(ScannerState {
+            slots,
+            run: self.run,
+            clock: self.clock,
+            next_id: self.next_id,
+            next_serial: self.next_serial,
+            next_request: self.next_request,
+            streams,
+        })
+    }
+}
+
+fn session_on(stream: TargetStream) -> Option<Session>
+    ensures { result ≡ session_on stream }
+{
+    match stream.stage {
+        Stage::Up(handle) => Some(Session {
+            stream: stream.number,
+            handle,
+        }),
+        Stage::Waiting | Stage::Unused => None,
+    }
+}
+
+fn stream_to(streams: &[TargetStream], target: Node) -> Option<TargetStream>
+    ensures { result ≡ find (is_to target) streams.now }
+{
+    streams
+        .iter()
+        .copied()
+        .find(|stream| stream.peer.0 == target.0)
+}
+
+/// The session with a target, if one is registered.
+///
+/// Volume 2, chapter 2, encapsulation sessions over TCP.
+pub fn session_with(streams: &[TargetStream], target: Node) -> Option<Session>
+    ensures { result ≡ option_and_then session_on (find (is_to target) streams.now) }
+{
+    match stream_to(streams, target) {
+        Some(stream) => session_on(stream),
+        None => None,
+    }
+}

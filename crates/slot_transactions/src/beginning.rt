@@ -1,0 +1,26 @@
+//! The beginning of a draft.
+
+ghost use Rattle.std.specs.Prelude.{◌≡◌, IfOk};
+ghost use Rattle.scanner_table.specs.declared.profile.ScannerProfile.{ScannerProfile};
+ghost use Rattle.slot_places.specs.Views.{table_of};
+ghost use Rattle.slot_transactions.specs.Transactions.{begun, view_transaction};
+
+use crate::transaction::Transaction;
+use cip_types::OutOfMemory;
+use slot_places::ScannerState;
+use std::alloc::Global;
+
+impl Transaction {
+    /// A draft of the table as it is: nothing is sent or told. Want of memory is the only fault.
+    pub fn begin(alloc: Global, scanner: &ScannerState) -> Result<Transaction, OutOfMemory>
+        ensures effect { IfOk result (λ transaction. (profile : ScannerProfile) → view_transaction profile transaction ≡ begun (table_of profile scanner.now)) }
+        ensures clock { IfOk result (λ transaction. transaction.scanner.clock ≡ scanner.now.clock) }
+    {
+        Ok(Transaction {
+            alloc,
+            scanner: scanner.copy(alloc)?,
+            frames: Vec::new(alloc),
+            notices: Vec::new(alloc),
+        })
+    }
+}

@@ -1,0 +1,32 @@
+//! The answer of a draft.
+
+ghost use Rattle.std.specs.Prelude.{◌≡◌};
+ghost use Rattle.scanner_table.specs.declared.profile.ScannerProfile.{ScannerProfile};
+ghost use Rattle.slot_transactions.specs.Transactions.{view_transaction, progress_answer};
+
+use crate::transaction::Transaction;
+use cip_events::{Answer, OutgoingDatagram, Verdict};
+use cip_types::Items;
+use slot_places::ScannerState;
+use std::alloc::Global;
+
+impl Transaction {
+    /// The allocator that the draft was made with.
+    pub fn alloc(&self) -> Global {
+        self.alloc
+    }
+
+    /// The answer with what is sent and told, and with datagrams, and the table after it. Takes no memory.
+    pub fn finish(self, datagrams: Vec<OutgoingDatagram>) -> (Answer, ScannerState)
+        ensures answer { (profile : ScannerProfile) → result.0 ≡ progress_answer (view_transaction profile self) datagrams.items }
+        ensures scanner { result.1 ≡ self.scanner }
+    {
+        let answer = Answer {
+            frames: Items::from_vec(self.frames),
+            datagrams: Items::from_vec(datagrams),
+            verdict: Verdict::Done,
+            notices: Items::from_vec(self.notices),
+        };
+        (answer, self.scanner)
+    }
+}

@@ -1,0 +1,37 @@
+//! Requests that are sent, and the slots that wait for their answers.
+
+ghost use Rattle.std.specs.Prelude.{◌≡◌, ◌≤◌, ◌^◌, None, IfOk};
+ghost use Rattle.slot_transactions.specs.Transactions.{view_transaction, after_at, slot_changed, with_request};
+
+use crate::transaction::{SlotChange, Transaction};
+use cip_events::Frame;
+use cip_types::OutOfMemory;
+use scanner_table::ScannerProfile;
+
+/// The last request number.
+pub(crate) const LAST_REQUEST: u64 = 1 << 48;
+
+/// The next request, and how the slot stands that waits for its answer.
+#[derive(Drop)]
+pub(crate) struct NewRequest {
+    pub frame: Frame,
+    pub slot_change: SlotChange,
+}
+
+impl Transaction {
+    /// The next request is sent, and a slot waits for its answer.
+    pub(crate) fn send_request(
+        &mut self,
+        profile: &ScannerProfile,
+        number: u32,
+        new_request: NewRequest,
+    ) -> Result<(), OutOfMemory>
+        requires { self.old.scanner.next_request ≤ 2 ^ 48 }
+        ensures effect { IfOk result (λ _. view_transaction profile.now self.new ≡ after_at (slot_changed new_request.slot_change None) number (with_request new_request.frame (view_transaction profile.now self.old))) }
+        ensures clock { self.new.scanner.clock ≡ self.old.scanner.clock }
+    {
+        self.frames.push(new_request.frame)?;
+        self.scanner.next_request += 1;
+        self.change(profile, number, new_request.slot_change, None)
+    }
+}

@@ -1,0 +1,236 @@
+//! Replies to openings.
+
+ghost use Rattle.std.specs.Prelude.{◌≡◌, ◌<◌, ◌≤◌, ◌^◌, None, IfOk, length, slice_get, slice_set, replicate};
+ghost use Rattle.std.specs.Option.{ForSome};
+ghost use Rattle.cip_types.specs.Cases.{first_case};
+ghost use Rattle.cip_netparams.specs.Rate.{interval_ms, timeout};
+ghost use Rattle.cip_productions.specs.Watchdog.{first_deadline};
+ghost use Rattle.conn_state.specs.Answers.{answer_tests, link_of};
+ghost use Rattle.scanner_table.specs.Profiles.{profile_fault};
+ghost use Rattle.slot_transactions.specs.Transactions.{view_transaction, after_at, answered_by, refused_by, established_by, judged_by, link_or_why, occupied, connection_of, production_of};
+
+use crate::transaction::{SlotChange, Transaction, report};
+use crate::waits::later;
+use cip_events::{Notice, Reason};
+use cip_fwdopen::{OpenAnswer, OpenReply, Opened};
+use cip_netparams::{Trigger, timeout_of};
+use cip_productions::Production;
+use cip_types::{Items, Mismatch, Ms, OutOfMemory};
+use conn_state::{Idle, Link, Requested};
+use scanner_table::{Connection, PendingOpen, ScannerProfile, Slot, SlotConfig, SlotState};
+use slot_places::{SlotTest, any_passes, slot_at};
+use std::alloc::Global;
+
+/// The milliseconds that the first watchdog waits at least.
+const FIRST_WATCHDOG: u64 = 10_000;
+
+/// The service of a reply to a Forward_Open.
+const OPENED: u8 = 0xD4;
+
+/// What names the connection that a success opens, or what is amiss with the success.
+fn linked(requested: Requested, opened: &Opened, id_free: bool) -> Result<Link, Mismatch>
+    ensures { result ≡ link_or_why requested opened.now (first_case (answer_tests requested opened.now id_free)) }
+{
+    let reply = OpenReply {
+        service: OPENED,
+        answer: OpenAnswer::Opened(*opened),
+    };
+    match Idle
+        .open(requested.triad, requested.t_o_id)
+        .accept(&reply, id_free)
+    {
+        Ok(established) => Ok(established.link()),
+        Err((_opening, why)) => Err(why),
+    }
+}
+
+/// Microseconds in milliseconds, rounded up.
+fn interval_ms(interval: u32) -> u32
+    ensures { result ≡ interval_ms interval }
+{
+    interval.div_ceil(1000)
+}
+
+/// Until when the first datagram is waited for.
+fn first_deadline(clock: Ms, mult: u8, api: u32) -> Ms
+    requires time { clock.0 ≤ 2 ^ 48 }
+    requires mult { mult ≤ 7 }
+    requires api { api ≤ 10000 }
+    ensures { result ≡ first_deadline clock (timeout mult api) }
+{
+    let wait = timeout_of(mult, api).unwrap();
+    Ms(clock.0 + FIRST_WATCHDOG.max(wait.0))
+}
+
+/// The producer of a connection that begins: it is cyclic, its data are new, and due at once.
+fn production(clock: Ms, config: &SlotConfig, number: u32) -> Production
+    ensures { result ≡ production_of clock config.now number }
+{
+    Production {
+        producer: number,
+        sequence: 1,
+        count: 0,
+        written: true,
+        due: clock,
+        address: config.target,
+        trigger: Trigger::Cyclic,
+        inhibit: 0,
+        last: None,
+    }
+}
+
+/// The connection that a success opens, with the packet intervals that it tells.
+fn new_connection(
+    clock: Ms,
+    config: &SlotConfig,
+    number: u32,
+    opening: u64,
+    link: Link,
+    opened: &Opened,
+) -> Connection
+    requires time { clock.0 ≤ 2 ^ 48 }
+    requires mult { config.now.mult ≤ 7 }
+    requires interval { interval_ms opened.now.t_o_api_us ≤ 10000 }
+    ensures { result ≡ connection_of clock config.now number opening link opened.now }
+{
+    let t_o_api_ms = interval_ms(opened.t_o_api_us);
+    Connection {
+        opening,
+        link,
+        o_t_api_ms: interval_ms(opened.o_t_api_us),
+        t_o_api_ms,
+        last: None,
+        deadline: first_deadline(clock, config.mult, t_o_api_ms),
+        production: production(clock, config, number),
+    }
+}
+
+/// As many zeros.
+fn zeros(alloc: Global, len: u64) -> Result<Items<u8>, OutOfMemory>
+    ensures { IfOk result (λ zeros. zeros ≡ replicate len 0) }
+{
+    let mut bytes = Vec::new(alloc);
+    bytes.resize(len as usize, 0)?;
+    Ok(Items::from_vec(bytes))
+}
+
+/// Lets the slot of a number have a connection, and these bytes for its image. Takes no memory.
+fn occupy(slots: &mut Vec<Slot>, number: u32, state: SlotState, image: Items<u8>)
+    requires { number < length slots.old.items }
+    ensures { ForSome (slice_get slots.old.items number) (λ slot. slots.new.items ≡ slice_set slots.old.items number (occupied state image slot)) }
+{
+    let slot = &mut slots[number as usize];
+    slot.state = state;
+    slot.image = image;
+}
+
+impl Transaction {
+    /// A reply opens nothing, and the slot may try again after a while.
+    fn refuse(
+        &mut self,
+        profile: &ScannerProfile,
+        number: u32,
+        why: Reason,
+    ) -> Result<(), OutOfMemory>
+        requires faultless { profile_fault profile.now ≡ None }
+        requires time { self.old.scanner.clock.0 ≤ 2 ^ 48 }
+        ensures effect { IfOk result (λ _. view_transaction profile.now self.new ≡ after_at (refused_by why) number (view_transaction profile.now self.old)) }
+        ensures clock { self.new.scanner.clock ≡ self.old.scanner.clock }
+    {
+        let Some(indexed) = slot_at(profile.slots.as_slice(), &self.scanner.slots, number) else {
+            return Ok(());
+        };
+        let reported = Notice::Refused(indexed.number, why);
+        let slot_change = SlotChange {
+            state: SlotState::Idle,
+            desired_up: indexed.slot.desired_up,
+            retry_at: later(self.scanner.clock, profile.retry),
+        };
+        self.change(profile, number, slot_change, Some(reported))
+    }
+
+    /// A slot has the connection that a success opens, and has gathered nothing yet.
+    fn establish(
+        &mut self,
+        profile: &ScannerProfile,
+        number: u32,
+        opening: &PendingOpen,
+        opened: &Opened,
+        link: Link,
+    ) -> Result<(), OutOfMemory>
+        requires faultless { profile_fault profile.now ≡ None }
+        requires time { self.old.scanner.clock.0 ≤ 2 ^ 48 }
+        requires named { link ≡ link_of opening.now.requested opened.now }
+        requires interval { interval_ms opened.now.t_o_api_us ≤ 10000 }
+        ensures effect { IfOk result (λ _. view_transaction profile.now self.new ≡ after_at (established_by opening.now opened.now) number (view_transaction profile.now self.old)) }
+        ensures clock { self.new.scanner.clock ≡ self.old.scanner.clock }
+    {
+        let Some(indexed) = slot_at(profile.slots.as_slice(), &self.scanner.slots, number) else {
+            return Ok(());
+        };
+        let image = zeros(self.alloc, indexed.config.in_len)?;
+        let connection = new_connection(
+            self.scanner.clock,
+            indexed.config,
+            indexed.number,
+            opening.request,
+            link,
+            opened,
+        );
+        let old = indexed.slot.state;
+        let new = SlotState::Established(connection);
+        report(&mut self.notices, None, number, &old, &new)?;
+        occupy(&mut self.scanner.slots, number, new, image);
+        Ok(())
+    }
+
+    /// What a success does to the slot that waits for it: it opens the connection where nothing is amiss.
+    fn judge(
+        &mut self,
+        profile: &ScannerProfile,
+        number: u32,
+        opening: &PendingOpen,
+        opened: &Opened,
+    ) -> Result<(), OutOfMemory>
+        requires faultless { profile_fault profile.now ≡ None }
+        requires time { self.old.scanner.clock.0 ≤ 2 ^ 48 }
+        ensures effect { IfOk result (λ _. view_transaction profile.now self.new ≡ after_at (judged_by opening.now opened.now) number (view_transaction profile.now self.old)) }
+        ensures clock { self.new.scanner.clock ≡ self.old.scanner.clock }
+    {
+        let Some(indexed) = slot_at(profile.slots.as_slice(), &self.scanner.slots, number) else {
+            return Ok(());
+        };
+        let used = SlotTest::UsesId(indexed.number, indexed.config.target, opened.t_o_id);
+        let id_free = !any_passes(profile.slots.as_slice(), &self.scanner.slots, used);
+        match linked(opening.requested, opened, id_free) {
+            Ok(link) => self.establish(profile, number, opening, opened, link),
+            Err(why) => self.refuse(profile, number, Reason::Mismatch(why)),
+        }
+    }
+
+    /// What an answer to its opening does to a slot: a success opens the connection where nothing is amiss;
+    /// else the slot may try again after a while, and why is told.
+    ///
+    /// Volume 1, chapter 3, Forward_Open service, successful and unsuccessful response.
+    #[tactic(auto, unfolding(scanner_table::specs::Replies::answered))]
+    pub fn answer(
+        &mut self,
+        profile: &ScannerProfile,
+        number: u32,
+        opening: &PendingOpen,
+        reported: Result<OpenAnswer, Reason>,
+    ) -> Result<(), OutOfMemory>
+        requires faultless { profile_fault profile.now ≡ None }
+        requires time { self.old.scanner.clock.0 ≤ 2 ^ 48 }
+        ensures effect { IfOk result (λ _. view_transaction profile.now self.new ≡ after_at (answered_by opening.now reported) number (view_transaction profile.now self.old)) }
+        ensures clock { self.new.scanner.clock ≡ self.old.scanner.clock }
+    {
+        match reported {
+            Err(why) => self.refuse(profile, number, why),
+            Ok(OpenAnswer::Refused(refused)) => {
+                self.refuse(profile, number, Reason::Cip(refused.fault))
+            }
+            Ok(OpenAnswer::Opened(opened)) => self.judge(profile, number, opening, &opened),
+        }
+    }
+}

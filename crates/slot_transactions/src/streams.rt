@@ -1,0 +1,58 @@
+//! The streams of a scanner in a draft.
+
+ghost use Rattle.std.specs.Prelude.{◌≡◌, filter, map};
+ghost use Rattle.scanner_table.specs.declared.profile.ScannerProfile.{ScannerProfile};
+ghost use Rattle.scanner_table.specs.Sessions.{is_stream, is_other_stream, staged_stream};
+ghost use Rattle.slot_transactions.specs.Transactions.{view_transaction, with_staged, without_cut};
+
+use crate::transaction::Transaction;
+use scanner_table::{Stage, TargetStream};
+
+fn is_stream(stream: &TargetStream, number: u16) -> bool
+    ensures { result ≡ is_stream number stream.now }
+{
+    stream.number == number
+}
+
+fn staged_stream(stream: TargetStream, number: u16, stage: Stage) -> TargetStream
+    ensures { result ≡ staged_stream number stage stream }
+{
+    if !is_stream(&stream, number) {
+        return stream;
+    }
+    TargetStream { stage, ..stream }
+}
+
+/// The stream of a number has come so far.
+fn stage_streams(streams: &mut [TargetStream], number: u16, stage: Stage)
+    ensures { streams.new ≡ map (staged_stream number stage) streams.old }
+{
+    for stream in streams.iter_mut() {
+        *stream = staged_stream(*stream, number, stage);
+    }
+}
+
+/// Takes the stream of a number out of the list.
+fn drop_stream(streams: &mut Vec<TargetStream>, number: u16)
+    ensures { streams.new.items ≡ filter (is_other_stream number) streams.old.items }
+{
+    streams.retain(|stream| !is_stream(stream, number));
+}
+
+impl Transaction {
+    /// The session of a stream has come so far. Takes no memory.
+    pub fn set_stage(&mut self, number: u16, stage: Stage)
+        ensures effect { (profile : ScannerProfile) → view_transaction profile self.new ≡ with_staged number stage (view_transaction profile self.old) }
+        ensures clock { self.new.scanner.clock ≡ self.old.scanner.clock }
+    {
+        stage_streams(&mut self.scanner.streams, number, stage);
+    }
+
+    /// The stream of a number is not open any more. Takes no memory.
+    pub fn cut_stream(&mut self, number: u16)
+        ensures effect { (profile : ScannerProfile) → view_transaction profile self.new ≡ without_cut number (view_transaction profile self.old) }
+        ensures clock { self.new.scanner.clock ≡ self.old.scanner.clock }
+    {
+        drop_stream(&mut self.scanner.streams, number);
+    }
+}

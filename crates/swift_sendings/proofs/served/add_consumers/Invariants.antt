@@ -1,6 +1,0 @@
-use Rattle.std.proofs.Common.{◌≡◌, length}
-use Rattle.swift_sendings.proofs.Gathering.{Gathered}
-use Rattle.swift_sendings.proofs.served.add_consumers.Given as goal
-
-abbrev pub invariant-loop-row : goal.invariant-loop-row
-invariant-loop-row l = (l.first ≡ length l.fn.nodes.items) × Gathered l.number l.connections l.row-iterator l.fn.nodes.items l.nodes.items

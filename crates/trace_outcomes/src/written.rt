@@ -1,0 +1,294 @@
+//! Outcomes as they are written.
+
+ghost use Rattle.std.specs.Prelude.{◌≡◌, ◌++◌, OnOk, IfOk, string_bytes, flat_map, codes};
+ghost use Rattle.trace_words.specs.Words.{bytes_word, extended_word};
+ghost use Rattle.trace_outcomes.specs.Written.{fault_word, delivery_word, verdict_words, triad_words, refusal_words, mismatch_words, reason_words, recipient_words, frame_line, outgoing_line, notice_words, notice_line, answer_text, fault_line, outcome_text};
+
+use cip_events::{
+    Answer, Delivery, Frame, Notice, Outcome, OutgoingDatagram, Reason, Recipient, StepFault,
+    Verdict,
+};
+use cip_types::{ConnId, Fault, Mismatch, OutOfMemory, Triad};
+use std::alloc::Global;
+use trace_words::{push_bytes, push_last_bytes, push_node, push_nodes, push_text};
+
+/// The lines that tell the outcome of event number `number`: what became of it, and then the frames, the
+/// datagrams and the notices of its answer, each in order; or the fault.
+pub fn write_outcome(alloc: Global, number: u64, outcome: &Outcome) -> Result<String, OutOfMemory>
+    ensures { IfOk result (λ text. string_bytes text ≡ outcome_text number outcome.now) }
+{
+    let mut text = String::new(alloc);
+    push_outcome(alloc, &mut text, number, outcome)?;
+    Ok(text)
+}
+
+/// Appends the same lines. Where memory is refused, a part of them may stand there.
+pub fn push_outcome(
+    alloc: Global,
+    out: &mut String,
+    number: u64,
+    outcome: &Outcome,
+) -> Result<(), OutOfMemory>
+    ensures { OnOk result (string_bytes out.new ≡ string_bytes out.old ++ outcome_text number outcome.now) }
+{
+    match outcome {
+        Ok(answer) => push_answer(alloc, out, number, answer),
+        Err(fault) => push_fault(out, number, *fault),
+    }
+}
+
+fn push_fault(out: &mut String, number: u64, fault: StepFault) -> Result<(), OutOfMemory>
+    ensures { OnOk result (string_bytes out.new ≡ string_bytes out.old ++ fault_line number fault) }
+{
+    let name = fault_name(fault);
+    write!(out, "{number} fault {name}\n")?;
+    Ok(())
+}
+
+fn push_answer(
+    alloc: Global,
+    out: &mut String,
+    number: u64,
+    answer: &Answer,
+) -> Result<(), OutOfMemory>
+    ensures { OnOk result (string_bytes out.new ≡ string_bytes out.old ++ answer_text number answer.now) }
+{
+    write!(out, "{number} ")?;
+    push_verdict(alloc, out, &answer.verdict)?;
+    out.push_str("\n")?;
+    push_frames(alloc, out, number, answer.frames.as_slice())?;
+    push_outgoing_datagrams(alloc, out, number, answer.datagrams.as_slice())?;
+    push_notices(alloc, out, number, answer.notices.as_slice())
+}
+
+/// The name of a fault, as its case is spelled.
+fn fault_name(fault: StepFault) -> &'static str
+    ensures { result.now ≡ fault_word fault }
+{
+    match fault {
+        StepFault::OutOfMemory => "OutOfMemory",
+        StepFault::TickTooLong => "TickTooLong",
+        StepFault::ClockEnd => "ClockEnd",
+        StepFault::NoSuchPoint => "NoSuchPoint",
+        StepFault::WrongLength => "WrongLength",
+        StepFault::NoSuchSlot => "NoSuchSlot",
+        StepFault::NotAllowedNow => "NotAllowedNow",
+    }
+}
+
+fn push_verdict(alloc: Global, out: &mut String, verdict: &Verdict) -> Result<(), OutOfMemory>
+    ensures { OnOk result (string_bytes out.new ≡ string_bytes out.old ++ verdict_words verdict.now) }
+{
+    match verdict {
+        Verdict::Done => push_text(out, "done"),
+        Verdict::BadFrame => push_text(out, "bad-frame"),
+        Verdict::Ignored => push_text(out, "ignored"),
+        Verdict::Value(bytes) => push_value(alloc, out, bytes.as_slice()),
+        Verdict::Delivered(delivery) => push_text(out, delivery_name(*delivery)),
+    }
+}
+
+fn push_value(alloc: Global, out: &mut String, bytes: &[u8]) -> Result<(), OutOfMemory>
+    ensures { OnOk result (string_bytes out.new ≡ string_bytes out.old ++ (codes "value " ++ bytes_word bytes.now)) }
+{
+    out.push_str("value ")?;
+    push_bytes(alloc, out, bytes)
+}
+
+/// The word for what became of a datagram.
+fn delivery_name(delivery: Delivery) -> &'static str
+    ensures { result.now ≡ delivery_word delivery }
+{
+    match delivery {
+        Delivery::Applied => "applied",
+        Delivery::Idle => "idle",
+        Delivery::Heartbeat => "heartbeat",
+        Delivery::Duplicate => "duplicate",
+        Delivery::Old => "old",
+        Delivery::UnknownId => "unknown",
+        Delivery::WrongSize => "wrong-size",
+        Delivery::Malformed => "malformed",
+    }
+}
+
+fn push_frames(
+    alloc: Global,
+    out: &mut String,
+    number: u64,
+    frames: &[Frame],
+) -> Result<(), OutOfMemory>
+    ensures { OnOk result (string_bytes out.new ≡ string_bytes out.old ++ flat_map (frame_line number) frames.now) }
+{
+    for frame in frames {
+        push_frame(alloc, out, number, frame)?;
+    }
+    Ok(())
+}
+
+fn push_outgoing_datagrams(
+    alloc: Global,
+    out: &mut String,
+    number: u64,
+    outgoing_datagrams: &[OutgoingDatagram],
+) -> Result<(), OutOfMemory>
+    ensures { OnOk result (string_bytes out.new ≡ string_bytes out.old ++ flat_map (outgoing_line number) outgoing_datagrams.now) }
+{
+    for outgoing in outgoing_datagrams {
+        push_outgoing(alloc, out, number, outgoing)?;
+    }
+    Ok(())
+}
+
+fn push_notices(
+    alloc: Global,
+    out: &mut String,
+    number: u64,
+    notices: &[Notice],
+) -> Result<(), OutOfMemory>
+    ensures { OnOk result (string_bytes out.new ≡ string_bytes out.old ++ flat_map (notice_line number) notices.now) }
+{
+    for notice in notices {
+        push_notice(alloc, out, number, *notice)?;
+    }
+    Ok(())
+}
+
+fn push_frame(
+    alloc: Global,
+    out: &mut String,
+    number: u64,
+    frame: &Frame,
+) -> Result<(), OutOfMemory>
+    ensures { OnOk result (string_bytes out.new ≡ string_bytes out.old ++ frame_line number frame.now) }
+{
+    write!(out, "{number} ")?;
+    push_recipient(out, frame.to)?;
+    push_last_bytes(alloc, out, frame.bytes.as_slice())
+}
+
+fn push_recipient(out: &mut String, recipient: Recipient) -> Result<(), OutOfMemory>
+    ensures { OnOk result (string_bytes out.new ≡ string_bytes out.old ++ recipient_words recipient) }
+{
+    match recipient {
+        Recipient::Stream(stream) => Ok(write!(out, "frame {stream}")?),
+        Recipient::Peer(node) => {
+            out.push_str("reply ")?;
+            push_node(out, node)
+        }
+    }
+}
+
+fn push_outgoing(
+    alloc: Global,
+    out: &mut String,
+    number: u64,
+    outgoing: &OutgoingDatagram,
+) -> Result<(), OutOfMemory>
+    ensures { OnOk result (string_bytes out.new ≡ string_bytes out.old ++ outgoing_line number outgoing.now) }
+{
+    write!(out, "{number} send ")?;
+    push_node(out, outgoing.address)?;
+    out.push_str(" ")?;
+    push_nodes(out, outgoing.nodes.as_slice())?;
+    push_last_bytes(alloc, out, outgoing.bytes.as_slice())?;
+    Ok(())
+}
+
+fn push_notice(
+    alloc: Global,
+    out: &mut String,
+    number: u64,
+    notice: Notice,
+) -> Result<(), OutOfMemory>
+    ensures { OnOk result (string_bytes out.new ≡ string_bytes out.old ++ notice_line number notice) }
+{
+    write!(out, "{number} note ")?;
+    push_notice_words(alloc, out, notice)?;
+    push_text(out, "\n")
+}
+
+fn push_notice_words(alloc: Global, out: &mut String, notice: Notice) -> Result<(), OutOfMemory>
+    ensures { OnOk result (string_bytes out.new ≡ string_bytes out.old ++ notice_words notice) }
+{
+    match notice {
+        Notice::Opened(triad, id) => push_opened(alloc, out, triad, id),
+        Notice::Closed(triad) => push_triad(out, "closed ", triad),
+        Notice::Expired(triad) => push_triad(out, "expired ", triad),
+        Notice::Dropped(triad) => push_triad(out, "dropped ", triad),
+        Notice::Replaced(triad) => push_triad(out, "replaced ", triad),
+        Notice::StreamClosed(stream) => Ok(write!(out, "stream-closed {stream}")?),
+        Notice::Slot(slot, state) => Ok(write!(out, "slot {slot} {state}")?),
+        Notice::Refused(slot, why) => push_refused(alloc, out, slot, why),
+        Notice::NoIds(slot) => Ok(write!(out, "no-ids {slot}")?),
+    }
+}
+
+fn push_refused(alloc: Global, out: &mut String, slot: u32, why: Reason) -> Result<(), OutOfMemory>
+    ensures { OnOk result (string_bytes out.new ≡ string_bytes out.old ++ notice_words (Notice.Refused slot why)) }
+{
+    write!(out, "refused {slot} ")?;
+    push_reason(alloc, out, why)
+}
+
+fn push_reason(alloc: Global, out: &mut String, why: Reason) -> Result<(), OutOfMemory>
+    ensures { OnOk result (string_bytes out.new ≡ string_bytes out.old ++ reason_words why) }
+{
+    match why {
+        Reason::Encap(status) => Ok(write!(out, "encap {status}")?),
+        Reason::Unreadable => push_text(out, "unreadable"),
+        Reason::Cip(fault) => push_refusal(alloc, out, fault),
+        Reason::Mismatch(why) => push_mismatch(alloc, out, why),
+    }
+}
+
+fn push_mismatch(alloc: Global, out: &mut String, why: Mismatch) -> Result<(), OutOfMemory>
+    ensures { OnOk result (string_bytes out.new ≡ string_bytes out.old ++ mismatch_words why) }
+{
+    match why {
+        Mismatch::Triad => push_text(out, "mismatch Triad"),
+        Mismatch::Id => push_text(out, "mismatch Id"),
+        Mismatch::Api => push_text(out, "mismatch Api"),
+        Mismatch::Refused(fault) => push_refusal(alloc, out, fault),
+    }
+}
+
+fn push_refusal(alloc: Global, out: &mut String, fault: Fault) -> Result<(), OutOfMemory>
+    ensures { OnOk result (string_bytes out.new ≡ string_bytes out.old ++ refusal_words fault) }
+{
+    let general = hex::encode(alloc, &[fault.general])?;
+    let general = general.as_str();
+    write!(out, "cip {general} ")?;
+    push_extended(alloc, out, fault.extended)
+}
+
+/// An extended status as four lower-case hexadecimal digits; `-` for none.
+fn push_extended(alloc: Global, out: &mut String, extended: Option<u16>) -> Result<(), OutOfMemory>
+    ensures { OnOk result (string_bytes out.new ≡ string_bytes out.old ++ extended_word extended) }
+{
+    let Some(extended) = extended else {
+        return push_text(out, "-");
+    };
+    let digits = hex::encode(alloc, extended.to_be_bytes().as_slice())?;
+    push_text(out, digits.as_str())
+}
+
+fn push_opened(alloc: Global, out: &mut String, triad: Triad, id: ConnId) -> Result<(), OutOfMemory>
+    ensures { OnOk result (string_bytes out.new ≡ string_bytes out.old ++ notice_words (Notice.Opened triad id)) }
+{
+    push_triad(out, "opened ", triad)?;
+    out.push_str(" ")?;
+    let id = hex::encode(alloc, id.0.to_be_bytes().as_slice())?;
+    push_text(out, id.as_str())
+}
+
+fn push_triad(out: &mut String, front: &str, triad: Triad) -> Result<(), OutOfMemory>
+    ensures { OnOk result (string_bytes out.new ≡ string_bytes out.old ++ (front.now ++ triad_words triad)) }
+{
+    let Triad {
+        serial,
+        vendor,
+        originator,
+    } = triad;
+    write!(out, "{front}{serial} {vendor} {originator}")?;
+    Ok(())
+}
