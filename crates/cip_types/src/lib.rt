@@ -5,6 +5,7 @@
 pub mod circle;
 pub mod fields;
 pub mod items;
+pub mod limits;
 pub mod memory;
 pub mod names;
 
