@@ -76,6 +76,15 @@ impl<T: Copy> Items<T> {
 }
 
 impl Items<u8> {
+    /// As many zero bytes.
+    pub fn zeros(alloc: Global, len: usize) -> Result<Self, OutOfMemory>
+        ensures { IfOk result (λ bytes. bytes ≡ replicate len 0) }
+    {
+        Ok(Items {
+            vec: vec![in alloc; 0; len]?,
+        })
+    }
+
     /// Copies as many other bytes over these. Takes no memory.
     pub fn overwrite(&mut self, bytes: &[u8])
         requires { length self.old ≡ length bytes.now }
