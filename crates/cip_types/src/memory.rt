@@ -1,9 +1,9 @@
-//! Want of memory.
+//! The fault of a call that runs out of memory.
 
 use std::alloc::{AllocError, AllocFailed};
 use thiserror::Error;
 
-/// A growth of memory was refused. Whoever answers this has changed nothing.
+/// An allocation was refused. A call that answers this has changed nothing.
 #[derive(Clone, Copy, Debug, PartialEq, Eq, Error)]
 #[error("no memory")]
 pub struct OutOfMemory;

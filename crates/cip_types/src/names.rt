@@ -1,4 +1,6 @@
-//! What names a connection, a device and a refusal.
+//! Names of connections and devices, and the statuses of refusals.
+
+use thiserror::Error;
 
 /// The three numbers that name a connection: its originator's serial number for it, and the vendor
 /// number and serial number of that originator.
@@ -23,25 +25,30 @@ pub struct ConnId(pub u32);
 #[derive(Clone, Copy, PartialEq, Eq, PartialOrd, Ord)]
 pub struct Ms(pub u64);
 
-/// The general status of a refusal, with its additional status where there is one.
+/// The general status of a refusal, with its extended status where there is one.
 ///
 /// Volume 1, appendix B and chapter 3, connection manager error codes.
-#[derive(Clone, Copy, PartialEq, Eq)]
+#[derive(Clone, Copy, Debug, PartialEq, Eq, Error)]
+#[error("general status {general:#04x}, extended status {extended:?}")]
 pub struct Fault {
     pub general: u8,
     pub extended: Option<u16>,
 }
 
-/// Why a reply does not open the connection that it is to open.
-#[derive(Clone, Copy, PartialEq, Eq)]
+/// Why a reply does not open the requested connection.
+#[derive(Clone, Copy, Debug, PartialEq, Eq, Error)]
 pub enum Mismatch {
     /// The reply names another connection.
+    #[error("a reply for another connection")]
     Triad,
-    /// The T->O id is not the one that was asked for, or is in use.
+    /// The T->O id is not the requested one, or is in use.
+    #[error("another T->O id than the requested one, or one in use")]
     Id,
     /// An actual packet interval lies outside the range of requested ones.
+    #[error("an actual packet interval out of range")]
     Api,
     /// The target refused the request.
+    #[error("refused by the target: {0}")]
     Refused(Fault),
 }
 
