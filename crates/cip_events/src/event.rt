@@ -99,15 +99,19 @@ pub enum Verdict {
 }
 
 /// Why a reply does not open the connection of a scanner's slot: the first that holds.
-#[derive(Clone, Copy, PartialEq, Eq)]
+#[derive(Clone, Copy, Debug, PartialEq, Eq, Error)]
 pub enum Reason {
     /// The encapsulation message has this status, which is not 0.
+    #[error("encapsulation status {0}")]
     Encap(u32),
-    /// The message is of another command, or it has no reply to the request in it that can be read.
+    /// The message has another command, or holds no readable reply to the request.
+    #[error("no readable reply")]
     Unreadable,
     /// The target refused the request.
+    #[error("refused by the target: {0}")]
     Cip(Fault),
-    /// The reply is not the one that was wanted.
+    /// The reply does not fit the request.
+    #[error("{0}")]
     Mismatch(Mismatch),
 }
 

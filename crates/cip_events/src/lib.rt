@@ -2,11 +2,11 @@
 //! inboxes, books and printers speak of these, whatever the device is.
 #![tactic(auto)]
 
+mod answer;
 mod consumers;
 mod copy;
 mod event;
 mod profile_fault;
-mod same;
 mod small_bytes;
 
 pub use consumers::Consumers;
