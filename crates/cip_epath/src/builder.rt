@@ -1,4 +1,4 @@
-//! How far the walk over the segments of a path has come.
+//! The states of a walk over the segments of a path.
 
 ghost use Rattle.std.specs.Prelude.{◌≡◌};
 ghost use Rattle.cip_epath.specs.Segment.{view_segment};
@@ -7,14 +7,14 @@ ghost use Rattle.cip_epath.specs.Path.{role_of, inhibit_of};
 use crate::key::ElectronicKey;
 use crate::segment::{LogicalType, Segment};
 
-/// The front of a path: a key, where there is one, and the class.
+/// The front of a path: an optional key, and the class.
 #[derive(Clone, Copy)]
 pub struct PathHead {
     pub key: Option<ElectronicKey>,
     pub class: u32,
 }
 
-/// How far a path has come, its inhibit segments left aside.
+/// The state of the walk over a connection path, without its inhibit segments.
 #[derive(Clone, Copy)]
 pub enum PathBuilder<'a> {
     Start,
@@ -23,13 +23,13 @@ pub enum PathBuilder<'a> {
     One(PathHead, u32),
     Two(PathHead, u32, u32),
     Three(PathHead, u32, u32, u32),
-    /// The configuration, consumed and produced points, and the data behind them.
+    /// The configuration, consumed and produced points, and the data after them.
     Whole(PathHead, Option<u32>, u32, u32, &'a [u8]),
-    /// A segment stood where none of its kind may.
+    /// A segment was out of place.
     Misplaced,
 }
 
-/// The inhibit segments so far.
+/// The number of inhibit segments so far, and the value of a single one.
 #[derive(Clone, Copy)]
 pub enum Inhibits {
     Nothing,
@@ -37,21 +37,21 @@ pub enum Inhibits {
     Several,
 }
 
-/// How far the target of a request has come.
+/// The state of the walk over a request path.
 #[derive(Clone, Copy)]
 pub enum TargetBuilder {
     Start,
     Classed(u32),
     Instanced(u32, u32),
     Whole(u32, u32, u32),
-    /// A segment stood where none of its kind may.
+    /// A segment was out of place.
     Misplaced,
 }
 
 impl<'a> PathBuilder<'a> {
     ghost use Rattle.cip_epath.specs.PathBuilder.{view_path_builder, next_if};
 
-    /// The draft with one more segment.
+    /// The state after one more segment.
     pub fn then(self, segment: Segment<'a>) -> PathBuilder<'a>
         ensures { view_path_builder result ≡ next_if (role_of (view_segment segment.entry)) (view_path_builder self.entry) }
     {
@@ -97,7 +97,7 @@ impl<'a> PathBuilder<'a> {
 impl Inhibits {
     ghost use Rattle.cip_epath.specs.PathBuilder.{next_count};
 
-    /// The count with one more segment.
+    /// The count after one more segment.
     pub fn then(self, segment: Segment<'_>) -> Inhibits
         ensures { result ≡ next_count (inhibit_of (view_segment segment.entry)) self }
     {
@@ -114,7 +114,7 @@ impl Inhibits {
 impl TargetBuilder {
     ghost use Rattle.cip_epath.specs.PathBuilder.{next_target};
 
-    /// The draft with one more segment.
+    /// The state after one more segment.
     pub fn then(self, segment: Segment<'_>) -> TargetBuilder
         ensures { result ≡ next_target (view_segment segment.entry) self }
     {

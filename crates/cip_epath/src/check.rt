@@ -1,4 +1,4 @@
-//! Whether a device is the one that a key wants.
+//! The check of an electronic key against a device.
 
 ghost use Rattle.std.specs.Prelude.{◌≡◌, ◌↔◌, IsOk, IfErr, Some, None};
 ghost use Rattle.cip_epath.specs.ElectronicKey.{view_key, is_match, is_revision_match, key_fault};
@@ -6,7 +6,7 @@ ghost use Rattle.cip_epath.specs.ElectronicKey.{view_key, is_match, is_revision_
 use crate::key::{ElectronicKey, KeyFault};
 use cip_types::Identity;
 
-/// Whether a field of a key matches the device's own.
+/// Whether a field of a key matches the device's value. A field of 0 matches any value.
 fn matches(field: u16, own: u16) -> bool
     ensures { result ≡ is_match field own }
 {
@@ -27,8 +27,8 @@ fn matches_revision(key: &ElectronicKey, device: &Identity) -> bool
     }
 }
 
-/// Whether the device is one that the key wants. The error says what differs first: the vendor or
-/// product code, then the device type, then the revision.
+/// Checks that the device matches the key. The error is the first difference, in this order: the vendor or
+/// product code, the device type, the revision.
 ///
 /// Volume 1, appendix C, electronic key segment.
 pub fn check_key(key: &ElectronicKey, device: &Identity) -> Result<(), KeyFault>

@@ -5,6 +5,7 @@
 
 mod builder;
 mod check;
+pub mod class;
 mod fault;
 mod key;
 mod laws;

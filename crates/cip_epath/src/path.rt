@@ -1,4 +1,4 @@
-//! What paths say.
+//! The contents of paths.
 
 use crate::key::ElectronicKey;
 
@@ -7,7 +7,7 @@ use crate::key::ElectronicKey;
 /// Volume 1, chapter 3, connection path.
 #[derive(Clone, Copy)]
 pub struct ConnPath<'a> {
-    /// The device that the originator wants to meet.
+    /// The identity that the originator requires of the device.
     pub key: Option<ElectronicKey>,
     /// The production inhibit time, in milliseconds.
     pub inhibit: Option<u8>,
@@ -18,11 +18,11 @@ pub struct ConnPath<'a> {
     pub consumed: u32,
     /// The point that the target produces, T->O.
     pub produced: u32,
-    /// The contents of the data segment. An empty one is present, and differs from none.
+    /// The contents of the data segment. An empty data segment differs from none.
     pub segment: Option<&'a [u8]>,
 }
 
-/// What an explicit request is for.
+/// The target of an explicit request.
 ///
 /// Volume 1, chapter 2, request path.
 #[derive(Clone, Copy, PartialEq, Eq)]

@@ -12,7 +12,7 @@ use crate::fault::PathFault;
 use crate::path::{ConnPath, Target};
 use crate::reading::segment_of;
 
-/// The path that a whole text makes.
+/// The path of a finished walk.
 fn finished<'a>(builder: PathBuilder<'a>, inhibits: Inhibits) -> Result<ConnPath<'a>, PathFault>
     ensures { Gives view_path result (path_of inhibits (view_path_builder builder.entry)) }
 {
@@ -42,7 +42,7 @@ fn finished<'a>(builder: PathBuilder<'a>, inhibits: Inhibits) -> Result<ConnPath
     })
 }
 
-/// The path that the segments make, from the front on.
+/// The path of the segments, from the front on.
 fn walked_path(bytes: &[u8]) -> Result<ConnPath<'_>, PathFault>
     ensures { seen view_path result ≡ path_reading bytes.now }
 {
@@ -58,25 +58,25 @@ fn walked_path(bytes: &[u8]) -> Result<ConnPath<'_>, PathFault>
     finished(builder, inhibits)
 }
 
-/// The connection path that the bytes are a text of. Its data segment lies in the bytes.
+/// Reads a connection path. Its data segment borrows from the bytes.
 ///
-/// The first segment that does not read gives the fault: `Segment` where its first byte begins none,
-/// `KeyFormat` where it is an electronic key of another format, and else `Truncated`. `Shape` comes
-/// where all segments read and stand as those of no path; so does no bytes.
+/// The first unreadable segment decides the fault: `Segment` where its first byte is that of no segment,
+/// `KeyFormat` where it is an electronic key of another format, otherwise `Truncated`. `Shape` where every
+/// segment is readable and their arrangement is none of a path's, as for no bytes at all.
 ///
 /// Volume 1, appendix C, segment types, and chapter 3, connection path.
 pub fn read_path(bytes: &[u8]) -> Result<ConnPath<'_>, PathFault>
-    // What is answered is a reading of the text.
+    // The result is a reading of the bytes.
     ensures reading { IsReading IsPath bytes.now (seen view_path result) }
-    // There is no other.
+    // The bytes have no other reading.
     ensures only { (other : Result PathFields PathFault) → IsReading IsPath bytes.now other → seen view_path result ≡ other }
-    // As a function of the bytes.
+    // The same as a function of the bytes.
     ensures value { seen view_path result ≡ path_reading bytes.now }
 {
     walked_path(bytes)
 }
 
-/// The target that a whole text makes.
+/// The target of a finished walk.
 fn finished_target(builder: TargetBuilder) -> Result<Target, PathFault>
     ensures { result ≡ target_of builder }
 {
@@ -95,7 +95,7 @@ fn finished_target(builder: TargetBuilder) -> Result<Target, PathFault>
     }
 }
 
-/// The target that the segments make, from the front on.
+/// The target of the segments, from the front on.
 fn walked_target(bytes: &[u8]) -> Result<Target, PathFault>
     ensures { result ≡ target_reading bytes.now }
 {
@@ -109,15 +109,15 @@ fn walked_target(bytes: &[u8]) -> Result<Target, PathFault>
     finished_target(builder)
 }
 
-/// The target that the bytes of a request path are a text of. The faults are those of `read_path`.
+/// Reads a request path. The faults are those of `read_path`.
 ///
 /// Volume 1, appendix C, segment types, and chapter 2, request path.
 pub fn read_target(bytes: &[u8]) -> Result<Target, PathFault>
-    // What is answered is a reading of the text.
+    // The result is a reading of the bytes.
     ensures reading { IsReading IsTarget bytes.now result }
-    // There is no other.
+    // The bytes have no other reading.
     ensures only { (other : Result Target PathFault) → IsReading IsTarget bytes.now other → result ≡ other }
-    // As a function of the bytes.
+    // The same as a function of the bytes.
     ensures value { result ≡ target_reading bytes.now }
 {
     walked_target(bytes)

@@ -8,10 +8,12 @@ ghost use Rattle.cip_epath.specs.Reading.{Gives, data_at, key_fields_at, key_at,
 
 use crate::fault::PathFault;
 use crate::key::ElectronicKey;
-use crate::segment::{LogicalType, Segment};
+use crate::segment::{
+    ELECTRONIC_KEY, KEY_FORMAT, LogicalType, PRODUCTION_INHIBIT, SIMPLE_DATA, Segment,
+};
 use cip_types::fields::{u8_at, u16_at, u32_at};
 
-/// The words behind their number.
+/// The words after their number.
 #[tactic(auto, unfolding(crate::specs::Reading::data_at))]
 fn data_of(bytes: &[u8]) -> Result<(&[u8], &[u8]), PathFault>
     ensures { Gives (λ x. (x.0.now, x.1.now)) result (data_at bytes.now) }
@@ -47,7 +49,7 @@ fn key_fields(bytes: &[u8]) -> Option<(ElectronicKey, &[u8])>
     Some((key, rest))
 }
 
-/// The key behind the first byte of its segment.
+/// The key after the first byte of its segment.
 #[tactic(auto, unfolding(crate::specs::Reading::key_at))]
 fn key_of(bytes: &[u8]) -> Result<(ElectronicKey, &[u8]), PathFault>
     ensures { Gives (λ x. (view_key x.0, x.1.now)) result (key_at bytes.now) }
@@ -55,7 +57,7 @@ fn key_of(bytes: &[u8]) -> Result<(ElectronicKey, &[u8]), PathFault>
     let Some((format, rest)) = u8_at(bytes) else {
         return Err(PathFault::Truncated);
     };
-    if format != 4 {
+    if format != KEY_FORMAT {
         return Err(PathFault::KeyFormat);
     }
     key_fields(rest).ok_or(PathFault::Truncated)
@@ -86,7 +88,7 @@ fn byte_value(kind: LogicalType, bytes: &[u8]) -> Result<(Segment<'_>, &[u8]), P
     Ok((Segment::Logical(kind, u32::from(value)), rest))
 }
 
-/// The logical segment of a type whose value has two bytes, behind its pad byte.
+/// The logical segment of a type whose value has two bytes, after its pad byte.
 #[tactic(auto, unfolding(crate::specs::Reading::value_at))]
 fn word_value(kind: LogicalType, bytes: &[u8]) -> Result<(Segment<'_>, &[u8]), PathFault>
     ensures { Gives (λ x. (view_segment x.0, x.1.now)) result (value_at kind 1 bytes.now) }
@@ -100,7 +102,7 @@ fn word_value(kind: LogicalType, bytes: &[u8]) -> Result<(Segment<'_>, &[u8]), P
     Ok((Segment::Logical(kind, u32::from(value)), rest))
 }
 
-/// The logical segment of a type whose value has four bytes, behind its pad byte.
+/// The logical segment of a type whose value has four bytes, after its pad byte.
 #[tactic(auto, unfolding(crate::specs::Reading::value_at))]
 fn long_value(kind: LogicalType, bytes: &[u8]) -> Result<(Segment<'_>, &[u8]), PathFault>
     ensures { Gives (λ x. (view_segment x.0, x.1.now)) result (value_at kind 2 bytes.now) }
@@ -114,7 +116,7 @@ fn long_value(kind: LogicalType, bytes: &[u8]) -> Result<(Segment<'_>, &[u8]), P
     Ok((Segment::Logical(kind, value), rest))
 }
 
-/// The logical segment behind its first byte.
+/// The logical segment after its first byte.
 #[tactic(auto, unfolding(crate::specs::Reading::logical_at, crate::specs::Reading::value_at))]
 fn logical_of(first: u8, bytes: &[u8]) -> Result<(Segment<'_>, &[u8]), PathFault>
     ensures { Gives (λ x. (view_segment x.0, x.1.now)) result (logical_at first bytes.now) }
@@ -139,17 +141,17 @@ pub fn segment_of(bytes: &[u8]) -> Result<(Segment<'_>, &[u8]), PathFault>
         return Err(PathFault::Truncated);
     };
     match first {
-        0x34 => {
+        ELECTRONIC_KEY => {
             let (key, rest) = key_of(rest)?;
             Ok((Segment::ElectronicKey(key), rest))
         }
-        0x43 => {
+        PRODUCTION_INHIBIT => {
             let Some((ms, rest)) = u8_at(rest) else {
                 return Err(PathFault::Truncated);
             };
             Ok((Segment::Inhibit(ms), rest))
         }
-        0x80 => {
+        SIMPLE_DATA => {
             let (data, rest) = data_of(rest)?;
             Ok((Segment::Data(data), rest))
         }

@@ -1,8 +1,23 @@
-//! The segments of paths.
+//! The segments of paths, and the bytes that begin them.
 
 use crate::key::ElectronicKey;
 
-/// What the value of a logical segment names.
+/// The first byte of a logical segment, without its type and format.
+pub const LOGICAL: u8 = 0x20;
+
+/// The first byte of an electronic key segment.
+pub const ELECTRONIC_KEY: u8 = 0x34;
+
+/// The only format of an electronic key: vendor, device type, product code, revision.
+pub const KEY_FORMAT: u8 = 4;
+
+/// The first byte of a production inhibit time segment.
+pub const PRODUCTION_INHIBIT: u8 = 0x43;
+
+/// The first byte of a simple data segment.
+pub const SIMPLE_DATA: u8 = 0x80;
+
+/// The type of a logical segment: what its value identifies.
 #[derive(Clone, Copy)]
 pub enum LogicalType {
     Class,

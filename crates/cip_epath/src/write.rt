@@ -9,7 +9,9 @@ ghost use Rattle.cip_epath.specs.Written.{logical_text, path_text, target_text, 
 
 use crate::key::ElectronicKey;
 use crate::path::{ConnPath, Target};
-use crate::segment::LogicalType;
+use crate::segment::{
+    ELECTRONIC_KEY, KEY_FORMAT, LOGICAL, LogicalType, PRODUCTION_INHIBIT, SIMPLE_DATA,
+};
 use cip_types::OutOfMemory;
 use cip_types::fields::{put_bytes, put_u16, put_u32};
 use std::alloc::Global;
@@ -27,11 +29,11 @@ fn code(kind: LogicalType) -> u8
     }
 }
 
-/// Appends a logical segment, its value as narrow as it may be.
+/// Appends a logical segment in the shortest format for its value.
 fn put_logical(out: &mut Vec<u8>, kind: LogicalType, value: u32) -> Result<(), OutOfMemory>
     ensures { OnOk result (out.new.items ≡ out.old.items ++ logical_text kind value) }
 {
-    let first = 0x20 + 4 * code(kind);
+    let first = LOGICAL + 4 * code(kind);
     if value < 0x100 {
         put_bytes(out, &[first, value as u8])?;
     } else if value < 0x1_0000 {
@@ -44,12 +46,12 @@ fn put_logical(out: &mut Vec<u8>, kind: LogicalType, value: u32) -> Result<(), O
     Ok(())
 }
 
-/// Appends a key segment, whose numbers are within their fields by their types.
+/// Appends a key segment. The types keep its numbers within their fields.
 fn put_key(out: &mut Vec<u8>, key: &ElectronicKey) -> Result<(), OutOfMemory>
     ensures text { OnOk result (out.new.items ≡ out.old.items ++ key_text (view_key key.now)) }
     ensures fits { KeyFits (view_key key.now) }
 {
-    put_bytes(out, &[0x34, 4])?;
+    put_bytes(out, &[ELECTRONIC_KEY, KEY_FORMAT])?;
     put_u16(out, key.vendor)?;
     put_u16(out, key.device_type)?;
     put_u16(out, key.product)?;
@@ -62,7 +64,7 @@ fn put_key(out: &mut Vec<u8>, key: &ElectronicKey) -> Result<(), OutOfMemory>
 fn put_inhibit(out: &mut Vec<u8>, ms: u8) -> Result<(), OutOfMemory>
     ensures { OnOk result (out.new.items ≡ out.old.items ++ 0x43 ∷ ms ∷ []) }
 {
-    put_bytes(out, &[0x43, ms])
+    put_bytes(out, &[PRODUCTION_INHIBIT, ms])
 }
 
 /// Appends a data segment.
@@ -70,11 +72,11 @@ fn put_data(out: &mut Vec<u8>, content: &[u8]) -> Result<(), OutOfMemory>
     requires { AreWords content.now }
     ensures { OnOk result (out.new.items ≡ out.old.items ++ 0x80 ∷ length content.now / 2 ∷ content.now) }
 {
-    put_bytes(out, &[0x80, (content.len() / 2) as u8])?;
+    put_bytes(out, &[SIMPLE_DATA, (content.len() / 2) as u8])?;
     put_bytes(out, content)
 }
 
-/// The text of the path.
+/// The bytes of the path.
 fn path_bytes(alloc: Global, path: &ConnPath<'_>) -> Result<Vec<u8>, OutOfMemory>
     requires words { IfSome (view_path path.now).segment AreWords }
     requires short { length (path_text (view_path path.now)) ≤ 510 }
@@ -99,14 +101,14 @@ fn path_bytes(alloc: Global, path: &ConnPath<'_>) -> Result<Vec<u8>, OutOfMemory
     Ok(out)
 }
 
-/// The least text of the path: key, inhibit time, class, configuration as an instance, consumed and
-/// produced point as connection points, data; each value as narrow as it may be.
+/// The shortest bytes of the path, in this order: key, inhibit time, class, configuration as an instance,
+/// consumed and produced point as connection points, data.
 ///
 /// Volume 1, appendix C, segment types, and chapter 3, connection path.
 pub fn write_path(alloc: Global, path: &ConnPath<'_>) -> Result<Vec<u8>, OutOfMemory>
-    // The data segment is whole words, and a byte counts them.
+    // The data segment has whole words, which one byte counts.
     requires words { IfSome (view_path path.now).segment AreWords }
-    // A byte counts the words of the path.
+    // One byte counts the words of the path.
     requires short { length (path_text (view_path path.now)) ≤ 510 }
     ensures text { IfOk result (λ v. v.items ≡ path_text (view_path path.now)) }
     ensures is_text { IfOk result (λ v. IsTextOf IsPath v.items (view_path path.now)) }
@@ -117,8 +119,7 @@ pub fn write_path(alloc: Global, path: &ConnPath<'_>) -> Result<Vec<u8>, OutOfMe
     path_bytes(alloc, path)
 }
 
-/// The least text of a request path: class, instance, and the attribute, where there is one; each
-/// value as narrow as it may be.
+/// The shortest bytes of a request path: class, instance, and the attribute if there is one.
 ///
 /// Volume 1, appendix C, segment types, and chapter 2, request path.
 pub fn write_target(alloc: Global, target: &Target) -> Result<Vec<u8>, OutOfMemory>

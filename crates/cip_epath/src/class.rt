@@ -1,0 +1,11 @@
+//! The classes of the objects that this line serves or addresses.
+
+/// The Connection Manager object.
+///
+/// Volume 1, chapter 3, Connection Manager object.
+pub const CONNECTION_MANAGER: u32 = 6;
+
+/// The Assembly object.
+///
+/// Volume 1, chapter 5, Assembly object.
+pub const ASSEMBLY: u32 = 4;
