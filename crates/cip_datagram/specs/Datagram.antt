@@ -1,5 +1,5 @@
--- Class 1 datagrams: what they say, their texts, and what is wrong with other bytes (Volume 2, chapter 2,
--- common packet format, and chapter 3, class 0 and class 1 connected data).
+-- Class 1 datagrams: their contents, their bytes, and the faults of other bytes (Volume 2, chapter 2, common
+-- packet format, and chapter 3, class 0 and class 1 connected data).
 --
 --   item count         u16   2
 --   type               u16   0x8002, sequenced address item
@@ -18,14 +18,14 @@ use Rattle.cip_datagram.specs.declared.datagram.Datagram.{Datagram}
 use Rattle.cip_datagram.specs.declared.datagram.DatagramFault.{DatagramFault}
 use Rattle.cip_datagram.specs.declared.datagram.DatagramFault.TheVariants as fault
 
--- a datagram, wherever its data lies in memory
+-- the contents of a datagram
 pub record DatagramFields : Type 0 where
   pub connection : ℕ
   pub sequence : ℕ
   pub count : ℕ
   pub payload : List ℕ
 
--- the fields of a datagram of the program
+-- the contents of a datagram of the program
 abbrev pub view_datagram : Datagram → DatagramFields
 view_datagram d = record { connection = d.connection.0; sequence = d.sequence; count = d.count; payload = d.«data».now }
 
@@ -37,7 +37,7 @@ datagram_widths = w16 ∷ w16 ∷ w16 ∷ w32 ∷ w32 ∷ w16 ∷ w16 ∷ w16 �
 abbrev pub datagram_numbers : DatagramFields → List ℕ
 datagram_numbers d = 2 ∷ 0x8002 ∷ 8 ∷ d.connection ∷ d.sequence ∷ 0xB1 ∷ (length d.payload + 2) ∷ d.count ∷ []
 
--- the text of a datagram
+-- the bytes of a datagram
 abbrev pub datagram_text : DatagramFields → List ℕ
 datagram_text d = fields_text datagram_widths (datagram_numbers d) ++ d.payload
 
@@ -48,23 +48,23 @@ pub record DatagramFits (d : DatagramFields) : Type 0 where
   pub count : d.count < 2 ^ 16
   pub payload : length d.payload ≤ 65533
 
--- text is the text of the datagram
+-- text is the bytes of the datagram
 abbrev pub IsDatagramText : List ℕ → DatagramFields → Type 0
 IsDatagramText text d = DatagramFits d × (text ≡ datagram_text d)
 
--- no text begins with the bytes
+-- no datagram begins with the bytes
 abbrev pub BeginsNone : List ℕ → Type 0
 BeginsNone bytes = (text more : List ℕ) (d : DatagramFields) → IsDatagramText text d → text ≢ bytes ++ more
 
--- the bytes are fewer than the fixed part, or the front of a longer text
+-- the bytes are fewer than the fixed part, or the front of a longer datagram
 abbrev pub IsTruncated : List ℕ → Type 0
 IsTruncated bytes = (length bytes < 20) ⊎ Lacks IsDatagramText bytes
 
--- the fixed part is there, and is that of no datagram
+-- the fixed part is whole, and that of no datagram
 abbrev pub HasOtherItems : List ℕ → Type 0
 HasOtherItems bytes = (20 ≤ length bytes) × BeginsNone (take 20 bytes)
 
--- what reading the bytes gives
+-- the result is a reading of the bytes
 abbrev pub IsDatagramReading : List ℕ → Result DatagramFields DatagramFault → Type 0
 IsDatagramReading bytes (Ok d) = IsDatagramText bytes d
 IsDatagramReading bytes (Err fault.Truncated) = IsTruncated bytes

@@ -1,4 +1,4 @@
--- The fixed part of a datagram, as the program keeps it. Only functions within the crate speak of this.
+-- The fixed part of a datagram, as the program keeps it. No public clause cites this module.
 use Rattle.std.specs.Prelude.{ℕ, List, [], ◌∷◌}
 use Rattle.cip_datagram.specs.declared.fixed.DatagramFront.{DatagramFront}
 

@@ -1,4 +1,4 @@
--- What is written is read as the same value: laws of the definitions alone, which `reads_back` promises
+-- A written value is read back: laws of the definitions alone, which `reads_back` promises
 -- (Volume 2, chapter 2, common packet format; Volume 1, chapter 3, real time formats).
 use Rattle.std.specs.Prelude.{◌≡◌, ℕ, Bool, List, ◌++◌, Some, Ok}
 use Rattle.std.specs.Int.{w32, to_le_bytes}

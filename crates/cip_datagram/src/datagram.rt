@@ -1,10 +1,10 @@
-//! What datagrams say.
+//! The contents of datagrams, and the faults of other bytes.
 
 use cip_types::ConnId;
 use thiserror::Error;
 
-/// Why bytes are no datagram. The first that holds, in the order in which a reader meets them: less
-/// than the fixed part is `Truncated`, then `Items`, then too little data `Truncated`, then `Trailing`.
+/// The fault of bytes that are no datagram, in this order: fewer bytes than the fixed part are `Truncated`,
+/// then `Items`, then too little data is `Truncated`, then `Trailing`.
 #[derive(Clone, Copy, Debug, PartialEq, Eq, Error)]
 pub enum DatagramFault {
     /// The bytes end within the fixed part or within the data.
@@ -26,8 +26,8 @@ pub struct Datagram<'a> {
     pub connection: ConnId,
     /// The number of the datagram on its connection.
     pub sequence: u32,
-    /// The count of the data, which rises where the producer has new data.
+    /// The sequence count of the data. It rises with new data of the producer.
     pub count: u16,
-    /// What stands behind the count, a run/idle header included.
+    /// The bytes after the count, a run/idle header included.
     pub data: &'a [u8],
 }

@@ -3,9 +3,10 @@
 ghost use Rattle.std.specs.Prelude.{◌≡◌};
 ghost use Rattle.cip_types.specs.Fields.{Finds, fields_at};
 
+use crate::item::{CONNECTED_DATA, SEQUENCED_ADDRESS};
 use cip_types::fields::{u16_in, u32_in};
 
-/// The numbers in front of the data, as they are.
+/// The numbers before the data, not yet judged.
 #[derive(Clone, Copy)]
 pub struct DatagramFront {
     pub items: u16,
@@ -23,7 +24,7 @@ impl DatagramFront {
     ghost use Rattle.cip_datagram.specs.Reading.{are_items};
     ghost use Rattle.cip_datagram.specs.DatagramFront.{numbers_of};
 
-    /// The fixed part at the front, and the bytes after it.
+    /// The fixed part at the front, and the bytes after it. None where there are fewer than 20 bytes.
     pub fn at(bytes: &[u8]) -> Option<(DatagramFront, &[u8])>
         ensures { Finds (λ x. (numbers_of x.0, x.1.now)) result (fields_at datagram_widths bytes.now) }
     {
@@ -49,9 +50,9 @@ impl DatagramFront {
             self.now.connected self.now.len }
     {
         self.items == 2
-            && self.address == 0x8002
+            && self.address == SEQUENCED_ADDRESS
             && self.address_len == 8
-            && self.connected == 0xB1
+            && self.connected == CONNECTED_DATA
             && self.len >= 2
     }
 }

@@ -5,6 +5,7 @@
 
 mod datagram;
 mod fixed;
+pub mod item;
 mod laws;
 mod mode;
 mod read;

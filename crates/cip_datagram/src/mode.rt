@@ -15,8 +15,8 @@ pub fn header(run: bool) -> u32
     u32::from(run)
 }
 
-/// Whether the run/idle header at the front of data says run, and the data behind it. Bit 0 alone is
-/// judged. None where there are fewer than four bytes.
+/// Whether the run/idle header at the front of data says run, and the data after it. Only bit 0 is judged.
+/// None where there are fewer than four bytes.
 ///
 /// Volume 1, chapter 3, real time formats.
 pub fn read_header(data: &[u8]) -> Option<(bool, &[u8])>

@@ -9,7 +9,7 @@ use crate::datagram::{Datagram, DatagramFault};
 use crate::fixed::DatagramFront;
 use cip_types::ConnId;
 
-/// The datagram of the fixed part and the bytes behind it.
+/// The datagram of the fixed part and the bytes after it.
 #[tactic(auto, unfolding(crate::specs::Reading::datagram_reading))]
 fn parsed(bytes: &[u8]) -> Result<Datagram<'_>, DatagramFault>
     ensures { seen view_datagram result ≡ datagram_reading bytes.now }
@@ -35,19 +35,19 @@ fn parsed(bytes: &[u8]) -> Result<Datagram<'_>, DatagramFault>
     })
 }
 
-/// The datagram that the bytes are the text of. Its data lies in the bytes.
+/// Reads a datagram. Its data borrows from the bytes.
 ///
 /// The faults, in this order: `Truncated` for fewer than 20 bytes; `Items` where the item count, a
 /// type or the first length is not that of a datagram, or the second length is below 2; `Truncated`
-/// where the second length reaches beyond the end; `Trailing` where bytes follow.
+/// where the second length exceeds the bytes; `Trailing` where bytes follow the data.
 ///
 /// Volume 2, chapter 2, common packet format.
 pub fn read_datagram(bytes: &[u8]) -> Result<Datagram<'_>, DatagramFault>
-    // What is answered is a reading of the bytes.
+    // The result is a reading of the bytes.
     ensures reading { IsDatagramReading bytes.now (seen view_datagram result) }
-    // There is no other.
+    // The bytes have no other reading.
     ensures only { (other : Result DatagramFields DatagramFault) → IsDatagramReading bytes.now other → seen view_datagram result ≡ other }
-    // As a function of the bytes.
+    // The same as a function of the bytes.
     ensures value { seen view_datagram result ≡ datagram_reading bytes.now }
 {
     parsed(bytes)

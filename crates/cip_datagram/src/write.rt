@@ -6,8 +6,9 @@ ghost use Rattle.cip_datagram.specs.Datagram.{view_datagram, datagram_text, IsDa
 ghost use Rattle.cip_datagram.specs.Reading.{datagram_reading};
 
 use crate::datagram::Datagram;
+use crate::item::{CONNECTED_DATA, SEQUENCED_ADDRESS};
 
-/// The fixed part of the text of a datagram, which its data follow. Takes no memory.
+/// The bytes of a datagram before its data. Takes no memory.
 ///
 /// Volume 2, chapter 2, common packet format.
 #[inline(always)]
@@ -21,12 +22,12 @@ pub fn fixed_part(datagram: &Datagram<'_>) -> [u8; 20]
     let [e, f, g, h] = datagram.sequence.to_le_bytes();
     let [i, j] = (datagram.data.len() as u16 + 2).to_le_bytes();
     let [k, l] = datagram.count.to_le_bytes();
-    [
-        2, 0, 0x02, 0x80, 8, 0, a, b, c, d, e, f, g, h, 0xB1, 0, i, j, k, l,
-    ]
+    let [m, n] = SEQUENCED_ADDRESS.to_le_bytes();
+    let [o, p] = CONNECTED_DATA.to_le_bytes();
+    [2, 0, m, n, 8, 0, a, b, c, d, e, f, g, h, o, p, i, j, k, l]
 }
 
-/// Appends bytes for which there is room. Takes no memory.
+/// Appends bytes within the vector's spare capacity. Takes no memory.
 fn put(out: &mut Vec<u8>, bytes: &[u8])
     requires { vec_len out.old + length bytes.now ≤ vec_capacity out.old }
     ensures items { out.new.items ≡ out.old.items ++ bytes.now }
@@ -38,7 +39,7 @@ fn put(out: &mut Vec<u8>, bytes: &[u8])
     }
 }
 
-/// Appends the text of the datagram to a vector that has room for it. Takes no memory.
+/// Appends the bytes of the datagram, within the vector's spare capacity. Takes no memory.
 ///
 /// Volume 2, chapter 2, common packet format.
 pub fn write_datagram(datagram: &Datagram<'_>, out: &mut Vec<u8>)
