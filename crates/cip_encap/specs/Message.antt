@@ -1,11 +1,11 @@
--- Encapsulation messages: what they say, their texts, and what is wrong with other bytes (Volume 2,
--- chapter 2, encapsulation messages).
+-- Encapsulation messages: their contents, their bytes, and the faults of other bytes (Volume 2, chapter 2,
+-- encapsulation messages).
 --
 --   command          u16
 --   length           u16   of the data
 --   session handle   u32
 --   status           u32
---   sender context   u64   sent back as it came
+--   sender context   u64   repeated in a reply
 --   options          u32
 --   data
 use Rattle.std.specs.Prelude.{◌≡◌, ℕ, ◌<◌, ◌^◌, List, [], ◌∷◌, ◌++◌, length, Option, Some, None, Result, Ok, Err}
@@ -17,7 +17,7 @@ use Rattle.cip_encap.specs.declared.message.MessageView.{MessageView}
 use Rattle.cip_encap.specs.declared.message.EncapFault.{EncapFault}
 use Rattle.cip_encap.specs.declared.message.EncapFault.TheVariants as fault
 
--- a message, wherever its data lies in memory
+-- the contents of a message
 pub record MessageFields : Type 0 where
   pub command : ℕ
   pub session : ℕ
@@ -26,7 +26,7 @@ pub record MessageFields : Type 0 where
   pub options : ℕ
   pub payload : List ℕ
 
--- the fields of a message of the program
+-- the contents of a message of the program
 abbrev pub view_message : MessageView → MessageFields
 view_message m = record { command = m.command; session = m.session; status = m.status; context = m.context; options = m.options; payload = m.«data».now }
 
@@ -38,7 +38,7 @@ header_widths = w16 ∷ w16 ∷ w32 ∷ w32 ∷ w64 ∷ w32 ∷ []
 abbrev pub header_numbers : MessageFields → List ℕ
 header_numbers m = m.command ∷ length m.payload ∷ m.session ∷ m.status ∷ m.context ∷ m.options ∷ []
 
--- the text of a message
+-- the bytes of a message
 abbrev pub message_text : MessageFields → List ℕ
 message_text m = fields_text header_widths (header_numbers m) ++ m.payload
 
@@ -51,11 +51,11 @@ pub record MessageFits (m : MessageFields) : Type 0 where
   pub options : m.options < 2 ^ 32
   pub payload : length m.payload < 2 ^ 16
 
--- text is the text of the message
+-- text is the bytes of the message
 abbrev pub IsMessageText : List ℕ → MessageFields → Type 0
 IsMessageText text m = MessageFits m × (text ≡ message_text m)
 
--- what reading the bytes gives: a message, the front of one alone, or one with bytes behind it
+-- the result is a reading of the bytes: a message, the front of one, or one with bytes after it
 abbrev pub IsMessageReading : List ℕ → Result MessageFields EncapFault → Type 0
 IsMessageReading bytes (Ok m) = IsMessageText bytes m
 IsMessageReading bytes (Err fault.Truncated) = Lacks IsMessageText bytes
@@ -67,11 +67,11 @@ IsMessageReading bytes (Err fault.Trailing) = Exceeds IsMessageText bytes
 abbrev pub view_header : MessageHeader → List ℕ
 view_header h = h.command ∷ h.len ∷ h.session ∷ h.status ∷ h.context ∷ h.options ∷ []
 
--- these, and the bytes behind them
+-- these, and the bytes after them
 abbrev pub headed : MessageHeader → List ℕ → Tailed
 headed h rest = (view_header h, rest)
 
--- what the front of the bytes says: the numbers of a header, with the bytes behind them, or too few bytes for one
+-- the result is a reading of the front: the numbers of a header and the bytes after them, or too few bytes for one
 abbrev pub IsHeaderReading : List ℕ → Option Tailed → Type 0
 IsHeaderReading bytes None = length bytes < 24
 IsHeaderReading bytes (Some x) = AreFields header_widths x.0 × (bytes ≡ fields_text header_widths x.0 ++ x.1)

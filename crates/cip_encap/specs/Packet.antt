@@ -10,7 +10,7 @@
 --   length             u16   of the data, at least 1
 --   data
 --
--- and behind them any number of socket address items:
+-- and after them any number of socket address items:
 --
 --   type               u16   0x8000 for O->T, 0x8001 for T->O
 --   length             u16   16
@@ -23,20 +23,20 @@ use Rattle.cip_encap.specs.declared.packet.ItemFault.{ItemFault}
 use Rattle.cip_encap.specs.declared.packet.ItemFault.TheVariants.{Bad}
 use Rattle.cip_encap.specs.declared.packet.SocketAddress.{SocketAddress}
 
--- items, wherever their data lies in memory; the socket addresses are not kept
+-- the contents of items; the socket addresses are dropped
 pub record PacketFields : Type 0 where
   pub timeout : ℕ
   pub payload : List ℕ
 
--- the fields of a packet of the program
+-- the contents of a packet of the program
 abbrev pub view_packet : CommonPacket → PacketFields
 view_packet p = record { timeout = p.timeout; payload = p.«data».now }
 
--- the fields in front of the data
+-- the fields before the data
 abbrev pub packet_widths : List Width
 packet_widths = w32 ∷ w16 ∷ w16 ∷ w16 ∷ w16 ∷ w16 ∷ w16 ∷ []
 
--- the numbers in front of the data, with so many socket address items behind it
+-- the numbers before the data, with this number of socket address items after it
 abbrev pub packet_numbers : PacketFields → ℕ → List ℕ
 packet_numbers p sockets = 0 ∷ p.timeout ∷ (2 + sockets) ∷ 0 ∷ 0 ∷ 0xB2 ∷ length p.payload ∷ []
 
@@ -48,7 +48,7 @@ IsSocketKind kind = (kind ≡ 0x8000) ⊎ (kind ≡ 0x8001)
 abbrev pub socket_item : ℕ → List ℕ → List ℕ
 socket_item kind address = to_le_bytes w16 kind ++ (to_le_bytes w16 16 ++ address)
 
--- the text is so many socket address items
+-- the text is this number of socket address items
 abbrev pub AreSocketItems : ℕ → List ℕ → Type 0
 AreSocketItems zero text = text ≡ []
 AreSocketItems (suc n) text =
@@ -62,13 +62,13 @@ pub record PacketFits (p : PacketFields) (sockets : ℕ) : Type 0 where
   pub some : 1 ≤ length p.payload
   pub payload : length p.payload < 2 ^ 16
 
--- text is a text of the items, with any socket address items behind the data
+-- the text is that of the items, with any socket address items after the data
 abbrev pub IsPacketText : List ℕ → PacketFields → Type 0
 IsPacketText text p =
     (sockets : ℕ)
     × ((items : List ℕ) × PacketFits p sockets × AreSocketItems sockets items × (text ≡ fields_text packet_widths (packet_numbers p sockets) ++ (p.payload ++ items)))
 
--- what reading the bytes gives
+-- the result is a reading of the bytes
 abbrev pub IsPacketReading : List ℕ → Result PacketFields ItemFault → Type 0
 IsPacketReading bytes (Ok p) = IsPacketText bytes p
 IsPacketReading bytes (Err Bad) = (p : PacketFields) → IsPacketText bytes p → ⊥
@@ -79,17 +79,17 @@ IsPacketReading bytes (Err Bad) = (p : PacketFields) → IsPacketText bytes p �
 abbrev pub address_bytes : SocketAddress → List ℕ
 address_bytes s = to_be_bytes w16 2 ++ (to_be_bytes w16 s.port ++ (to_be_bytes w32 s.address.0 ++ replicate 8 0))
 
--- how many socket address items there are
+-- the number of socket address items
 abbrev pub socket_count : Option SocketAddress → ℕ
 socket_count None = 0
 socket_count (Some s) = 1
 
--- a T->O socket address item, where there is an address
+-- a T->O socket address item, if there is an address
 abbrev pub socket_items : Option SocketAddress → List ℕ
 socket_items None = []
 socket_items (Some s) = socket_item 0x8001 (address_bytes s)
 
--- the text of items with timeout 0
+-- the bytes of items with timeout 0
 abbrev pub packet_text : List ℕ → Option SocketAddress → List ℕ
 packet_text payload socket =
     fields_text packet_widths (packet_numbers (record { timeout = 0; payload = payload }) (socket_count socket)) ++ (payload ++ socket_items socket)

@@ -1,4 +1,4 @@
--- What is written is read as the same value: laws of the definitions alone, which `reads_back` promises
+-- A written value is read back: laws of the definitions alone, which `reads_back` promises
 -- (Volume 2, chapter 2, encapsulation messages and common packet format).
 use Rattle.std.specs.Prelude.{◌≡◌, ℕ, ◌≤◌, List, length, Option, Ok}
 use Rattle.cip_encap.specs.declared.packet.SocketAddress.{SocketAddress}

@@ -1,5 +1,5 @@
--- Streams of messages: the messages that a stream begins with, and what is left behind them (Volume 2,
--- chapter 2, encapsulation messages over TCP). Messages here have at most 2,048 bytes of data.
+-- Streams of messages: the whole messages of a stream, and the bytes after the last of them (Volume 2, chapter 2,
+-- encapsulation messages over TCP). Messages here have at most 2,048 bytes of data.
 use Rattle.std.specs.Prelude.{◌≡◌, ◌≢◌, ℕ, ◌+◌, ◌*◌, ◌<◌, ◌≤◌, List, ◌∷◌, ◌++◌, length, slice_index}
 use Rattle.std.specs.List.{AllByRecursion, concat}
 use Rattle.cip_encap.specs.Message.{MessageFields, IsMessageText}
@@ -8,7 +8,7 @@ use Rattle.cip_encap.specs.Message.{MessageFields, IsMessageText}
 abbrev pub IsShortMessage : List ℕ → Type 0
 IsShortMessage text = (m : MessageFields) × IsMessageText text m × (length m.payload ≤ 2048)
 
--- no such text begins the bytes
+-- the bytes begin with no such text
 abbrev pub BeginsNoMessage : List ℕ → Type 0
 BeginsNoMessage bytes = (text after : List ℕ) → IsShortMessage text → bytes ≢ text ++ after
 
@@ -18,11 +18,11 @@ pub record AreMessages (stream : List ℕ) (messages : List (List ℕ)) (rest : 
   pub parts : stream ≡ concat messages ++ rest
   pub ends : BeginsNoMessage rest
 
--- there are no other messages of the stream, and nothing else is left
+-- the stream has no other messages, and no other rest
 abbrev pub AreOnlyMessages : List ℕ → List (List ℕ) → List ℕ → Type 0
 AreOnlyMessages stream messages rest = (others : List (List ℕ)) (left : List ℕ) → AreMessages stream others left → (messages ≡ others) × (rest ≡ left)
 
--- behind every stream of which so much was left, the messages of the piece go on with the stream's
+-- after every stream with this rest, the messages of the piece continue the stream's
 abbrev pub GoOn : List ℕ → List ℕ → List (List ℕ) → List ℕ → Type 0
 GoOn left piece messages rest = (stream : List ℕ) (before : List (List ℕ)) → AreMessages stream before left → AreMessages (stream ++ piece) (before ++ messages) rest
 
@@ -30,11 +30,11 @@ GoOn left piece messages rest = (stream : List ℕ) (before : List (List ℕ)) �
 abbrev pub length_field : List ℕ → ℕ
 length_field bytes = slice_index bytes 2 + 256 * slice_index bytes 3
 
--- the length field stands there, and is above 2,048
+-- the length field is complete, and above 2,048
 abbrev pub IsTooLong : List ℕ → Type 0
 IsTooLong bytes = (4 ≤ length bytes) × (2048 < length_field bytes)
 
--- what is left behind the messages of the stream is too long
+-- the rest of the stream has too large a length field
 abbrev pub EndsTooLong : List ℕ → Type 0
 EndsTooLong stream = (messages : List (List ℕ)) × ((rest : List ℕ) × AreMessages stream messages rest × IsTooLong rest)
 

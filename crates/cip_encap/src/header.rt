@@ -10,7 +10,7 @@ ghost use Rattle.cip_encap.specs.Message.{header_widths, view_header, headed, Is
 
 use cip_types::fields::{u16_in, u32_in};
 
-/// The number of eight bytes at a place.
+/// The number of eight bytes at a position.
 fn u64_in(bytes: &[u8], at: usize) -> u64
     requires { at + 8 ≤ length bytes.now }
     ensures { result ≡ number_in w64 bytes.now at }
@@ -19,13 +19,13 @@ fn u64_in(bytes: &[u8], at: usize) -> u64
     u64::from_le_bytes([f[0], f[1], f[2], f[3], f[4], f[5], f[6], f[7]])
 }
 
-/// The numbers of a header, as they are.
+/// The numbers of a header, not judged.
 ///
 /// Volume 2, chapter 2, encapsulation messages.
 #[derive(Clone, Copy, PartialEq, Eq)]
 pub struct MessageHeader {
     pub command: u16,
-    /// The length of the data, as the header says it.
+    /// The length of the data that the header states.
     pub len: u16,
     /// The session handle.
     pub session: u32,
@@ -53,16 +53,16 @@ pub fn header_at(bytes: &[u8]) -> Option<(MessageHeader, &[u8])>
     Some((header, &bytes[24..]))
 }
 
-/// The header that the bytes begin with, and the bytes behind it, however many they are. None where
-/// there are fewer than the 24 bytes of a header.
+/// Reads the header at the front, and answers it with all bytes after it. None where there are fewer than
+/// the 24 bytes of a header.
 ///
 /// Volume 2, chapter 2, encapsulation messages.
 pub fn read_message_header(bytes: &[u8]) -> Option<(MessageHeader, &[u8])>
-    // What is answered is a reading of the bytes.
+    // The result is a reading of the bytes.
     ensures reading { IsHeaderReading bytes.now (option_map (λ x. headed x.0 x.1.now) result) }
-    // There is no other.
+    // The bytes have no other reading.
     ensures only { (other : Option Tailed) → IsHeaderReading bytes.now other → option_map (λ x. headed x.0 x.1.now) result ≡ other }
-    // As a function of the bytes.
+    // The same as a function of the bytes.
     ensures value { Finds (λ x. headed x.0 x.1.now) result (fields_at header_widths bytes.now) }
 {
     header_at(bytes)

@@ -1,10 +1,12 @@
-//! Encapsulation: the messages of explicit messaging, the items in them, and the cutting of a stream
+//! Encapsulation: the messages of explicit messaging, the items in them, and the splitting of a stream
 //! into messages.
 //!
 //! Volume 2, chapter 2, encapsulation messages and common packet format.
 #![tactic(auto)]
 
+pub mod command;
 mod header;
+pub mod item;
 mod laws;
 mod message;
 mod packet;

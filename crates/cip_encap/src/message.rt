@@ -1,8 +1,8 @@
-//! What messages say.
+//! The contents of messages, and the faults of other bytes.
 
 use thiserror::Error;
 
-/// Why bytes are not one whole message.
+/// The fault of bytes that are not one whole message.
 #[derive(Clone, Copy, Debug, PartialEq, Eq, Error)]
 pub enum EncapFault {
     /// The bytes end within the header or within the data.
@@ -22,8 +22,7 @@ pub struct MessageView<'a> {
     /// The session handle.
     pub session: u32,
     pub status: u32,
-    /// The sender context, which a reply sends back as it came: eight bytes, the first the least
-    /// significant.
+    /// The sender context, which a reply repeats: eight bytes, the first the least significant.
     pub context: u64,
     pub options: u32,
     pub data: &'a [u8],

@@ -7,13 +7,14 @@ ghost use Rattle.cip_encap.specs.Packet.{PacketFields, view_packet, IsPacketText
 ghost use Rattle.cip_encap.specs.Reading.{seen};
 ghost use Rattle.cip_encap.specs.PacketReading.{behind_socket, are_sockets as sockets_test, packet_reading};
 
+use crate::item::{O_T_SOCKET_ADDRESS, T_O_SOCKET_ADDRESS, UNCONNECTED_DATA};
 use crate::packet_header::PacketHeader;
 use cip_types::fields::{put_bytes, put_u16, u16_at};
 use cip_types::{Node, OutOfMemory};
 use std::alloc::Global;
 use thiserror::Error;
 
-/// Why bytes are not the items of an explicit request or reply.
+/// The fault of bytes that are not the items of an explicit request or reply.
 #[derive(Clone, Copy, Debug, PartialEq, Eq, Error)]
 pub enum ItemFault {
     /// They are not a null address item, an unconnected data item with data, and socket address items.
@@ -26,13 +27,13 @@ pub enum ItemFault {
 /// Volume 2, chapter 2, common packet format.
 #[derive(Clone, Copy)]
 pub struct CommonPacket<'a> {
-    /// Seconds.
+    /// The timeout, in seconds.
     pub timeout: u16,
     /// The request or reply, at least one byte.
     pub data: &'a [u8],
 }
 
-/// Where the datagrams of a multicast connection go to.
+/// The destination of the datagrams of a multicast connection.
 ///
 /// Volume 2, chapter 2, socket address item.
 #[derive(Clone, Copy, PartialEq, Eq)]
@@ -41,14 +42,14 @@ pub struct SocketAddress {
     pub address: Node,
 }
 
-/// The bytes behind the socket address item at the front.
+/// The bytes after the socket address item at the front. None where there is no such item.
 #[tactic(auto, unfolding(crate::specs::PacketReading::behind_socket))]
 fn after_socket(bytes: &[u8]) -> Option<&[u8]>
     ensures { option_map (λ x. x.now) result ≡ behind_socket bytes.now }
 {
     let (kind, rest) = u16_at(bytes)?;
     let (len, rest) = u16_at(rest)?;
-    if (kind == 0x8000 || kind == 0x8001) && len == 16 && rest.len() >= 16 {
+    if (kind == O_T_SOCKET_ADDRESS || kind == T_O_SOCKET_ADDRESS) && len == 16 && rest.len() >= 16 {
         let (_address, after) = rest.split_at(16);
         Some(after)
     } else {
@@ -56,7 +57,7 @@ fn after_socket(bytes: &[u8]) -> Option<&[u8]>
     }
 }
 
-/// Whether the bytes are so many socket address items.
+/// Whether the bytes are this number of socket address items.
 fn are_sockets(count: u16, bytes: &[u8]) -> bool
     ensures { result ≡ sockets_test count bytes.now }
 {
@@ -70,7 +71,7 @@ fn are_sockets(count: u16, bytes: &[u8]) -> bool
     rest.is_empty()
 }
 
-/// The items of the numbers and the bytes behind them.
+/// The items of the numbers before the data and the bytes after them.
 #[tactic(auto, unfolding(crate::specs::PacketReading::packet_reading))]
 fn parsed(bytes: &[u8]) -> Result<CommonPacket<'_>, ItemFault>
     ensures { seen view_packet result ≡ packet_reading bytes.now }
@@ -92,16 +93,16 @@ fn parsed(bytes: &[u8]) -> Result<CommonPacket<'_>, ItemFault>
     })
 }
 
-/// The items that the bytes are a text of: a null address item, an unconnected data item, whose data
-/// lies in the bytes, and socket address items, which are not kept. `Bad` for all other bytes.
+/// Reads a null address item, an unconnected data item, whose data borrows from the bytes, and socket
+/// address items, which are dropped. `Bad` for all other bytes.
 ///
 /// Volume 2, chapter 2, common packet format.
 pub fn read_items(bytes: &[u8]) -> Result<CommonPacket<'_>, ItemFault>
-    // What is answered is a reading of the bytes.
+    // The result is a reading of the bytes.
     ensures reading { IsPacketReading bytes.now (seen view_packet result) }
-    // There is no other.
+    // The bytes have no other reading.
     ensures only { (other : Result PacketFields ItemFault) → IsPacketReading bytes.now other → seen view_packet result ≡ other }
-    // As a function of the bytes.
+    // The same as a function of the bytes.
     ensures value { seen view_packet result ≡ packet_reading bytes.now }
 {
     parsed(bytes)
@@ -111,14 +112,15 @@ pub fn read_items(bytes: &[u8]) -> Result<CommonPacket<'_>, ItemFault>
 fn put_socket(out: &mut Vec<u8>, socket: SocketAddress) -> Result<(), OutOfMemory>
     ensures { OnOk result (out.new.items ≡ out.old.items ++ socket_items (Some socket)) }
 {
-    put_bytes(out, &[0x01, 0x80, 16, 0, 0, 2])?;
+    put_u16(out, T_O_SOCKET_ADDRESS)?;
+    put_bytes(out, &[16, 0, 0, 2])?;
     put_bytes(out, &socket.port.to_be_bytes())?;
     put_bytes(out, &socket.address.0.to_be_bytes())?;
     put_bytes(out, &[0; 8])
 }
 
-/// The text of the items around the data of a request or reply, with timeout 0, and a T->O socket
-/// address item where there is a socket address.
+/// The bytes of the items around the data of a request or reply: timeout 0, and a T->O socket address item
+/// if there is a socket address.
 ///
 /// Volume 2, chapter 2, common packet format.
 pub fn write_items(
@@ -136,7 +138,8 @@ pub fn write_items(
     let mut out = Vec::new(alloc);
     put_bytes(&mut out, &[0, 0, 0, 0, 0, 0])?;
     put_u16(&mut out, if socket.is_some() { 3 } else { 2 })?;
-    put_bytes(&mut out, &[0, 0, 0, 0, 0xB2, 0])?;
+    put_bytes(&mut out, &[0, 0, 0, 0])?;
+    put_u16(&mut out, UNCONNECTED_DATA)?;
     put_u16(&mut out, data.len() as u16)?;
     put_bytes(&mut out, data)?;
     if let Some(socket) = socket {

@@ -1,11 +1,12 @@
-//! The numbers in front of the data of items.
+//! The numbers before the data of items.
 
 ghost use Rattle.std.specs.Prelude.{◌≡◌};
 ghost use Rattle.cip_types.specs.Fields.{Finds, fields_at};
 
+use crate::item::{NULL_ADDRESS, UNCONNECTED_DATA};
 use cip_types::fields::{u16_in, u32_in};
 
-/// The numbers in front of the data, as they are.
+/// The numbers before the data, not yet judged.
 #[derive(Clone, Copy)]
 pub struct PacketHeader {
     pub interface: u32,
@@ -48,9 +49,9 @@ impl PacketHeader {
     {
         self.interface == 0
             && self.count >= 2
-            && self.address == 0
+            && self.address == NULL_ADDRESS
             && self.address_len == 0
-            && self.kind == 0xB2
+            && self.kind == UNCONNECTED_DATA
             && self.len >= 1
     }
 }

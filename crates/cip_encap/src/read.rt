@@ -8,7 +8,7 @@ ghost use Rattle.cip_encap.specs.Reading.{seen, message_reading};
 use crate::header::header_at;
 use crate::message::{EncapFault, MessageView};
 
-/// The message of the header and the bytes behind it.
+/// The message of the header and the bytes after it.
 #[tactic(auto, unfolding(crate::specs::Reading::message_reading))]
 fn parsed(bytes: &[u8]) -> Result<MessageView<'_>, EncapFault>
     ensures { seen view_message result ≡ message_reading bytes.now }
@@ -33,18 +33,18 @@ fn parsed(bytes: &[u8]) -> Result<MessageView<'_>, EncapFault>
     })
 }
 
-/// The message that the bytes are the text of. Its data lies in the bytes.
+/// Reads a message. Its data borrows from the bytes.
 ///
-/// The faults: `Truncated` where the bytes are the front of a longer message, so with fewer than the
-/// 24 bytes of the header too; `Trailing` where bytes follow a message.
+/// The faults: `Truncated` where the bytes are the front of a longer message, as fewer than the 24 bytes of
+/// the header are; `Trailing` where bytes follow a message.
 ///
 /// Volume 2, chapter 2, encapsulation messages.
 pub fn read_message(bytes: &[u8]) -> Result<MessageView<'_>, EncapFault>
-    // What is answered is a reading of the bytes.
+    // The result is a reading of the bytes.
     ensures reading { IsMessageReading bytes.now (seen view_message result) }
-    // There is no other.
+    // The bytes have no other reading.
     ensures only { (other : Result MessageFields EncapFault) → IsMessageReading bytes.now other → seen view_message result ≡ other }
-    // As a function of the bytes.
+    // The same as a function of the bytes.
     ensures value { seen view_message result ≡ message_reading bytes.now }
 {
     parsed(bytes)

@@ -1,30 +1,28 @@
-//! Cutting a stream of bytes into messages.
+//! The splitting of a stream of bytes into messages.
 
 ghost use Rattle.std.specs.Prelude.{◌≡◌, ◌↔◌, ◌+◌, ◌<◌, ◌≤◌, ◌⊎◌, ℕ, [], ◌++◌, length, drop, slice_index, IsTrue, IfOk, OnErr, MatchOption, Err};
 ghost use Rattle.cip_encap.specs.Stream.{IsShortMessage, BeginsNoMessage, AreMessages, AreOnlyMessages, GoOn, length_field, IsTooLong, EndsTooLong};
 ghost use Rattle.cip_encap.specs.declared.splitter.SplitFault.TheVariants.{OutOfMemory as Memory};
 
+use cip_types::limits::LONGEST_MESSAGE;
 use cip_types::{Items, OutOfMemory};
 use std::alloc::Global;
 use std::marker::Model;
 use thiserror::Error;
 
-/// The header of a message is of so many bytes.
+/// The bytes of a message's header.
 const HEADER_LEN: usize = 24;
 
-/// A stream's messages have at most so many bytes of data.
-const LONGEST: usize = 2048;
-
-/// The whole text of one message.
+/// All bytes of one message.
 pub type Message = Items<u8>;
 
-/// Why a piece of a stream is not taken. `TooLong` goes before want of memory.
+/// The fault of a piece of a stream. `TooLong` precedes `OutOfMemory`.
 #[derive(Clone, Copy, Debug, PartialEq, Eq, Error)]
 pub enum SplitFault {
     /// A message has a length field above 2,048.
     #[error("a message is too long")]
     TooLong,
-    /// A growth of memory was refused.
+    /// An allocation was refused.
     #[error("out of memory")]
     OutOfMemory,
 }
@@ -37,7 +35,7 @@ impl From<OutOfMemory> for SplitFault {
     }
 }
 
-/// The byte at a place of two slices, one after the other.
+/// The byte at a position of two slices, one after the other.
 fn byte_at(kept: &[u8], piece: &[u8], at: usize) -> u8
     requires { at < length kept.now + length piece.now }
     ensures { result ≡ slice_index (kept.now ++ piece.now) at }
@@ -49,7 +47,7 @@ fn byte_at(kept: &[u8], piece: &[u8], at: usize) -> u8
     }
 }
 
-/// The length field of the message that begins at a place of two slices, one after the other.
+/// The length field of the message at a position of two slices, one after the other.
 fn len_at(kept: &[u8], piece: &[u8], at: usize) -> usize
     requires { at + 4 ≤ length kept.now + length piece.now }
     ensures value { result ≡ length_field (drop at (kept.now ++ piece.now)) }
@@ -58,7 +56,7 @@ fn len_at(kept: &[u8], piece: &[u8], at: usize) -> usize
     byte_at(kept, piece, at + 2) as usize + 256 * byte_at(kept, piece, at + 3) as usize
 }
 
-/// Whether the length field behind the messages of two slices, one after the other, is too long.
+/// Whether the length field after the whole messages of two slices, one after the other, is too large.
 fn is_too_long(kept: &[u8], piece: &[u8]) -> bool
     ensures { IsTrue result ↔ EndsTooLong (kept.now ++ piece.now) }
 {
@@ -66,7 +64,7 @@ fn is_too_long(kept: &[u8], piece: &[u8]) -> bool
     let mut at = 0;
     while total - at >= 4 {
         let len = len_at(kept, piece, at);
-        if len > LONGEST {
+        if len > LONGEST_MESSAGE {
             return true;
         }
         if total - at < HEADER_LEN + len {
@@ -86,13 +84,13 @@ fn front(bytes: &[u8]) -> Option<(&[u8], &[u8])>
         return None;
     }
     let len = bytes[2] as usize + 256 * bytes[3] as usize;
-    if len > LONGEST || bytes.len() < HEADER_LEN + len {
+    if len > LONGEST_MESSAGE || bytes.len() < HEADER_LEN + len {
         return None;
     }
     Some(bytes.split_at(HEADER_LEN + len))
 }
 
-/// The messages of a stream, and what is left behind them.
+/// The messages of a stream, and the bytes after the last whole one.
 fn messages_of(alloc: Global, stream: &[u8]) -> Result<(Vec<Message>, Vec<u8>), OutOfMemory>
     ensures messages { IfOk result (λ x. AreMessages stream.now x.0.items x.1.items) }
     ensures small { IfOk result (λ x. IsTooLong x.1.items ⊎ (length x.1.items < 24 + 2048)) }
@@ -107,7 +105,7 @@ fn messages_of(alloc: Global, stream: &[u8]) -> Result<(Vec<Message>, Vec<u8>), 
     Ok((messages, rest))
 }
 
-/// The messages of two slices, one after the other, and what is left behind them.
+/// The messages of two slices, one after the other, and the bytes after the last whole one.
 fn split(alloc: Global, kept: &[u8], piece: &[u8]) -> Result<(Vec<Message>, Vec<u8>), OutOfMemory>
     ensures messages { IfOk result (λ x. AreMessages (kept.now ++ piece.now) x.0.items x.1.items) }
     ensures small { IfOk result (λ x. IsTooLong x.1.items ⊎ (length x.1.items < 24 + 2048)) }
@@ -121,8 +119,8 @@ fn split(alloc: Global, kept: &[u8], piece: &[u8]) -> Result<(Vec<Message>, Vec<
     messages_of(alloc, stream.as_slice())
 }
 
-/// Cuts a stream into messages, whatever pieces it comes in. It keeps the bytes behind the last whole
-/// message, and is seen as these.
+/// Splits a stream into messages, whatever its pieces. It keeps the bytes after the last whole message, and
+/// contracts see it as these bytes.
 #[derive(Drop)]
 pub struct Splitter {
     kept: Vec<u8>,
@@ -149,17 +147,16 @@ impl Splitter {
 
     /// The messages that end in the next piece of the stream, in their order.
     ///
-    /// `TooLong` where the four bytes behind them give a message more than 2,048 bytes of data, so
-    /// before all of its header stands there; and then `OutOfMemory`. After either the splitter is as
-    /// it was.
+    /// `TooLong` where the length field after the last whole message is above 2,048, even before that header
+    /// is complete; then `OutOfMemory`. Either leaves the splitter unchanged.
     pub fn feed(&mut self, piece: &[u8]) -> Result<Vec<Message>, SplitFault>
-        // What was kept, followed by the piece, is these messages and what is kept now.
+        // The kept bytes and the piece are these messages and the bytes that are kept now.
         ensures messages { IfOk result (λ messages. AreMessages (self.old ++ piece.now) messages.items self.new) }
-        // There are no others.
+        // No other messages are in these bytes.
         ensures only { IfOk result (λ messages. AreOnlyMessages (self.old ++ piece.now) messages.items self.new) }
-        // However the stream was cut: they go on with the messages of the stream so far.
+        // Whatever the pieces: they continue the messages of the stream so far.
         ensures goes_on { IfOk result (λ messages. GoOn self.old piece.now messages.items self.new) }
-        // Not even a hostile stream makes it keep more than one message's bytes.
+        // A hostile stream cannot make it keep more than one message's bytes.
         ensures small { IfOk result (λ _. length self.new < 24 + 2048) }
         ensures too_long { (result ≡ Err SplitFault.TooLong) ↔ EndsTooLong (self.old ++ piece.now) }
         ensures err { OnErr result (self.new ≡ self.old) }

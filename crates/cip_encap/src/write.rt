@@ -10,7 +10,7 @@ use cip_types::OutOfMemory;
 use cip_types::fields::{put_bytes, put_u16, put_u32};
 use std::alloc::Global;
 
-/// The text of the message.
+/// The bytes of the message.
 ///
 /// Volume 2, chapter 2, encapsulation messages.
 pub fn write_message(alloc: Global, message: &MessageView<'_>) -> Result<Vec<u8>, OutOfMemory>

@@ -3,8 +3,8 @@ use Rattle.std.proofs.lemmas.Bool.{false≢true}
 use Rattle.cip_encap.proofs.StreamLaws.{IsBytes-append, place_more, place_too_long, place_not_long, begins_none}
 use Rattle.cip_encap.proofs.splitter.is_too_long.Goals as goal
 
-pub returns-then-len-gt-LONGEST : goal.returns-then-len-gt-LONGEST
-returns-then-len-gt-LONGEST c =
+pub returns-then-len-gt-LONGEST_MESSAGE : goal.returns-then-len-gt-LONGEST_MESSAGE
+returns-then-len-gt-LONGEST_MESSAGE c =
     let stream = c.args.kept.now ++ c.args.piece.now in
     let there : 4 ≤ length (drop c.loop-at.at stream) = omega (arith, length-drop c.loop-at.at stream, length-append c.args.kept.now c.args.piece.now) in
     let ends = place_too_long stream c.loop-at.at c.len_at-len.result c.loop-at.invariant.1 there c.len_at-len.ensures.value (omega arith) in
