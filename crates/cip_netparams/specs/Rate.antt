@@ -2,11 +2,11 @@
 -- timeout multiplier).
 use Rattle.std.specs.Prelude.{ℕ, ◌+◌, ◌*◌, ◌/◌, ◌≤◌, ◌^◌, Bool, ◌&&◌, nat_le}
 
--- microseconds that an originator may ask for
+-- microseconds that an originator may request
 abbrev pub IsInterval : ℕ → Type 0
 IsInterval rpi = (1 ≤ rpi) × (rpi ≤ 10000000)
 
--- whether an originator may ask for these microseconds
+-- whether an originator may request these microseconds
 abbrev pub is_interval : ℕ → Bool
 is_interval rpi = nat_le 1 rpi && nat_le rpi 10000000
 
@@ -18,6 +18,6 @@ IsApi rpi api = (rpi ≤ 1000 * api) × ((n : ℕ) → rpi ≤ 1000 * n → api 
 abbrev pub interval_ms : ℕ → ℕ
 interval_ms rpi = (rpi + 999) / 1000
 
--- milliseconds that a consumer waits
+-- the time-out of a consumer, in milliseconds
 abbrev pub timeout : ℕ → ℕ → ℕ
 timeout multiplier api = 4 * 2 ^ multiplier * api

@@ -1,4 +1,4 @@
--- What is written is read as the same value: laws of the definitions alone, which `reads_back` promises
+-- A written value is read back: laws of the definitions alone, which `reads_back` promises
 -- (Volume 1, chapter 3, network connection parameters, transport class and trigger).
 use Rattle.std.specs.Prelude.{◌≡◌, ◌<◌, ◌^◌, Some}
 use Rattle.cip_netparams.specs.declared.NetParams.{NetParams}

@@ -1,4 +1,4 @@
--- Network connection parameters and triggers, and the words that carry them: sums of fields at their
+-- Network connection parameters and triggers, and their words: sums of fields at their
 -- bits (Volume 1, chapter 3, network connection parameters, transport class and trigger).
 --
 --              16 bits   32 bits
@@ -45,11 +45,11 @@ type_of code = if code == 0 then Null else if code == 1 then Multicast else if c
 abbrev pub word16 : NetParams → ℕ → ℕ
 word16 p spare = p.size + 2 ^ 9 * from_bool p.variable + 2 ^ 10 * priority_code p.priority + 2 ^ 12 * spare + 2 ^ 13 * type_code p.kind + 2 ^ 15 * from_bool p.redundant
 
--- the word of 16 bits carries the parameters, with its spare bit as it likes
+-- the word of 16 bits carries the parameters, with any spare bit
 abbrev pub IsWord16 : ℕ → NetParams → Type 0
 IsWord16 word p = (p.size < 2 ^ 9) × ((spare : ℕ) × (spare < 2) × (word ≡ word16 p spare))
 
--- the parameters that a word of 16 bits carries
+-- the parameters of a word of 16 bits
 unfoldable pub params16 : ℕ → NetParams
 params16 word = record {
   size = word % 2 ^ 9;
@@ -63,11 +63,11 @@ params16 word = record {
 abbrev pub word32 : NetParams → ℕ → ℕ → ℕ
 word32 p low high = p.size + 2 ^ 16 * low + 2 ^ 25 * from_bool p.variable + 2 ^ 26 * priority_code p.priority + 2 ^ 28 * high + 2 ^ 29 * type_code p.kind + 2 ^ 31 * from_bool p.redundant
 
--- the word of 32 bits carries the parameters, with its spare bits as it likes
+-- the word of 32 bits carries the parameters, with any spare bits
 abbrev pub IsWord32 : ℕ → NetParams → Type 0
 IsWord32 word p = (p.size < 2 ^ 16) × ((low high : ℕ) × (low < 2 ^ 9) × (high < 2) × (word ≡ word32 p low high))
 
--- the parameters that a word of 32 bits carries
+-- the parameters of a word of 32 bits
 unfoldable pub params32 : ℕ → NetParams
 params32 word = record {
   size = word % 2 ^ 16;
@@ -86,7 +86,7 @@ trigger_code ChangeOfState = 1
 abbrev pub IsTriggerByte : ℕ → Trigger → Type 0
 IsTriggerByte byte t = (direction : ℕ) × (direction < 2) × (byte ≡ 1 + 2 ^ 4 * trigger_code t + 2 ^ 7 * direction)
 
--- the trigger of a class 1 connection that the byte names, whatever its direction bit
+-- the trigger of the byte, if its class is 1; the direction bit is not judged
 abbrev pub trigger_of : ℕ → Option Trigger
 trigger_of byte = if byte % 2 ^ 7 == 0x01 then Some Cyclic else if byte % 2 ^ 7 == 0x11 then Some ChangeOfState else None
 

@@ -11,7 +11,7 @@ pub use laws::reads_back;
 pub use rate::{api_of, timeout_of};
 pub use word::{read16, read32, write16, write32};
 
-/// How urgent a connection's datagrams are.
+/// The priority of a connection's datagrams.
 ///
 /// Volume 1, chapter 3, network connection parameters.
 #[derive(Clone, Copy, PartialEq, Eq)]
@@ -22,7 +22,7 @@ pub enum Priority {
     Urgent,
 }
 
-/// Whom the datagrams of one direction go to.
+/// The connection type of one direction.
 ///
 /// Volume 1, chapter 3, network connection parameters.
 #[derive(Clone, Copy, PartialEq, Eq)]
@@ -40,7 +40,7 @@ pub enum ConnectionType {
 pub struct NetParams {
     /// Bytes of a datagram's data, the sequence count included; at most 511 in a 16-bit word.
     pub size: u16,
-    /// Whether datagrams may be shorter than that.
+    /// Whether datagrams may be shorter than the size.
     pub variable: bool,
     pub priority: Priority,
     pub kind: ConnectionType,
@@ -48,13 +48,13 @@ pub struct NetParams {
     pub redundant: bool,
 }
 
-/// When a producer of a class 1 connection sends.
+/// The production trigger of a class 1 connection.
 ///
 /// Volume 1, chapter 3, transport class and trigger.
 #[derive(Clone, Copy, PartialEq, Eq)]
 pub enum Trigger {
     /// Once in each packet interval.
     Cyclic,
-    /// When the data changed, and at the latest after a packet interval.
+    /// At each change of the data, and at the latest after a packet interval.
     ChangeOfState,
 }

@@ -5,9 +5,10 @@ ghost use Rattle.std.specs.Option.{SomeIff};
 ghost use Rattle.cip_netparams.specs.Rate.{IsInterval, is_interval, IsApi, interval_ms, timeout};
 
 use cip_types::Ms;
+use cip_types::limits::LONGEST_RPI_US;
 
-/// The actual packet interval, in milliseconds, of a requested packet interval in microseconds: the
-/// least whole number that is no shorter. None where the request lies outside 1 to 10,000,000.
+/// The actual packet interval, in milliseconds, of a requested packet interval in microseconds, rounded up.
+/// None where the request lies outside 1 to 10,000,000.
 ///
 /// Volume 1, chapter 3, requested and actual packet interval.
 pub fn api_of(rpi: u32) -> Option<u32>
@@ -15,14 +16,14 @@ pub fn api_of(rpi: u32) -> Option<u32>
     ensures interval { IsSome result ↔ IsInterval rpi }
     ensures least { IfSome result (IsApi rpi) }
 {
-    if rpi == 0 || rpi > 10_000_000 {
+    if rpi == 0 || rpi > LONGEST_RPI_US {
         return None;
     }
     Some(rpi.div_ceil(1000))
 }
 
-/// How long a consumer waits for a datagram: 4 times 2 to the multiplier, times the actual packet
-/// interval in milliseconds. None where the multiplier is above 7, which the standard reserves.
+/// The time-out of a consumer: 4 times 2 to the multiplier, times the actual packet interval in
+/// milliseconds. None where the multiplier is above 7, which the standard reserves.
 ///
 /// Volume 1, chapter 3, connection timeout multiplier.
 pub fn timeout_of(mult: u8, api: u32) -> Option<Ms>

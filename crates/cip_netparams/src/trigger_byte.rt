@@ -1,4 +1,4 @@
-//! The byte that says the transport class and the trigger of a connection.
+//! The transport class and trigger byte.
 
 ghost use Rattle.std.specs.Prelude.{◌≡◌, Some, IfSome, IfNone};
 ghost use Rattle.cip_netparams.specs.declared.Trigger.{Trigger};
@@ -7,8 +7,8 @@ ghost use Rattle.cip_netparams.specs.Word.{IsTriggerByte, trigger_of, trigger_by
 use crate::Trigger;
 
 impl Trigger {
-    /// The trigger that the class and trigger byte of a request names, whatever its direction bit.
-    /// None where the class is not 1, or the trigger is another one.
+    /// Reads the class and trigger byte of a request. The direction bit is not judged. None where the class is
+    /// not 1, or the trigger is neither of these.
     ///
     /// Volume 1, chapter 3, transport class and trigger.
     pub fn read(byte: u8) -> Option<Trigger>

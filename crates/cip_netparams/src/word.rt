@@ -1,4 +1,4 @@
-//! The words that carry network connection parameters.
+//! Words of network connection parameters.
 
 ghost use Rattle.std.specs.Prelude.{◌≡◌, ◌≤◌, ◌<◌};
 ghost use Rattle.cip_netparams.specs.declared.NetParams.{NetParams};
@@ -52,7 +52,7 @@ fn type_bits(kind: ConnectionType) -> u32
     }
 }
 
-/// The parameters that a word of 16 bits carries, whatever its spare bit.
+/// Reads the parameters of a word of 16 bits. The spare bit is not judged.
 ///
 /// Volume 1, chapter 3, network connection parameters of Forward_Open.
 pub fn read16(word: u16) -> NetParams
@@ -69,7 +69,7 @@ pub fn read16(word: u16) -> NetParams
     }
 }
 
-/// The parameters that a word of 32 bits carries, whatever its spare bits.
+/// Reads the parameters of a word of 32 bits. The spare bits are not judged.
 ///
 /// Volume 1, chapter 3, network connection parameters of Large_Forward_Open.
 pub fn read32(word: u32) -> NetParams
@@ -86,8 +86,7 @@ pub fn read32(word: u32) -> NetParams
     }
 }
 
-/// The word of 16 bits that carries the parameters, its spare bit zero. Their size has to fit nine
-/// bits.
+/// Writes the parameters as a word of 16 bits, its spare bit zero. The size has at most nine bits.
 ///
 /// Volume 1, chapter 3, network connection parameters of Forward_Open.
 pub fn write16(params: &NetParams) -> u16
@@ -103,7 +102,7 @@ pub fn write16(params: &NetParams) -> u16
     word as u16
 }
 
-/// The word of 32 bits that carries the parameters, its spare bits zero.
+/// Writes the parameters as a word of 32 bits, its spare bits zero.
 ///
 /// Volume 1, chapter 3, network connection parameters of Large_Forward_Open.
 pub fn write32(params: &NetParams) -> u32
