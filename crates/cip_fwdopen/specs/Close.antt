@@ -5,13 +5,13 @@
 --   2 to 4   2, 2, 4    connection serial number, originator's vendor and serial number
 --   5, 6     1, 1       words of the path, reserved
 --
--- Then comes the path.
+-- The path follows.
 --
 --   place    width      data of a success
 --   0 to 2   2, 2, 4    connection serial number, originator's vendor and serial number
 --   3, 4     1, 1       words of the application reply, reserved
 --
--- Then comes the application reply. The data of a failure is that of a Forward_Open's.
+-- The application reply follows. The data of a failure is as for a Forward_Open.
 use Rattle.std.specs.Prelude.{◌≡◌, ◌≢◌, ◌==◌, ℕ, ◌*◌, ◌/◌, if◌then◌else◌, List, [], ◌∷◌, ◌++◌, length, slice_index, Option, Result}
 use Rattle.std.specs.Int.{Width, w8, w16, w32}
 use Rattle.cip_types.specs.declared.Fault.{Fault}
@@ -26,14 +26,14 @@ use Rattle.cip_fwdopen.specs.declared.close.CloseReply.{CloseReply}
 use Rattle.cip_fwdopen.specs.Readings.{IsReadingOf, IsReadingAmong, answer_of, number, seen}
 use Rattle.cip_fwdopen.specs.Reply.{reply_service, triad_widths, triad_numbers, IsFailureText, failure_reading, IsReplyText, unread_reading, reply_of}
 
--- a request to close, wherever its path lies in memory
+-- the contents of a Forward_Close
 pub record CloseFields : Type 0 where
   pub priority_tick : ℕ
   pub ticks : ℕ
   pub triad : Triad
   pub path : List ℕ
 
--- what a request says
+-- the contents of a request of the program
 abbrev pub view_close : CloseRequest → CloseFields
 view_close r = record { priority_tick = r.priority_tick; ticks = r.ticks; triad = r.triad; path = r.path.now }
 
@@ -47,7 +47,7 @@ close_widths = w8 ∷ w8 ∷ w16 ∷ w16 ∷ w32 ∷ w8 ∷ w8 ∷ []
 abbrev pub close_path_len : List ℕ → ℕ
 close_path_len numbers = 2 * slice_index numbers 5
 
--- the request that a fixed part and a path are
+-- the request of a fixed part and a path
 abbrev pub close_of : Tailed → CloseFields
 close_of text = record {
   priority_tick = number text 0;
@@ -56,11 +56,11 @@ close_of text = record {
   path = text.1;
 }
 
--- the text is the data of a request: its fixed part, and as many words of path as that says
+-- the text is the data of a request: its fixed part, and as many words of path as it states
 abbrev pub IsCloseText : List ℕ → CloseFields → Type 0
 IsCloseText = IsImage close_of (IsTailedText close_widths close_path_len)
 
--- the answer is a reading of the bytes as the data of a request
+-- the result is a reading of the bytes as the data of a request
 abbrev pub IsCloseReading : List ℕ → Result CloseFields ReadFault → Type 0
 IsCloseReading = IsReadingOf IsCloseText
 
@@ -72,7 +72,7 @@ close_reading bytes = answer_of (found_image close_of (tailed_found close_widths
 abbrev pub close_numbers : CloseFields → List ℕ
 close_numbers p = p.priority_tick ∷ p.ticks ∷ p.triad.serial ∷ p.triad.vendor ∷ p.triad.originator ∷ length p.path / 2 ∷ 0 ∷ []
 
--- the data of a request as it is written
+-- the written data of a request
 unfoldable pub close_text : CloseFields → List ℕ
 close_text p = fields_text close_widths (close_numbers p) ++ p.path
 
@@ -83,11 +83,11 @@ pub record CloseFits (p : CloseFields) : Type 0 where
 
 -- ---- replies
 
--- the reply that says that a connection is closed, with no application reply
+-- the reply to a successful close, with no application reply, of service 0x4E with the reply bit
 unfoldable pub closed_text : Triad → List ℕ
 closed_text triad = 0xCE ∷ 0 ∷ 0 ∷ 0 ∷ fields_text triad_widths (triad_numbers triad) ++ 0 ∷ 0 ∷ []
 
--- what the reply that says that a connection is closed says
+-- the contents of the reply to a successful close
 abbrev pub closed_reply : Triad → CloseReply
 closed_reply triad = record { service = 0xCE; answer = Closed triad }
 
@@ -103,15 +103,15 @@ closed_numbers t words reserved = t.serial ∷ t.vendor ∷ t.originator ∷ wor
 abbrev pub closed_application_len : List ℕ → ℕ
 closed_application_len numbers = 2 * slice_index numbers 3
 
--- the connection that a success's data names
+-- the triad of a success's data
 abbrev pub closed_of : Tailed → Triad
 closed_of text = record { serial = number text 0; vendor = number text 1; originator = number text 2 }
 
--- the text is the data of a success, its application reply left aside
+-- the text is the data of a success; its application reply is dropped
 abbrev pub IsClosedText : List ℕ → Triad → Type 0
 IsClosedText = IsImage closed_of (IsTailedText closed_widths closed_application_len)
 
--- the text is the data of what a reply with the fault says; general status 0 is a success
+-- the text is the data of a reply with the fault and the answer; general status 0 is a success
 abbrev pub IsCloseAnswerText : Fault → List ℕ → CloseAnswer → Type 0
 IsCloseAnswerText fault text (Closed triad) = (fault.general ≡ 0) × IsClosedText text triad
 IsCloseAnswerText fault text (Refused r) = (fault.general ≢ 0) × (r.fault ≡ fault) × IsFailureText text r.triad
@@ -120,7 +120,7 @@ IsCloseAnswerText fault text (Refused r) = (fault.general ≢ 0) × (r.fault ≡
 abbrev pub IsCloseReplyText : List ℕ → CloseReply → Type 0
 IsCloseReplyText text r = IsReplyText IsCloseAnswerText text r.service r.answer
 
--- the answer is a reading of the bytes as a reply
+-- the result is a reading of the bytes as a reply
 abbrev pub IsCloseReplyReading : List ℕ → Result CloseReply ReadFault → Type 0
 IsCloseReplyReading = IsReadingAmong IsCloseReplyText
 
@@ -128,11 +128,11 @@ IsCloseReplyReading = IsReadingAmong IsCloseReplyText
 abbrev pub closed_reading : List ℕ → Result Triad ReadFault
 closed_reading bytes = answer_of (found_image closed_of (tailed_found closed_widths closed_application_len bytes))
 
--- the refusal with the fault, by the connection that its data names
+-- the refusal with the fault, by the triad of its data
 abbrev pub unclosed_by : Fault → Option Triad → CloseAnswer
 unclosed_by fault triad = Refused (record { fault = fault; triad = triad })
 
--- what the reply that refuses a request of the service says, as a reply to a request to close
+-- the contents of the reply that refuses a request of the service, as a reply to a Forward_Close
 abbrev pub refused_close : ℕ → Fault → Option Triad → CloseReply
 refused_close service fault triad = record { service = reply_service service; answer = unclosed_by fault triad }
 
@@ -140,7 +140,7 @@ refused_close service fault triad = record { service = reply_service service; an
 abbrev pub close_answer_reading : Fault → List ℕ → Result CloseAnswer ReadFault
 close_answer_reading fault bytes = if fault.general == 0 then seen Closed (closed_reading bytes) else seen (unclosed_by fault) (failure_reading bytes)
 
--- the reply whose data was read
+-- the reply of a service and an answer
 abbrev pub with_close_answer : ℕ → CloseAnswer → CloseReply
 with_close_answer service answer = record { service = service; answer = answer }
 

@@ -7,3 +7,4 @@ pub mod Reply
 pub mod Close
 pub mod Get
 pub mod ReadsBack
+pub mod Services

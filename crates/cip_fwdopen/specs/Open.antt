@@ -1,7 +1,7 @@
 -- The data of a Forward_Open and of a Large_Forward_Open (Volume 1, chapter 3, Forward_Open and
 -- Large_Forward_Open services).
 --
---   place    width      what
+--   place    width      field
 --   0, 1     1, 1       priority and time tick, time-out ticks
 --   2, 3     4, 4       O->T and T->O connection id
 --   4 to 6   2, 2, 4    connection serial number, originator's vendor and serial number
@@ -12,7 +12,7 @@
 --   15       1          transport class and trigger
 --   16       1          words of the path
 --
--- Then comes the path. Connection parameters have 4 bytes in a Large_Forward_Open.
+-- The path follows. Connection parameters have 4 bytes in a Large_Forward_Open.
 use Rattle.std.specs.Prelude.{◌≡◌, ℕ, ◌*◌, ◌/◌, ◌≤◌, Bool, if◌then◌else◌, List, [], ◌∷◌, ◌++◌, length, slice_index, Result}
 use Rattle.std.specs.Int.{Width, w8, w16, w32}
 use Rattle.cip_types.specs.declared.ConnId.{ConnId}
@@ -25,7 +25,7 @@ use Rattle.cip_fwdopen.specs.declared.fault.ReadFault.{ReadFault}
 use Rattle.cip_fwdopen.specs.declared.open.OpenRequest.{OpenRequest}
 use Rattle.cip_fwdopen.specs.Readings.{IsReadingOf, answer_of, number}
 
--- a request, wherever its path lies in memory
+-- the contents of a request
 pub record OpenFields : Type 0 where
   pub priority_tick : ℕ
   pub ticks : ℕ
@@ -40,7 +40,7 @@ pub record OpenFields : Type 0 where
   pub trigger : ℕ
   pub path : List ℕ
 
--- what a request says
+-- the contents of a request of the program
 abbrev pub view_open : OpenRequest → OpenFields
 view_open r = record {
   priority_tick = r.priority_tick;
@@ -59,7 +59,7 @@ view_open r = record {
 
 -- ---- reading
 
--- how wide a word of connection parameters is
+-- the width of a word of connection parameters
 abbrev pub params_width : Bool → Width
 params_width large = if large then w32 else w16
 
@@ -73,11 +73,11 @@ open_widths large =
 abbrev pub path_len : List ℕ → ℕ
 path_len numbers = 2 * slice_index numbers 16
 
--- the connection parameters that a word carries
+-- the connection parameters of a word
 abbrev pub params_of : Bool → ℕ → NetParams
 params_of large word = if large then params32 word else params16 word
 
--- the request that a fixed part and a path are
+-- the request of a fixed part and a path
 abbrev pub open_of : Bool → Tailed → OpenFields
 open_of large text = record {
   priority_tick = number text 0;
@@ -94,11 +94,11 @@ open_of large text = record {
   path = text.1;
 }
 
--- the text is the data of a request: its fixed part, and as many words of path as that says
+-- the text is the data of a request: its fixed part, and as many words of path as it states
 abbrev pub IsOpenText : Bool → List ℕ → OpenFields → Type 0
 IsOpenText large = IsImage (open_of large) (IsTailedText (open_widths large) path_len)
 
--- the answer is a reading of the bytes as the data of a request
+-- the result is a reading of the bytes as the data of a request
 abbrev pub IsOpenReading : Bool → List ℕ → Result OpenFields ReadFault → Type 0
 IsOpenReading large = IsReadingOf (IsOpenText large)
 
@@ -108,11 +108,11 @@ open_reading large bytes = answer_of (found_image (open_of large) (tailed_found 
 
 -- ---- writing
 
--- the word that carries connection parameters, its spare bits zero
+-- the word of connection parameters, its spare bits zero
 abbrev pub params_word : Bool → NetParams → ℕ
 params_word large params = if large then word32 params 0 0 else word16 params 0
 
--- the greatest size that connection parameters can have
+-- the greatest size of connection parameters
 abbrev pub greatest_size : Bool → ℕ
 greatest_size large = if large then 65535 else 511
 
@@ -122,7 +122,7 @@ open_numbers large p =
     p.priority_tick ∷ p.ticks ∷ p.o_t_id.0 ∷ p.t_o_id.0 ∷ p.triad.serial ∷ p.triad.vendor ∷ p.triad.originator ∷ p.multiplier ∷ 0 ∷ 0 ∷ 0
     ∷ p.o_t_rpi ∷ params_word large p.o_t_params ∷ p.t_o_rpi ∷ params_word large p.t_o_params ∷ p.trigger ∷ length p.path / 2 ∷ []
 
--- the data of a request as it is written
+-- the written data of a request
 unfoldable pub open_text : Bool → OpenFields → List ℕ
 open_text large p = fields_text (open_widths large) (open_numbers large p) ++ p.path
 

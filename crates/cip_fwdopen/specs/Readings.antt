@@ -1,16 +1,15 @@
--- What reading bytes as a text of some format answers (Volume 1, chapter 3, not enough data, too much
--- data).
+-- The results of reading bytes in a format (Volume 1, chapter 3, not enough data, too much data).
 use Rattle.std.specs.Prelude.{ℕ, List, Result, Ok, Err, slice_index}
 use Rattle.cip_types.specs.Texts.{Lacks, Exceeds, Found, whole, short, long, Tailed}
 use Rattle.cip_fwdopen.specs.declared.fault.ReadFault.{ReadFault}
 use Rattle.cip_fwdopen.specs.declared.fault.ReadFault.TheVariants.{NotEnough, TooMuch, Path}
 
--- an answer with its value seen by view
+-- a result, with its value seen by view
 abbrev pub seen : {X Y : Type 0} → (X → Y) → Result X ReadFault → Result Y ReadFault
 seen view (Ok x) = Ok (view x)
 seen view (Err f) = Err f
 
--- the answer is a reading of the bytes, in a format that no text begins another of
+-- the result is a reading of the bytes, in a format where no text begins another
 abbrev pub IsReadingOf : {P : Type 0} → (List ℕ → P → Type 0) → List ℕ → Result P ReadFault → Type 0
 IsReadingOf IsText bytes (Ok p) = IsText bytes p
 IsReadingOf IsText bytes (Err NotEnough) = Lacks IsText bytes
@@ -21,15 +20,15 @@ IsReadingOf IsText bytes (Err (Path f)) = ⊥
 abbrev pub IsNoText : {P : Type 0} → (List ℕ → P → Type 0) → List ℕ → Type 0
 IsNoText {P} IsText bytes = (p : P) → IsText bytes p → ⊥
 
--- the answer is a reading of the bytes, in a format whose texts may begin others: bytes that are a text
--- read as that, bytes that are none and begin one are not enough, others too much
+-- the result is a reading of the bytes, in a format whose texts may begin others: a text reads as itself, bytes that
+-- are none and begin one are not enough, others are too much
 abbrev pub IsReadingAmong : {P : Type 0} → (List ℕ → P → Type 0) → List ℕ → Result P ReadFault → Type 0
 IsReadingAmong IsText bytes (Ok p) = IsText bytes p
 IsReadingAmong IsText bytes (Err NotEnough) = IsNoText IsText bytes × Lacks IsText bytes
 IsReadingAmong IsText bytes (Err TooMuch) = IsNoText IsText bytes × ¬ Lacks IsText bytes × Exceeds IsText bytes
 IsReadingAmong IsText bytes (Err (Path f)) = ⊥
 
--- how bytes stand to the texts of a format, as an answer
+-- bytes against the texts of a format, as a result
 abbrev pub answer_of : {P : Type 0} → Found P → Result P ReadFault
 answer_of (whole p) = Ok p
 answer_of short = Err NotEnough

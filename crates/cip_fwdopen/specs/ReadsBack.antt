@@ -1,4 +1,4 @@
--- What is written is read as the same value: laws of the definitions alone, which `reads_back` promises
+-- A written value is read back: laws of the definitions alone, which `reads_back` promises
 -- (Volume 1, chapter 3, Forward_Open and Forward_Close services; appendix A, Get_Attribute_Single service).
 use Rattle.std.specs.Prelude.{◌≡◌, ℕ, Bool, List, Option, Ok}
 use Rattle.cip_types.specs.declared.Fault.{Fault}
@@ -16,15 +16,15 @@ use Rattle.cip_fwdopen.specs.Get.{get_text, get_request, got_text, got_reply, re
 abbrev pub OpenReadsBack : Type 0
 OpenReadsBack = (large : Bool) (p : OpenFields) → OpenFits large p → open_reading large (open_text large p) ≡ Ok p
 
--- the reply that says that a connection is open
+-- the reply to a successful open
 abbrev pub OpenedReadsBack : Type 0
 OpenedReadsBack = (large : Bool) (o : Opened) → OpenedFits o → open_reply_reading (opened_text large o) ≡ Ok (opened_reply large o)
 
--- the reply that refuses a request, read as a reply to a request to open
+-- the reply that refuses a request, read as a reply to a Forward_Open
 abbrev pub RefusedReadsBack : Type 0
 RefusedReadsBack = (service : ℕ) (fault : Fault) (named : Option Triad) → RefusedFits fault named → open_reply_reading (refused_text service fault named) ≡ Ok (refused_reply service fault named)
 
--- the same, read as a reply to a request to close
+-- the same, read as a reply to a Forward_Close
 abbrev pub RefusedCloseReadsBack : Type 0
 RefusedCloseReadsBack = (service : ℕ) (fault : Fault) (named : Option Triad) → RefusedFits fault named → close_reply_reading (refused_text service fault named) ≡ Ok (refused_close service fault named)
 
@@ -36,7 +36,7 @@ RefusedGetReadsBack = (service : ℕ) (fault : Fault) (named : Option Triad) →
 abbrev pub CloseReadsBack : Type 0
 CloseReadsBack = (p : CloseFields) → CloseFits p → close_reading (close_text p) ≡ Ok p
 
--- the reply that says that a connection is closed
+-- the reply to a successful close
 abbrev pub ClosedReadsBack : Type 0
 ClosedReadsBack = (t : Triad) → TriadFits t → close_reply_reading (closed_text t) ≡ Ok (closed_reply t)
 
@@ -44,6 +44,6 @@ ClosedReadsBack = (t : Triad) → TriadFits t → close_reply_reading (closed_te
 abbrev pub GetReadsBack : Type 0
 GetReadsBack = (t : Target) → TargetFits t → request_reading (get_text t) ≡ Ok (get_request t)
 
--- the reply that has a value
+-- the reply with a value
 abbrev pub GotReadsBack : Type 0
 GotReadsBack = (bytes : List ℕ) → get_reply_reading (got_text bytes) ≡ Ok (got_reply bytes)

@@ -1,8 +1,8 @@
 -- Replies to a Forward_Open and to a Large_Forward_Open (Volume 1, chapter 3, Forward_Open service,
 -- successful and unsuccessful response; chapter 2, message router response).
 --
--- A reply: service with its highest bit set (1 byte), a reserved byte, the general status (1), the
--- number of additional words (1), these words (2 each), data.
+-- A reply: service with the reply bit 0x80 (1 byte), a reserved byte, the general status (1), the number of words of
+-- the extended status (1), these words (2 each), data.
 --
 --   place  width    data of a success
 --   0, 1   4, 4     O->T and T->O connection id
@@ -10,8 +10,8 @@
 --   5, 6   4, 4     O->T and T->O actual packet interval
 --   7, 8   1, 1     words of the application reply, reserved
 --
--- Then comes the application reply. Data of a failure: the three numbers that name the connection
--- (2, 2, 4), remaining path size and a reserved byte (1, 1); or the three numbers alone; or nothing.
+-- The application reply follows. Data of a failure: the triad of the connection (2, 2, 4), remaining path size and a
+-- reserved byte (1, 1); or the triad alone; or nothing.
 use Rattle.std.specs.Prelude.{◌≡◌, ◌≢◌, ◌==◌, ℕ, ◌+◌, ◌*◌, ◌%◌, ◌^◌, ◌<◌, ◌⊎◌, Bool, ◌||◌, if◌then◌else◌, List, [], ◌∷◌, ◌++◌, length, slice_index, Option, Some, None, IfSome, Result, Ok, Err}
 use Rattle.std.specs.Option.{option_map}
 use Rattle.std.specs.Int.{Width, w8, w16, w32, to_le_bytes}
@@ -42,28 +42,28 @@ opened_widths = w32 ∷ w32 ∷ w16 ∷ w16 ∷ w32 ∷ w32 ∷ w32 ∷ w8 ∷ w
 abbrev pub opened_numbers : made.Opened → ℕ → ℕ → List ℕ
 opened_numbers o words reserved = o.o_t_id.0 ∷ o.t_o_id.0 ∷ o.triad.serial ∷ o.triad.vendor ∷ o.triad.originator ∷ o.o_t_api_us ∷ o.t_o_api_us ∷ words ∷ reserved ∷ []
 
--- the service byte of a reply to a Large_Forward_Open or to a Forward_Open
+-- the service byte of a reply to a Large_Forward_Open (0x5B) or to a Forward_Open (0x54), with the reply bit
 abbrev pub opened_service : Bool → ℕ
 opened_service large = if large then 0xDB else 0xD4
 
--- the reply that says that a connection is open, with no application reply
+-- the reply to a successful open, with no application reply
 unfoldable pub opened_text : Bool → made.Opened → List ℕ
 opened_text large o = opened_service large ∷ 0 ∷ 0 ∷ 0 ∷ fields_text opened_widths (opened_numbers o 0 0)
 
--- what the reply that says that a connection is open says
+-- the contents of the reply to a successful open
 abbrev pub opened_reply : Bool → made.Opened → OpenReply
 opened_reply large o = record { service = opened_service large; answer = Opened o }
 
--- the number of additional words, and these
+-- the number of words of the extended status, and these words
 abbrev pub extended_text : Option ℕ → List ℕ
 extended_text None = 0 ∷ []
 extended_text (Some code) = 1 ∷ to_le_bytes w16 code
 
--- the widths of the numbers that name a connection
+-- the widths of the numbers of a triad
 abbrev pub triad_widths : List Width
 triad_widths = w16 ∷ w16 ∷ w32 ∷ []
 
--- the numbers that name a connection
+-- the numbers of a triad
 abbrev pub triad_numbers : Triad → List ℕ
 triad_numbers t = t.serial ∷ t.vendor ∷ t.originator ∷ []
 
@@ -76,17 +76,17 @@ failure_text (Some t) = fields_text triad_widths (triad_numbers t) ++ 0 ∷ 0 �
 unfoldable pub refused_text : ℕ → Fault → Option Triad → List ℕ
 refused_text service fault triad = reply_service service ∷ 0 ∷ fault.general ∷ extended_text fault.extended ++ failure_text triad
 
--- what the reply that refuses a request of the service says
+-- the contents of the reply that refuses a request of the service
 abbrev pub refused_reply : ℕ → Fault → Option Triad → OpenReply
 refused_reply service fault triad = record { service = reply_service service; answer = Refused (record { fault = fault; triad = triad }) }
 
--- ---- what texts say
+-- ---- texts
 
--- service, reserved byte, general status, number of additional words
+-- service, reserved byte, general status, number of words of the extended status
 abbrev pub reply_widths : List Width
 reply_widths = w8 ∷ w8 ∷ w8 ∷ w8 ∷ []
 
--- bytes of the additional words
+-- bytes of the extended status
 abbrev pub extended_len : List ℕ → ℕ
 extended_len numbers = 2 * slice_index numbers 3
 
@@ -94,7 +94,7 @@ extended_len numbers = 2 * slice_index numbers 3
 abbrev pub IsReplyFront : List ℕ → Tailed → Type 0
 IsReplyFront = IsTailedText reply_widths extended_len
 
--- the fault that a reply names: of the additional words the first alone is kept
+-- the fault of a reply, with the first word of the extended status
 abbrev pub fault_of : Tailed → Fault
 fault_of front = record { general = number front 2; extended = option_map (λ x. x.0) (field_at w16 front.1) }
 
@@ -102,7 +102,7 @@ fault_of front = record { general = number front 2; extended = option_map (λ x.
 abbrev pub application_len : List ℕ → ℕ
 application_len numbers = 2 * slice_index numbers 7
 
--- what a success's data says
+-- the contents of a success's data
 abbrev pub opened_of : Tailed → made.Opened
 opened_of text = record {
   o_t_id = record { 0 = number text 0 };
@@ -112,7 +112,7 @@ opened_of text = record {
   t_o_api_us = number text 6;
 }
 
--- the text is the data of a success, its application reply left aside
+-- the text is the data of a success; its application reply is dropped
 abbrev pub IsOpenedText : List ℕ → made.Opened → Type 0
 IsOpenedText = IsImage opened_of (IsTailedText opened_widths application_len)
 
@@ -120,12 +120,12 @@ IsOpenedText = IsImage opened_of (IsTailedText opened_widths application_len)
 abbrev pub IsFailureRest : List ℕ → Type 0
 IsFailureRest rest = (length rest ≡ 0) ⊎ (length rest ≡ 2)
 
--- the text is the data of a failure, which names the connection or does not
+-- the text is the data of a failure, with or without a triad
 abbrev pub IsFailureText : List ℕ → Option Triad → Type 0
 IsFailureText text None = text ≡ []
 IsFailureText text (Some t) = AreFields triad_widths (triad_numbers t) × ((rest : List ℕ) × IsFailureRest rest × (text ≡ fields_text triad_widths (triad_numbers t) ++ rest))
 
--- the text is the data of what a reply with the fault says; general status 0 is a success
+-- the text is the data of a reply with the fault and the answer; general status 0 is a success
 abbrev pub IsAnswerText : Fault → List ℕ → OpenAnswer → Type 0
 IsAnswerText fault text (Opened o) = (fault.general ≡ 0) × IsOpenedText text o
 IsAnswerText fault text (Refused r) = (fault.general ≢ 0) × (r.fault ≡ fault) × IsFailureText text r.triad
@@ -138,17 +138,17 @@ IsReplyText IsAnswer text service answer = (front : Tailed) × (rest : List ℕ)
 abbrev pub IsOpenReplyText : List ℕ → OpenReply → Type 0
 IsOpenReplyText text r = IsReplyText IsAnswerText text r.service r.answer
 
--- the answer is a reading of the bytes as a reply to a request to open
+-- the result is a reading of the bytes as a reply to a Forward_Open
 abbrev pub IsOpenReplyReading : List ℕ → Result OpenReply ReadFault → Type 0
 IsOpenReplyReading = IsReadingAmong IsOpenReplyText
 
 -- ---- reading
 
--- the connection that the numbers name
+-- the triad of the numbers
 abbrev pub triad_of : List ℕ → Triad
 triad_of numbers = record { serial = slice_index numbers 0; vendor = slice_index numbers 1; originator = slice_index numbers 2 }
 
--- what a failure's data says, by the numbers in front of it and what stands behind them
+-- the reading of a failure's data, by the numbers at its front and the bytes after them
 abbrev pub failure_of : Option Tailed → Result (Option Triad) ReadFault
 failure_of None = Err NotEnough
 failure_of (Some x) =
@@ -165,7 +165,7 @@ failure_reading (b ∷ bytes) = failure_of (fields_at triad_widths (b ∷ bytes)
 abbrev pub opened_reading : List ℕ → Result made.Opened ReadFault
 opened_reading bytes = answer_of (found_image opened_of (tailed_found opened_widths application_len bytes))
 
--- the refusal with the fault, by the connection that its data names
+-- the refusal with the fault, by the triad of its data
 abbrev pub refused_by : Fault → Option Triad → OpenAnswer
 refused_by fault triad = Refused (record { fault = fault; triad = triad })
 
@@ -173,7 +173,7 @@ refused_by fault triad = Refused (record { fault = fault; triad = triad })
 abbrev pub answer_reading : Fault → List ℕ → Result OpenAnswer ReadFault
 answer_reading fault bytes = if fault.general == 0 then seen Opened (opened_reading bytes) else seen (refused_by fault) (failure_reading bytes)
 
--- the reply whose data was read
+-- the reply of a service and an answer
 abbrev pub with_answer : ℕ → OpenAnswer → OpenReply
 with_answer service answer = record { service = service; answer = answer }
 
@@ -181,30 +181,30 @@ with_answer service answer = record { service = service; answer = answer }
 abbrev pub Unread : Type 0
 Unread = ℕ × Fault × List ℕ
 
--- the service and the fault that a front names, and the data behind it
+-- the service and the fault of a front, and the data after it
 abbrev pub unread : Tailed × List ℕ → Unread
 unread x = (number x.0 0, fault_of x.0, x.1)
 
--- what bytes that are a reply say before their data is read; None where they end before it
+-- the reading of a reply up to its data; None where the bytes end before it
 unfoldable pub unread_reading : List ℕ → Option Unread
 unread_reading bytes = option_map unread (front_at reply_widths extended_len bytes)
 
--- the reply that make makes of the service and of what read answers to the data
+-- the reply that make makes of the service and of the result of read on the data
 abbrev pub reply_of : {A R : Type 0} → (ℕ → A → R) → (Fault → List ℕ → Result A ReadFault) → Option Unread → Result R ReadFault
 reply_of make read None = Err NotEnough
 reply_of make read (Some x) = seen (make x.0) (read x.1 x.2)
 
--- the reading of bytes as a reply to a request to open
+-- the reading of bytes as a reply to a Forward_Open
 unfoldable pub open_reply_reading : List ℕ → Result OpenReply ReadFault
 open_reply_reading bytes = reply_of with_answer answer_reading (unread_reading bytes)
 
 -- ---- what fits
 
--- each number of what is said of an opened connection fits its field
+-- each number of an opened connection fits its field
 abbrev pub OpenedFits : made.Opened → Type 0
 OpenedFits o = AreFields opened_widths (opened_numbers o 0 0)
 
--- each number that names a connection fits its field
+-- each number of a triad fits its field
 abbrev pub TriadFits : Triad → Type 0
 TriadFits t = AreFields triad_widths (triad_numbers t)
 

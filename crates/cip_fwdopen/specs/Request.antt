@@ -1,7 +1,6 @@
 -- Requests to the message router (Volume 1, chapter 2, message router request).
 --
--- A request: service (1 byte), words of the path (1), the path, and then the body, which is whatever
--- bytes are left.
+-- A request: service (1 byte), words of the path (1), the path, and the body, which is all bytes that are left.
 use Rattle.std.specs.Prelude.{◌≡◌, ℕ, ◌*◌, List, [], ◌∷◌, slice_index, Option, Some, None, Result, Ok, Err}
 use Rattle.std.specs.Int.{Width, w8}
 use Rattle.cip_types.specs.Texts.{Lacks, Tailed, IsTailedText}
@@ -15,13 +14,13 @@ use Rattle.cip_fwdopen.specs.declared.message.Request.{Request}
 use Rattle.cip_fwdopen.specs.Readings.{number}
 use Rattle.cip_fwdopen.specs.Front.{Begins, front_at}
 
--- a request, wherever its body lies in memory
+-- the contents of a request
 pub record RequestFields : Type 0 where
   pub service : ℕ
   pub target : Target
   pub body : List ℕ
 
--- what a request says
+-- the contents of a request of the program
 abbrev pub view_request : Request → RequestFields
 view_request r = record { service = r.service; target = r.target; body = r.body.now }
 
@@ -41,14 +40,14 @@ IsRequestFront = IsTailedText request_widths request_path_len
 abbrev pub IsRequestText : List ℕ → RequestFields → Type 0
 IsRequestText text r = (front : Tailed) × Begins IsRequestFront text front r.body × (r.service ≡ number front 0) × IsTextOf IsTarget front.1 r.target
 
--- the answer is a reading of the bytes as a request: they end before the path does, or the path is none
+-- the result is a reading of the bytes as a request; the faults: they end before the path does, or the path is none
 abbrev pub IsRequestReading : List ℕ → Result RequestFields ReadFault → Type 0
 IsRequestReading bytes (Ok r) = IsRequestText bytes r
 IsRequestReading bytes (Err NotEnough) = Lacks IsRequestFront bytes
 IsRequestReading bytes (Err TooMuch) = ⊥
 IsRequestReading bytes (Err (Path f)) = (front : Tailed) × (body : List ℕ) × Begins IsRequestFront bytes front body × HasFault IsTarget front.1 f
 
--- the request whose path was read
+-- the request of a service, a body and a read path
 abbrev pub with_target : ℕ → List ℕ → Result Target PathFault → Result RequestFields ReadFault
 with_target service body (Ok target) = Ok (record { service = service; target = target; body = body })
 with_target service body (Err f) = Err (Path f)

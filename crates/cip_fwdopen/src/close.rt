@@ -9,13 +9,14 @@ ghost use Rattle.cip_fwdopen.specs.Close.{CloseFields, CloseFits, view_close, Is
 use crate::fault::ReadFault;
 use crate::front::{CloseFront, ClosedFront, unread_at};
 use crate::reply::{Refused, failure_of};
+use crate::service::{FORWARD_CLOSE, REPLY};
 use crate::write::put_triad;
 use cip_types::fields::{put_bytes, put_u8};
 use cip_types::{Fault, OutOfMemory, Triad};
 use std::alloc::Global;
 
-/// The bytes of the reply that says that a connection is closed.
-const CLOSED: usize = 14;
+/// The length of the reply to a successful close, in bytes.
+const CLOSED_LEN: usize = 14;
 
 /// The data of a Forward_Close.
 ///
@@ -27,11 +28,11 @@ pub struct CloseRequest<'a> {
     /// Its time-out, in ticks.
     pub ticks: u8,
     pub triad: Triad,
-    /// The connection path's bytes. They are not read.
+    /// The bytes of the connection path, not decoded.
     pub path: &'a [u8],
 }
 
-/// What a reply to a Forward_Close says.
+/// The answer of a reply to a Forward_Close.
 #[derive(Clone, Copy, PartialEq, Eq)]
 pub enum CloseAnswer {
     Closed(Triad),
@@ -69,7 +70,7 @@ fn whole_close(bytes: &[u8]) -> Result<CloseRequest<'_>, ReadFault>
     })
 }
 
-/// The request that the bytes are the data of. The reserved byte is not looked at.
+/// Reads the data of a Forward_Close. The reserved byte is not judged.
 ///
 /// NotEnough where the bytes end before the fields or the path do, TooMuch where bytes follow the
 /// path; never Path.
@@ -77,9 +78,9 @@ fn whole_close(bytes: &[u8]) -> Result<CloseRequest<'_>, ReadFault>
 /// Volume 1, chapter 3, Forward_Close service.
 pub fn read_close(bytes: &[u8]) -> Result<CloseRequest<'_>, ReadFault>
     ensures value { seen view_close result ≡ close_reading bytes.now }
-    // What is answered is a reading of the bytes.
+    // The result is a reading of the bytes.
     ensures reading { IsCloseReading bytes.now (seen view_close result) }
-    // There is no other.
+    // The bytes have no other reading.
     ensures only { (other : Result CloseFields ReadFault) → IsCloseReading bytes.now other → seen view_close result ≡ other }
 {
     whole_close(bytes)
@@ -124,26 +125,26 @@ fn whole_reply(bytes: &[u8]) -> Result<CloseReply, ReadFault>
     })
 }
 
-/// The reply that the bytes are. General status 0 says that the connection is closed; an application
-/// reply is left aside. With another one the fault keeps of the additional words the first alone, and
-/// the data names the connection (8 bytes, or 10, the last two not looked at) or is empty. Neither the
-/// service nor a reserved byte is judged.
+/// Reads a reply to a Forward_Close. General status 0 means that the connection is closed; the application
+/// reply is dropped. With any other status the fault keeps the first word of the extended status, and the
+/// data is the connection's triad (8 bytes, or 10, of which the last two are not judged) or empty. Neither
+/// the service nor a reserved byte is judged.
 ///
-/// NotEnough where the bytes are no reply and a longer reply begins so; TooMuch where they are none,
-/// none begins so, and a reply stands in front of them; never Path.
+/// NotEnough where the bytes are no reply but the front of one; TooMuch where they are neither, and begin
+/// with a reply; never Path.
 ///
 /// Volume 1, chapter 3, Forward_Close service, successful and unsuccessful response.
 pub fn read_close_reply(bytes: &[u8]) -> Result<CloseReply, ReadFault>
     ensures value { result ≡ close_reply_reading bytes.now }
-    // What is answered is a reading of the bytes.
+    // The result is a reading of the bytes.
     ensures reading { IsCloseReplyReading bytes.now result }
-    // There is no other.
+    // The bytes have no other reading.
     ensures only { (other : Result CloseReply ReadFault) → IsCloseReplyReading bytes.now other → result ≡ other }
 {
     whole_reply(bytes)
 }
 
-/// The data of a Forward_Close.
+/// The bytes of a Forward_Close's data.
 fn close_bytes(alloc: Global, request: &CloseRequest<'_>) -> Result<Vec<u8>, OutOfMemory>
     requires whole_words { length request.now.path.now % 2 ≡ 0 }
     requires short { length request.now.path.now ≤ 510 }
@@ -158,8 +159,8 @@ fn close_bytes(alloc: Global, request: &CloseRequest<'_>) -> Result<Vec<u8>, Out
     Ok(out)
 }
 
-/// The data of a Forward_Close, with the reserved byte zero. The path has to be whole words, of which
-/// there are at most 255. OutOfMemory where memory is refused, as of the other writers.
+/// Writes the data of a Forward_Close, with the reserved byte zero. The path has whole words, at most 255.
+/// OutOfMemory is the only fault of this and the other writers.
 ///
 /// Volume 1, chapter 3, Forward_Close service.
 pub fn write_close(alloc: Global, request: &CloseRequest<'_>) -> Result<Vec<u8>, OutOfMemory>
@@ -172,18 +173,18 @@ pub fn write_close(alloc: Global, request: &CloseRequest<'_>) -> Result<Vec<u8>,
     close_bytes(alloc, request)
 }
 
-/// The whole reply that says that a connection is closed.
+/// The bytes of the reply to a successful close.
 fn closed_bytes(alloc: Global, triad: Triad) -> Result<Vec<u8>, OutOfMemory>
     ensures { IfOk result (λ v. v.items ≡ closed_text triad) }
 {
-    let mut out = Vec::with_capacity(alloc, CLOSED)?;
-    put_bytes(&mut out, &[0xCE, 0, 0, 0])?;
+    let mut out = Vec::with_capacity(alloc, CLOSED_LEN)?;
+    put_bytes(&mut out, &[FORWARD_CLOSE | REPLY, 0, 0, 0])?;
     put_triad(&mut out, triad)?;
     put_bytes(&mut out, &[0, 0])?;
     Ok(out)
 }
 
-/// The whole reply that says that a connection is closed, with no application reply.
+/// Writes the reply to a successful close, with no application reply.
 ///
 /// Volume 1, chapter 3, Forward_Close service, successful response.
 pub fn write_closed(alloc: Global, triad: Triad) -> Result<Vec<u8>, OutOfMemory>

@@ -1,9 +1,9 @@
-//! Why bytes do not read.
+//! The faults of bytes that are no request or reply.
 
 use cip_epath::PathFault;
 use thiserror::Error;
 
-/// Why bytes are no request or reply.
+/// The fault of bytes that are no request or reply.
 #[derive(Clone, Copy, Debug, PartialEq, Eq, Error)]
 pub enum ReadFault {
     /// Bytes are missing at the end.
@@ -12,7 +12,7 @@ pub enum ReadFault {
     /// Bytes follow the last field.
     #[error("too much data")]
     TooMuch,
-    /// The path of a request does not read.
+    /// The path of a request is unreadable.
     #[error("unreadable path: {0}")]
     Path(PathFault),
 }

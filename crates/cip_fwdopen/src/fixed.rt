@@ -4,7 +4,7 @@ ghost use Rattle.cip_types.specs.Fields.{Finds, fields_at};
 
 use cip_types::fields::{u16_in, u32_in};
 
-/// What stands before the path. The connection parameters are words that are not read yet.
+/// The fields before the path. The connection parameters are words, not yet decoded.
 #[derive(Clone, Copy)]
 pub struct OpenFront {
     pub priority_tick: u8,
@@ -29,7 +29,8 @@ impl OpenFront {
     ghost use Rattle.cip_fwdopen.specs.Numbers.{numbers_of};
     ghost use Rattle.cip_fwdopen.specs.Open.{open_widths};
 
-    /// The fixed part of a Forward_Open's data at the front, and the bytes after it.
+    /// The fixed part of a Forward_Open's data at the front, and the bytes after it. None where there are fewer
+    /// than its 36 bytes.
     fn short_at(bytes: &[u8]) -> Option<(OpenFront, &[u8])>
         ensures { Finds (λ x. (numbers_of x.0, x.1.now)) result (fields_at (open_widths false) bytes.now) }
     {
@@ -56,7 +57,8 @@ impl OpenFront {
         Some((fixed, &bytes[36..]))
     }
 
-    /// The fixed part of a Large_Forward_Open's data at the front, and the bytes after it.
+    /// The fixed part of a Large_Forward_Open's data at the front, and the bytes after it. None where there are
+    /// fewer than its 40 bytes.
     fn large_at(bytes: &[u8]) -> Option<(OpenFront, &[u8])>
         ensures { Finds (λ x. (numbers_of x.0, x.1.now)) result (fields_at (open_widths true) bytes.now) }
     {
@@ -83,7 +85,7 @@ impl OpenFront {
         Some((fixed, &bytes[40..]))
     }
 
-    /// The fixed part at the front, and the bytes after it.
+    /// The fixed part at the front, and the bytes after it. None where the bytes are fewer.
     pub fn at(large: bool, bytes: &[u8]) -> Option<(OpenFront, &[u8])>
         ensures { Finds (λ x. (numbers_of x.0, x.1.now)) result (fields_at (open_widths large) bytes.now) }
     {

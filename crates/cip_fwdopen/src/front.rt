@@ -10,7 +10,7 @@ use crate::reply::{Opened, triad_in};
 use cip_types::fields::{u16_at, u32_in};
 use cip_types::{ConnId, Fault, Triad};
 
-/// What stands before the additional words of a reply.
+/// The fields before the extended status of a reply.
 #[derive(Clone, Copy)]
 pub struct ReplyFront {
     pub service: u8,
@@ -40,11 +40,11 @@ impl ReplyFront {
     }
 }
 
-/// A reply whose data is not read.
+/// A reply whose data is not yet read.
 #[derive(Clone, Copy)]
 pub struct Unread<'a> {
     pub service: u8,
-    /// The general status, and of the additional words the first.
+    /// The general status, and the first word of the extended status.
     pub fault: Fault,
     pub content: &'a [u8],
 }
@@ -56,7 +56,7 @@ fn first_word(words: &[u8]) -> Option<u16>
     Some(word)
 }
 
-/// The reply that the bytes are, but for its data. None where they end before the data.
+/// Reads a reply up to its data. None where the bytes end before the data.
 pub fn unread_at(bytes: &[u8]) -> Option<Unread<'_>>
     ensures { Finds (λ x. (x.service, x.fault, x.content.now)) result (unread_reading bytes.now) }
 {
@@ -77,7 +77,7 @@ pub fn unread_at(bytes: &[u8]) -> Option<Unread<'_>>
     })
 }
 
-/// What stands before the application reply of a success.
+/// The fields before the application reply of a success.
 #[derive(Clone, Copy)]
 pub struct Success {
     pub opened: Opened,
@@ -112,7 +112,7 @@ impl Success {
     }
 }
 
-/// What stands before the path of a request to close.
+/// The fields before the path of a Forward_Close.
 #[derive(Clone, Copy)]
 pub struct CloseFront {
     pub priority_tick: u8,
@@ -144,7 +144,7 @@ impl CloseFront {
     }
 }
 
-/// What stands before the application reply of a success of closing.
+/// The fields before the application reply of a successful close.
 #[derive(Clone, Copy)]
 pub struct ClosedFront {
     pub triad: Triad,

@@ -9,15 +9,16 @@ ghost use Rattle.cip_fwdopen.specs.Get.{GetFields, get_text, get_request, got_te
 use crate::fault::ReadFault;
 use crate::front::unread_at;
 use crate::reply::failure_of;
+use crate::service::{GET_ATTRIBUTE_SINGLE, REPLY};
 use cip_epath::{Target, write_target};
 use cip_types::fields::put_bytes;
 use cip_types::{Fault, OutOfMemory};
 use std::alloc::Global;
 
-/// What a reply to a Get_Attribute_Single says.
+/// The answer of a reply to a Get_Attribute_Single.
 #[derive(Clone, Copy, PartialEq, Eq)]
 pub enum GetAnswer<'a> {
-    /// The attribute's value. It is not read.
+    /// The attribute's value, not decoded.
     Got(&'a [u8]),
     Refused(Fault),
 }
@@ -38,7 +39,8 @@ fn answer_of(fault: Fault, bytes: &[u8]) -> Result<GetAnswer<'_>, ReadFault>
     if fault.general == 0 {
         return Ok(GetAnswer::Got(bytes));
     }
-    let _named = failure_of(bytes)?;
+    // The data has to be that of a failure. Its triad is dropped.
+    let _triad = failure_of(bytes)?;
     Ok(GetAnswer::Refused(fault))
 }
 
@@ -55,27 +57,26 @@ fn whole_reply(bytes: &[u8]) -> Result<GetReply<'_>, ReadFault>
     })
 }
 
-/// The reply that the bytes are. With general status 0 the value is whatever stands behind the
-/// additional words. With another one the fault keeps of these the first alone, and the data is that of
-/// any failure (10 bytes, or 8, or none, none of them looked at). Neither the service nor the reserved
-/// byte is judged.
+/// Reads a reply to a Get_Attribute_Single. With general status 0 the value is all bytes after the extended
+/// status. With any other status the fault keeps the first word of the extended status, and the data is that
+/// of any failure (10 bytes, 8 or none, not judged). Neither the service nor the reserved byte is judged.
 ///
-/// NotEnough where the bytes are no reply and a longer reply begins so; TooMuch where they are none,
-/// none begins so, and a reply stands in front of them; never Path.
+/// NotEnough where the bytes are no reply but the front of one; TooMuch where they are neither, and begin
+/// with a reply; never Path.
 ///
 /// Volume 1, appendix A, Get_Attribute_Single service, and chapter 2, message router response.
 pub fn read_get_reply(bytes: &[u8]) -> Result<GetReply<'_>, ReadFault>
     ensures value { seen view_get result ≡ get_reply_reading bytes.now }
-    // What is answered is a reading of the bytes.
+    // The result is a reading of the bytes.
     ensures reading { IsGetReplyReading bytes.now (seen view_get result) }
-    // There is no other.
+    // The bytes have no other reading.
     ensures only { (other : Result GetFields ReadFault) → IsGetReplyReading bytes.now other → seen view_get result ≡ other }
 {
     whole_reply(bytes)
 }
 
-/// The whole request for an attribute's value, its path in the least form. OutOfMemory where memory
-/// is refused, as of the other writers.
+/// Writes the whole request for an attribute's value, with the shortest path. OutOfMemory is the only fault of
+/// this and the other writers.
 ///
 /// Volume 1, appendix A, Get_Attribute_Single service, and chapter 2, message router request.
 pub fn write_get(alloc: Global, target: &Target) -> Result<Vec<u8>, OutOfMemory>
@@ -85,12 +86,12 @@ pub fn write_get(alloc: Global, target: &Target) -> Result<Vec<u8>, OutOfMemory>
 {
     let path = write_target(alloc, target)?;
     let mut out = Vec::new(alloc);
-    put_bytes(&mut out, &[0x0E, (path.len() / 2) as u8])?;
+    put_bytes(&mut out, &[GET_ATTRIBUTE_SINGLE, (path.len() / 2) as u8])?;
     put_bytes(&mut out, &path)?;
     Ok(out)
 }
 
-/// The whole reply that has an attribute's value.
+/// Writes the whole reply with an attribute's value.
 ///
 /// Volume 1, appendix A, Get_Attribute_Single service, successful response.
 pub fn write_got(alloc: Global, value: &[u8]) -> Result<Vec<u8>, OutOfMemory>
@@ -99,7 +100,7 @@ pub fn write_got(alloc: Global, value: &[u8]) -> Result<Vec<u8>, OutOfMemory>
     ensures read_back { IfOk result (λ v. get_reply_reading v.items ≡ Ok (got_reply value.now)) }
 {
     let mut out = Vec::new(alloc);
-    put_bytes(&mut out, &[0x8E, 0, 0, 0])?;
+    put_bytes(&mut out, &[GET_ATTRIBUTE_SINGLE | REPLY, 0, 0, 0])?;
     put_bytes(&mut out, value)?;
     Ok(out)
 }

@@ -1,5 +1,4 @@
-//! What is written is read as the same value. The call does nothing: its contract is the law of each
-//! format.
+//! The law of each format: a written value is read back. The call does nothing, and its contract is the law.
 
 ghost use Rattle.cip_fwdopen.specs.ReadsBack.{OpenReadsBack, OpenedReadsBack, RefusedReadsBack, RefusedCloseReadsBack, RefusedGetReadsBack, CloseReadsBack, ClosedReadsBack, GetReadsBack, GotReadsBack};
 

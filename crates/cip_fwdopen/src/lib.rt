@@ -10,6 +10,7 @@ mod laws;
 mod message;
 mod open;
 mod reply;
+pub mod service;
 mod write;
 
 pub use close::{

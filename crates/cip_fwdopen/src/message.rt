@@ -9,7 +9,7 @@ use crate::fault::ReadFault;
 use cip_epath::{Target, read_target};
 use cip_types::fields::u8_at;
 
-/// A request: a service, what it is for, and its data, which is not read.
+/// A request: a service, its target, and its data, which is not decoded.
 ///
 /// Volume 1, chapter 2, message router request.
 #[derive(Clone, Copy)]
@@ -43,17 +43,17 @@ fn whole_request(bytes: &[u8]) -> Result<Request<'_>, ReadFault>
     }
 }
 
-/// The request that the bytes are. Its body is whatever stands behind the path.
+/// Reads a request. Its body is all bytes after the path.
 ///
-/// NotEnough where the bytes end before the path does, as no bytes do; Path where the path's bytes
-/// name no target; never TooMuch.
+/// NotEnough where the bytes end before the path does, as no bytes do; Path where the path is that of no
+/// target; never TooMuch.
 ///
 /// Volume 1, chapter 2, message router request.
 pub fn read_request(bytes: &[u8]) -> Result<Request<'_>, ReadFault>
     ensures value { seen view_request result ≡ request_reading bytes.now }
-    // What is answered is a reading of the bytes.
+    // The result is a reading of the bytes.
     ensures reading { IsRequestReading bytes.now (seen view_request result) }
-    // There is no other.
+    // The bytes have no other reading.
     ensures only { (other : Result RequestFields ReadFault) → IsRequestReading bytes.now other → seen view_request result ≡ other }
 {
     whole_request(bytes)

@@ -23,15 +23,15 @@ pub struct OpenRequest<'a> {
     pub o_t_id: ConnId,
     pub t_o_id: ConnId,
     pub triad: Triad,
-    /// The connection timeout multiplier's code.
+    /// The code of the connection timeout multiplier, 0 to 7.
     pub multiplier: u8,
     pub o_t_rpi: u32,
     pub o_t_params: NetParams,
     pub t_o_rpi: u32,
     pub t_o_params: NetParams,
-    /// The transport class and trigger byte. It is not read.
+    /// The transport class and trigger byte, not decoded.
     pub trigger: u8,
-    /// The connection path's bytes. They are not read.
+    /// The bytes of the connection path, not decoded.
     pub path: &'a [u8],
 }
 
@@ -84,8 +84,8 @@ fn whole_open(large: bool, bytes: &[u8]) -> Result<OpenRequest<'_>, ReadFault>
     Ok(request_of(large, fixed, rest))
 }
 
-/// The request that the bytes are the data of: of a Large_Forward_Open, whose words of connection
-/// parameters have 32 bits, or of a Forward_Open, whose have 16. Reserved bytes are not looked at.
+/// Reads the data of a Large_Forward_Open, whose connection parameters have 32 bits, or of a Forward_Open,
+/// whose connection parameters have 16. Reserved bytes are not judged.
 ///
 /// NotEnough where the bytes end before the fields or the path do, TooMuch where bytes follow the
 /// path; never Path.
@@ -93,9 +93,9 @@ fn whole_open(large: bool, bytes: &[u8]) -> Result<OpenRequest<'_>, ReadFault>
 /// Volume 1, chapter 3, Forward_Open and Large_Forward_Open services.
 pub fn read_open(large: bool, bytes: &[u8]) -> Result<OpenRequest<'_>, ReadFault>
     ensures value { seen view_open result ≡ open_reading large bytes.now }
-    // What is answered is a reading of the bytes.
+    // The result is a reading of the bytes.
     ensures reading { IsOpenReading large bytes.now (seen view_open result) }
-    // There is no other.
+    // The bytes have no other reading.
     ensures only { (other : Result OpenFields ReadFault) → IsOpenReading large bytes.now other → seen view_open result ≡ other }
 {
     whole_open(large, bytes)

@@ -13,7 +13,7 @@ use crate::front::{Success, unread_at};
 use cip_types::fields::{u16_in, u32_in};
 use cip_types::{ConnId, Fault, Triad};
 
-/// What a target says of a connection that it opened. Actual packet intervals are in microseconds.
+/// The connection that a target opened. Actual packet intervals are in microseconds.
 ///
 /// Volume 1, chapter 3, Forward_Open service, successful response.
 #[derive(Clone, Copy, PartialEq, Eq)]
@@ -25,17 +25,17 @@ pub struct Opened {
     pub t_o_api_us: u32,
 }
 
-/// What a target says of a connection that it did not open.
+/// The refusal of a connection.
 ///
 /// Volume 1, chapter 3, Forward_Open service, unsuccessful response.
 #[derive(Clone, Copy, PartialEq, Eq)]
 pub struct Refused {
     pub fault: Fault,
-    /// The connection that the request named, where the reply says it.
+    /// The triad of the request, if the reply has it.
     pub triad: Option<Triad>,
 }
 
-/// What a reply to a Forward_Open says.
+/// The answer of a reply to a Forward_Open.
 #[derive(Clone, Copy, PartialEq, Eq)]
 pub enum OpenAnswer {
     Opened(Opened),
@@ -50,7 +50,7 @@ pub struct OpenReply {
     pub answer: OpenAnswer,
 }
 
-/// The numbers that name a connection, at a place.
+/// The triad at a position.
 pub fn triad_in(bytes: &[u8], at: usize) -> Triad
     requires { at + 8 ≤ length bytes.now }
     ensures { result ≡ record {
@@ -75,7 +75,7 @@ fn triad_at(bytes: &[u8]) -> Option<(Triad, &[u8])>
     Some((triad_in(bytes, 0), &bytes[8..]))
 }
 
-/// The connection that the data of a failure names: 8 bytes, or 10, or none.
+/// The triad in the data of a failure, which has 8 bytes, 10 or none.
 pub fn failure_of(bytes: &[u8]) -> Result<Option<Triad>, ReadFault>
     ensures { result ≡ failure_reading bytes.now }
 {
@@ -131,20 +131,20 @@ fn whole_reply(bytes: &[u8]) -> Result<OpenReply, ReadFault>
     })
 }
 
-/// The reply that the bytes are. General status 0 says that the connection is open; an application
-/// reply is left aside. With another one the fault keeps of the additional words the first alone, and
-/// the data names the connection (8 bytes, or 10, the last two not looked at) or is empty. Neither the
-/// service nor the reserved byte is judged.
+/// Reads a reply to a Forward_Open. General status 0 means that the connection is open; the application
+/// reply is dropped. With any other status the fault keeps the first word of the extended status, and the
+/// data is the connection's triad (8 bytes, or 10, of which the last two are not judged) or empty. Neither
+/// the service nor the reserved byte is judged.
 ///
-/// NotEnough where the bytes are no reply and a longer reply begins so; TooMuch where they are none,
-/// none begins so, and a reply stands in front of them; never Path.
+/// NotEnough where the bytes are no reply but the front of one; TooMuch where they are neither, and begin
+/// with a reply; never Path.
 ///
 /// Volume 1, chapter 3, Forward_Open service, successful and unsuccessful response.
 pub fn read_open_reply(bytes: &[u8]) -> Result<OpenReply, ReadFault>
     ensures value { result ≡ open_reply_reading bytes.now }
-    // What is answered is a reading of the bytes.
+    // The result is a reading of the bytes.
     ensures reading { IsOpenReplyReading bytes.now result }
-    // There is no other.
+    // The bytes have no other reading.
     ensures only { (other : Result OpenReply ReadFault) → IsOpenReplyReading bytes.now other → result ≡ other }
 {
     whole_reply(bytes)

@@ -1,4 +1,4 @@
-//! What originator and target of a Forward_Open write.
+//! Writing the data of a Forward_Open, and the replies to it.
 
 ghost use Rattle.std.specs.Prelude.{◌≡◌, ◌≢◌, ◌%◌, ◌≤◌, ◌++◌, length, IfOk, OnOk, Ok};
 ghost use Rattle.std.specs.Int.{w32, to_le_bytes};
@@ -8,13 +8,14 @@ ghost use Rattle.cip_fwdopen.specs.Reply.{opened_service, opened_text, opened_re
 
 use crate::open::OpenRequest;
 use crate::reply::Opened;
+use crate::service::{FORWARD_OPEN, LARGE_FORWARD_OPEN, REPLY};
 use cip_netparams::{NetParams, write16, write32};
 use cip_types::fields::{put_bytes, put_u8, put_u16, put_u32};
 use cip_types::{Fault, OutOfMemory, Triad};
 use std::alloc::Global;
 
-/// The bytes of the reply that says that a connection is open.
-const OPENED: usize = 30;
+/// The length of the reply to a successful open, in bytes.
+const OPENED_LEN: usize = 30;
 
 fn put_params(out: &mut Vec<u8>, large: bool, params: &NetParams) -> Result<(), OutOfMemory>
     requires { params.now.size ≤ greatest_size large }
@@ -26,7 +27,7 @@ fn put_params(out: &mut Vec<u8>, large: bool, params: &NetParams) -> Result<(), 
     put_u16(out, write16(params))
 }
 
-/// Appends the numbers that name a connection.
+/// Appends a triad. The types keep its numbers within their fields.
 pub fn put_triad(out: &mut Vec<u8>, triad: Triad) -> Result<(), OutOfMemory>
     ensures text { OnOk result (out.new.items ≡ out.old.items ++ fields_text triad_widths (triad_numbers triad)) }
     ensures fits { TriadFits triad }
@@ -36,7 +37,7 @@ pub fn put_triad(out: &mut Vec<u8>, triad: Triad) -> Result<(), OutOfMemory>
     put_u32(out, triad.originator)
 }
 
-/// Appends what one direction asks for.
+/// Appends the packet interval and the parameters of one direction.
 fn put_direction(
     out: &mut Vec<u8>,
     large: bool,
@@ -71,9 +72,9 @@ fn put_open(out: &mut Vec<u8>, large: bool, request: &OpenRequest<'_>) -> Result
     Ok(())
 }
 
-/// The data of a Forward_Open, or of a Large_Forward_Open, with reserved bytes and spare bits zero.
-/// The path has to be whole words, of which there are at most 255, and in a Forward_Open the sizes
-/// have to fit nine bits. OutOfMemory where memory is refused, as of the other writers.
+/// Writes the data of a Forward_Open or of a Large_Forward_Open, with reserved bytes and spare bits zero.
+/// The path has whole words, at most 255, and in a Forward_Open the sizes have at most nine bits.
+/// OutOfMemory is the only fault of this and the other writers.
 ///
 /// Volume 1, chapter 3, Forward_Open and Large_Forward_Open services.
 pub fn write_open(
@@ -98,10 +99,14 @@ pub fn write_open(
 fn service_of(large: bool) -> u8
     ensures { result ≡ opened_service large }
 {
-    if large { 0xDB } else { 0xD4 }
+    if large {
+        LARGE_FORWARD_OPEN | REPLY
+    } else {
+        FORWARD_OPEN | REPLY
+    }
 }
 
-/// Appends the whole reply that says that a connection is open.
+/// Appends the whole reply to a successful open.
 fn put_opened(out: &mut Vec<u8>, large: bool, opened: &Opened) -> Result<(), OutOfMemory>
     ensures { OnOk result (OpenedFits opened.now × (out.new.items ≡ out.old.items ++ opened_text large opened.now)) }
 {
@@ -115,8 +120,7 @@ fn put_opened(out: &mut Vec<u8>, large: bool, opened: &Opened) -> Result<(), Out
     Ok(())
 }
 
-/// The whole reply that says that a connection is open, to a Large_Forward_Open or to a
-/// Forward_Open, with no application reply.
+/// Writes the whole reply to a successful Large_Forward_Open or Forward_Open, with no application reply.
 ///
 /// Volume 1, chapter 3, Forward_Open service, successful response.
 pub fn write_opened(alloc: Global, large: bool, opened: &Opened) -> Result<Vec<u8>, OutOfMemory>
@@ -124,7 +128,7 @@ pub fn write_opened(alloc: Global, large: bool, opened: &Opened) -> Result<Vec<u
     ensures is_text { IfOk result (λ v. IsOpenReplyText v.items (opened_reply large opened.now)) }
     ensures read_back { IfOk result (λ v. open_reply_reading v.items ≡ Ok (opened_reply large opened.now)) }
 {
-    let mut out = Vec::with_capacity(alloc, OPENED)?;
+    let mut out = Vec::with_capacity(alloc, OPENED_LEN)?;
     put_opened(&mut out, large, opened)?;
     Ok(out)
 }
@@ -149,7 +153,7 @@ fn put_failure(out: &mut Vec<u8>, triad: Option<Triad>) -> Result<(), OutOfMemor
     put_bytes(out, &[0, 0])
 }
 
-/// The whole reply that refuses a request of the service.
+/// The bytes of the reply that refuses a request of the service.
 fn refused_bytes(
     alloc: Global,
     service: u8,
@@ -159,14 +163,14 @@ fn refused_bytes(
     ensures { IfOk result (λ v. v.items ≡ refused_text service fault triad) }
 {
     let mut out = Vec::new(alloc);
-    put_bytes(&mut out, &[service | 0x80, 0, fault.general])?;
+    put_bytes(&mut out, &[service | REPLY, 0, fault.general])?;
     put_extended(&mut out, fault.extended)?;
     put_failure(&mut out, triad)?;
     Ok(out)
 }
 
-/// The whole reply that refuses a request of the service. Its data names a connection where one is
-/// given, with remaining path size 0. The general status of a refusal is not 0.
+/// Writes the whole reply that refuses a request of the service. Its data is the triad, if one is given,
+/// with remaining path size 0. The general status of a refusal is not 0.
 ///
 /// Volume 1, chapter 3, Forward_Open service, unsuccessful response.
 pub fn write_refused(
