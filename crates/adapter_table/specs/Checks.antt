@@ -58,11 +58,11 @@ first_of (Some why ∷ rest) = Some why
 
 -- WHAT IS LOOKED UP
 
--- the connection whose producer a multicast one on the input joins
+-- the first connection of the group that a multicast connection on the input joins
 abbrev pub group_of : List Row → ℕ → Option Row
 group_of rows point = find (is_member point) rows
 
--- how things stand at an adapter, for a request
+-- the state of an adapter that the checks of a request read
 pub record View : Type 0 where
   pub profile : Profile
   -- what the configuration holds
@@ -110,7 +110,7 @@ view_of t triad = view_at t.profile (config_bytes t.values t.profile.config) t.r
 
 -- SEGMENTS AND KEY
 
--- A segment does not read. Where the segments are misarranged, a later check says so.
+-- A segment does not read. Segments in a wrong order fail a later check.
 abbrev pub segment_check : Result PathFields PathFault → Check
 segment_check (Ok path) = None
 segment_check (Err path_fault.Shape) = None
@@ -128,7 +128,7 @@ key_refusal (Some VendorOrProduct) = Some refusal.VendorOrProduct
 key_refusal (Some DeviceType) = Some refusal.DeviceType
 key_refusal (Some Revision) = Some refusal.Revision
 
--- the key wants another device
+-- the key is that of another device
 abbrev pub key_check : Identity → Option KeyFields → Check
 key_check identity None = None
 key_check identity (Some key) = key_refusal (key_fault key identity)
@@ -151,7 +151,7 @@ is_multicast Reserved = false
 abbrev pub is_produced_type : ConnectionType → Bool
 is_produced_type kind = is_multicast kind || is_point_to_point kind
 
--- the multiplier is none, or an owner asks to be redundant
+-- the multiplier is out of range, or the request asks for a redundant owner
 abbrev pub is_unserved : OpenFields → Bool
 is_unserved request = nat_lt 7 request.multiplier || (request.o_t_params.redundant || request.t_o_params.redundant)
 
@@ -205,7 +205,7 @@ input_of profile point = find (is_at point) profile.inputs
 abbrev pub joined : Bool → Option Row → Option Row
 joined multicast group = if multicast then group else None
 
--- what a path names: what consumes, what is produced, and the connection whose producer is joined
+-- the points that a path names: the consumer, the input that is produced, and the group that is joined
 pub record Points : Type 0 where
   pub path : PathFields
   pub consumer : ConsumedPoint
@@ -220,26 +220,26 @@ path_check profile path =
     ∷ []
     )
 
--- the points of a path, or the first of them that there is not
+-- the points of a path, or the refusal for the first that does not exist
 abbrev pub named_points : PathFields → Option Row → Check → Option ConsumedPoint → Option InputPoint → Result Points Refusal
 named_points path group (Some why) consumer input = Err why
 named_points path group None None input = Err refusal.ConsumedPath
 named_points path group None (Some consumer) None = Err refusal.ProducedPath
 named_points path group None (Some consumer) (Some input) = Ok (record { path = path; consumer = consumer; input = input; group = group })
 
--- the points that a request names, where its path is one
+-- the points that a request names, if its path reads
 abbrev pub points_of : View → OpenFields → Option PathFields → Result Points Refusal
 points_of view request None = Err refusal.Path
 points_of view request (Some path) =
     named_points path (joined (is_multicast request.t_o_params.kind) (view.group path.produced)) (path_check view.profile path)
     (consumed_point_of view.profile path.consumed) (input_of view.profile path.produced)
 
--- where no points are found, that is what fails
+-- the refusal, if no points are found
 abbrev pub points_check : Result Points Refusal → Check
 points_check (Ok points) = None
 points_check (Err why) = Some why
 
--- a test of points, where they are found
+-- a test of the points, if they are found
 abbrev pub fails_at : Result Points Refusal → (Points → Bool) → Bool
 fails_at (Ok points) test = test points
 fails_at (Err why) test = false
@@ -297,11 +297,11 @@ has_other_t_o_size request points = not (request.t_o_params.size == t_o_size poi
 abbrev pub is_owned : View → Points → Bool
 is_owned view points = is_owner points.consumer.kind && view.owned points.path.consumed
 
--- it is to listen to a producer of its own
+-- a listen-only connection asks for a producer of its own
 abbrev pub listens_alone : OpenFields → Points → Bool
 listens_alone request points = is_listener points.consumer.kind && not (is_multicast request.t_o_params.kind)
 
--- it is to listen where no connection of another kind supports it
+-- no connection of another kind supports the listen-only connection
 abbrev pub is_unsupported : View → Points → Bool
 is_unsupported view points = is_listener points.consumer.kind && not (view.supported points.path.produced)
 
@@ -312,12 +312,12 @@ same_trigger Cyclic Cyclic = true
 same_trigger ChangeOfState ChangeOfState = true
 same_trigger a b = false
 
--- the trigger of a request; one that has none is refused before it matters
+-- the trigger of a request; a request without one fails an earlier check
 abbrev pub served_trigger : Option Trigger → Trigger
 served_trigger None = Cyclic
 served_trigger (Some trigger) = trigger
 
--- a cyclic producer is not held back
+-- a cyclic producer has no inhibit time
 abbrev pub served_inhibit : Trigger → Option ℕ → ℕ
 served_inhibit Cyclic inhibit = 0
 served_inhibit ChangeOfState inhibit = unwrap_or inhibit 0
@@ -332,7 +332,7 @@ abbrev pub has_other_inhibit : ℕ → State → Bool
 has_other_inhibit inhibit TimedOut = false
 has_other_inhibit inhibit (Established production) = not (inhibit == production.inhibit)
 
--- a test of the group, where one is joined
+-- a test of the group, if one is joined
 abbrev pub joins : Option Row → (Row → Bool) → Bool
 joins None test = false
 joins (Some member) test = test member
@@ -346,9 +346,9 @@ joins_other_trigger request points = joins points.group (λ member. has_other_tr
 abbrev pub joins_other_inhibit : OpenFields → Points → Bool
 joins_other_inhibit request points = joins points.group (λ member. has_other_inhibit (served_inhibit (served_trigger (trigger_of request.trigger)) points.path.inhibit) member.state)
 
--- IDS AND ROOM
+-- IDS AND CAPACITY
 
--- how many ids an opening draws: two, where a multicast producer begins
+-- how many ids an opening draws: two if it starts a multicast producer
 abbrev pub drawn_ids : Bool → Option Row → ℕ
 drawn_ids multicast None = if multicast then 2 else 1
 drawn_ids multicast (Some member) = 1
@@ -357,7 +357,7 @@ drawn_ids multicast (Some member) = 1
 abbrev pub lacks_ids : View → OpenFields → Points → Bool
 lacks_ids view request points = nat_lt 16777216 (view.next_id + drawn_ids (is_multicast request.t_o_params.kind) points.group)
 
--- there are 64 connections, and none can make room
+-- there are 64 connections, and none has timed out
 abbrev pub lacks_capacity : View → Bool
 lacks_capacity view = nat_le most_rows view.count && not view.timed_out
 
@@ -365,7 +365,8 @@ lacks_capacity view = nat_le most_rows view.count && not view.timed_out
 
 abbrev pub checks : View → OpenFields → Result PathFields PathFault → Result Points Refusal → List Check
 checks view request path points =
-    -- 1: the data are shorter (0x13) or longer (0x15) than their fields and path size say: then there is no request (`read_open`)
+    -- 1: the data are shorter (0x13) or longer (0x15) than their fields and path size say: then there is no
+    --    request (`read_open`)
     -- 2: a segment of the path does not read (0x0315)
     segment_check path
     -- 3: an established connection has the triad (0x0100)
@@ -377,15 +378,15 @@ checks view request path points =
     ∷ check (not (is_produced_type request.t_o_params.kind)) refusal.ProducedType
     -- 6: the class is not 1, or the trigger neither cyclic nor change of state (0x0103)
     ∷ check (is_none (trigger_of request.trigger)) refusal.Trigger
-    -- 7: the multiplier is above 7, or an owner asks to be redundant (0x0108)
+    -- 7: the multiplier is above 7, or a redundant owner is requested (0x0108)
     ∷ check (is_unserved request) refusal.Parameter
-    -- 8: a packet interval is 0 or above 10 seconds (0x0111), changes are held back longer than it (0x011B)
+    -- 8: a packet interval is 0 or above 10 seconds (0x0111), the inhibit time is longer than it (0x011B)
     ∷ check (not (are_intervals request)) refusal.PacketInterval
     ∷ check (has_inhibit_fault request (result_ok path)) refusal.InhibitTime
-    -- 9: the path is none, or not of the assemblies (0x0117); it names another configuration (0x0129), an
-    --    unknown consumed (0x012A), an unknown produced point (0x012B)
+    -- 9: the path does not read, or is not of the Assembly class (0x0117); it names another configuration
+    --    (0x0129), an unknown consumed (0x012A), an unknown produced point (0x012B)
     ∷ points_check points
-    -- 10: the data segment is of another length (0x0126), of other bytes while a connection lives (0x0106)
+    -- 10: the data segment has another length (0x0126), or other bytes while a connection is established (0x0106)
     ∷ check (fails_at points (misfits_config view)) refusal.ConfigurationSize
     ∷ check (fails_at points (changes_config view)) refusal.Ownership
     -- 11: the O->T size (0x0127), the T->O size (0x0128) is not that of the point
@@ -393,7 +394,7 @@ checks view request path points =
     ∷ check (fails_at points (has_other_t_o_size request)) refusal.ProducedSize
     -- 12: the output has an owner (0x0106)
     ∷ check (fails_at points (is_owned view)) refusal.Ownership
-    -- 13: it is to listen and is not multicast (0x0124), or has no support (0x0119)
+    -- 13: a listen-only connection is not multicast (0x0124), or has no support (0x0119)
     ∷ check (fails_at points (listens_alone request)) refusal.ProducedType
     ∷ check (fails_at points (is_unsupported view)) refusal.NoSupport
     -- 14: the group has another T->O packet interval (0x0111), trigger (0x0103), inhibit time (0x0111)
@@ -407,9 +408,9 @@ checks view request path points =
 
 -- THE VERDICT
 
--- What a request is admitted as: what it is for, its points, how it produces, its actual packet intervals
--- in milliseconds and how long its consumer waits, the connection whose producer it joins, and the data
--- segment that is stored.
+-- The connection that a request is admitted as: its application type, its points, its trigger and inhibit time,
+-- its actual packet intervals in milliseconds, the time-out of its watchdog, the group that it joins, and the data
+-- segment to store.
 pub record Admitted : Type 0 where
   pub kind : Kind
   pub consumed : ℕ
@@ -439,7 +440,7 @@ view_admission a = record {
   segment = option_map (λ lent. lent.now) a.segment;
 }
 
--- what a request of these points is admitted as
+-- the connection that a request of these points is admitted as
 abbrev pub admitted_at : OpenFields → Points → Admitted
 admitted_at request points = record {
   kind = points.consumer.kind;
@@ -455,7 +456,7 @@ admitted_at request points = record {
   segment = stored points.path.config points.path.segment;
 }
 
--- the answer of the check that fails, else what the points are admitted as
+-- the refusal of the check that fails, else the connection that is admitted
 abbrev pub judged : OpenFields → Result Points Refusal → Check → Result Admitted Refusal
 judged request points (Some why) = Err why
 judged request (Err why) None = Err why
@@ -466,7 +467,7 @@ judged_path view request path =
     let points = points_of view request (result_ok path) in
     judged request points (first_of (checks view request path points))
 
--- what the request is admitted as, or the answer of the first check that it fails
+-- the connection that the request is admitted as, or the refusal of the first check that it fails
 unfoldable pub verdict : View → OpenFields → Result Admitted Refusal
 verdict view request = judged_path view request (path_reading request.path)
 
@@ -474,7 +475,7 @@ verdict view request = judged_path view request (path_reading request.path)
 abbrev pub admission : AdapterTable → OpenFields → Result Admitted Refusal
 admission t request = verdict (view_of t request.triad) request
 
--- what a function returned, seen by view, is what is said
+-- a function's result, seen through a view, is the defined one
 abbrev pub Gives : {X Y : Type 0} → (X → Y) → Result X Refusal → Result Y Refusal → Type 0
 Gives view (Ok found) said = said ≡ Ok (view found)
 Gives view (Err why) said = said ≡ Err why

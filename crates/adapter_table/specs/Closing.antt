@@ -1,4 +1,4 @@
--- Closing a connection: what is lost with it, and the table after it
+-- Closing a connection: the connections that are dropped with it, and the table after it
 -- (Volume 1, chapter 3, Forward_Close and application connection types).
 use Rattle.std.specs.Prelude.{not, Bool, if◌then◌else◌, List, ◌∷◌, map, filter}
 use Rattle.cip_types.specs.declared.names.Triad.{Triad}
@@ -19,7 +19,7 @@ without_triad triad rows = others (has_triad triad) rows
 abbrev pub unsupported : List Row → List Row
 unsupported rows = filter (is_unsupported rows) rows
 
--- the connections that stay
+-- the connection stays
 abbrev pub stays : List Row → Row → Bool
 stays rows row = not (is_unsupported rows row)
 
@@ -30,7 +30,7 @@ staying rows = filter (stays rows) rows
 abbrev pub closed_values : Profile → Row → List PointValue → List PointValue
 closed_values profile row values = if drives row.consumed row then lost_values profile row.consumed values else values
 
--- the connection is gone, its output is without an owner, and the listeners that it leaves alone are gone
+-- the connection is removed, its output loses its owner, and the listeners that lose their support are removed
 unfoldable pub closed_table : AdapterTable → Row → AdapterTable
 closed_table t row = record t {
   rows = staying (without_triad row.triad t.rows);

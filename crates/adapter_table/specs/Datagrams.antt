@@ -1,5 +1,5 @@
--- Class 1 datagrams that come to an adapter: which connection they are for, whether they are accepted, and
--- what they do to its output (Volume 1, chapter 3, class 1 transport, run/idle, connection timeouts;
+-- Class 1 datagrams that an adapter receives: which connection they are for, whether they are accepted, and
+-- how they change its output (Volume 1, chapter 3, class 1 transport, run/idle, connection timeouts;
 -- Volume 2, chapter 2, sequenced address item).
 use Rattle.std.specs.Prelude.{ℕ, ◌+◌, ◌==◌, ◌&&◌, Bool, false, if◌then◌else◌, List, [], length, map, find, Option, Some, None, Result, Ok, Err}
 use Rattle.cip_types.specs.declared.names.Node.{Node}
@@ -25,7 +25,7 @@ use Rattle.adapter_table.specs.Requests.{Next}
 use Rattle.cip_events.specs.Answers.{plain_answer, is_accepted}
 use Rattle.cip_productions.specs.Acceptance.{accepts_sequence, is_duplicate}
 
--- WHOSE IT IS, AND WHETHER IT IS ACCEPTED
+-- WHICH CONNECTION IT IS FOR, AND WHETHER IT IS ACCEPTED
 
 -- the connection is an established one of the peer, with this O->T id
 abbrev pub is_for : Node → ℕ → Row → Bool
@@ -48,15 +48,15 @@ run_bit (Some header) = header.0
 abbrev pub moded : Option (Bool × List ℕ) → Delivery
 moded header = if run_bit header then Applied else Idle
 
--- what becomes of an owner's accepted datagram
+-- the delivery of an owner's accepted datagram
 abbrev pub owned_delivery : Row → DatagramFields → Delivery
 owned_delivery row d = if is_duplicate row.last d.count then Duplicate else moded (header_at d.payload)
 
--- what becomes of an accepted datagram
+-- the delivery of an accepted datagram
 abbrev pub accepted_delivery : Row → DatagramFields → Delivery
 accepted_delivery row d = if is_owner row.kind then owned_delivery row d else Heartbeat
 
--- what becomes of a datagram that has the connection's size
+-- the delivery of a datagram that has the connection's size
 abbrev pub sized_delivery : Row → DatagramFields → Delivery
 sized_delivery row d = if accepts_sequence row.last d.sequence then accepted_delivery row d else Old
 
@@ -68,14 +68,14 @@ row_delivery profile row d = if length d.payload == expected_len profile row the
 abbrev pub later_deadline : Ms → Row → Ms
 later_deadline clock row = record { 0 = clock.0 + timeout row.multiplier row.o_t_api_ms }
 
--- the datagram is the last that the connection accepted, and its watchdog waits from now on
+-- the datagram is the last that the connection accepted, and its watchdog begins again
 abbrev pub accepted_row : Ms → DatagramFields → Row → Row
 accepted_row clock d row = record row {
   last = Some (record { number = d.sequence; count = d.count });
   deadline = later_deadline clock row;
 }
 
--- the same, where the datagram is for the connection
+-- the same, if the datagram is for the connection
 abbrev pub accepted_if_for : Ms → Node → DatagramFields → Row → Row
 accepted_if_for clock peer d row = if is_for peer d.connection row then accepted_row clock d row else row
 
@@ -84,7 +84,7 @@ abbrev pub run_data : Option (Bool × List ℕ) → List ℕ
 run_data None = []
 run_data (Some x) = x.1
 
--- run-mode data stand at the output, idle mode does its idle action
+-- the output holds run-mode data; under idle mode its idle action is done
 abbrev pub accepted_values : Profile → ℕ → DatagramFields → Delivery → List PointValue → List PointValue
 accepted_values profile point d Applied values = put_value point (run_data (header_at d.payload)) values
 accepted_values profile point d Idle values = idle_values profile point values

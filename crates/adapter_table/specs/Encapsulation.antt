@@ -1,5 +1,5 @@
--- Encapsulation messages that come to an adapter over a stream: what they ask, what is replied, and what
--- becomes of the table (Volume 2, chapter 2, encapsulation messages, commands and common packet format).
+-- Encapsulation messages that an adapter receives over a stream: the commands, the replies, and the table after
+-- each (Volume 2, chapter 2, encapsulation messages, commands and common packet format).
 use Rattle.std.specs.Prelude.{ℕ, ◌==◌, not, if◌then◌else◌, List, [], ◌∷◌, length, Option, Some, None, Result, Ok, Err, find}
 use Rattle.std.specs.Str.{bytes_eq}
 use Rattle.cip_types.specs.Cases.{first_case_or}
@@ -28,9 +28,9 @@ use Rattle.cip_router.specs.Commands.{command_of, is_silent}
 use Rattle.adapter_table.specs.Streams.{is_stream, session_of, has_session, without_stream, registered_table}
 use Rattle.cip_router.specs.Frames.{ReplyHeader, FrameFields, headless, misfit, whole, frame_reading, FrameReply, services, registered, other_version, router_reply, refused, protocol_text, reply_message}
 
--- WHAT BECOMES OF A MESSAGE
+-- THE REPLY TO A MESSAGE
 
--- what is replied, if anything is, what happened, and the table after it
+-- the reply, if there is one, the notices, and the table after it
 pub record Handled : Type 0 where
   pub reply : Option FrameReply
   pub notices : List Notice

@@ -1,5 +1,5 @@
--- What each step of an adapter does to a whole table, and what a fresh one is: the laws from which those of whole runs
--- follow.
+-- How each step of an adapter changes a whole table, and the table of a fresh adapter: the laws of whole runs follow
+-- from these.
 use Rattle.std.specs.Prelude.{ℕ, ◌≡◌, ◌≤◌, ◌+◌, ◌^◌, [], List, find, length, is_some, replicate, true, false, Option, Some, None, Ok, Err}
 use Rattle.std.specs.Option.{option_map}
 use Rattle.cip_types.specs.declared.names.Node.{Node}

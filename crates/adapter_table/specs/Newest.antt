@@ -1,5 +1,5 @@
--- What a connection accepts, one datagram after another: each number is newer than the one before it, and what is
--- applied is new run-mode data (Volume 1, chapter 3, class 1 transport and run/idle; Volume 2, chapter 2, sequenced
+-- The datagrams that a connection accepts, one after another: each number is newer than the one before it, and
+-- applied data are new run-mode data (Volume 1, chapter 3, class 1 transport and run/idle; Volume 2, chapter 2, sequenced
 -- address item).
 use Rattle.std.specs.Prelude.{ℕ, ◌≡◌, ◌≢◌, ◌≤◌, ◌==◌, ◌&&◌, Bool, true, false, if◌then◌else◌, List, [], ◌∷◌, find, Option, Some, None, Result, Ok, Err}
 use Rattle.cip_types.specs.declared.names.Node.{Node}

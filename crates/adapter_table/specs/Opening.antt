@@ -1,4 +1,4 @@
--- Opening a connection: which one makes room, what the new one is, and the table after it
+-- Opening a connection: which connection it replaces, the new one, and the table after it
 -- (Volume 1, chapter 3, Forward_Open, connection ids and first watchdog; Volume 2, chapter 3, multicast
 -- address allocation).
 use Rattle.std.specs.Prelude.{ℕ, ◌+◌, ◌-◌, ◌%◌, ◌*◌, ◌^◌, ◌==◌, nat_le, Bool, true, false, if◌then◌else◌, List, [], ◌∷◌, ◌++◌, length, find, Option, Some, None}
@@ -26,21 +26,21 @@ use Rattle.adapter_table.specs.Rows.{most_rows, has_triad, is_timed_out, others}
 use Rattle.adapter_table.specs.Checks.{Admitted, drawn_ids}
 use Rattle.cip_productions.specs.Watchdog.{first_deadline}
 
--- ROOM
+-- THE CONNECTION THAT IS REPLACED
 
 -- the connection has the opening number of the one that is found
 abbrev pub is_opened_as : Option Row → Row → Bool
 is_opened_as None row = false
 is_opened_as (Some found) row = row.opening == found.opening
 
--- Which connection makes room for one of a triad: the one of this triad, which has timed out, where there is one; among
--- 64 the first timed-out one; where there is room none.
+-- A new connection replaces the timed-out one of the same triad. If there is none, and 64 connections leave no
+-- capacity, it replaces the first timed-out one.
 abbrev pub is_replaced_by : Bool → Bool → Option Row → Triad → Row → Bool
 is_replaced_by true full first triad row = has_triad triad row
 is_replaced_by false true first triad row = is_opened_as first row
 is_replaced_by false false first triad row = false
 
--- the connection makes room for a new one
+-- a new connection of this triad replaces the connection
 abbrev pub is_replaced : List Row → Triad → Row → Bool
 is_replaced rows triad row =
     is_replaced_by (list_any (has_triad triad) rows) (nat_le most_rows (length rows)) (find is_timed_out rows) triad row
@@ -48,7 +48,7 @@ is_replaced rows triad row =
 abbrev pub triad_of : Row → Triad
 triad_of row = row.triad
 
--- the triad of the connection that makes room
+-- the triad of the connection that is replaced
 abbrev pub replaced_triad : List Row → Triad → Option Triad
 replaced_triad rows triad = option_map triad_of (find (is_replaced rows triad) rows)
 
@@ -58,17 +58,17 @@ replaced_triad rows triad = option_map triad_of (find (is_replaced rows triad) r
 abbrev pub connection_id : Profile → ℕ → ConnId
 connection_id profile counter = record { 0 = profile.incarnation * 2 ^ 24 + counter }
 
--- the multicast addresses of a device begin at 239.192.1.0, 32 for each host id, and go by its inputs' places
+-- the multicast addresses of a device begin at 239.192.1.0, 32 for each host id; each input has the one of its index
 abbrev pub multicast_address : Profile → ℕ → Node
 multicast_address profile point = record {
   0 = 0xEFC00100 + 32 * ((host_id profile.node.0 profile.mask - 1) % 1024) + position_or_len (is_at point) profile.inputs;
 }
 
--- where the datagrams of a producer go: to its group, or to the one consumer
+-- the address that a producer sends to: its group, or its one consumer
 abbrev pub address_of : Profile → Node → Bool → ℕ → Node
 address_of profile peer multicast point = if multicast then multicast_address profile point else peer
 
--- the producer that a connection begins: its data are new, and due at once
+-- the producer that a new connection starts: its data are new, and it is due at once
 abbrev pub new_production : AdapterTable → Node → Trigger → ℕ → Production
 new_production t address trigger inhibit = record {
   producer = t.next_id;
@@ -85,13 +85,13 @@ new_production t address trigger inhibit = record {
 abbrev pub opened_production : AdapterTable → Node → Admitted → Production
 opened_production t peer admitted = new_production t (address_of t.profile peer admitted.multicast admitted.produced) admitted.trigger admitted.inhibit
 
--- a joiner shares the producer of its group; another connection begins one
+-- a joining connection shares the producer of its group; another connection starts one
 abbrev pub opened_state : AdapterTable → Node → Admitted → Option Row → State
 opened_state t peer admitted None = Established (opened_production t peer admitted)
 opened_state t peer admitted (Some member) = member.state
 
--- A joiner has the id of its group. The producer chooses a multicast id, the second that it draws, and the
--- consumer that of a point to point connection.
+-- A joining connection has the T->O id of its group. For a new group the adapter chooses the id, the second that it
+-- draws; for a point to point connection the originator chooses it.
 abbrev pub opened_t_o_id : AdapterTable → OpenFields → Bool → Option Row → ConnId
 opened_t_o_id t request multicast None = if multicast then connection_id t.profile (t.next_id + 1) else request.t_o_id
 opened_t_o_id t request multicast (Some member) = member.t_o_id
@@ -118,13 +118,13 @@ opened_row t peer request admitted = record {
 
 -- THE TABLE AFTER IT
 
--- the values with a data segment at the configuration, where there is one to store
+-- the values with the data segment at the configuration, if there is one to store
 abbrev pub configured : Option InputPoint → Option (List ℕ) → List PointValue → List PointValue
 configured None segment values = values
 configured (Some config) None values = values
 configured (Some config) (Some segment) values = put_value config.instance segment values
 
--- what makes room is gone, the new connection is the last, its data segment is stored, its ids are drawn
+-- the replaced connection is removed, the new one is the last, its data segment is stored, its ids are drawn
 unfoldable pub opened_table : AdapterTable → Row → Admitted → AdapterTable
 opened_table t row admitted = record t {
   rows = others (is_replaced t.rows row.triad) t.rows ++ row ∷ [];
@@ -132,7 +132,7 @@ opened_table t row admitted = record t {
   next_id = t.next_id + drawn_ids admitted.multicast admitted.group;
 }
 
--- WHAT IS TOLD OF IT
+-- THE REPLY AND THE NOTICES
 
 -- the ids, and the actual packet intervals in microseconds
 abbrev pub opened_reply : Row → Opened
@@ -144,7 +144,7 @@ opened_reply row = record {
   t_o_api_us = 1000 * row.t_o_api_ms;
 }
 
--- where the datagrams of a producer go
+-- the address that a producer sends to
 abbrev pub state_address : State → Option Node
 state_address (Established production) = Some production.address
 state_address TimedOut = None

@@ -1,4 +1,4 @@
--- What the points of an adapter hold (Volume 1, chapter 5, Assembly object).
+-- The bytes that the points of an adapter hold (Volume 1, chapter 5, Assembly object).
 use Rattle.std.specs.Prelude.{ℕ, ◌==◌, length, Bool, if◌then◌else◌, List, ◌++◌, map, find, replicate, Option, Some, None, option_to_list}
 use Rattle.std.specs.Option.{option_map}
 use Rattle.adapter_table.specs.declared.profile.InputPoint.{InputPoint}

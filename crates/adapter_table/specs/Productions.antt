@@ -1,4 +1,4 @@
--- What producers send: which are due, what each produces and for whom, and how it goes on
+-- Producers: which are due, what each sends and to which consumers, and its state afterwards
 -- (Volume 1, chapter 3, class 1 transport, production triggers and production inhibit time; Volume 2,
 -- chapter 2, sequenced address item, and chapter 3, multicast connections).
 use Rattle.std.specs.Prelude.{ℕ, ◌==◌, ◌&&◌, Bool, false, if◌then◌else◌, List, [], map, filter, Option, Some, None, unwrap_or}
@@ -24,9 +24,14 @@ state_producer row TimedOut = None
 abbrev pub producer_in : Row → Option Producer
 producer_in row = state_producer row row.state
 
--- the producers of connections, each once, as the first of its connections tells of it
+-- the producers of connections, each once, as its first connection has it
 abbrev pub producers : List Row → List Producer
 producers rows = first_of_each same_producer (filter_map producer_in rows)
+
+-- the number of the producer that an established connection has
+abbrev pub producer_number : State → Option ℕ
+producer_number (Established production) = Some production.producer
+producer_number TimedOut = None
 
 abbrev pub has_number : ℕ → State → Bool
 has_number number (Established production) = production.producer == number
@@ -50,7 +55,7 @@ peer_of row = row.peer
 abbrev pub consumers : ℕ → List Row → List Node
 consumers number rows = first_of_each same_node (map peer_of (group number rows))
 
--- what a producer produces next, where its input holds these bytes: one datagram for all its consumers
+-- what a producer produces next, if its input holds these bytes: one datagram for all its consumers
 abbrev pub production_of : List Row → List ℕ → Producer → Produced
 production_of rows input producer = produced_by (consumers producer.production.producer rows) input producer
 
@@ -93,7 +98,7 @@ produced_state clock api TimedOut = TimedOut
 produced_state clock api (Established production) =
     if is_production_due clock production then Established (produced clock api production) else Established production
 
--- a connection's producer has produced, where it was due
+-- a connection whose producer has produced, if it was due
 abbrev pub produced_row : Ms → Row → Row
 produced_row clock row = record row { state = produced_state clock row.t_o_api_ms row.state }
 
@@ -111,7 +116,7 @@ produces_on_change clock point row = row.produced == point && state_produces_on_
 abbrev pub producers_on_change : Ms → ℕ → List Row → List Producer
 producers_on_change clock point rows = in_order by_number (producers (filter (produces_on_change clock point) rows))
 
--- what they produce, when the input holds these bytes
+-- what they produce, if the input holds these bytes
 abbrev pub productions_on_change : Ms → ℕ → List ℕ → List Row → List Produced
 productions_on_change clock point input rows = map (production_of rows input) (producers_on_change clock point rows)
 
@@ -119,6 +124,6 @@ abbrev pub changed_state : Ms → ℕ → State → State
 changed_state clock api TimedOut = TimedOut
 changed_state clock api (Established production) = Established (changed clock api production)
 
--- a connection's producer has done what a write of its input asks of it
+-- a connection whose producer has acted on a write of its input
 abbrev pub changed_row : Ms → ℕ → Row → Row
 changed_row clock point row = if row.produced == point then record row { state = changed_state clock row.t_o_api_ms row.state } else row

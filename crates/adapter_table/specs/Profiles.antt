@@ -1,4 +1,4 @@
--- What an adapter is made of, and the first thing that is wrong with it
+-- The profile of an adapter, and its first fault
 -- (Volume 1, chapter 3, connection points; Volume 2, chapter 3, multicast addresses need a host id).
 use Rattle.std.specs.Prelude.{ℕ, ◌-◌, ◌%◌, ◌^◌, ◌==◌, ◌&&◌, not, nat_le, Bool, true, List, [], ◌∷◌, ◌++◌, length, map, Option, Some, None, option_to_list}
 use Rattle.std.specs.Int.{is_power_of_two}
@@ -17,7 +17,7 @@ use Rattle.cip_events.specs.declared.profile_fault.ProfileFault.TheVariants.{Inc
 abbrev pub network_size : ℕ → ℕ
 network_size mask = 2 ^ 32 - mask
 
--- the bits of an address that are not its network's
+-- the bits of an address that name the host in its network
 abbrev pub host_id : ℕ → ℕ → ℕ
 host_id node mask = node % network_size mask
 
@@ -85,7 +85,7 @@ is_revision identity = nat_le 1 identity.major && (nat_le identity.major 127 && 
 
 -- THE FIRST FAULT
 
--- what can be wrong, in order
+-- the faults of a profile, in the order in which they are looked for
 abbrev pub profile_tests : Profile → List (Case ProfileFault)
 profile_tests profile =
     (profile.incarnation == 0, Incarnation)
@@ -96,6 +96,6 @@ profile_tests profile =
     ∷ (not (is_revision profile.identity), IdentityFault)
     ∷ []
 
--- the first thing that is wrong
+-- the first fault
 unfoldable pub profile_fault : Profile → Option ProfileFault
 profile_fault profile = first_case (profile_tests profile)

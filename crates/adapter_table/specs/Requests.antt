@@ -1,4 +1,4 @@
--- Requests to the message router: what is replied, and what becomes of the table
+-- Requests to the message router: the replies, and the table after each
 -- (Volume 1, chapter 2, message router request and reply formats, and chapter 3, Connection Manager).
 use Rattle.std.specs.Prelude.{ℕ, ◌==◌, not, length, find, Bool, true, false, List, [], ◌∷◌, Option, Some, None, Result, Ok, Err}
 use Rattle.cip_types.specs.Cases.{first_case_or}
@@ -27,10 +27,10 @@ use Rattle.adapter_table.specs.Checks.{Admitted, admission}
 use Rattle.adapter_table.specs.Opening.{opened_row, opened_table, opened_reply, opened_address, opened_notices}
 use Rattle.cip_events.specs.Answers.{plain_answer}
 
--- WHAT IS REPLIED
+-- THE REPLY
 
--- the reply to a request, the multicast address of a connection that it opened, what happened to
--- connections, and the table after it
+-- the reply to a request, the multicast address of a connection that it opened, the notices of connections, and
+-- the table after it
 pub record Served : Type 0 where
   pub reply : ReplyFields
   pub address : Option Node

@@ -1,4 +1,4 @@
--- Connections and lists of them: who drives an output, which connection has a triad
+-- Connections and lists of them: which connection drives an output, and which has a triad
 -- (Volume 1, chapter 3, application connection types and connection triads).
 use Rattle.std.specs.Prelude.{ℕ, ◌==◌, ◌&&◌, not, Bool, true, false, if◌then◌else◌, List, [], ◌∷◌, filter}
 use Rattle.std.specs.List.{list_any}
@@ -68,7 +68,7 @@ abbrev pub Each : (Row → Type 0) → List Row → Type 0
 Each P [] = Unit {0}
 Each P (row ∷ rows) = P row × Each P rows
 
--- it holds of each connection and each that stands behind it
+-- it holds of each connection and each later one
 abbrev pub EachTwo : (Row → Row → Type 0) → List Row → Type 0
 EachTwo R [] = Unit {0}
 EachTwo R (row ∷ rows) = Each (R row) rows × EachTwo R rows

@@ -1,4 +1,4 @@
--- The value of an output from scratch: what the last event that touched it left there
+-- The value of an output from scratch: the bytes that the last event to change it left there
 -- (Volume 1, chapter 3, run/idle and connection timeouts; chapter 5, Assembly object).
 use Rattle.std.specs.Prelude.{ℕ, ◌≡◌, ◌==◌, ◌&&◌, not, Bool, if◌then◌else◌, List, find, replicate, Option, Some, None, Result, Ok, Err}
 use Rattle.std.specs.List.{list_any}

@@ -16,7 +16,7 @@ pub record IsShaped (profile : Profile) (values : List PointValue) : Type 0 wher
   pub faultless : profile_fault profile ≡ None
   pub shapes : map shape_of values ≡ data_points profile
 
--- what the point holds, wherever it stands in the list, has this length
+-- the value of the point, at any index of the list, has this length
 abbrev pub FitPoint : ℕ → ℕ → List PointValue → Type 0
 FitPoint point len [] = Unit {0}
 FitPoint point len (value ∷ values) = (value.point ≡ point → length value.bytes ≡ len) × FitPoint point len values

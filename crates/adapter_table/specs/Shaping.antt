@@ -132,7 +132,7 @@ config_among (Some config) point is =
     let here : is_at point.instance config ≡ true = grind (arith, nat_tests, ap (λ (p : InputPoint). p.instance) same) in
     rw here is
 
--- what is found at the configuration's instance stands behind the outputs
+-- the point that is found at the configuration's instance comes after the outputs
 config_behind : (profile : Profile) (point : InputPoint) → profile_fault profile ≡ None → profile.config ≡ Some point → find (is_at point.instance) (profile.inputs ++ option_to_list profile.config) ≡ Some point
 config_behind profile point none is =
     let back = distinct_back (map as_point profile.outputs) (profile.inputs ++ option_to_list profile.config) (points_differ profile none) in

@@ -1,5 +1,5 @@
--- Time at an adapter. A tick moves the clock, then connections whose deadline has come time out, then
--- listeners that this leaves without support are dropped, and then the producers that are due produce
+-- Time at an adapter. A tick advances the clock; then connections whose deadline has passed time out; then
+-- listeners that lost their support are dropped; then the producers that are due produce
 -- (Volume 1, chapter 3, connection timeouts, inactivity watchdog, application connection types).
 use Rattle.std.specs.Prelude.{ℕ, ◌+◌, ◌==◌, ◌&&◌, ◌||◌, nat_lt, nat_le, Bool, if◌then◌else◌, List, [], ◌∷◌, ◌++◌, map, filter, Result, Ok, Err}
 use Rattle.cip_types.specs.declared.names.Ms.{Ms}
@@ -30,7 +30,7 @@ clocked_table t ms = record t { clock = record { 0 = t.clock.0 + ms } }
 
 -- CONNECTIONS THAT TIME OUT
 
--- the connection is established, and its deadline has come
+-- the connection is established, and its deadline has been reached
 abbrev pub has_expired : Ms → Row → Bool
 has_expired clock row = is_established row && nat_le row.deadline.0 clock.0
 
@@ -56,7 +56,7 @@ expired_values profile (row ∷ rows) values = expired_values profile rows (clos
 abbrev pub expired_notice : Row → Notice
 expired_notice row = notice.Expired row.triad
 
--- the connections that time out, and then the listeners that are dropped
+-- a notice for each connection that times out, and then for each listener that is dropped
 abbrev pub expiry_notices : Ms → List Row → List Notice
 expiry_notices clock rows = map expired_notice (expired clock rows) ++ map dropped_notice (unsupported (expired_rows clock rows))
 
@@ -73,7 +73,7 @@ produced_table t = record t { rows = map (produced_row t.clock) t.rows }
 
 -- A TICK
 
--- inputs hold what they held: no expiry touches them
+-- inputs keep their bytes: no expiry changes them
 abbrev pub tick_answer : AdapterTable → List Row → Answer
 tick_answer clocked left = record {
   frames = [];
@@ -87,7 +87,7 @@ advanced clocked =
     let left = expired_table clocked in
     (tick_answer clocked left.rows, produced_table left)
 
--- some milliseconds pass: no more than a tick has, and not past the end of the clock
+-- some milliseconds pass: at most those of the longest tick, and not past the end of the clock
 unfoldable pub tick : AdapterTable → ℕ → Result Next StepFault
 tick t ms = first_case_or (Ok (advanced (clocked_table t ms))) (
     (nat_lt longest_tick ms, Err fault.TickTooLong)

@@ -1,6 +1,5 @@
--- What every table of an adapter keeps that was made from a faultless profile, whatever happens to it: the
--- laws of `Sound`, points with their bytes, owners that consume outputs, and numbers that have not passed
--- their limits.
+-- The invariant of every table that events lead to from a faultless profile: the laws of `Sound`, points with
+-- their bytes, owners that consume outputs, and numbers within their limits.
 use Rattle.std.specs.Prelude.{◌≡◌, ◌≤◌, ◌+◌, ◌^◌, true, List, find, is_some}
 use Rattle.adapter_table.specs.declared.profile.Profile.{Profile}
 use Rattle.adapter_table.specs.declared.row.Row.{Row}

@@ -1,12 +1,11 @@
-//! What a datagram is to one connection.
+//! Whether one connection accepts a datagram, and what it then keeps.
 
-ghost use Rattle.std.specs.Prelude.{◌≡◌, ◌≤◌, ◌+◌, ◌==◌, ◌^◌, find};
+ghost use Rattle.std.specs.Prelude.{◌≡◌, ◌≤◌, ◌+◌, ◌==◌, ◌^◌};
 ghost use Rattle.cip_datagram.specs.Datagram.{view_datagram};
 ghost use Rattle.cip_datagram.specs.Header.{header_at};
-ghost use Rattle.adapter_table.specs.Profiles.{is_output_at};
 ghost use Rattle.adapter_table.specs.Datagrams.{is_for, output_len, expected_len, run_bit, owned_delivery, accepted_delivery, sized_delivery, row_delivery, later_deadline, accepted_row, accepted_if_for};
 
-use crate::profile::{OutputPoint, Profile};
+use crate::profile::Profile;
 use crate::row::Row;
 use crate::rows::is_established;
 use cip_datagram::{Datagram, read_header};
@@ -18,7 +17,7 @@ use cip_types::{ConnId, Ms, Node};
 /// The bytes of a run/idle header.
 const HEADER: u64 = 4;
 
-/// Whether a connection is an established one of the peer, with this O->T id. Takes no memory.
+/// Whether a connection is established, is of the peer, and has this O->T id. Takes no memory.
 ///
 /// Volume 2, chapter 2, sequenced address item.
 pub fn is_for(row: &Row, peer: Node, id: ConnId) -> bool
@@ -27,23 +26,14 @@ pub fn is_for(row: &Row, peer: Node, id: ConnId) -> bool
     is_established(row) && row.peer.0 == peer.0 && row.o_t_id.0 == id.0
 }
 
-fn output_at(outputs: &[OutputPoint], point: u32) -> Option<OutputPoint>
-    ensures { result ≡ find (is_output_at point) outputs.now }
-{
-    outputs
-        .iter()
-        .copied()
-        .find(|output| output.instance == point)
-}
-
-/// Whether so many bytes behind the sequence count are those of a connection's O->T datagrams.
+/// Whether the O->T datagrams of a connection have so many bytes behind the sequence count.
 fn has_expected_len(profile: &Profile, row: &Row, len: u64) -> bool
     ensures { result ≡ (len == expected_len profile.now row.now) }
 {
     if row.kind != Kind::ExclusiveOwner {
         return len == 0;
     }
-    match output_at(profile.outputs.as_slice(), row.consumed) {
+    match profile.output(row.consumed) {
         Some(output) => len >= HEADER && len - HEADER == output.len,
         None => len == HEADER,
     }
@@ -59,7 +49,7 @@ fn run_bit(datagram: &Datagram<'_>) -> bool
     }
 }
 
-/// What becomes of an owner's accepted datagram.
+/// The delivery of an owner's accepted datagram.
 fn owned_delivery(row: &Row, datagram: &Datagram<'_>) -> Delivery
     ensures { result ≡ owned_delivery row.now (view_datagram datagram.now) }
 {
@@ -72,8 +62,9 @@ fn owned_delivery(row: &Row, datagram: &Datagram<'_>) -> Delivery
     }
 }
 
-/// What becomes of a datagram that is for a connection: it has another size than the connection's, or its
-/// number is not newer than the last accepted one; otherwise it is accepted. Takes no memory.
+/// The delivery of a datagram that is for a connection. It is refused if it has another size than the
+/// connection's (`WrongSize`), then if its number is not newer than the last accepted one (`Old`); otherwise it
+/// is accepted. Takes no memory.
 ///
 /// Volume 1, chapter 3, class 1 transport and run/idle.
 pub fn row_delivery(profile: &Profile, row: &Row, datagram: &Datagram<'_>) -> Delivery
@@ -91,8 +82,8 @@ pub fn row_delivery(profile: &Profile, row: &Row, datagram: &Datagram<'_>) -> De
     owned_delivery(row, datagram)
 }
 
-/// A connection that has accepted a datagram: its number and count are the last ones, and the watchdog waits
-/// for the time-out from now on. Takes no memory.
+/// A connection that has accepted a datagram: it keeps the datagram's number and count, and its watchdog begins
+/// again. Takes no memory.
 ///
 /// Volume 1, chapter 3, inactivity watchdog.
 pub fn accepted_row(row: Row, clock: Ms, datagram: &Datagram<'_>) -> Row
@@ -101,6 +92,7 @@ pub fn accepted_row(row: Row, clock: Ms, datagram: &Datagram<'_>) -> Row
     requires time { clock.0 ≤ 2 ^ 48 }
     ensures { result ≡ accepted_row clock (view_datagram datagram.now) row }
 {
+    // A multiplier of at most 7 has a time-out.
     let timeout = timeout_of(row.multiplier, row.o_t_api_ms).unwrap();
     Row {
         last: Some(Accepted {
@@ -112,7 +104,7 @@ pub fn accepted_row(row: Row, clock: Ms, datagram: &Datagram<'_>) -> Row
     }
 }
 
-/// The same where the datagram is for the connection; any other connection stays.
+/// The same if the datagram is for the connection; any other connection stays.
 pub fn accepted_if_for(row: Row, clock: Ms, peer: Node, datagram: &Datagram<'_>) -> Row
     requires waits { row.multiplier ≤ 7 }
     requires interval { row.o_t_api_ms ≤ 10000 }

@@ -1,26 +1,26 @@
-//! What a request is admitted as.
+//! The outcome of a request that is admitted.
 
 use crate::row::Row;
 use cip_netparams::Trigger;
 use cip_productions::Kind;
 use cip_types::Ms;
 
-/// What consumes the O->T data of a connection: what the connection is for, and how many bytes the
-/// output has (0 where it consumes none).
+/// The consumer of a connection's O->T data: the connection's application type, and the length of the output in
+/// bytes (0 if it consumes none).
 #[derive(Clone, Copy)]
 pub struct ConsumedPoint {
     pub kind: Kind,
     pub len: u64,
 }
 
-/// What an open request is admitted as, with all that was decided of it.
+/// The connection that an open request is admitted as, with all that the checks decided.
 #[derive(Clone, Copy)]
 pub struct Admission<'a> {
-    /// What the connection is for.
+    /// The application type of the connection.
     pub kind: Kind,
-    /// The point that it consumes.
+    /// The point that the connection consumes.
     pub consumed: u32,
-    /// The input that is produced.
+    /// The input that the connection produces.
     pub produced: u32,
     /// Whether its producer sends to a group.
     pub multicast: bool,
@@ -32,10 +32,10 @@ pub struct Admission<'a> {
     pub o_t_api_ms: u32,
     /// The actual T->O packet interval, in milliseconds.
     pub t_o_api_ms: u32,
-    /// How long its consumer waits for a datagram.
+    /// The time-out of its inactivity watchdog.
     pub watchdog: Ms,
-    /// The connection whose producer it joins.
+    /// The connection whose producer it shares, if it joins a group.
     pub group: Option<Row>,
-    /// The data segment that is stored at the configuration.
+    /// The data segment to store at the configuration.
     pub segment: Option<&'a [u8]>,
 }

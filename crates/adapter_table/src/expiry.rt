@@ -1,4 +1,4 @@
-//! When one connection times out.
+//! The time-out of one connection.
 
 ghost use Rattle.std.specs.Prelude.{◌≡◌};
 ghost use Rattle.adapter_table.specs.Ticks.{has_expired, expired_row, by_deadline};
@@ -7,7 +7,7 @@ use crate::row::{Row, State};
 use crate::rows::is_established;
 use cip_types::Ms;
 
-/// Whether a connection is established, and its deadline has come.
+/// Whether a connection is established, and its deadline has been reached.
 ///
 /// Volume 1, chapter 3, inactivity watchdog.
 pub fn has_expired(row: &Row, clock: Ms) -> bool
@@ -16,7 +16,7 @@ pub fn has_expired(row: &Row, clock: Ms) -> bool
     is_established(row) && row.deadline.0 <= clock.0
 }
 
-/// A connection that has timed out, where its deadline has come; any other stays.
+/// A connection that has timed out if its deadline has been reached; any other stays.
 ///
 /// Volume 1, chapter 3, inactivity watchdog.
 pub fn expired_row(row: Row, clock: Ms) -> Row

@@ -1,4 +1,5 @@
-//! What each step does to a whole table, and what a fresh one is. Each call does nothing: its contract is the law.
+//! How each step changes a whole table, and the table of a fresh adapter. Each call does nothing: its contract is
+//! the law.
 
 ghost use Rattle.std.specs.Prelude.{ℕ, ◌≡◌, ◌≤◌, None};
 ghost use Rattle.adapter_table.specs.declared.profile.Profile.{Profile};

@@ -18,12 +18,12 @@ pub use acceptance::{accepted_if_for, accepted_row, is_for, row_delivery};
 pub use admission::{Admission, ConsumedPoint};
 pub use expiry::{by_deadline, expired_row, has_expired};
 pub use producing::{
-    changed_row, is_due, is_produced_by, produced_row, producer_in, produces_on_change, written_row,
+    changed_row, has_node, is_due, is_produced_by, produced_row, producer_in, producer_number,
+    produces_on_change, written_row,
 };
 pub use profile::{Action, InputPoint, OutputPoint, Profile};
 pub use row::{Row, State};
 pub use rows::{
-    MOST_ROWS, drives, has_triad, holds_triad, is_established, is_member, is_supported,
-    is_timed_out, supports,
+    drives, has_triad, holds_triad, is_established, is_member, is_supported, is_timed_out, supports,
 };
 pub use table::{AdapterTable, PointValue, Stream};

@@ -1,14 +1,15 @@
-//! What the producer of one connection does.
+//! The producer of one connection: when it is due, and its state after it produced or its input was written.
 
 ghost use Rattle.std.specs.Prelude.{◌≡◌, ◌≤◌, ◌+◌, ◌^◌};
+ghost use Rattle.std.specs.List.{list_any};
 ghost use Rattle.adapter_table.specs.Rows.{written_row, written_state};
-ghost use Rattle.adapter_table.specs.Productions.{producer_in, is_produced_by, due_of, is_due, produced_state, produced_row, produces_on_change, state_produces_on_change, changed_state, changed_row};
+ghost use Rattle.adapter_table.specs.Productions.{producer_in, producer_number, is_produced_by, same_node, due_of, is_due, produced_state, produced_row, produces_on_change, state_produces_on_change, changed_state, changed_row};
 
 use crate::row::{Row, State};
 use cip_productions::{
     Producer, Production, changed, is_produced_on_change, is_production_due, produced,
 };
-use cip_types::Ms;
+use cip_types::{Ms, Node};
 
 /// The producer of a connection, which an established one has.
 ///
@@ -24,6 +25,25 @@ pub fn producer_in(row: &Row) -> Option<Producer>
         }),
         State::TimedOut => None,
     }
+}
+
+/// The number of the producer that an established connection has.
+///
+/// Volume 2, chapter 3, multicast connections.
+pub fn producer_number(state: &State) -> Option<u32>
+    ensures { result ≡ producer_number state.now }
+{
+    match state {
+        State::Established(production) => Some(production.producer),
+        State::TimedOut => None,
+    }
+}
+
+/// Whether a node is in a list of nodes. Takes no memory.
+pub fn has_node(nodes: &[Node], node: Node) -> bool
+    ensures { result ≡ list_any (λ other. same_node other node) nodes.now }
+{
+    nodes.iter().any(|other| other.0 == node.0)
 }
 
 /// Whether a connection is established, and this is the number of its producer.
@@ -61,7 +81,7 @@ fn produced_state(state: State, clock: Ms, api: u32) -> State
     }
 }
 
-/// A connection whose producer has produced, where it was due.
+/// A connection whose producer has produced, if it was due.
 ///
 /// Volume 1, chapter 3, production triggers.
 pub fn produced_row(row: Row, clock: Ms) -> Row
@@ -101,7 +121,7 @@ fn changed_state(state: State, clock: Ms, api: u32) -> State
     }
 }
 
-/// A connection whose producer has done what a write of the input asks of it, where the input is its own.
+/// A connection whose producer has acted on a write of the input, if it produces that input.
 ///
 /// Volume 1, chapter 3, production triggers and production inhibit time.
 pub fn changed_row(row: Row, clock: Ms, point: u32) -> Row
@@ -130,7 +150,7 @@ fn written_state(state: State) -> State
     }
 }
 
-/// A connection whose producer has new data, where the input is its own.
+/// A connection whose producer has new data, if it produces that input.
 ///
 /// Volume 1, chapter 3, class 1 transport.
 pub fn written_row(row: Row, point: u32) -> Row

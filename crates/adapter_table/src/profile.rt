@@ -1,17 +1,11 @@
-//! What an adapter is made of: its identity, its address and its connection points.
+//! The profile of an adapter: its identity, its address and its connection points.
+
+ghost use Rattle.std.specs.Prelude.{◌≡◌, find};
+ghost use Rattle.adapter_table.specs.Profiles.{is_at, is_output_at};
 
 use cip_types::{Identity, Items, Node};
 
-/// The most inputs and the most outputs of an adapter.
-pub const MOST_POINTS: usize = 8;
-
-/// The most bytes of a point.
-pub const LONGEST_POINT: u64 = 1_400;
-
-/// The most bytes of a configuration.
-pub const LONGEST_CONFIG: u64 = 400;
-
-/// What happens to an output when its owner goes idle or is lost.
+/// The action at an output when its owner goes idle or is lost.
 ///
 /// Volume 1, chapter 3, connection timeouts.
 #[derive(Clone, Copy, PartialEq, Eq)]
@@ -22,8 +16,8 @@ pub enum Action {
     Zero,
 }
 
-/// A connection point that consumes: its instance, its length in bytes, and what happens to it when its
-/// owner is idle and when its owner is lost.
+/// A connection point that consumes: its instance, its length in bytes, and its actions when its owner goes
+/// idle and when its owner is lost.
 #[derive(Clone, Copy, PartialEq, Eq)]
 pub struct OutputPoint {
     pub instance: u32,
@@ -39,9 +33,8 @@ pub struct InputPoint {
     pub len: u64,
 }
 
-/// An adapter: the byte that begins its connection ids (its incarnation), its address and network mask,
-/// who it is, its points, and the two points without data that input-only and listen-only connections
-/// consume.
+/// An adapter: the byte that begins its connection ids (its incarnation), its address and network mask, its
+/// identity, its points, and the two points without data that input-only and listen-only connections consume.
 #[derive(PartialEq, Drop)]
 pub struct Profile {
     pub incarnation: u8,
@@ -53,4 +46,32 @@ pub struct Profile {
     pub config: Option<InputPoint>,
     pub input_only: u32,
     pub listen_only: u32,
+}
+
+impl Profile {
+    /// The output of an instance. Takes no memory.
+    ///
+    /// Volume 1, chapter 3, connection points.
+    pub fn output(&self, point: u32) -> Option<OutputPoint>
+        ensures { result ≡ find (is_output_at point) self.now.outputs }
+    {
+        self.outputs
+            .as_slice()
+            .iter()
+            .copied()
+            .find(|output| output.instance == point)
+    }
+
+    /// The input of an instance. Takes no memory.
+    ///
+    /// Volume 1, chapter 3, connection points.
+    pub fn input(&self, point: u32) -> Option<InputPoint>
+        ensures { result ≡ find (is_at point) self.now.inputs }
+    {
+        self.inputs
+            .as_slice()
+            .iter()
+            .copied()
+            .find(|input| input.instance == point)
+    }
 }

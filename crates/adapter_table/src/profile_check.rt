@@ -4,10 +4,9 @@ ghost use Rattle.std.specs.Prelude.{◌≡◌, ◌↔◌, ◌++◌, Some, None, 
 ghost use Rattle.std.specs.List.{list_any, list_all};
 ghost use Rattle.adapter_table.specs.Profiles.{is_address, is_at, is_output_at, as_point, points_beside, are_distinct, are_few, has_output_len, has_input_len, has_config_len, are_long_enough, is_revision, is_point_len, profile_fault};
 
-use crate::profile::{
-    InputPoint, LONGEST_CONFIG, LONGEST_POINT, MOST_POINTS, OutputPoint, Profile,
-};
+use crate::profile::{InputPoint, OutputPoint, Profile};
 use cip_events::ProfileFault;
+use cip_types::limits::{LONGEST_CONFIG, LONGEST_POINT, MOST_POINTS};
 use cip_types::{Identity, Node};
 
 fn is_address(node: Node, mask: u32) -> bool
@@ -137,7 +136,7 @@ fn is_revision(identity: &Identity) -> bool
     1 <= identity.major && identity.major <= 127 && 1 <= identity.minor
 }
 
-/// What is wrong with a profile first.
+/// The first fault of a profile.
 #[tactic(auto, unfolding(crate::specs::Profiles::profile_fault))]
 fn fault_of(profile: &Profile) -> Option<ProfileFault>
     ensures { result ≡ profile_fault profile.now }
@@ -167,7 +166,7 @@ impl Profile {
     /// Checks the profile: its incarnation, its address, how many points it has, that their instances
     /// differ, their lengths, and its revision, in this order. Takes no memory.
     ///
-    /// Answers the first thing that is wrong.
+    /// Answers the first fault.
     pub fn check(&self) -> Result<(), ProfileFault>
         ensures ok { IsOk result ↔ (profile_fault self.now ≡ None) }
         ensures fault { IfErr result (λ f. profile_fault self.now ≡ Some f) }

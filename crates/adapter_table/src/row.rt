@@ -3,17 +3,18 @@
 use cip_productions::{Accepted, Kind, Production};
 use cip_types::{ConnId, Ms, Node, Triad};
 
-/// Whether a connection lives.
+/// Whether a connection is established.
 #[derive(Clone, Copy, PartialEq, Eq)]
 pub enum State {
-    /// It lives, and produces.
+    /// It is established, and produces.
     Established(Production),
-    /// No datagram came before its deadline.
+    /// It received no datagram before its deadline.
     TimedOut,
 }
 
-/// One connection: who opened it for what, its ids, its actual packet intervals in milliseconds and the
-/// time-out multiplier, its place in the order of openings, and how far it has come.
+/// One connection: its triad and peer, its application type and points, its ids, its actual packet intervals in
+/// milliseconds and its time-out multiplier, the number of its opening, the last datagram that it accepted, its
+/// deadline and its state.
 ///
 /// Volume 1, chapter 3, connection object attributes.
 #[derive(Clone, Copy, PartialEq, Eq)]

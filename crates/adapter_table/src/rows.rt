@@ -7,13 +7,7 @@ use crate::row::{Row, State};
 use cip_productions::Kind;
 use cip_types::Triad;
 
-/// The most connections of an adapter.
-///
-/// Volume 1, chapter 3, Connection Manager object: how many connections there can be is the device's
-/// choice.
-pub const MOST_ROWS: usize = 64;
-
-/// Whether a connection lives: no deadline of its consumer has passed.
+/// Whether a connection is established: its deadline has not passed.
 ///
 /// Volume 1, chapter 3, connection instance states.
 pub fn is_established(row: &Row) -> bool
@@ -25,7 +19,7 @@ pub fn is_established(row: &Row) -> bool
     }
 }
 
-/// Whether a connection has timed out: it drives nothing and holds no triad, and it can make room.
+/// Whether a connection has timed out: it drives nothing, holds no triad, and can be replaced.
 ///
 /// Volume 1, chapter 3, connection instance states.
 pub fn is_timed_out(row: &Row) -> bool

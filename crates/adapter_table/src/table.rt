@@ -11,7 +11,7 @@ pub struct PointValue {
     pub bytes: Items<u8>,
 }
 
-/// A stream of a peer that is open: its number, whose it is, and whether a session is registered on it.
+/// An open stream: its number, its peer, and whether a session is registered on it.
 ///
 /// Volume 2, chapter 2, encapsulation sessions.
 #[derive(Clone, Copy, PartialEq, Eq)]
@@ -21,9 +21,8 @@ pub struct Stream {
     pub registered: bool,
 }
 
-/// An adapter: its profile, its connections in opening order, what its points hold, its clock, the
-/// counter part of the next connection id, and the streams that are open, in the order in which they were
-/// opened.
+/// An adapter: its profile, its connections in opening order, the bytes of its points, its clock, the counter
+/// part of the next connection id, and its open streams in the order in which they were opened.
 #[derive(PartialEq, Drop)]
 pub struct AdapterTable {
     pub profile: Profile,
