@@ -55,19 +55,17 @@ if_short : (found : Option OutputPoint) → ((output : OutputPoint) → found �
 if_short None short = tt
 if_short (Some output) short = short output refl
 
--- an output that is found in a slice of the outputs is short
-pub output_short : (profile : Profile) (outputs : List OutputPoint) (point : ℕ) (found : Option OutputPoint) → profile_fault profile ≡ None → outputs ≡ profile.outputs → found ≡ find (is_output_at point) outputs → IfSome found (λ output. output.len ≤ 1400)
-output_short profile outputs point found none same is =
-    if_short found (λ output there. output_len_short profile point output none (ap (find (is_output_at point)) (sym same) ∙ sym is ∙ there))
+-- an output that is found is short
+pub output_short : (profile : Profile) (point : ℕ) (found : Option OutputPoint) → profile_fault profile ≡ None → found ≡ find (is_output_at point) profile.outputs → IfSome found (λ output. output.len ≤ 1400)
+output_short profile point found none is = if_short found (λ output there. output_len_short profile point output none (sym is ∙ there))
 
 if_input_short : (found : Option InputPoint) → ((input : InputPoint) → found ≡ Some input → input.len ≤ 1400) → IfSome found (λ input. input.len ≤ 1400)
 if_input_short None short = tt
 if_input_short (Some input) short = short input refl
 
--- an input that is found in a slice of the inputs is short
-pub input_short : (profile : Profile) (inputs : List InputPoint) (point : ℕ) (found : Option InputPoint) → profile_fault profile ≡ None → inputs ≡ profile.inputs → found ≡ find (is_at point) inputs → IfSome found (λ input. input.len ≤ 1400)
-input_short profile inputs point found none same is =
-    if_input_short found (λ input there. input_len_short profile point input none (ap (find (is_at point)) (sym same) ∙ sym is ∙ there))
+-- an input that is found is short
+pub input_short : (profile : Profile) (point : ℕ) (found : Option InputPoint) → profile_fault profile ≡ None → found ≡ find (is_at point) profile.inputs → IfSome found (λ input. input.len ≤ 1400)
+input_short profile point found none is = if_input_short found (λ input there. input_len_short profile point input none (sym is ∙ there))
 
 lent_by : (profile : Profile) (values : List PointValue) (point : ℕ) (lent : Option (Bor (List ℕ))) (fault : PointFault) → IsShaped profile values → option_map (λ (b : Bor (List ℕ)). b.now) lent ≡ bytes_at values point → IfOk (ok_or lent fault) (λ bytes. length bytes.now ≤ 1400)
 lent_by profile values point None fault shaped is = tt

@@ -1,4 +1,4 @@
--- The connection points of an adapter together with what they hold (Volume 1, chapter 5, Assembly object;
+-- The connection points of an adapter together with their bytes (Volume 1, chapter 5, Assembly object;
 -- Volume 1, chapter 3, run and idle, connection timeouts).
 use Rattle.std.specs.Prelude.{ℕ, ◌==◌, is_some, Bool, if◌then◌else◌, List, find, Option, Some, None}
 use Rattle.std.specs.Option.{option_map}
@@ -13,12 +13,12 @@ use Rattle.adapter_table.specs.Shapes.{len_in}
 use Rattle.assembly_set.specs.declared.fault.PointFault.{PointFault}
 use Rattle.assembly_set.specs.declared.fault.PointFault.TheVariants.{NoSuchPoint, WrongLength}
 
--- an adapter's profile, and what its points hold
+-- an adapter's profile, and the bytes of its points
 pub record Assemblies : Type 0 where
   pub profile : Profile
   pub values : List PointValue
 
--- what all points begin with
+-- the values of all points at the start
 abbrev pub opened : Profile → Assemblies
 opened profile = record { profile = profile; values = opening_values profile }
 
@@ -38,7 +38,7 @@ abbrev pub input_fault : Option InputPoint → ℕ → Option PointFault
 input_fault None len = Some NoSuchPoint
 input_fault (Some input) len = if len == input.len then None else Some WrongLength
 
--- why so many bytes are none for an input
+-- why an input does not take so many bytes
 abbrev pub write_fault : Profile → ℕ → ℕ → Option PointFault
 write_fault profile point len = input_fault (find (is_at point) profile.inputs) len
 

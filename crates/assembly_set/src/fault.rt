@@ -1,15 +1,15 @@
-//! Why a point is not read or written.
+//! The faults of reading and writing a point.
 
 ghost use Rattle.std.specs.Prelude.{◌≡◌};
 
 use cip_events::StepFault;
 
-/// Why a point is not read or written, the first that holds.
+/// Why a point is not read or written: the first of these that holds.
 #[derive(Clone, Copy, Debug, PartialEq, Eq)]
 pub enum PointFault {
-    /// No point of this instance can be read or written so.
+    /// The instance is no point that can be read or written.
     NoSuchPoint,
-    /// The bytes are more or fewer than the point's.
+    /// The bytes have another length than the point.
     WrongLength,
 }
 

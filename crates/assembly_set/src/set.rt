@@ -4,6 +4,7 @@ ghost use Rattle.std.specs.Prelude.{◌≡◌, ◌≤◌, IsTrue, IfSome, Some, 
 ghost use Rattle.std.specs.Option.{option_map};
 ghost use Rattle.std.specs.Result.{result_ok, result_err};
 ghost use Rattle.adapter_table.specs.Profiles.{profile_fault, is_at, is_output_at};
+ghost use Rattle.adapter_table.specs.Productions.{input_of};
 ghost use Rattle.adapter_table.specs.Points.{put_value, bytes_at, idle_values, lost_values};
 ghost use Rattle.adapter_table.specs.Opening.{configured};
 ghost use Rattle.assembly_set.specs.Assemblies.{opened, is_output, config_len, write_fault};
@@ -12,14 +13,15 @@ ghost use Rattle.adapter_table.specs.Shapes.{IsShaped, len_of};
 use crate::fault::PointFault;
 use crate::values::{act, copied, find_value, opening_values, put_value};
 use adapter_table::{InputPoint, OutputPoint, PointValue, Profile};
+use cip_productions::Producer;
 use cip_types::{Items, OutOfMemory};
 use std::alloc::Global;
 use std::marker::Model;
 
 /// The outputs, inputs and configuration of an adapter and the bytes that they hold.
 ///
-/// Volume 1, chapter 5, Assembly object. A set keeps a copy of the profile that it was made for. Only
-/// `new` takes memory.
+/// Volume 1, chapter 5, Assembly object. A set keeps a copy of its profile. Only `new`, `holding` and
+/// `copy_values` take memory.
 #[derive(Drop)]
 pub struct AssemblySet {
     profile: Profile,
@@ -37,25 +39,10 @@ impl Model for AssemblySet {
     ghost invariant = { λ s. IsShaped s.profile s.values.items };
 }
 
-fn find_output(outputs: &[OutputPoint], point: u32) -> Option<OutputPoint>
-    ensures { result ≡ find (is_output_at point) outputs.now }
-{
-    outputs
-        .iter()
-        .copied()
-        .find(|output| output.instance == point)
-}
-
-fn find_input(inputs: &[InputPoint], point: u32) -> Option<InputPoint>
-    ensures { result ≡ find (is_at point) inputs.now }
-{
-    inputs.iter().copied().find(|input| input.instance == point)
-}
-
 impl AssemblySet {
-    /// The points of a profile that passes its check, each holding zeros, or want of memory.
+    /// The points of a profile that passes its check, each holding zeros. Out of memory is the only fault.
     ///
-    /// The room for all later calls is made here.
+    /// No later call that changes the set takes memory.
     pub fn new(alloc: Global, profile: &Profile) -> Result<Self, OutOfMemory>
         requires { profile_fault profile.now ≡ None }
         ensures { IfOk result (λ set. set ≡ opened profile.now) }
@@ -65,7 +52,7 @@ impl AssemblySet {
         Ok(AssemblySet { profile, values })
     }
 
-    /// The points of a profile that hold these bytes, or want of memory.
+    /// The points of a profile that hold these bytes. Out of memory is the only fault.
     pub fn holding(
         alloc: Global,
         profile: &Profile,
@@ -79,14 +66,14 @@ impl AssemblySet {
         Ok(AssemblySet { profile, values })
     }
 
-    /// A copy of what the points hold. Want of memory is the only fault.
+    /// A copy of the bytes of the points. Out of memory is the only fault.
     pub fn copy_values(&self, alloc: Global) -> Result<Items<PointValue>, OutOfMemory>
         ensures { IfOk result (λ values. values ≡ self.now.values) }
     {
         Ok(Items::from_vec(copied(alloc, &self.values)?))
     }
 
-    /// The profile that the set was made for.
+    /// The profile of the set.
     pub fn profile(&self) -> &Profile
         ensures value { result.now ≡ self.now.profile }
         ensures sound { IsShaped self.now.profile self.now.values }
@@ -101,7 +88,7 @@ impl AssemblySet {
         ensures found { result ≡ find (is_output_at point) self.now.profile.outputs }
         ensures short { IfSome result (λ output. output.len ≤ 1400) }
     {
-        find_output(self.profile.outputs.as_slice(), point)
+        self.profile.output(point)
     }
 
     /// The input of an instance.
@@ -111,10 +98,10 @@ impl AssemblySet {
         ensures found { result ≡ find (is_at point) self.now.profile.inputs }
         ensures short { IfSome result (λ input. input.len ≤ 1400) }
     {
-        find_input(self.profile.inputs.as_slice(), point)
+        self.profile.input(point)
     }
 
-    /// What an output, an input or the configuration holds, at most 1,400 bytes.
+    /// The bytes that an output, an input or the configuration holds, at most 1,400.
     ///
     /// Refuses any other point (`NoSuchPoint`).
     pub fn read(&self, point: u32) -> Result<&[u8], PointFault>
@@ -126,7 +113,21 @@ impl AssemblySet {
         find_value(&self.values, point).ok_or(PointFault::NoSuchPoint)
     }
 
-    /// Puts an owner's run-mode data, as many bytes as the output has, at that output alone.
+    /// The bytes that the input of a producer holds, at most 1,400. Takes no memory.
+    ///
+    /// Volume 1, chapter 3, class 1 transport.
+    #[inline(always)]
+    pub fn input_of(&self, producer: &Producer) -> &[u8]
+        ensures value { result.now ≡ input_of self.now.values producer.now }
+        ensures short { length result.now ≤ 1400 }
+    {
+        match self.read(producer.point) {
+            Ok(input) => input,
+            Err(_) => &[],
+        }
+    }
+
+    /// Puts an owner's run-mode data, as many bytes as the output has, at that output alone. Takes no memory.
     #[tactic(auto, using(crate::proofs::Shaping::sound_written, crate::proofs::Shaping::fits_lent, crate::proofs::Shaping::differ_lent))]
     pub fn apply(&mut self, point: u32, run_data: &[u8])
         requires output { IsTrue (is_output self.old.profile point) }
@@ -136,8 +137,8 @@ impl AssemblySet {
         put_value(&mut self.values, point, run_data);
     }
 
-    /// Does the idle action of an output, whose owner is in idle mode: under `Zero` it holds zeros, under
-    /// `Hold` it stays. Nothing is done to a point that is no output.
+    /// Does the idle action of an output whose owner is in idle mode: under `Zero` it becomes zeros, under `Hold`
+    /// it stays. A point that is no output stays.
     #[tactic(auto, using(crate::proofs::Shaping::sound_written))]
     pub fn idle(&mut self, point: u32)
         ensures { self.new ≡ record self.old { values = idle_values self.old.profile point self.old.values } }
@@ -147,8 +148,8 @@ impl AssemblySet {
         }
     }
 
-    /// Does the fault action of an output, whose owner is lost: under `Zero` it holds zeros, under `Hold`
-    /// it stays. Nothing is done to a point that is no output.
+    /// Does the fault action of an output whose owner is lost: under `Zero` it becomes zeros, under `Hold` it
+    /// stays. A point that is no output stays.
     #[tactic(auto, using(crate::proofs::Shaping::sound_written))]
     pub fn lose(&mut self, point: u32)
         ensures { self.new ≡ record self.old { values = lost_values self.old.profile point self.old.values } }

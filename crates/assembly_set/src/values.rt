@@ -1,4 +1,4 @@
-//! Lists of what points hold.
+//! Lists of the bytes that points hold.
 
 ghost use Rattle.std.specs.Prelude.{◌≡◌, ◌++◌, true, map, length, OnOk, IfOk, option_to_list};
 ghost use Rattle.std.specs.List.{position};
@@ -11,7 +11,7 @@ use adapter_table::{Action, InputPoint, OutputPoint, PointValue, Profile};
 use cip_types::{Items, OutOfMemory};
 use std::alloc::Global;
 
-/// What a point holds.
+/// The bytes that a point holds.
 pub fn find_value(values: &[PointValue], point: u32) -> Option<&[u8]>
     ensures { option_map (λ lent. lent.now) result ≡ bytes_at values.now point }
 {
@@ -29,7 +29,7 @@ fn index_of(values: &[PointValue], point: u32) -> Option<usize>
     values.iter().position(|value| value.point == point)
 }
 
-/// Puts other bytes, as many, at a point, which no two values have. Takes no memory.
+/// Puts other bytes of the same length at a point. No two values are of one point. Takes no memory.
 pub fn put_value(values: &mut [PointValue], point: u32, bytes: &[u8])
     requires fit { FitPoint point (length bytes.now) values.old }
     requires distinct { are_distinct (map shape_of values.old) ≡ true }
@@ -58,7 +58,7 @@ fn zero_point(values: &mut [PointValue], point: u32)
     }
 }
 
-/// Does an action on what a point holds. Takes no memory.
+/// Does an action on the bytes of a point. Takes no memory.
 #[tactic(auto, using(adapter_table::specs::Fitting::zeroed_shapes))]
 pub fn act(values: &mut [PointValue], action: Action, point: u32)
     ensures values { values.new ≡ acted_values action point values.old }
@@ -73,10 +73,9 @@ pub fn act(values: &mut [PointValue], action: Action, point: u32)
 fn zeros(alloc: Global, instance: u32, len: u64) -> Result<PointValue, OutOfMemory>
     ensures { IfOk result (λ value. value ≡ zeros (record { instance = instance; len = len })) }
 {
-    let bytes = vec![in alloc; 0; len as usize]?;
     Ok(PointValue {
         point: instance,
-        bytes: Items::from_vec(bytes),
+        bytes: Items::zeros(alloc, len as usize)?,
     })
 }
 
@@ -120,7 +119,7 @@ fn push_config(
     Ok(())
 }
 
-/// The zeros that all points begin with.
+/// The values of all points at the start: zeros.
 pub fn opening_values(alloc: Global, profile: &Profile) -> Result<Vec<PointValue>, OutOfMemory>
     ensures { IfOk result (λ values. values.items ≡ opening_values profile.now) }
 {
@@ -131,7 +130,7 @@ pub fn opening_values(alloc: Global, profile: &Profile) -> Result<Vec<PointValue
     Ok(values)
 }
 
-/// A copy of what points hold.
+/// A copy of the values of points.
 pub fn copied(alloc: Global, values: &[PointValue]) -> Result<Vec<PointValue>, OutOfMemory>
     ensures { IfOk result (λ copy. copy.items ≡ values.now) }
 {

@@ -4,4 +4,4 @@ use Rattle.assembly_set.proofs.set.AssemblySet.output.Goals as goal
 pub returns-clause-short : goal.returns-clause-short
 returns-clause-short c =
     let fields = c.self.inside in
-    output_short fields.profile c.as_slice.result.now c.args.point c.find_output.result c.self.invariant.faultless c.as_slice.ensures c.find_output.ensures
+    output_short fields.profile c.args.point c.output.result c.self.invariant.faultless c.output.ensures
