@@ -1,4 +1,4 @@
--- What who joins is told, and the groups afterwards.
+-- What a joining connection receives, and the groups afterwards.
 use Rattle.std.proofs.Common.{◌≡◌, ℕ, Bool, true, false, List, [], ◌∷◌, ◌++◌, find, Option, Some, None, is_some, refl, sym, ap, ◌∙◌}
 use Rattle.std.specs.Option.{option_map}
 use Rattle.cip_types.specs.declared.names.Ms.{Ms}

@@ -1,4 +1,4 @@
--- Producers that go on stay within the limits of their device.
+-- Producers that have produced stay within the limits of their device.
 use Rattle.std.proofs.Common.{◌≡◌, ◌≤◌, ℕ, ◌+◌, ◌^◌, ◌==◌, ◌||◌, Bool, true, false, cond, if◌then◌else◌, Option, Some, None, nat_le, nat_lt, refl, arith}
 use Rattle.std.proofs.lemmas.Bool.Decides.{nat_tests}
 use Rattle.cip_types.specs.declared.names.Ms.{Ms}

@@ -1,4 +1,4 @@
--- Groups by their places in a list.
+-- Groups by their indexes in a list.
 use Rattle.std.proofs.Common.{◌≡◌, ◌<◌, ◌≤◌, ℕ, ◌==◌, ◌&&◌, ◌||◌, Bool, true, false, true≢false, cond, List, [], ◌∷◌, length, get_or, set, find, Option, Some, None, zero, suc, refl, sym, ap, subst, ◌∙◌, nat_lt, is_some, arith, rules}
 use Rattle.std.specs.List.{list_any, position, position_or_len, remove}
 use Rattle.std.specs.Option.{IsSome}
@@ -9,7 +9,7 @@ use Rattle.cip_types.specs.Indices.{Mapped, mapped_at, find_none}
 use Rattle.mcast_pool.specs.declared.group.Group.{Group}
 use Rattle.mcast_pool.specs.Groups.{has_number, number_of, numbered, is_like, serves, index_for, joined_group, change_first, left, one_less, subscribers, AreGroups, FitsGroup}
 
--- the first that passes stands at this place
+-- the first that passes has this index
 pub record IsFirst (test : Group → Bool) (groups : List Group) (at : ℕ) (d : Group) : Type 0 where
   pub within : at < length groups
   pub passes : test (get_or groups at d) ≡ true
@@ -35,7 +35,7 @@ found_there test (group ∷ groups) (suc at) d is =
     let no : test group ≡ false = is.fails 0 (omega arith) in
     rw no (found_there test groups at d (later test group groups at d is))
 
--- one that serves a single connection is gone
+-- a group of a single connection is removed
 pub removed_there : (number : ℕ) (groups : List Group) (at : ℕ) (d : Group) → IsFirst (has_number number) groups at d → (get_or groups at d).subscribers == 1 ≡ true → remove groups at ≡ left number groups
 removed_there number [] at d is one = let lt = is.within in absurd (omega arith)
 removed_there number (group ∷ groups) zero d is one = rw (is.passes, one) refl
@@ -76,7 +76,7 @@ pub joined_found : (shared : Bool) (point : ℕ) (groups : List Group) (at : ℕ
 joined_found false point groups at d is = absurd cc
 joined_found true point groups at d is = found_there (serves point) groups at d (first_at (serves point) groups at d is)
 
--- the changed one stands where it stood
+-- the changed one keeps its index
 pub there_again : (test : Group → Bool) (change : Group → Group) (groups : List Group) (at : ℕ) (d : Group) → IsFirst test groups at d → get_or (change_first test change groups) at d ≡ change (get_or groups at d)
 there_again test change groups at d is = ap (λ l. get_or l at d) (sym (changed_there test change groups at d is)) ∙ get_or-set_same groups at (change (get_or groups at d)) d is.within
 
@@ -123,7 +123,7 @@ like_number : (a b c : Bool) → a || (b && c) ≡ false → a ≡ false
 like_number true b c is = absurd (true≢false is)
 like_number false b c is = refl
 
--- the group of a number stands nowhere else
+-- the group of a number has no other index
 pub numbered_there : (number : ℕ) (groups : List Group) (i : ℕ) (d : Group) → AreGroups groups → i < length groups → has_number number (get_or groups i d) ≡ true → numbered number groups ≡ Some (get_or groups i d)
 numbered_there number [] i d each lt has = absurd (omega arith)
 numbered_there number (group ∷ groups) zero d each lt has = rw has refl

@@ -1,4 +1,4 @@
--- Producers and whom they serve: a point to point connection has a producer of its own, and the multicast
+-- Producers and their connections: a point to point connection has a producer of its own, and the multicast
 -- connections of one input share theirs (Volume 1, chapter 3, class 1 transport and production triggers;
 -- Volume 2, chapter 3, multicast connections).
 use Rattle.std.specs.Prelude.{ℕ, ◌≡◌, ◌≤◌, ◌+◌, ◌-◌, ◌^◌, ◌==◌, ◌&&◌, ◌||◌, not, min, Bool, true, false, if◌then◌else◌, List, [], ◌∷◌, ◌++◌, find, Option, Some, None, is_some}
@@ -72,7 +72,7 @@ produced_group clock group = with_production group (produced clock group.api gro
 abbrev pub produced_if_due : Ms → Group → Group
 produced_if_due clock group = if is_due clock group then produced_group clock group else group
 
--- it has new data, and has done what a write of its point asks of it
+-- it has new data, and has acted on a write of its point
 abbrev pub written_and_changed : Ms → ℕ → Group → Group
 written_and_changed clock point group =
     if group.producer.point == point then with_production group (changed clock group.api (written group.producer.production)) else group
@@ -105,7 +105,7 @@ abbrev pub joined_group : Bool → ℕ → List Group → Option Group
 joined_group false point groups = None
 joined_group true point groups = find (serves point) groups
 
--- where that group stands
+-- the index of that group
 abbrev pub index_for : Bool → ℕ → List Group → Option ℕ
 index_for false point groups = None
 index_for true point groups = position (serves point) groups
@@ -115,7 +115,7 @@ abbrev pub change_first : (Group → Bool) → (Group → Group) → List Group 
 change_first test change [] = []
 change_first test change (group ∷ groups) = if test group then change group ∷ groups else group ∷ change_first test change groups
 
--- what who joins is told: the id and the number of the producer, and whether it begins it
+-- what a joining connection receives: the id and the number of its producer, and whether it starts it
 abbrev pub joined_by : Producer → Option Group → Joined
 joined_by producer None = record { id = producer.id; number = producer.production.producer; fresh = true }
 joined_by producer (Some group) = record { id = group.producer.id; number = group.producer.production.producer; fresh = false }
@@ -128,7 +128,7 @@ joined_by_found new (Some found) groups = change_first (serves new.producer.poin
 abbrev pub joined : Group → List Group → List Group
 joined new groups = joined_by_found new (joined_group new.shared new.producer.point groups) groups
 
--- one connection of a group is gone, and the group with the last one
+-- a group loses a connection, and is removed with its last one
 abbrev pub rest_of : Group → List Group → List Group
 rest_of group groups = if group.subscribers == 1 then groups else one_less group ∷ groups
 
@@ -150,7 +150,7 @@ abbrev pub lowest : (Group → Bool) → List Group → Option ℕ
 lowest test [] = None
 lowest test (group ∷ groups) = if test group then Some (lower (number_of group) (lowest test groups)) else lowest test groups
 
--- when the first of them is due, and where there is none, the time that never comes
+-- when the first of them is due; the end of time if there is none
 abbrev pub first_due : List Group → ℕ
 first_due [] = 2 ^ 64 - 1
 first_due (group ∷ groups) = min group.producer.production.due.0 (first_due groups)
@@ -176,7 +176,7 @@ abbrev pub AreGroups : List Group → Type 0
 AreGroups [] = Unit {0}
 AreGroups (group ∷ groups) = FitsGroup group × (1 ≤ group.subscribers) × (list_any (is_like group) groups ≡ false) × AreGroups groups
 
--- what belongs together in a pool: there is room for all that there can be
+-- the invariant of a pool: it has capacity for the most producers that there can be
 pub record IsPool (groups : List Group) (capacity : ℕ) : Type 0 where
   pub each : AreGroups groups
   pub few : subscribers groups ≤ 64

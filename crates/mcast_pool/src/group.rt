@@ -1,4 +1,4 @@
-//! One producer and whom it serves.
+//! One producer and the connections that share it.
 
 ghost use Rattle.std.specs.Prelude.{◌≡◌, ◌≤◌, ◌+◌, ◌^◌, true, ◌||◌};
 ghost use Rattle.cip_productions.specs.Productions.{is_on_change, is_production_due};
@@ -11,11 +11,11 @@ use cip_productions::{
 };
 use cip_types::Ms;
 
-/// A producer with its actual packet interval in milliseconds, and how many connections it serves.
+/// A producer, its actual packet interval in milliseconds, and how many connections share it.
 #[derive(Clone, Copy)]
 pub struct Group {
     pub producer: Producer,
-    /// Whether other connections of the point may join it.
+    /// Whether other connections of the point share it.
     pub shared: bool,
     pub api: u32,
     pub subscribers: u32,
@@ -33,7 +33,7 @@ pub(crate) fn serves(group: &Group, point: u32) -> bool
     group.shared && group.producer.point == point
 }
 
-/// Whether a group serves one connection alone.
+/// Whether a group has one connection.
 pub(crate) fn is_last(group: &Group) -> bool
     ensures { result ≡ is_last group.now }
 {
@@ -64,7 +64,8 @@ fn with_production(group: Group, production: Production) -> Group
     }
 }
 
-/// A producer that has new data: one that produces at changes of state, and may not yet, is due when it may.
+/// A producer that has new data. One that produces at changes of state, and whose inhibit time runs, is due at its
+/// end.
 fn touched_production(production: Production, clock: Ms) -> Production
     requires time { clock.0 ≤ 2 ^ 48 }
     requires due { production.due.0 ≤ 2 ^ 48 + 10000 }
@@ -80,7 +81,7 @@ fn touched_production(production: Production, clock: Ms) -> Production
     }
 }
 
-/// A group whose producer has new data, where the point is its own.
+/// A group whose producer has new data, if it produces that point.
 pub(crate) fn touched(group: Group, clock: Ms, point: u32) -> Group
     requires time { clock.0 ≤ 2 ^ 48 }
     requires fits { FitsGroup group }
@@ -101,7 +102,7 @@ pub(crate) fn produced_group(group: Group, clock: Ms) -> Group
     with_production(group, produced(group.producer.production, clock, group.api))
 }
 
-/// The same, where it was due.
+/// The same, if it was due.
 pub(crate) fn produced_if_due(group: Group, clock: Ms) -> Group
     requires time { clock.0 ≤ 2 ^ 48 }
     requires fits { FitsGroup group }
@@ -114,7 +115,7 @@ pub(crate) fn produced_if_due(group: Group, clock: Ms) -> Group
     }
 }
 
-/// A group whose producer has new data and has done what a write asks of it, where the point is its own.
+/// A group whose producer has new data and has acted on the write, if it produces that point.
 pub(crate) fn written_and_changed(group: Group, clock: Ms, point: u32) -> Group
     requires time { clock.0 ≤ 2 ^ 48 }
     requires fits { FitsGroup group }

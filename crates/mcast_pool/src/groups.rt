@@ -1,4 +1,4 @@
-//! Groups in the order in which they began.
+//! Groups, in the order in which they started.
 
 ghost use Rattle.std.specs.Prelude.{◌≡◌, ◌+◌, ◌≤◌, ◌<◌, ◌^◌, Some, filter, find, length, map, vec_capacity};
 ghost use Rattle.std.specs.List.{position};
@@ -24,7 +24,7 @@ fn index_serving(groups: &[Group], point: u32) -> Option<usize>
     groups.iter().position(|group| serves(group, point))
 }
 
-/// Where the group is that a connection of the point joins, where it shares its producer.
+/// The index of the group that a connection of the point joins, if it shares its producer.
 pub(crate) fn index_for(groups: &[Group], shared: bool, point: u32) -> Option<usize>
     ensures { result ≡ index_for shared point groups.now }
 {
@@ -44,7 +44,7 @@ pub(crate) fn find_group(groups: &[Group], number: u32) -> Option<Group>
         .find(|group| has_number(group, number))
 }
 
-/// The group of a producer's number, which is first looked for at a place.
+/// The group of a producer's number. The search tries one index first.
 #[inline(always)]
 pub(crate) fn find_with_hint(groups: &[Group], number: u32, place: usize) -> Option<Group>
     requires { AreGroups groups.now }
@@ -56,7 +56,7 @@ pub(crate) fn find_with_hint(groups: &[Group], number: u32, place: usize) -> Opt
     Some(groups[place])
 }
 
-/// Where the group of a producer's number stands, which is first looked for at a place.
+/// The index of the group of a producer's number. The search tries one index first.
 pub(crate) fn index_with_hint(groups: &[Group], number: u32, place: usize) -> Option<usize>
     requires { AreGroups groups.now }
     ensures { result ≡ position (has_number number) groups.now }
@@ -67,7 +67,7 @@ pub(crate) fn index_with_hint(groups: &[Group], number: u32, place: usize) -> Op
     Some(place)
 }
 
-/// Where to look first for the producer after this one: behind it, where it stands at the place.
+/// The index to try first for the producer after this one: the next one, if this one is at the index.
 #[inline(always)]
 pub(crate) fn hint_after(groups: &[Group], number: u32, place: usize) -> usize
     ensures bounded { result ≤ place + 1 }
@@ -78,7 +78,7 @@ pub(crate) fn hint_after(groups: &[Group], number: u32, place: usize) -> usize
     }
 }
 
-/// One connection more for the group of a point; its producer.
+/// Adds a connection to the group of a point, and answers its producer.
 pub(crate) fn subscribe(groups: &mut Vec<Group>, at: usize, point: u32) -> Producer
     requires place { position (serves point) groups.old.items ≡ Some at }
     requires groups { AreGroups groups.old.items }
@@ -92,7 +92,7 @@ pub(crate) fn subscribe(groups: &mut Vec<Group>, at: usize, point: u32) -> Produ
     group.producer
 }
 
-/// One connection less for a producer, which is gone with its last one. True where that one is gone.
+/// Removes a connection from a producer, and the producer with its last one. True if that was the last.
 pub(crate) fn unsubscribe(groups: &mut Vec<Group>, number: u32, at: usize) -> bool
     requires place { position (has_number number) groups.old.items ≡ Some at }
     requires groups { AreGroups groups.old.items }
@@ -144,7 +144,7 @@ pub(crate) fn produce_all(groups: &mut [Group], clock: Ms)
     }
 }
 
-/// The producers of a point have new data and have done what a write asks of them.
+/// The producers of a point have new data and have acted on the write.
 pub(crate) fn write_all(groups: &mut [Group], clock: Ms, point: u32)
     requires groups { AreGroups groups.old }
     requires time { clock.0 ≤ 2 ^ 48 }

@@ -24,8 +24,8 @@ use std::marker::Model;
 /// choice.
 pub const MOST_SUBSCRIBERS: usize = 64;
 
-/// The producers of a device's connections, which contracts see as their groups, in the order in which they
-/// began. Only `new` takes memory.
+/// The producers of a device's connections, which contracts see as their groups in the order in which they
+/// started. Only `new` takes memory.
 ///
 /// Volume 1, chapter 3, class 1 transport; Volume 2, chapter 3, multicast connections.
 #[derive(Drop)]
@@ -46,7 +46,7 @@ impl Model for Pool {
     ghost invariant = { λ p. IsPool p.groups.items (vec_capacity p.groups) };
 }
 
-/// What who joins gets: the connection id and the number of the producer, and whether it begins it.
+/// What a joining connection receives: the connection id and the number of its producer, and whether it starts it.
 #[derive(Clone, Copy)]
 pub struct Joined {
     pub id: ConnId,
@@ -54,7 +54,7 @@ pub struct Joined {
     pub fresh: bool,
 }
 
-/// What who joins this producer is told.
+/// What a connection that joins this producer receives.
 fn join_result(producer: &Producer, fresh: bool) -> Joined
     ensures { result ≡ record { id = producer.now.id; number = producer.now.production.producer; fresh = fresh } }
 {
@@ -65,7 +65,7 @@ fn join_result(producer: &Producer, fresh: bool) -> Joined
     }
 }
 
-/// Appends the next datagram of a producer, whose data these are. Takes no memory.
+/// Appends the next datagram of a producer, with these data. Takes no memory.
 fn append_datagram(producer: &Producer, input: &[u8], out: &mut Vec<u8>)
     requires short { length input.now ≤ 65533 }
     requires space { vec_len out.old + (20 + length input.now) ≤ vec_capacity out.old }
@@ -81,7 +81,7 @@ fn append_datagram(producer: &Producer, input: &[u8], out: &mut Vec<u8>)
 }
 
 impl Pool {
-    /// No producers, with room for all that there can be. Want of memory is the only fault.
+    /// No producers, with capacity for the most that there can be. Out of memory is the only fault.
     pub fn new(alloc: Global) -> Result<Self, OutOfMemory>
         ensures { IfOk result (λ pool. pool ≡ []) }
     {
@@ -114,8 +114,8 @@ impl Pool {
         find_group(&self.groups, number)
     }
 
-    /// A connection joins the group of its producer's point, where it shares its producer and there is such a
-    /// group; else it begins its producer, with its own id, number and production. Takes no memory.
+    /// A connection joins the group of its producer's point, if it shares its producer and there is such a group;
+    /// else it starts its own producer, with its own id, number and production. Takes no memory.
     ///
     /// Volume 2, chapter 3, multicast connections.
     pub fn join(&mut self, producer: Producer, shared: bool, api: u32) -> Joined
@@ -137,7 +137,7 @@ impl Pool {
         }
     }
 
-    /// A connection leaves its producer, which is gone with the last one. True where that one is gone. Takes no
+    /// A connection leaves its producer, which is removed with its last connection. True if it is removed. Takes no
     /// memory.
     pub fn leave(&mut self, number: u32) -> bool
         requires { IsInUse number self.old }
@@ -147,18 +147,19 @@ impl Pool {
         self.leave_with_hint(number, 0)
     }
 
-    /// The same for a producer that is first looked for at a place. Takes no memory.
+    /// The same; the search for the producer tries one index first. Takes no memory.
     pub fn leave_with_hint(&mut self, number: u32, place: usize) -> bool
         requires { IsInUse number self.old }
         ensures last { Some result ≡ option_map is_last (numbered number self.old) }
         ensures groups { self.new ≡ left number self.old }
     {
+        // The number is in use, so its group is in the list.
         let at = index_with_hint(&self.groups, number, place).unwrap();
         unsubscribe(&mut self.groups, number, at)
     }
 
-    /// The producers of a point have new data; one that produces at changes of state, and may not yet, is due
-    /// when it may. Takes no memory.
+    /// The producers of a point have new data. One that produces at changes of state, and whose inhibit time runs,
+    /// is due at its end. Takes no memory.
     ///
     /// Volume 1, chapter 3, production triggers and production inhibit time.
     pub fn touched(&mut self, point: u32, clock: Ms)
@@ -186,8 +187,8 @@ impl Pool {
         lowest_at_once(&self.groups, clock, point)
     }
 
-    /// A producer produces: its next datagram is appended, with these data, a run/idle header among them where
-    /// there is one, and it goes on. Takes no memory.
+    /// A producer produces: it appends its next datagram with these data (a run/idle header among them, if it has
+    /// one), and has produced. Takes no memory.
     ///
     /// Volume 1, chapter 3, class 1 transport; Volume 2, chapter 2, sequenced address item.
     pub fn produce(&mut self, number: u32, clock: Ms, input: &[u8], out: &mut Vec<u8>)
@@ -198,6 +199,7 @@ impl Pool {
         ensures datagram { Some out.new.items ≡ option_map (λ group. out.old.items ++ datagram_text (production_datagram group.producer.id group.producer.production input.now)) (numbered number self.old) }
         ensures groups { self.new ≡ change_first (has_number number) (produced_group clock) self.old }
     {
+        // The producer may produce, so its group is in the list.
         let at = index_of(&self.groups, number).unwrap();
         append_datagram(&self.groups[at].producer, input, out);
         produce_at(&mut self.groups, number, at, clock);
@@ -224,7 +226,7 @@ impl Pool {
         write_all(&mut self.groups, clock, point);
     }
 
-    /// When the first producer is due, and where there is none, the time that never comes. Takes no memory.
+    /// When the first producer is due; `u64::MAX` if there is none. Takes no memory.
     pub fn first_due(&self) -> u64
         ensures { result ≡ first_due self.now }
     {
@@ -236,6 +238,7 @@ impl Pool {
         requires { IsInUse number self.now }
         ensures { Some result ≡ option_map (λ group. group.producer.production.due) (numbered number self.now) }
     {
+        // The number is in use, so its group is in the list.
         find_group(&self.groups, number)
             .unwrap()
             .producer
@@ -243,30 +246,32 @@ impl Pool {
             .due
     }
 
-    /// The production of a producer, which is first looked for at a place. Takes no memory.
+    /// The production of a producer. The search tries one index first. Takes no memory.
     #[inline(always)]
     pub fn production_with_hint(&self, number: u32, place: usize) -> Production
         requires { IsInUse number self.now }
         ensures { Some result ≡ option_map production_of (numbered number self.now) }
     {
+        // The number is in use, so its group is in the list.
         find_with_hint(&self.groups, number, place)
             .unwrap()
             .producer
             .production
     }
 
-    /// The producer of a number, which is first looked for at a place. Takes no memory.
+    /// The producer of a number. The search tries one index first. Takes no memory.
     #[inline(always)]
     pub fn producer_with_hint(&self, number: u32, place: usize) -> Producer
         requires { IsInUse number self.now }
         ensures { Some result ≡ option_map producer_of (numbered number self.now) }
     {
+        // The number is in use, so its group is in the list.
         find_with_hint(&self.groups, number, place)
             .unwrap()
             .producer
     }
 
-    /// Where to look first for the producer after this one. Takes no memory.
+    /// The index to try first for the producer after this one. Takes no memory.
     #[inline(always)]
     pub fn hint_after(&self, number: u32, place: usize) -> usize
         ensures { result ≤ place + 1 }
@@ -279,6 +284,7 @@ impl Pool {
         requires { IsInUse number self.now }
         ensures { Some result ≡ option_map production_of (numbered number self.now) }
     {
+        // The number is in use, so its group is in the list.
         find_group(&self.groups, number)
             .unwrap()
             .producer

@@ -15,16 +15,16 @@ abbrev pub number_in : Option Count → ℕ
 number_in None = 0
 number_in (Some count) = count.number
 
--- how many are counted at a point
+-- the count at a point
 abbrev pub number_at : ℕ → List Count → ℕ
 number_at point counts = number_in (find (is_at point) counts)
 
--- how many are counted
+-- the sum of all counts
 abbrev pub total : List Count → ℕ
 total [] = 0
 total (count ∷ counts) = count.number + total counts
 
--- with one more at a point
+-- the counts with one more at a point
 abbrev pub one_more : ℕ → List Count → List Count
 one_more point [] = record { point = point; number = 1 } ∷ []
 one_more point (count ∷ counts) = if is_at point count then record count { number = count.number + 1 } ∷ counts else count ∷ one_more point counts
@@ -32,7 +32,7 @@ one_more point (count ∷ counts) = if is_at point count then record count { num
 abbrev pub less : Count → List Count → List Count
 less count counts = if count.number == 1 then counts else record count { number = count.number - 1 } ∷ counts
 
--- with one less there
+-- the counts with one less at a point
 abbrev pub one_less : ℕ → List Count → List Count
 one_less point [] = []
 one_less point (count ∷ counts) = if is_at point count then less count counts else count ∷ one_less point counts
@@ -45,7 +45,7 @@ abbrev pub less_if : Bool → ℕ → List Count → List Count
 less_if true point counts = one_less point counts
 less_if false point counts = counts
 
--- each counts some, and no two count at one point
+-- each count is at least one, and no two are of one point
 abbrev pub AreCounts : List Count → Type 0
 AreCounts [] = Unit {0}
 AreCounts (count ∷ counts) = (1 ≤ count.number) × (number_at count.point counts ≡ 0) × AreCounts counts
@@ -72,12 +72,12 @@ pub record AreCounted (counts : Counts) (rows : List Row) : Type 0 where
   pub all_owners : total counts.owners ≡ length (filter is_driver rows)
   pub all_supporters : total counts.supporters ≡ length (filter is_supporter rows)
 
--- a connection is among those that are counted
+-- the connection is counted
 pub record HasJoined (row : Row) (counts : Counts) : Type 0 where
   pub owner : is_driver row ≡ true → 1 ≤ number_at row.consumed counts.owners
   pub supporter : is_supporter row ≡ true → 1 ≤ number_at row.produced counts.supporters
 
--- what belongs together in `Rules`
+-- the invariant of `Rules`
 pub record AreRules (owned : List Count) (owned_space : ℕ) (supported : List Count) (supported_space : ℕ) : Type 0 where
   pub owners : AreCounts owned
   pub supporters : AreCounts supported

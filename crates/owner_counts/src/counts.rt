@@ -1,4 +1,4 @@
-//! How many connections are counted at each point.
+//! Counts of connections at points.
 
 ghost use Rattle.std.specs.Prelude.{◌≡◌, ◌≤◌, ◌<◌, Some, true, find, vec_len, vec_capacity};
 ghost use Rattle.std.specs.List.{position};
@@ -29,7 +29,7 @@ fn find_count(counts: &[Count], point: u32) -> Option<Count>
     counts.iter().copied().find(|count| is_at(count, point))
 }
 
-/// How many are counted at a point.
+/// The count at a point, 0 if none is kept.
 pub(crate) fn number_at(counts: &[Count], point: u32) -> u32
     ensures { result ≡ number_at point counts.now }
 {
@@ -39,7 +39,7 @@ pub(crate) fn number_at(counts: &[Count], point: u32) -> u32
     }
 }
 
-/// One more at a point that is counted.
+/// Adds one to the count of a point that has one.
 fn raise(counts: &mut Vec<Count>, point: u32, at: usize)
     requires place { position (is_at point) counts.old.items ≡ Some at }
     requires few { total counts.old.items < 64 }
@@ -50,7 +50,7 @@ fn raise(counts: &mut Vec<Count>, point: u32, at: usize)
     count.number += 1;
 }
 
-/// Counts one more at a point. Takes no memory.
+/// Adds one to the count of a point. Takes no memory.
 fn count_in(counts: &mut Vec<Count>, point: u32)
     requires few { total counts.old.items < 64 }
     requires space { vec_len counts.old < vec_capacity counts.old }
@@ -63,13 +63,14 @@ fn count_in(counts: &mut Vec<Count>, point: u32)
     }
 }
 
-/// Counts one less at a point. Takes no memory.
+/// Subtracts one from the count of a point; a count of zero is removed. Takes no memory.
 fn count_out(counts: &mut Vec<Count>, point: u32)
     requires some { 1 ≤ number_at point counts.old.items }
     requires counts { AreCounts counts.old.items }
     ensures counts { counts.new.items ≡ one_less point counts.old.items }
     ensures capacity { vec_capacity counts.new ≡ vec_capacity counts.old }
 {
+    // The count of the point is at least 1, so it is in the list.
     let at = index_of(counts, point).unwrap();
     if counts[at].number == 1 {
         counts.remove(at);
@@ -79,7 +80,7 @@ fn count_out(counts: &mut Vec<Count>, point: u32)
     }
 }
 
-/// Counts one more at a point, where it counts. Takes no memory.
+/// Adds one to the count of a point, if the connection is counted. Takes no memory.
 pub(crate) fn count_in_if(counts: &mut Vec<Count>, counted: bool, point: u32)
     requires few { total counts.old.items < 64 }
     requires space { vec_len counts.old < vec_capacity counts.old }
@@ -91,7 +92,7 @@ pub(crate) fn count_in_if(counts: &mut Vec<Count>, counted: bool, point: u32)
     }
 }
 
-/// Counts one less at a point, where it counted. Takes no memory.
+/// Subtracts one from the count of a point, if the connection was counted. Takes no memory.
 pub(crate) fn count_out_if(counts: &mut Vec<Count>, counted: bool, point: u32)
     requires some { counted ≡ true → 1 ≤ number_at point counts.old.items }
     requires counts { AreCounts counts.old.items }

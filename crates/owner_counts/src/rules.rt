@@ -7,9 +7,10 @@ ghost use Rattle.cip_productions.specs.declared.kind.Kind.{Kind};
 ghost use Rattle.owner_counts.specs.Counts.{number_at, total, AreCounted, HasJoined};
 
 use crate::counts::{Count, count_in_if, count_out_if, number_at};
-use adapter_table::{MOST_ROWS, Row, drives, supports};
+use adapter_table::{Row, drives, supports};
 use cip_productions::Kind;
 use cip_types::OutOfMemory;
+use cip_types::limits::MOST_CONNECTIONS;
 use std::alloc::Global;
 use std::marker::Model;
 
@@ -49,13 +50,13 @@ fn is_supporter(row: &Row) -> bool
 }
 
 impl Rules {
-    /// Counts of no connections, with room for all that there can be. Want of memory is the only fault.
+    /// Counts of no connections, with capacity for the most that there can be. Out of memory is the only fault.
     pub fn new(alloc: Global) -> Result<Self, OutOfMemory>
         ensures { IfOk result (λ rules. AreCounted rules []) }
     {
         Ok(Rules {
-            owners: Vec::with_capacity(alloc, MOST_ROWS)?,
-            supporters: Vec::with_capacity(alloc, MOST_ROWS)?,
+            owners: Vec::with_capacity(alloc, MOST_CONNECTIONS)?,
+            supporters: Vec::with_capacity(alloc, MOST_CONNECTIONS)?,
         })
     }
 
@@ -73,7 +74,7 @@ impl Rules {
         number_at(&self.supporters, point)
     }
 
-    /// A connection has joined those that are counted, fewer than 64 until now. Takes no memory.
+    /// Counts a connection that joined. Fewer than 64 were counted before. Takes no memory.
     pub fn joined(&mut self, row: &Row)
         requires owners { total self.old.owners < 64 }
         requires supporters { total self.old.supporters < 64 }
@@ -83,7 +84,7 @@ impl Rules {
         count_in_if(&mut self.supporters, is_supporter(row), row.produced);
     }
 
-    /// A connection that had joined has left those that are counted. Takes no memory.
+    /// No longer counts a connection that had joined and left. Takes no memory.
     pub fn left(&mut self, row: &Row)
         requires { HasJoined row.now self.old }
         ensures { (front back : List Row) → AreCounted self.old (front ++ row.now ∷ back) → AreCounted self.new (front ++ back) }
