@@ -1,4 +1,4 @@
--- The checks in the order of the work are the list from the top.
+-- The groups of checks, one after another, are the list of checks from the top.
 use Rattle.std.proofs.Common.{◌≡◌, ℕ, zero, suc, List, [], ◌∷◌, ◌++◌, take, drop, Option, Some, None, Result, Ok, Err, refl, ◌∙◌, ap}
 use Rattle.cip_epath.specs.declared.fault.PathFault.{PathFault}
 use Rattle.cip_epath.specs.declared.fault.PathFault.TheVariants as path_fault
@@ -45,7 +45,7 @@ verdict_is_staged view request (Err path_fault.Truncated) = refl
 verdict_is_staged view request (Err path_fault.Segment) = refl
 verdict_is_staged view request (Err path_fault.KeyFormat) = refl
 
--- ---- the group, and then the ids and the room
+-- ---- the group, and then the ids and the capacity
 
 -- the first check that fails, where the first list may have one
 abbrev pub else_of : Check → List Check → Check

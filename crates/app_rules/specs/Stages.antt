@@ -1,4 +1,4 @@
--- The fifteen checks in the order of the work: some before the points are looked up, the others of them.
+-- The fifteen checks in groups: those before the points are looked up, and those of the points.
 use Rattle.std.specs.Prelude.{ℕ, ◌≡◌, Bool, ◌==◌, not, List, [], ◌∷◌, Option, Some, None, Result, Ok, Err, take, drop}
 use Rattle.std.specs.Result.{result_ok}
 use Rattle.cip_epath.specs.declared.fault.PathFault.{PathFault}
@@ -13,17 +13,17 @@ use Rattle.adapter_table.specs.Checks.{View, Points, Check, check, first_of, is_
 use Rattle.adapter_table.specs.declared.row.Row.{Row}
 use Rattle.app_rules.specs.declared.request.Timing.{Timing}
 
--- where no check fails, what comes after it
+-- the next result, if the check passes
 abbrev pub after : {A : Type 0} → Check → Result A Refusal → Result A Refusal
 after None next = next
 after (Some why) next = Err why
 
--- then, where something was found
+-- the next result, of what was found
 abbrev pub and_then : {A B : Type 0} → Result A Refusal → (A → Result B Refusal) → Result B Refusal
 and_then (Ok found) next = next found
 and_then (Err why) next = Err why
 
--- a path that is there was read, and one that is not is misarranged
+-- a path was read; without one its segments are in a wrong order
 abbrev pub path_read : Option PathFields → Result PathFields PathFault
 path_read None = Err path_fault.Shape
 path_read (Some path) = Ok path
@@ -37,15 +37,15 @@ type_check request =
     ∷ []
     )
 
--- checks 3 to 8, of a path that reads or is misarranged
+-- checks 3 to 8, of a path that reads or whose segments are in a wrong order
 abbrev pub request_checks : View → OpenFields → Option PathFields → List Check
 request_checks view request path = take 8 (drop 1 (checks view request (path_read path) (Err refusal.Path)))
 
--- checks 10 to 13, of points that are found
+-- checks 10 to 13, of points that exist
 abbrev pub points_checks : View → OpenFields → Points → List Check
 points_checks view request points = take 7 (drop 10 (checks view request (path_read None) (Ok points)))
 
--- what a joiner of these terms is asked of its group, in check 14
+-- check 14 of a joining connection of this timing
 abbrev pub group_check : Timing → ℕ → Option Row → Check
 group_check timing inhibit group =
     first_of (
@@ -68,11 +68,11 @@ points_check view request points = first_of (points_checks view request points)
 unfoldable pub capacity_check : View → OpenFields → Points → Check
 capacity_check view request points = first_of (capacity_checks view request points)
 
--- the path, where its segments read; there is none where they are misarranged
+-- the path, if its segments read; segments in a wrong order give none
 abbrev pub readable : Result PathFields PathFault → Result (Option PathFields) Refusal
 readable path = after (segment_check path) (Ok (result_ok path))
 
--- what is decided of a request before its points are looked up
+-- the timing that the checks before the points decide
 abbrev pub timing_of : OpenFields → Timing
 timing_of request = record {
   trigger = served_trigger (trigger_of request.trigger);
@@ -81,12 +81,12 @@ timing_of request = record {
   watchdog = record { 0 = timeout request.multiplier (interval_ms request.o_t_rpi) };
 }
 
--- what is returned of the checks: these terms where none fails, or the answer of the first that does
+-- the result of the checks: this timing if none fails, or the refusal of the first that does
 abbrev pub IsJudged : Check → Timing → Result Timing Refusal → Type 0
 IsJudged checked timing (Ok found) = (checked ≡ None) × (found ≡ timing)
 IsJudged checked timing (Err why) = checked ≡ Some why
 
--- what points are admitted as on these terms
+-- the connection that these points are admitted as with this timing
 abbrev pub admission_at : Points → Timing → Bool → ℕ → Admitted
 admission_at points timing multicast inhibit = record {
   kind = points.consumer.kind;
@@ -102,7 +102,7 @@ admission_at points timing multicast inhibit = record {
   segment = stored points.path.config points.path.segment;
 }
 
--- what points are admitted as, where their checks pass
+-- the connection that these points are admitted as, if their checks pass
 abbrev pub staged_points : View → OpenFields → Points → Result Admitted Refusal
 staged_points view request points =
     after (points_check view request points) (after (capacity_check view request points) (Ok (admitted_at request points)))

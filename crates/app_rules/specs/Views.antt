@@ -1,4 +1,4 @@
--- What the program's values with references are in the definitions.
+-- The program's values with references, as the definitions see them.
 use Rattle.std.specs.Prelude.{List}
 use Rattle.std.specs.Option.{option_map}
 use Rattle.cip_types.specs.declared.names.Triad.{Triad}
@@ -8,7 +8,7 @@ use Rattle.adapter_table.specs.Checks as checks
 use Rattle.app_rules.specs.declared.view.View.{View}
 use Rattle.app_rules.specs.declared.points.Points.{Points}
 
--- how things stand for a request of the triad, by the rows of the connections
+-- the state that the checks of a request of the triad read, from the list of the connections
 abbrev pub seen : {C : Type 0} → (C → List Row) → View C → Triad → checks.View
 seen rows view triad = checks.view_at view.profile.now (option_map (λ lent. lent.now) view.config) (rows view.connections.now) view.next_id triad
 

@@ -1,4 +1,4 @@
-//! What the checks ask of the connections of an adapter.
+//! The view of an adapter's connections that the checks read.
 
 ghost use Rattle.std.specs.Prelude.{◌≡◌, List, length, nat_le};
 ghost use Rattle.std.specs.List.{list_any};
@@ -8,13 +8,14 @@ ghost use Rattle.adapter_table.specs.Rows.{most_rows, holds_triad, is_establishe
 ghost use Rattle.adapter_table.specs.Checks.{group_of};
 
 use adapter_table::{
-    MOST_ROWS, Row, drives, holds_triad, is_established, is_member, is_supported, is_timed_out,
+    Row, drives, holds_triad, is_established, is_member, is_supported, is_timed_out,
 };
 use cip_productions::Kind;
 use cip_types::Triad;
+use cip_types::limits::MOST_CONNECTIONS;
 
-/// The connections of an adapter, as the checks ask of them; contracts see their list in opening order.
-/// No question takes memory.
+/// The connections of an adapter, as the checks read them; contracts see their list in opening order. No call takes
+/// memory.
 pub trait ConnectionsView {
     ghost rows: { Self → List Row };
 
@@ -30,7 +31,7 @@ pub trait ConnectionsView {
     fn is_driven(&self, point: u32) -> bool
         ensures { result ≡ list_any (drives point) (rows self.now) };
 
-    /// The first connection of the input's group, whose producer a multicast one joins.
+    /// The first connection of the input's multicast group.
     fn group_of(&self, point: u32) -> Option<Row>
         ensures { result ≡ group_of (rows self.now) point };
 
@@ -38,7 +39,7 @@ pub trait ConnectionsView {
     fn is_supported(&self, point: u32) -> bool
         ensures { result ≡ is_supported (rows self.now) Kind.ListenOnly point };
 
-    /// Whether there are as many connections as there can be.
+    /// Whether there are 64 connections, timed-out ones among them.
     fn is_full(&self) -> bool
         ensures { result ≡ nat_le most_rows (length (rows self.now)) };
 
@@ -47,7 +48,7 @@ pub trait ConnectionsView {
         ensures { result ≡ list_any is_timed_out (rows self.now) };
 }
 
-/// Connections that stand in a slice, in opening order.
+/// Connections in a slice, in opening order.
 #[derive(Clone, Copy)]
 pub struct ListView<'a>(pub &'a [Row]);
 
@@ -75,7 +76,7 @@ impl ConnectionsView for ListView<'_> {
     }
 
     fn is_full(&self) -> bool {
-        self.0.len() >= MOST_ROWS
+        self.0.len() >= MOST_CONNECTIONS
     }
 
     fn has_timed_out(&self) -> bool {

@@ -1,5 +1,5 @@
-//! The checks of a request to open a connection: what it is admitted as, or the answer of the first
-//! check that it fails.
+//! The checks of a request to open a connection, which `admit` lists: they admit it as a connection, or refuse it
+//! by the first check that fails.
 //!
 //! Volume 1, chapter 3, Forward_Open and the Connection Manager's extended status codes.
 #![tactic(auto)]

@@ -1,23 +1,22 @@
-//! The points that a path names.
+//! The points that a path names: check 9.
 
-ghost use Rattle.std.specs.Prelude.{◌≡◌, find};
+ghost use Rattle.std.specs.Prelude.{◌≡◌};
 ghost use Rattle.std.specs.Option.{option_map};
 ghost use Rattle.cip_epath.specs.Path.{view_path};
 ghost use Rattle.cip_fwdopen.specs.Open.{view_open};
-ghost use Rattle.adapter_table.specs.Profiles.{is_at, is_output_at};
-ghost use Rattle.adapter_table.specs.Checks.{Gives, is_known_config, consumed_point_of, input_of, path_check, group_of, joined, points_of};
+ghost use Rattle.adapter_table.specs.Checks.{Gives, is_known_config, consumed_point_of, path_check, group_of, joined, points_of};
 ghost use Rattle.app_rules.specs.Views.{seen, view_points};
 
 use crate::connections::ConnectionsView;
 use crate::request::is_multicast;
 use crate::view::View;
-use adapter_table::{ConsumedPoint, InputPoint, OutputPoint, Profile, Row};
-use cip_epath::ConnPath;
+use adapter_table::{ConsumedPoint, InputPoint, Profile, Row};
+use cip_epath::{ConnPath, class};
 use cip_fwdopen::OpenRequest;
 use cip_productions::Kind;
 use cip_router::Refusal;
 
-/// What a path names: what consumes, what is produced, and the connection whose producer is joined.
+/// The points that a path names: the consumer, the input that is produced, and the group that is joined.
 #[derive(Clone, Copy)]
 pub struct Points<'a> {
     pub path: ConnPath<'a>,
@@ -26,7 +25,7 @@ pub struct Points<'a> {
     pub group: Option<Row>,
 }
 
-/// Whether a path names no configuration, or the one that there is.
+/// Whether a path names no configuration, or the adapter's.
 fn is_known_config(config: Option<InputPoint>, named: Option<u32>) -> bool
     ensures { result ≡ is_known_config config named }
 {
@@ -37,28 +36,11 @@ fn is_known_config(config: Option<InputPoint>, named: Option<u32>) -> bool
     }
 }
 
-fn output_of(profile: &Profile, point: u32) -> Option<OutputPoint>
-    ensures { result ≡ find (is_output_at point) profile.now.outputs }
-{
-    let outputs = profile.outputs.as_slice();
-    outputs
-        .iter()
-        .copied()
-        .find(|output| output.instance == point)
-}
-
-fn input_of(profile: &Profile, point: u32) -> Option<InputPoint>
-    ensures { result ≡ input_of profile.now point }
-{
-    let inputs = profile.inputs.as_slice();
-    inputs.iter().copied().find(|input| input.instance == point)
-}
-
-/// What a connection that consumes the point is for.
+/// The application type of a connection that consumes the point, and the length of its data.
 fn consumed_point_of(profile: &Profile, point: u32) -> Option<ConsumedPoint>
     ensures { result ≡ consumed_point_of profile.now point }
 {
-    if let Some(output) = output_of(profile, point) {
+    if let Some(output) = profile.output(point) {
         let kind = Kind::ExclusiveOwner;
         return Some(ConsumedPoint {
             kind,
@@ -75,11 +57,11 @@ fn consumed_point_of(profile: &Profile, point: u32) -> Option<ConsumedPoint>
     Some(ConsumedPoint { kind, len: 0 })
 }
 
-/// Why a path is none of the adapter's.
+/// Why a path is not one of the adapter's.
 fn path_check(profile: &Profile, path: &ConnPath<'_>) -> Option<Refusal>
     ensures { result ≡ path_check profile.now (view_path path.now) }
 {
-    if path.class != 4 {
+    if path.class != class::ASSEMBLY {
         return Some(Refusal::Path);
     }
     if !is_known_config(profile.config, path.config) {
@@ -88,7 +70,7 @@ fn path_check(profile: &Profile, path: &ConnPath<'_>) -> Option<Refusal>
     None
 }
 
-/// The first connection of the group that is joined, where the connection is multicast.
+/// The first connection of the group that a multicast connection joins.
 fn joined<C: ConnectionsView>(connections: &C, multicast: bool, point: u32) -> Option<Row>
     ensures { result ≡ joined multicast (group_of (C.rows connections.now) point) }
 {
@@ -99,7 +81,7 @@ fn joined<C: ConnectionsView>(connections: &C, multicast: bool, point: u32) -> O
     }
 }
 
-/// The points that a request names, or why there are none.
+/// The points that a request names, or the refusal of check 9.
 pub fn points_of<'a, C: ConnectionsView>(
     view: &View<'_, C>,
     request: &OpenRequest<'a>,
@@ -107,6 +89,7 @@ pub fn points_of<'a, C: ConnectionsView>(
 ) -> Result<Points<'a>, Refusal>
     ensures { Gives view_points result (points_of (seen C.rows view.now request.now.triad) (view_open request.now) (option_map view_path path.entry)) }
 {
+    // 9
     let Some(path) = path else {
         return Err(Refusal::Path);
     };
@@ -116,7 +99,7 @@ pub fn points_of<'a, C: ConnectionsView>(
     let Some(consumer) = consumed_point_of(view.profile, path.consumed) else {
         return Err(Refusal::ConsumedPath);
     };
-    let Some(input) = input_of(view.profile, path.produced) else {
+    let Some(input) = view.profile.input(path.produced) else {
         return Err(Refusal::ProducedPath);
     };
     let multicast = is_multicast(request.t_o_params.kind);

@@ -1,4 +1,4 @@
-//! The checks of points that are found.
+//! The checks of points that exist: 10 to 15.
 
 ghost use Rattle.std.specs.Prelude.{◌≡◌, ◌+◌, ◌≤◌, ◌==◌, nat_lt};
 ghost use Rattle.std.specs.Option.{option_map};
@@ -18,11 +18,9 @@ use cip_fwdopen::OpenRequest;
 use cip_netparams::Trigger;
 use cip_productions::Kind;
 use cip_router::Refusal;
+use cip_types::limits::IDS_PER_INCARNATION;
 
-/// The counter that no connection id has any more.
-const ID_END: u32 = 0x0100_0000;
-
-/// The length of the configuration that a path names, 0 where it names none.
+/// The length of the configuration that a path names, 0 if it names none.
 fn named_len(config: Option<InputPoint>, named: Option<u32>) -> u64
     ensures { result ≡ named_len config named }
 {
@@ -32,7 +30,7 @@ fn named_len(config: Option<InputPoint>, named: Option<u32>) -> u64
     }
 }
 
-/// Whether a data segment is of another length.
+/// Whether a data segment has another length.
 fn has_other_length(len: u64, segment: Option<&[u8]>) -> bool
     ensures { result ≡ has_other_length len (option_map (λ lent. lent.now) segment.entry) }
 {
@@ -42,7 +40,7 @@ fn has_other_length(len: u64, segment: Option<&[u8]>) -> bool
     }
 }
 
-/// The data segment that a success stores: the one of the path, where the path names a configuration.
+/// The data segment that a successful open stores: that of a path that names a configuration.
 pub fn stored<'a>(path: &ConnPath<'a>) -> Option<&'a [u8]>
     ensures { option_map (λ lent. lent.now) result ≡ stored (view_path path.now).config (view_path path.now).segment }
 {
@@ -80,14 +78,14 @@ fn has_t_o_size(size: u16, input: &InputPoint) -> bool
     size >= 2 && u64::from(size) - 2 == input.len
 }
 
-/// Whether the data segment is of another length than the configuration that the path names.
+/// Whether the data segment has another length than the configuration that the path names.
 fn misfits_config(profile: &Profile, path: &ConnPath<'_>) -> bool
     ensures { result ≡ has_other_length (named_len profile.now.config (view_path path.now).config) (view_path path.now).segment }
 {
     has_other_length(named_len(profile.config, path.config), path.segment)
 }
 
-/// The first of the checks of data segment, sizes, owner and support that a request fails.
+/// The refusal of the first of the checks 10 to 13 that fails: data segment, sizes, owner, support.
 #[tactic(auto, unfolding(crate::specs::Stages::points_check))]
 pub fn points_check<C: ConnectionsView>(
     view: &View<'_, C>,
@@ -97,22 +95,26 @@ pub fn points_check<C: ConnectionsView>(
     ensures { result ≡ points_check (seen C.rows view.now request.now.triad) (view_open request.now) (view_points points.now) }
 {
     let path = &points.path;
+    // 10
     if misfits_config(view.profile, path) {
         return Some(Refusal::ConfigurationSize);
     }
     if view.connections.has_established() && has_other_bytes(stored(path), view.config) {
         return Some(Refusal::Ownership);
     }
+    // 11
     if !has_o_t_size(request.o_t_params.size, &points.consumer) {
         return Some(Refusal::ConsumedSize);
     }
     if !has_t_o_size(request.t_o_params.size, &points.input) {
         return Some(Refusal::ProducedSize);
     }
+    // 12
     let kind = points.consumer.kind;
     if kind == Kind::ExclusiveOwner && view.connections.is_driven(path.consumed) {
         return Some(Refusal::Ownership);
     }
+    // 13
     if kind == Kind::ListenOnly && !is_multicast(request.t_o_params.kind) {
         return Some(Refusal::ProducedType);
     }
@@ -142,7 +144,7 @@ fn has_other_inhibit(inhibit: u8, state: &State) -> bool
     }
 }
 
-/// The first check that a joiner fails against its group.
+/// The refusal of a joining connection whose production differs from its group's: check 14.
 fn group_check(timing: &Timing, inhibit: u8, group: Option<Row>) -> Option<Refusal>
     ensures { result ≡ group_check timing.now inhibit group }
 {
@@ -159,8 +161,7 @@ fn group_check(timing: &Timing, inhibit: u8, group: Option<Row>) -> Option<Refus
     None
 }
 
-/// How many ids an opening draws: one for the O->T direction, and one more where it begins a multicast
-/// producer.
+/// How many ids an opening draws: one for the O->T direction, and one more if it starts a multicast producer.
 ///
 /// Volume 1, chapter 3, connection ids.
 pub fn drawn_ids(multicast: bool, group: Option<Row>) -> u32
@@ -178,10 +179,10 @@ fn lacks_ids(next_id: u32, drawn: u32) -> bool
     requires { drawn ≤ 2 }
     ensures { result ≡ nat_lt 16777216 (next_id + drawn) }
 {
-    next_id > ID_END - drawn
+    next_id > IDS_PER_INCARNATION - drawn
 }
 
-/// The first of the checks of the group, the ids and the room that a request fails.
+/// The refusal of the first of the checks 14 and 15 that fails: the group, the ids, the capacity.
 #[tactic(auto, using(crate::proofs::Order::capacity_is))]
 pub fn capacity_check<C: ConnectionsView>(
     view: &View<'_, C>,
@@ -194,9 +195,11 @@ pub fn capacity_check<C: ConnectionsView>(
     requires inhibit { inhibit ≡ served_inhibit timing.now.trigger points.now.path.inhibit }
     ensures { result ≡ capacity_check (seen C.rows view.now request.now.triad) (view_open request.now) (view_points points.now) }
 {
+    // 14
     if let Some(why) = group_check(timing, inhibit, points.group) {
         return Some(why);
     }
+    // 15
     let drawn = drawn_ids(is_multicast(request.t_o_params.kind), points.group);
     if lacks_ids(view.next_id, drawn) {
         return Some(Refusal::OutOfConnections);

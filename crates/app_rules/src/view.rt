@@ -1,8 +1,8 @@
-//! How things stand at an adapter when a request is judged.
+//! The state of an adapter that the checks read.
 
 use adapter_table::Profile;
 
-/// What a request to open a connection is judged by: the adapter's profile, what its configuration holds,
+/// The state of an adapter that the checks of an open request read: its profile, the bytes of its configuration,
 /// its connections, and the counter of the next connection id.
 ///
 /// Volume 1, chapter 3, Connection Manager object.
