@@ -8,13 +8,13 @@ use Rattle.adapter_table.specs.declared.row.Row.{Row}
 use Rattle.adapter_table.specs.declared.row.State.{State}
 use Rattle.adapter_table.specs.declared.row.State.TheVariants.{Established, TimedOut}
 use Rattle.adapter_table.specs.Rows.{Each, lives, is_established, is_member}
-use Rattle.adapter_table.specs.Productions.{state_producer, producer_of, due_of}
+use Rattle.adapter_table.specs.Productions.{state_producer, producer_of, producer_number, due_of}
 use Rattle.adapter_table.specs.Sound.{Agree, ShareInGroup}
 use Rattle.adapter_table.specs.Whole.{FitsRow}
 use Rattle.mcast_pool.specs.declared.group.Group.{Group}
 use Rattle.mcast_pool.specs.Groups.{has_number, number_of, numbered, serves, begun, one_more, one_less, change_first, joined_group, joined, left, subscribers, AreGroups}
 use Rattle.conn_slab.specs.declared.record.Record.{Record}
-use Rattle.conn_slab.specs.Records.{row_of, record_of, state_of, number_in, production_in, entered, entered_with}
+use Rattle.conn_slab.specs.Records.{row_of, record_of, state_of, production_in, entered, entered_with}
 use Rattle.conn_slab.specs.Layout.{IsServed, SharesBy, SharesFound, Shares, is_number, members, established, count_in, IsBalanced, MayEnter, MayEnterWith, MayJoin}
 use Rattle.conn_slab.proofs.Numbers.{same_of, itself, other_way, both_hold, found_passes, found_too, found_by_number, numbered_more, sum_more, or_else, numbered_begun, sum_begun, left_one, numbered_left, numbered_other, sum_left, some_served}
 
@@ -194,8 +194,8 @@ record HasMore (number : ℕ) (old new : List Group) (r : Record) (production : 
 -- what a connection that is put last makes of the records and the pool
 abbrev Joins : Row → State → List Group → List Group → List Record → Type 0
 Joins row s pool new rs =
-    IsBalanced new (rs ++ record (record_of row) { producer = number_in s } ∷ [])
-    × (map (row_of new) (rs ++ record (record_of row) { producer = number_in s } ∷ []) ≡ map (row_of pool) rs ++ record row { state = s } ∷ [])
+    IsBalanced new (rs ++ record (record_of row) { producer = producer_number s } ∷ [])
+    × (map (row_of new) (rs ++ record (record_of row) { producer = producer_number s } ∷ []) ≡ map (row_of pool) rs ++ record row { state = s } ∷ [])
 
 joins : (row : Row) (p : Production) (pool new : List Group) (rs : List Record) → IsBalanced pool rs → HasMore p.producer pool new (record (record_of row) { producer = Some p.producer }) p → Joins row (Established p) pool new rs
 joins row p pool new rs balanced more =

@@ -1,4 +1,4 @@
--- What an expiry and an accepted datagram do to the connections.
+-- The connections after an expiry, and after an accepted datagram.
 use Rattle.std.proofs.Common.{◌≡◌, ◌≤◌, ◌∙◌, ◌&&◌, ℕ, Bool, true, false, Option, Some, None, List, find, map, length, is_some, if◌then◌else◌, sym, ap, subst, refl}
 use Rattle.std.specs.List.{list_any}
 use Rattle.std.specs.Option.{option_map}

@@ -1,4 +1,4 @@
--- No watchdog runs out after the time that never comes.
+-- No watchdog runs out after the end of time.
 use Rattle.std.proofs.Common.{◌≡◌, ◌≤◌, ℕ, min, List, [], ◌∷◌, arith}
 use Rattle.adapter_table.specs.declared.row.Row.{Row}
 use Rattle.conn_slab.specs.Bounds.{never, first_end}

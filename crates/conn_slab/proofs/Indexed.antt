@@ -1,4 +1,4 @@
--- How the two indexes stay tied to the items through each change, and what it makes of the list of items.
+-- The two indexes stay consistent with the items through each change, and the list of items after it.
 use Rattle.std.proofs.Common.{◌≡◌, ◌≢◌, ◌⊎◌, ℕ, Bool, true, false, not, cond, ◌&&◌, List, [], ◌∷◌, ◌++◌, map, filter, find, Option, Some, None, is_some, refl, sym, ap, subst, ◌∙◌, true≢false, inl, inr, if◌then◌else◌}
 use Rattle.std.specs.List.{AllByRecursion, list_any, IsDistinct}
 use Rattle.std.specs.Map.{lookup, remove_entry, keys_of}
@@ -275,7 +275,7 @@ module _ {Item Name Source : Type 0} (name_of : Item → Name) (same_name : Name
             named way true is = let some : lookup (same_name (name_of item)) names ≡ Some other = ap (λ m. lookup (same_name m) names) (exact_names.only _ _ is) ∙ way.named in absurd (cc)
             named way false is = rw is way.named
 
-  -- ---- a item changed where it stands
+  -- ---- an item changed in place
   module _ (next : Slab Item) (key : ℕ) (item changed : Item) (stored : get slab key ≡ Some item) (updates : Updates slab next key (Some changed)) (same_name_of : name_of changed ≡ name_of item) (same_source_of : source_of changed ≡ source_of item) where
     pub indexed_changed : IsIndexed name_of same_name source_of same_source next names sources
     indexed_changed = record {

@@ -97,7 +97,7 @@ module _ (slab : Slab Record) (triads : List (TriadKey × ℕ)) (sources : List 
           let some = find_source key_of same_key source_of same_source exact_keys exact_sources slab triads sources filed place key way.item is way.stored in
           absurd (cc)
 
-  -- room is made
+  -- capacity is reserved
   pub kept : (next : Slab Record) (more : List (TriadKey × ℕ)) (others : List (Source × ℕ)) → next ≡ record slab { capacity = next.capacity } → more ≡ triads → others ≡ sources → AreFiled next more others
   kept next more others same same_triads same_sources =
       let at : (key : ℕ) → get next key ≡ get slab key = λ key. ap (λ s. get s key) same in

@@ -24,7 +24,7 @@ found_passes : (number : ℕ) (pool : List Group) (g : Group) → numbered numbe
 found_passes number [] g is = absurd cc
 found_passes number (x ∷ pool) g is = passes_step number (has_number number x) x g (numbered number pool) refl (found_passes number pool g) is
 
--- what the pool tells of a number
+-- the producer of a number in the pool
 abbrev ReportsProducer : ℕ → List Group → List Row → Type 0
 ReportsProducer number pool rows = (producer_by number rows ≡ option_map producer_of (numbered number pool)) × IsInUse number pool
 

@@ -1,4 +1,4 @@
--- What connections make of a datagram.
+-- Connections that receive a datagram.
 use Rattle.std.proofs.Common.{◌≡◌, ◌≤◌, ◌∙◌, ◌&&◌, ℕ, Bool, true, false, cond, Option, Some, None, List, [], ◌∷◌, find, map, length, is_some, sym, ap, subst, refl}
 use Rattle.std.specs.List.{AllByRecursion}
 use Rattle.std.specs.Option.{option_map}
@@ -109,7 +109,7 @@ rows_after : (clock : Ms) (peer : Node) (d : DatagramFields) (b : Bool) (rows : 
 rows_after clock peer d true rows = refl
 rows_after clock peer d false rows = unchanged (is_for peer d.connection) rows
 
--- what is told does not hang on the producer
+-- the result does not depend on the producer
 reported_by : (b : Bool) (clock : Ms) (d : DatagramFields) (row bare : Row) → bare.deadline ≡ row.deadline → (accepted_row clock d bare).deadline ≡ (accepted_row clock d row).deadline → (cond b (accepted_row clock d bare) bare).deadline ≡ (cond b (accepted_row clock d row) row).deadline
 reported_by true clock d row bare same after = after
 reported_by false clock d row bare same after = same

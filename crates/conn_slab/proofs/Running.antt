@@ -102,7 +102,7 @@ module _ (slab : Slab Record) (triads : List (TriadKey × ℕ)) (sources : List 
         by_found None at e = absurd cc
         by_found (Some k) at e = by_record k (get slab k) at refl e
 
-    -- it is changed where it stands
+    -- it is changed in place
     module _ (key number : ℕ) (is : running_key slab found ≡ Some (key, number)) (next : Slab Record) (r : Record) (change : Record → Record) (stored : get slab key ≡ Some r) (updates : Updates slab next key (Some (change r)))
         (same_name : key_of (change r) ≡ key_of r) (source_same : source_of (change r) ≡ source_of r) where
       pub filed_changed : AreFiled next triads sources

@@ -1,11 +1,11 @@
--- Times before which nothing happens to any connection by the clock alone.
+-- Bounds: times before which no watchdog runs out, and no producer is due.
 use Rattle.std.specs.Prelude.{ℕ, ◌≤◌, ◌-◌, ◌^◌, min, List, [], ◌∷◌}
 use Rattle.adapter_table.specs.declared.row.Row.{Row}
 use Rattle.adapter_table.specs.declared.row.State.{State}
 use Rattle.adapter_table.specs.declared.row.State.TheVariants.{Established, TimedOut}
 use Rattle.adapter_table.specs.Rows.{Each}
 
--- the time that never comes
+-- the end of time, which no clock reaches
 abbrev pub never : ℕ
 never = 2 ^ 64 - 1
 

@@ -1,4 +1,4 @@
--- What happens to the connections of an adapter, as a list in opening order.
+-- Changes of the connections of an adapter, as a list in opening order.
 use Rattle.std.specs.Prelude.{ℕ, ◌≤◌, ◌==◌, ◌&&◌, if◌then◌else◌, Bool, List, length, Option, Some, None}
 use Rattle.cip_types.specs.declared.names.Triad.{Triad}
 use Rattle.cip_types.specs.declared.names.Ms.{Ms}

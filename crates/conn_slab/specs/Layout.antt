@@ -1,4 +1,4 @@
--- What belongs together in `Connections`. No public clause cites this module.
+-- The invariant of `Connections`. No public clause cites this module.
 use Rattle.std.specs.Prelude.{ℕ, ◌≡◌, ◌≤◌, ◌+◌, ◌==◌, Bool, false, if◌then◌else◌, List, [], ◌∷◌, length, Option, Some, None, is_some}
 use Rattle.std.specs.List.{AllByRecursion}
 use Rattle.slab.specs.Slab.{Slab, get}
@@ -34,7 +34,7 @@ abbrev pub SharesBy : List Group → Record → Option ℕ → Type 0
 SharesBy pool r None = Unit {0}
 SharesBy pool r (Some number) = SharesFound r (numbered number pool)
 
--- the producer of an established record stands in the pool
+-- the producer of an established record is in the pool
 abbrev pub IsServed : List Group → Record → Type 0
 IsServed pool r = SharesBy pool r r.producer
 
@@ -68,7 +68,7 @@ pub record IsConsistent (records : Slab Record) (triads : List (TriadKey × ℕ)
 
 -- ---- single steps
 
--- where there is a producer's number, it stands in the pool
+-- a producer's number, if there is one, is in the pool
 abbrev pub IsLive : List Group → Option ℕ → Type 0
 IsLive pool None = Unit {0}
 IsLive pool (Some number) = IsInUse number pool
@@ -77,11 +77,11 @@ abbrev pub LeadsTo : List Group → Option Record → Type 0
 LeadsTo pool None = ⊥
 LeadsTo pool (Some r) = IsLive pool r.producer
 
--- a record whose producer lives stands under the key
+-- the key is of a record whose producer, if it has one, is in the pool
 abbrev pub Leads : Slab Record → List Group → ℕ → Type 0
 Leads records pool key = LeadsTo pool (get records key)
 
--- what a pool asks of one that joins
+-- what a pool requires of a joining connection
 pub record MayJoin (producer : Producer) (shared : Bool) (api : ℕ) (pool : List Group) : Type 0 where
   pub fits : FitsGroup (begun producer shared api)
   pub unused : joined_group shared producer.point pool ≡ None → numbered producer.production.producer pool ≡ None

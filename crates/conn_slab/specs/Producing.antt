@@ -9,6 +9,6 @@ use Rattle.adapter_table.specs.Productions.{producer_in}
 abbrev pub is_producer : ℕ → Producer → Bool
 is_producer number producer = producer.production.producer == number
 
--- the producer of this number, as the first of its connections tells of it
+-- the producer of this number, as its first connection has it
 abbrev pub producer_by : ℕ → List Row → Option Producer
 producer_by number rows = find (is_producer number) (filter_map producer_in rows)

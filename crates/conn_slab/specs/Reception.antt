@@ -1,4 +1,4 @@
--- What connections make of a datagram.
+-- Connections that receive a datagram.
 use Rattle.std.specs.Prelude.{◌+◌, if◌then◌else◌, List, map, Option, None, Some}
 use Rattle.cip_types.specs.declared.names.Ms.{Ms}
 use Rattle.cip_types.specs.declared.names.Node.{Node}
@@ -12,11 +12,11 @@ use Rattle.conn_slab.specs.declared.reception.Received.{Received}
 use Rattle.conn_slab.specs.declared.record.Record.{Record}
 use Rattle.conn_slab.specs.Records.{bare_row}
 
--- a connection that has heard a datagram, which it accepts where its delivery says so
+-- a connection that has received a datagram, which it accepts if its delivery is an accepted one
 abbrev pub received_row : Profile → Ms → DatagramFields → Row → Row
 received_row profile clock d row = if is_accepted (row_delivery profile row d) then accepted_row clock d row else row
 
--- what is told of it
+-- the result for the caller
 abbrev pub received_of : Profile → Ms → DatagramFields → Row → Received
 received_of profile clock d row = record { delivery = row_delivery profile row d; consumed = row.consumed; deadline = (received_row profile clock d row).deadline }
 

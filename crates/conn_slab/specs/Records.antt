@@ -1,4 +1,4 @@
--- Records of connections, whose productions stand in a pool, and the connections that they are.
+-- Records of connections, whose productions are in a pool, and the connections of records.
 use Rattle.std.specs.Prelude.{ℕ, ◌==◌, ◌&&◌, Bool, false, List, [], Option, Some, None, is_some}
 use Rattle.cip_types.specs.declared.names.Triad.{Triad}
 use Rattle.cip_netparams.specs.declared.Trigger.TheVariants.{Cyclic}
@@ -8,7 +8,7 @@ use Rattle.cip_productions.specs.Kinds.{is_listener}
 use Rattle.adapter_table.specs.declared.row.Row.{Row}
 use Rattle.adapter_table.specs.declared.row.State.{State}
 use Rattle.adapter_table.specs.declared.row.State.TheVariants.{Established, TimedOut}
-use Rattle.adapter_table.specs.Productions.{producer_in}
+use Rattle.adapter_table.specs.Productions.{producer_in, producer_number}
 use Rattle.mcast_pool.specs.declared.group.Group.{Group}
 use Rattle.mcast_pool.specs.Groups.{numbered, joined, left, begun}
 use Rattle.conn_slab.specs.declared.record.Record.{Record}
@@ -17,7 +17,7 @@ use Rattle.conn_slab.specs.declared.record.Source.{Source}
 
 -- THE CONNECTION OF A RECORD
 
--- what is read where a number is that of no producer
+-- the production of a number that no producer has
 abbrev pub no_production : Production
 no_production = record { producer = 0; sequence = 0; count = 0; written = false; due = record { 0 = 0 }; address = record { 0 = 0 }; trigger = Cyclic; inhibit = 0; last = None }
 
@@ -25,7 +25,7 @@ abbrev pub production_in : Option Group → Production
 production_in None = no_production
 production_in (Some group) = group.producer.production
 
--- established where it has a producer, with the production of its group
+-- established if it has a producer, with the production of its group
 abbrev pub state_of : List Group → Option ℕ → State
 state_of pool None = TimedOut
 state_of pool (Some number) = Established (production_in (numbered number pool))
@@ -55,11 +55,6 @@ bare_row r = row_of [] (record r { producer = None })
 
 -- THE RECORD OF A CONNECTION
 
--- the number of its producer, which an established connection has
-abbrev pub number_in : State → Option ℕ
-number_in (Established production) = Some production.producer
-number_in TimedOut = None
-
 abbrev pub record_of : Row → Record
 record_of row = record {
   triad = row.triad;
@@ -76,7 +71,7 @@ record_of row = record {
   opening = row.opening;
   last = row.last;
   deadline = row.deadline;
-  producer = number_in row.state;
+  producer = producer_number row.state;
 }
 
 -- WHAT LEADS TO A RECORD

@@ -1,4 +1,4 @@
-//! When something happens to connections by the clock alone.
+//! The times at which watchdogs run out.
 
 ghost use Rattle.std.specs.Prelude.{◌≡◌};
 ghost use Rattle.conn_slab.specs.Bounds.{end_of, first_end};
@@ -6,7 +6,7 @@ ghost use Rattle.conn_slab.specs.Bounds.{end_of, first_end};
 use crate::rows::Rows;
 use adapter_table::{Row, State};
 
-/// When the watchdog of a connection runs out; that of one that has timed out never does.
+/// When the watchdog of a connection runs out; `u64::MAX` for a timed-out one.
 fn end_of(row: &Row) -> u64
     ensures { result ≡ end_of row.now.deadline.0 row.now.state }
 {
@@ -16,7 +16,7 @@ fn end_of(row: &Row) -> u64
     }
 }
 
-/// When the first of the watchdogs runs out.
+/// When the first of the watchdogs runs out; `u64::MAX` if there is none.
 #[tactic(auto, using(crate::proofs::Ends::min_never, crate::proofs::Ends::min_end))]
 pub(crate) fn first_end(rows: Rows<'_>) -> u64
     ensures { result ≡ first_end rows.entry }

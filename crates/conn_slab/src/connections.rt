@@ -28,21 +28,23 @@ use crate::producers::{enter, leave, row_of};
 use crate::reception::{Received, receive_record};
 use crate::record::{Record, Source, key_for, record_of};
 use crate::rows::Rows;
-use adapter_table::{MOST_ROWS, Profile, Row};
+use adapter_table::{Profile, Row};
 use cip_datagram::Datagram;
 use cip_productions::{Accepted, Producer};
+use cip_types::limits::MOST_CONNECTIONS;
 use cip_types::{ConnId, Ms, Node, OutOfMemory, Triad};
 use mcast_pool::Pool;
 use slab::Slab;
 use std::alloc::Global;
 use std::marker::Model;
 
-/// So many positions in the index of places are kept, each for the O->T ids that leave the same remainder.
+/// How many last positions in the index of sources are kept, each for the O->T ids of one remainder.
 const POSITIONS: usize = 64;
 
 /// The connections of an adapter, which contracts see as their list in opening order.
 ///
-/// Where a datagram of an O->T id was found last, the next one of this id is looked for first.
+/// The search for the connection of a datagram tries first the position at which an id of the same remainder was
+/// found last.
 #[derive(Drop)]
 pub struct Connections {
     records: Slab<Record>,
@@ -66,7 +68,7 @@ impl Model for Connections {
     ghost invariant = { λ c. IsConsistent c.records c.by_triad.entries c.by_source.entries c.pool };
 }
 
-/// Takes the connection of a triad out. Takes no memory.
+/// Removes the connection of a triad. Takes no memory.
 fn take_out(
     records: &mut Slab<Record>,
     by_triad: &mut Triads,
@@ -82,6 +84,7 @@ fn take_out(
     ensures triad_space { spare by_triad.old ≤ spare by_triad.new }
     ensures source_space { spare by_source.old ≤ spare by_source.new }
 {
+    // Gives the prover the invariant of the pool.
     let _groups = pool.len();
     let place = hint_among(by_triad, triad);
     let record = take_record(records, by_triad, by_source, key_for(triad))?;
@@ -90,7 +93,7 @@ fn take_out(
     Some(row)
 }
 
-/// Puts a connection last, where there is room for it. Takes no memory.
+/// Appends a connection, within the capacity that is reserved. Takes no memory.
 fn append(
     records: &mut Slab<Record>,
     by_triad: &mut Triads,
@@ -106,20 +109,21 @@ fn append(
     ensures consistent { IsConsistent records.new by_triad.new.entries by_source.new.entries pool.new }
     ensures rows { map (row_of pool.new) (items_of records.new by_triad.new.entries) ≡ map (row_of pool.old) (items_of records.old by_triad.old.entries) ++ row.now ∷ [] }
 {
+    // Gives the prover the invariant of the pool.
     let _groups = pool.len();
     enter(pool, row);
     put_last(records, by_triad, by_source, record_of(row));
 }
 
 impl Connections {
-    /// No connections, with room for all that there can be. Want of memory is the only fault.
+    /// No connections, with capacity for the most that there can be. Out of memory is the only fault.
     pub fn new(alloc: Global) -> Result<Self, OutOfMemory>
         ensures { IfOk result (λ connections. connections ≡ []) }
     {
         Ok(Connections {
-            records: Slab::with_capacity(alloc, MOST_ROWS)?,
-            by_triad: Triads::with_capacity(alloc, MOST_ROWS)?,
-            by_source: Sources::with_capacity(alloc, MOST_ROWS)?,
+            records: Slab::with_capacity(alloc, MOST_CONNECTIONS)?,
+            by_triad: Triads::with_capacity(alloc, MOST_CONNECTIONS)?,
+            by_source: Sources::with_capacity(alloc, MOST_CONNECTIONS)?,
             pool: Pool::new(alloc)?,
             last_positions: [0; POSITIONS],
         })
@@ -146,7 +150,7 @@ impl Connections {
         }
     }
 
-    /// A copy of the connections, in opening order. Want of memory is the only fault.
+    /// A copy of the connections, in opening order. Out of memory is the only fault.
     pub fn to_vec(&self, alloc: Global) -> Result<Vec<Row>, OutOfMemory>
         ensures { IfOk result (λ rows. rows.items ≡ self.now) }
     {
@@ -165,7 +169,7 @@ impl Connections {
     {
         let key = self.by_triad.get(&key_for(triad))?;
         let record = self.records.get(*key)?;
-        // Where no connection has left before another, its producer stands at the place that its key is.
+        // As long as no connection was removed before another, the index of its producer is its key.
         Some(row_of(&self.pool, record, *key))
     }
 
@@ -214,8 +218,8 @@ impl Connections {
         None
     }
 
-    /// Puts a connection last. Where a triad is named, the connection of that triad is taken out. Want of memory
-    /// is the only fault, and then nothing is changed.
+    /// Appends a connection, and removes the one of the named triad. Out of memory is the only fault, and then
+    /// nothing is changed.
     ///
     /// Volume 1, chapter 3, Forward_Open.
     pub fn open(&mut self, removed: Option<Triad>, row: Row) -> Result<(), OutOfMemory>
@@ -243,7 +247,7 @@ impl Connections {
         Ok(())
     }
 
-    /// Takes the connection of a triad out, in any state. Takes no memory.
+    /// Removes the connection of a triad, in any state. Takes no memory.
     ///
     /// Volume 1, chapter 3, Forward_Close.
     pub fn close(&mut self, triad: Triad) -> Option<Row>
@@ -259,14 +263,15 @@ impl Connections {
         )
     }
 
-    /// Lets the established connection of a triad time out, which leaves its producer. False where there is none.
-    /// Takes no memory.
+    /// The established connection of a triad times out, and leaves its producer. False if there is none. Takes no
+    /// memory.
     ///
     /// Volume 1, chapter 3, inactivity watchdog.
     pub fn expire(&mut self, triad: Triad) -> bool
         ensures found { result ≡ list_any (holds_triad triad) self.old }
         ensures rows { self.new ≡ map (timed_out_if triad) self.old }
     {
+        // Gives the prover the invariant of the pool.
         let _groups = self.pool.len();
         let Some((key, number)) = running(&self.records, self.by_triad.get(&key_for(triad))) else {
             return false;
@@ -277,8 +282,8 @@ impl Connections {
         true
     }
 
-    /// The established connection of a peer that has this O->T id has accepted a datagram of this number and
-    /// count, and waits until the deadline. False where there is none. Takes no memory.
+    /// The established connection of a peer that has this O->T id accepts a datagram of this number and count, and
+    /// has this deadline. False if there is no such connection. Takes no memory.
     ///
     /// Volume 1, chapter 3, inactivity watchdog.
     pub fn accept(&mut self, peer: Node, id: ConnId, accepted: Accepted, deadline: Ms) -> bool
@@ -298,8 +303,8 @@ impl Connections {
         true
     }
 
-    /// The established connection that a datagram of a peer is for accepts it, where its delivery says so. None
-    /// where there is no such connection. Takes no memory.
+    /// The established connection that a datagram of a peer is for receives it, and accepts it if its delivery is an
+    /// accepted one. None if there is no such connection. Takes no memory.
     ///
     /// Volume 1, chapter 3, class 1 transport and inactivity watchdog; Volume 2, chapter 2, sequenced address item.
     pub fn receive(
@@ -330,8 +335,7 @@ impl Connections {
         Some(receive_record(record, profile, clock, datagram))
     }
 
-    /// When the first watchdog of an established connection runs out, and where there is none, the time that never
-    /// comes. Takes no memory.
+    /// When the first watchdog of an established connection runs out; `u64::MAX` if there is none. Takes no memory.
     ///
     /// Volume 1, chapter 3, inactivity watchdog.
     pub fn first_end(&self) -> u64
@@ -349,7 +353,7 @@ impl Connections {
         self.pool.first_due()
     }
 
-    /// The producer of a number, which some connection has. It is first looked for at a place. Takes no memory.
+    /// The producer of a number, which some connection has. The search tries one index first. Takes no memory.
     ///
     /// Volume 1, chapter 3, class 1 transport; Volume 2, chapter 3, multicast connections.
     #[inline(always)]
@@ -370,7 +374,7 @@ impl Connections {
         self.pool.produce_due(clock);
     }
 
-    /// The producers of a point have new data and have done what a write asks of them. Takes no memory.
+    /// The producers of a point have new data and have acted on the write. Takes no memory.
     ///
     /// Volume 1, chapter 3, production triggers and production inhibit time.
     pub fn write(&mut self, point: u32, clock: Ms)

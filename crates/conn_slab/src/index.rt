@@ -20,7 +20,7 @@ pub(crate) type Triads = IndexMap<TriadKey, usize>;
 
 pub(crate) type Sources = IndexMap<Source, usize>;
 
-/// Makes room for one more record.
+/// Reserves capacity for one more record.
 pub(crate) fn reserve_record(
     records: &mut Slab<Record>,
     by_triad: &mut Triads,
@@ -39,12 +39,12 @@ pub(crate) fn reserve_record(
     Ok(())
 }
 
-/// Where to look first for the producer of a triad's connection: its own place among the connections.
+/// The index to try first for the producer of a triad's connection: its own index among the connections.
 pub(crate) fn hint_among(by_triad: &Triads, triad: Triad) -> usize {
     by_triad.get_index_of(&key_for(triad)).unwrap_or(0)
 }
 
-/// Takes the record of a triad out, and out of both indexes. Takes no memory.
+/// Removes the record of a triad, and its entries in both indexes. Takes no memory.
 pub(crate) fn take_record(
     records: &mut Slab<Record>,
     by_triad: &mut Triads,
@@ -65,7 +65,7 @@ pub(crate) fn take_record(
     Some(record)
 }
 
-/// Puts a record last, where there is room for it. Takes no memory.
+/// Appends a record, within the capacity that is reserved. Takes no memory.
 pub(crate) fn put_last(
     records: &mut Slab<Record>,
     by_triad: &mut Triads,
@@ -84,11 +84,12 @@ pub(crate) fn put_last(
     let name = key_for(opened.triad);
     let place = source_of(&opened);
     let key = records.insert_reserved(opened);
+    // Both indexes have spare capacity, so that no insertion fails.
     by_triad.insert(name, key).unwrap();
     by_source.insert(place, key).unwrap();
 }
 
-/// Where a place stands in its index, and the key under it. It is first looked for at one position.
+/// The position of a source in its index, and its key. The search tries one position first.
 #[inline(always)]
 pub(crate) fn find_at_position(
     by_source: &Sources,
@@ -105,7 +106,7 @@ pub(crate) fn find_at_position(
     find_anew(by_source, place)
 }
 
-/// Where a place stands in its index, and the key under it.
+/// The position of a source in its index, and its key.
 #[inline(never)]
 fn find_anew(by_source: &Sources, place: Source) -> Option<(usize, usize)>
     ensures { option_map (λ found. found.1) result ≡ lookup (same_source place) by_source.now.entries }
@@ -131,7 +132,7 @@ fn listens(record: &Record) -> bool
     record.producer.is_some() && record.kind == Kind::ListenOnly
 }
 
-/// Whether such a record stands under a key.
+/// Whether the record of a key is such a one.
 fn listens_at(records: &Slab<Record>, key: usize) -> bool
     ensures { result ≡ listens_in (get records.now key) }
 {
@@ -141,7 +142,7 @@ fn listens_at(records: &Slab<Record>, key: usize) -> bool
     }
 }
 
-/// Whether such a record stands under one of the keys.
+/// Whether the record of one of the keys is such a one.
 pub(crate) fn has_listeners(records: &Slab<Record>, by_triad: &Triads) -> bool
     ensures { result ≡ list_any (λ key. listens_in (get records.now key)) (values_of by_triad.now.entries) }
 {

@@ -1,4 +1,4 @@
-//! What connections have of their producers.
+//! The productions of connections, in the pool of producers.
 
 ghost use Rattle.std.specs.Prelude.{◌≡◌, ◌<◌, ◌≤◌, ◌+◌};
 ghost use Rattle.mcast_pool.specs.Groups.{subscribers};
@@ -9,7 +9,7 @@ use crate::record::Record;
 use adapter_table::{Row, State, producer_in};
 use mcast_pool::Pool;
 
-/// The state of a connection whose producer has this number, and is first looked for at a place.
+/// The state of a connection whose producer has this number. The search tries one index first.
 #[inline(always)]
 fn state_of(pool: &Pool, producer: Option<u32>, place: usize) -> State
     requires { IsLive pool.now producer }
@@ -21,7 +21,7 @@ fn state_of(pool: &Pool, producer: Option<u32>, place: usize) -> State
     }
 }
 
-/// The connection of a record, whose producer is first looked for at a place.
+/// The connection of a record. The search for its producer tries one index first.
 #[inline(always)]
 pub(crate) fn row_of(pool: &Pool, record: &Record, place: usize) -> Row
     requires { IsLive pool.now record.now.producer }
@@ -46,7 +46,7 @@ pub(crate) fn row_of(pool: &Pool, record: &Record, place: usize) -> Row
     }
 }
 
-/// Where to look first for the producer of the connection after this one.
+/// The index to try first for the producer of the connection after this one.
 #[inline(always)]
 pub(crate) fn hint_after(pool: &Pool, record: &Record, place: usize) -> usize
     ensures { result ≤ place + 1 }
@@ -57,7 +57,7 @@ pub(crate) fn hint_after(pool: &Pool, record: &Record, place: usize) -> usize
     }
 }
 
-/// A connection joins the producer of its group, or begins its own. Takes no memory.
+/// A connection joins the producer of its group, or starts its own. Takes no memory.
 pub(crate) fn enter(pool: &mut Pool, row: &Row)
     requires few { subscribers pool.old < 64 }
     requires may { MayEnter row.now pool.old }
@@ -68,7 +68,7 @@ pub(crate) fn enter(pool: &mut Pool, row: &Row)
     }
 }
 
-/// A connection leaves its producer, which is first looked for at a place. Takes no memory.
+/// A connection leaves its producer. The search for it tries one index first. Takes no memory.
 pub(crate) fn leave(pool: &mut Pool, producer: Option<u32>, place: usize)
     requires { IsLive pool.old producer }
     ensures { pool.new ≡ left_by producer pool.old }

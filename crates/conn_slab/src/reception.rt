@@ -1,8 +1,7 @@
-//! What a record makes of a datagram that is for it.
+//! A record that receives a datagram.
 
 ghost use Rattle.std.specs.Prelude.{◌≡◌, ◌≤◌, ◌^◌};
 ghost use Rattle.cip_datagram.specs.Datagram.{view_datagram};
-ghost use Rattle.cip_events.specs.Answers.{is_accepted};
 ghost use Rattle.conn_slab.specs.Records.{bare_row};
 ghost use Rattle.conn_slab.specs.Reception.{received_of, accepted_record, received_record};
 
@@ -14,8 +13,8 @@ use cip_netparams::timeout_of;
 use cip_productions::Accepted;
 use cip_types::Ms;
 
-/// What became of a datagram that was for a connection, the point that the connection consumes, and when its
-/// watchdog runs out then.
+/// The delivery of a datagram that was for a connection, the point that the connection consumes, and when its
+/// watchdog runs out afterwards.
 #[derive(Clone, Copy)]
 pub struct Received {
     pub delivery: Delivery,
@@ -23,17 +22,7 @@ pub struct Received {
     pub deadline: Ms,
 }
 
-/// Whether a datagram with this delivery is accepted.
-fn is_accepted(delivery: Delivery) -> bool
-    ensures { result ≡ is_accepted delivery }
-{
-    match delivery {
-        Delivery::Applied | Delivery::Idle | Delivery::Heartbeat | Delivery::Duplicate => true,
-        Delivery::Old | Delivery::UnknownId | Delivery::WrongSize | Delivery::Malformed => false,
-    }
-}
-
-/// The connection of a record, as if it had timed out.
+/// The connection of a record, with the state of a timed-out one: a delivery does not depend on the state.
 fn bare_row(record: &Record) -> Row
     ensures { result ≡ bare_row record.now }
 {
@@ -63,6 +52,7 @@ fn accept(record: &mut Record, clock: Ms, datagram: &Datagram<'_>)
     requires time { clock.0 ≤ 2 ^ 48 }
     ensures { record.new ≡ accepted_record clock (view_datagram datagram.now) record.old }
 {
+    // A multiplier of at most 7 has a time-out.
     let timeout = timeout_of(record.multiplier, record.o_t_api_ms).unwrap();
     record.last = Some(Accepted {
         number: datagram.sequence,
@@ -71,7 +61,7 @@ fn accept(record: &mut Record, clock: Ms, datagram: &Datagram<'_>)
     record.deadline = Ms(clock.0 + timeout.0);
 }
 
-/// The record accepts a datagram that is for it, where its delivery says so.
+/// The record accepts a datagram that is for it, if its delivery is an accepted one.
 ///
 /// Volume 1, chapter 3, class 1 transport and inactivity watchdog.
 pub(crate) fn receive_record(
@@ -87,7 +77,7 @@ pub(crate) fn receive_record(
     ensures after { record.new ≡ received_record profile.now clock (view_datagram datagram.now) record.old }
 {
     let delivery = row_delivery(profile, &bare_row(record), datagram);
-    if is_accepted(delivery) {
+    if delivery.is_accepted() {
         accept(record, clock, datagram);
     }
     Received {

@@ -1,13 +1,13 @@
 //! A connection without its production.
 
 ghost use Rattle.std.specs.Prelude.{◌≡◌};
-ghost use Rattle.conn_slab.specs.Records.{number_in, record_of, key_of, key_for, source_of};
+ghost use Rattle.conn_slab.specs.Records.{record_of, key_of, key_for, source_of};
 
-use adapter_table::{Row, State};
+use adapter_table::{Row, producer_number};
 use cip_productions::{Accepted, Kind};
 use cip_types::{ConnId, Ms, Node, Triad};
 
-/// What the index of triads is kept by.
+/// The key of the index of triads.
 #[derive(Clone, Copy, PartialEq, Eq, Hash)]
 pub(crate) struct TriadKey {
     pub(crate) serial: u16,
@@ -15,14 +15,14 @@ pub(crate) struct TriadKey {
     pub(crate) originator: u32,
 }
 
-/// Where the datagrams of a connection come from: its peer, and the O->T id that they carry.
+/// The key of the index of sources: the peer that sends the datagrams of a connection, and their O->T id.
 #[derive(Clone, Copy, PartialEq, Eq, Hash)]
 pub(crate) struct Source {
     pub(crate) peer: u32,
     pub(crate) id: u32,
 }
 
-/// A connection; an established one has the number of its producer.
+/// A connection without its production; an established one has the number of its producer.
 #[derive(Clone, Copy)]
 pub(crate) struct Record {
     pub(crate) triad: Triad,
@@ -40,15 +40,6 @@ pub(crate) struct Record {
     pub(crate) last: Option<Accepted>,
     pub(crate) deadline: Ms,
     pub(crate) producer: Option<u32>,
-}
-
-fn number_in(state: State) -> Option<u32>
-    ensures { result ≡ number_in state }
-{
-    match state {
-        State::Established(production) => Some(production.producer),
-        State::TimedOut => None,
-    }
 }
 
 /// The record of a connection.
@@ -70,7 +61,7 @@ pub(crate) fn record_of(row: &Row) -> Record
         opening: row.opening,
         last: row.last,
         deadline: row.deadline,
-        producer: number_in(row.state),
+        producer: producer_number(&row.state),
     }
 }
 

@@ -10,13 +10,13 @@ use mcast_pool::Pool;
 use slab::Slab;
 use std::marker::Model;
 
-/// The connections in opening order, which contracts see as the list of those that are left.
+/// The connections in opening order, which contracts see as the list of those still to come.
 #[derive(Drop)]
 pub struct Rows<'a> {
     pub(crate) records: &'a Slab<Record>,
     pub(crate) keys: Values<'a, TriadKey, usize>,
     pub(crate) pool: &'a Pool,
-    /// Where to look first for the next producer.
+    /// The index to try first for the next producer.
     pub(crate) place: usize,
 }
 

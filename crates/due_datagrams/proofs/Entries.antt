@@ -1,4 +1,4 @@
--- Producers and whom they serve, taken up from one connection after another.
+-- Producers and their consumers, added from one connection after another.
 use Rattle.std.proofs.Common.{◌≡◌, ◌≤◌, ℕ, zero, suc, ◌+◌, ◌-◌, Bool, true, false, ◌||◌, ◌==◌, List, [], ◌∷◌, ◌++◌, length, map, take, drop, Option, Some, None, refl, sym, ◌∙◌, ap, subst, arith}
 use Rattle.std.specs.List.{list_any, filter_map}
 use Rattle.std.proofs.lemmas.List.{append-nil, append_assoc}
@@ -12,7 +12,7 @@ use Rattle.due_datagrams.specs.declared.consumer_table.Entry.{Entry}
 use Rattle.due_datagrams.specs.ConsumerTables.{ProducerConsumers, number_in, same_number, numbers, consumers_of, consumers_by_producer, nodes_in, consumers_in, AreWithin, has_number, is_of, more_by}
 use Rattle.due_datagrams.proofs.Logic.{same_by, map_append, drop_front, length_append, take_whole}
 
--- ---- entries whose nodes stand in front of others
+-- ---- entries whose nodes come before others
 
 take_front : (count : ℕ) (xs ys : List Node) → count ≤ length xs → take count (xs ++ ys) ≡ take count xs
 take_front zero xs ys le = refl
@@ -114,7 +114,7 @@ taken_more rows rest row consumer_table new so is = record {
 pub taken_all : (rows : List Row) (consumer_table : List ProducerConsumers) → TakenUp rows [] consumer_table → consumer_table ≡ consumers_by_producer rows
 taken_all rows consumer_table so = so.are ∙ ap (λ (l : List Row). map (consumers_of rows) (numbers l)) (sym (append-nil so.front) ∙ so.split)
 
--- a producer that is there adds nothing, and another one stands last
+-- a producer that is there adds nothing, and a new one is appended
 pub known : (rows : List Row) (nodes : List Node) (entries lent : List Entry) (o : Option ℕ) (number : ℕ) (b : Bool) → o ≡ Some number → b ≡ list_any (is_of number) lent → lent ≡ entries → b ≡ true → map (consumers_in nodes) entries ≡ map (consumers_in nodes) entries ++ more_by rows (map (consumers_in nodes) entries) o
 known rows nodes entries lent o number b is has same holds =
     let any : list_any (has_number number) (map (consumers_in nodes) entries) ≡ true = any_entry number nodes entries ∙ sym (has ∙ ap (list_any (is_of number)) same) ∙ holds in

@@ -1,4 +1,4 @@
--- The nodes that consume what a producer sends, gathered from one connection after another.
+-- The nodes that consume the datagrams of a producer, gathered from one connection after another.
 use Rattle.std.proofs.Common.{◌≡◌, ℕ, Bool, true, false, not, cond, List, [], ◌∷◌, ◌++◌, length, map, drop, refl, sym, ◌∙◌, ap}
 use Rattle.std.specs.List.{list_any}
 use Rattle.std.proofs.lemmas.List.{append-nil, append_assoc}

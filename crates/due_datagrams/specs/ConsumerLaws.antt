@@ -1,4 +1,4 @@
--- Whom producers serve stays where each connection keeps its peer and the number of its producer.
+-- Producers keep their consumers if each connection keeps its peer and the number of its producer.
 use Rattle.std.proofs.Common.{◌≡◌, ℕ, Bool, true, false, cond, ◌==◌, List, [], ◌∷◌, map, Option, Some, None, refl, sym, ◌∙◌, ap}
 use Rattle.std.specs.List.{filter_map}
 use Rattle.cip_types.specs.declared.names.Node.{Node}
@@ -6,8 +6,8 @@ use Rattle.cip_types.specs.Order.{first_of_each}
 use Rattle.adapter_table.specs.declared.row.Row.{Row}
 use Rattle.adapter_table.specs.declared.row.State.{State}
 use Rattle.adapter_table.specs.declared.row.State.TheVariants.{Established, TimedOut}
-use Rattle.adapter_table.specs.Productions.{has_number, is_produced_by, group, same_node, peer_of}
-use Rattle.due_datagrams.specs.ConsumerTables.{ProducerConsumers, state_number, number_in, same_number, numbers, consumers_of, consumers_by_producer}
+use Rattle.adapter_table.specs.Productions.{producer_number, has_number, is_produced_by, group, same_node, peer_of}
+use Rattle.due_datagrams.specs.ConsumerTables.{ProducerConsumers, number_in, same_number, numbers, consumers_of, consumers_by_producer}
 
 -- a connection keeps its peer and the number of its producer
 pub record KeepsProducer (row changed : Row) : Type 0 where
@@ -18,7 +18,7 @@ numbered_by : ℕ → Option ℕ → Bool
 numbered_by number None = false
 numbered_by number (Some other) = other == number
 
-by_number : (number : ℕ) (state : State) → has_number number state ≡ numbered_by number (state_number state)
+by_number : (number : ℕ) (state : State) → has_number number state ≡ numbered_by number (producer_number state)
 unfolding numbered_by
 by_number number (Established production) = refl
 by_number number TimedOut = refl

@@ -1,13 +1,11 @@
--- Whom the producers of connections serve, in the order of their first connections (Volume 1, chapter 3, class 1
+-- The consumers of each producer, in the order of their first connections (Volume 1, chapter 3, class 1
 -- transport; Volume 2, chapter 3, multicast connections).
 use Rattle.std.specs.Prelude.{ℕ, ◌≤◌, ◌+◌, ◌==◌, Bool, if◌then◌else◌, List, [], ◌∷◌, map, take, drop, Option, Some, None}
 use Rattle.std.specs.List.{list_any, filter_map}
 use Rattle.cip_types.specs.declared.names.Node.{Node}
 use Rattle.cip_types.specs.Order.{first_of_each, unless}
 use Rattle.adapter_table.specs.declared.row.Row.{Row}
-use Rattle.adapter_table.specs.declared.row.State.{State}
-use Rattle.adapter_table.specs.declared.row.State.TheVariants.{Established, TimedOut}
-use Rattle.adapter_table.specs.Productions.{is_produced_by, same_node, consumers}
+use Rattle.adapter_table.specs.Productions.{producer_number, is_produced_by, same_node, consumers}
 use Rattle.due_datagrams.specs.declared.consumer_table.Entry.{Entry}
 
 -- the number of a producer, and the nodes that consume what it sends
@@ -15,13 +13,9 @@ pub record ProducerConsumers : Type 0 where
   pub number : ℕ
   pub nodes : List Node
 
-abbrev pub state_number : State → Option ℕ
-state_number (Established production) = Some production.producer
-state_number TimedOut = None
-
 -- the number of the producer of a connection, which an established one has
 abbrev pub number_in : Row → Option ℕ
-number_in row = state_number row.state
+number_in row = producer_number row.state
 
 abbrev pub same_number : ℕ → ℕ → Bool
 same_number number other = number == other
@@ -33,7 +27,7 @@ numbers rows = first_of_each same_number (filter_map number_in rows)
 abbrev pub consumers_of : List Row → ℕ → ProducerConsumers
 consumers_of rows number = record { number = number; nodes = consumers number rows }
 
--- whom each of them serves
+-- the consumers of each of them
 abbrev pub consumers_by_producer : List Row → List ProducerConsumers
 consumers_by_producer rows = map (consumers_of rows) (numbers rows)
 
@@ -45,7 +39,7 @@ nodes_in nodes entry = take entry.count (drop entry.first nodes)
 abbrev pub consumers_in : List Node → Entry → ProducerConsumers
 consumers_in nodes entry = record { number = entry.number; nodes = nodes_in nodes entry }
 
--- the entries' nodes stand among these many
+-- the entries' nodes are among these many
 abbrev pub AreWithin : ℕ → List Entry → Type 0
 AreWithin len [] = Unit {0}
 AreWithin len (entry ∷ entries) = (entry.first + entry.count ≤ len) × AreWithin len entries

@@ -1,4 +1,4 @@
--- Producers and who consumes what they send. No public clause cites this module.
+-- Producers and the nodes that consume their datagrams. No public clause cites this module.
 use Rattle.std.specs.Prelude.{Bool, if◌then◌else◌, List, [], ◌∷◌, map}
 use Rattle.cip_types.specs.declared.names.Ms.{Ms}
 use Rattle.cip_types.specs.declared.names.Node.{Node}

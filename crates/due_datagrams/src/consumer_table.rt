@@ -1,4 +1,4 @@
-//! Whom producers serve.
+//! The consumers of each producer.
 
 ghost use Rattle.std.specs.Prelude.{◌≡◌, ◌≤◌, ◌++◌, ◌∷◌, [], true, IfOk, map, drop, length, vec_len};
 ghost use Rattle.std.specs.List.{list_any};
@@ -6,13 +6,14 @@ ghost use Rattle.cip_types.specs.Order.{unless};
 ghost use Rattle.adapter_table.specs.Productions.{same_node, consumers};
 ghost use Rattle.due_datagrams.specs.ConsumerTables.{number_in, consumers_by_producer, consumers_in, consumers_of, is_of, more_by, one_consumer, AreWithin};
 
-use adapter_table::{MOST_ROWS, Row, State, is_produced_by};
+use adapter_table::{Row, State, has_node, is_produced_by};
+use cip_types::limits::MOST_CONNECTIONS;
 use cip_types::{Node, OutOfMemory};
 use conn_slab::Connections;
 use std::alloc::Global;
 use std::marker::Model;
 
-/// The number of a producer, and where the nodes stand that consume what it sends.
+/// The number of a producer, and the range of the nodes that consume its datagrams.
 #[derive(Clone, Copy)]
 pub(crate) struct Entry {
     pub(crate) number: u32,
@@ -20,7 +21,7 @@ pub(crate) struct Entry {
     pub(crate) count: usize,
 }
 
-/// Whom the producers of connections serve, in the order of their first connections. Only `new` takes memory.
+/// The consumers of each producer, in the order of the producers' first connections. Only `new` takes memory.
 ///
 /// Volume 2, chapter 3, multicast connections.
 #[derive(Drop)]
@@ -40,13 +41,7 @@ impl Model for ConsumerTable {
     ghost invariant = { λ s. AreWithin (length s.nodes.items) s.entries.items };
 }
 
-fn has_node(nodes: &[Node], node: Node) -> bool
-    ensures { result ≡ list_any (λ other. same_node other node) nodes.now }
-{
-    nodes.iter().any(|other| other.0 == node.0)
-}
-
-/// Adds a node, unless it is among those from a place on. False where there is no room.
+/// Adds a node that is not among those from an index on. False without spare capacity.
 fn add_node(nodes: &mut Vec<Node>, first: usize, peer: Node) -> bool
     requires { first ≤ vec_len nodes.old }
     ensures { result ≡ true → nodes.new.items ≡ nodes.old.items ++ unless (list_any (λ other. same_node other peer) (drop first nodes.old.items)) peer }
@@ -61,8 +56,8 @@ fn add_node(nodes: &mut Vec<Node>, first: usize, peer: Node) -> bool
     true
 }
 
-/// Adds the peer of a connection, where it has the producer of this number, unless it is among the nodes from a place
-/// on. False where there is no room.
+/// Adds the peer of a connection that has the producer of this number, unless it is among the nodes from an index on.
+/// False without spare capacity.
 fn add_consumer(nodes: &mut Vec<Node>, first: usize, row: &Row, number: u32) -> bool
     requires { first ≤ vec_len nodes.old }
     ensures { result ≡ true → nodes.new.items ≡ nodes.old.items ++ one_consumer number row.now (drop first nodes.old.items) }
@@ -73,7 +68,7 @@ fn add_consumer(nodes: &mut Vec<Node>, first: usize, row: &Row, number: u32) -> 
     add_node(nodes, first, row.peer)
 }
 
-/// Adds the nodes that consume what a producer sends. False where there is no room.
+/// Adds the nodes that consume the datagrams of a producer. False without spare capacity.
 fn add_consumers(nodes: &mut Vec<Node>, connections: &Connections, number: u32) -> bool
     ensures { result ≡ true → nodes.new.items ≡ nodes.old.items ++ consumers number connections.now }
 {
@@ -92,7 +87,7 @@ fn has_entry(entries: &[Entry], number: u32) -> bool
     entries.iter().any(|entry| entry.number == number)
 }
 
-/// Adds a producer, and the nodes that consume what it sends. False where there is no room.
+/// Adds a producer, and the nodes that consume its datagrams. False without spare capacity.
 fn add_entry(
     entries: &mut Vec<Entry>,
     nodes: &mut Vec<Node>,
@@ -116,7 +111,7 @@ fn add_entry(
     true
 }
 
-/// Adds the producer of a connection, unless it is there. False where there is no room.
+/// Adds the producer of a connection, unless it is there. False without spare capacity.
 fn add_producer(
     entries: &mut Vec<Entry>,
     nodes: &mut Vec<Node>,
@@ -136,7 +131,7 @@ fn add_producer(
     add_entry(entries, nodes, connections, production.producer)
 }
 
-/// Adds the producers of connections. False where there is no room.
+/// Adds the producers of connections. False without spare capacity.
 fn add_producers(entries: &mut Vec<Entry>, nodes: &mut Vec<Node>, connections: &Connections) -> bool
     requires { entries.old.items ≡ [] }
     ensures within { result ≡ true → AreWithin (length nodes.new.items) entries.new.items }
@@ -151,18 +146,18 @@ fn add_producers(entries: &mut Vec<Entry>, nodes: &mut Vec<Node>, connections: &
 }
 
 impl ConsumerTable {
-    /// No producers, with room for all that there can be. Want of memory is the only fault.
+    /// No producers, with capacity for the most that there can be. Out of memory is the only fault.
     pub fn new(alloc: Global) -> Result<Self, OutOfMemory>
         ensures { IfOk result (λ consumer_table. consumer_table ≡ []) }
     {
         Ok(ConsumerTable {
-            entries: Vec::with_capacity(alloc, MOST_ROWS)?,
-            nodes: Vec::with_capacity(alloc, MOST_ROWS)?,
+            entries: Vec::with_capacity(alloc, MOST_CONNECTIONS)?,
+            nodes: Vec::with_capacity(alloc, MOST_CONNECTIONS)?,
         })
     }
 
-    /// Finds out whom the producers of connections serve. True where it has been found, which is always where they
-    /// are at most as many as there was room made for. Takes no memory.
+    /// Builds the table anew from connections. False without spare capacity, which 64 connections never need more of.
+    /// Takes no memory.
     ///
     /// Volume 2, chapter 3, multicast connections.
     pub fn rebuild(&mut self, connections: &Connections) -> bool
@@ -177,7 +172,7 @@ impl ConsumerTable {
         found
     }
 
-    /// The producers and the nodes, as they stand.
+    /// The entries of the producers, and the nodes that they refer to.
     pub(crate) fn parts(&self) -> (&[Entry], &[Node])
         ensures consumer_table { map (consumers_in result.1.now) result.0.now ≡ self.now }
         ensures within { AreWithin (length result.1.now) result.0.now }

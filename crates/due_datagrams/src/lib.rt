@@ -1,5 +1,5 @@
-//! What the producers that are due send, where it is known already whom each producer serves: a tick looks at each
-//! producer once and at no connection, and producers that are due in the order of their connections need no sorting.
+//! The datagrams of the producers that are due, from a table of the consumers of each producer: a tick reads each
+//! producer once and no connection, and producers that are due in the order of their connections need no sorting.
 //!
 //! Volume 1, chapter 3, class 1 transport; Volume 2, chapter 3, multicast connections.
 #![tactic(auto)]

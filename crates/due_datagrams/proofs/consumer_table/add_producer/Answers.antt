@@ -1,12 +1,12 @@
 use Rattle.std.proofs.Common.{ap}
-use Rattle.due_datagrams.specs.ConsumerTables.{state_number}
+use Rattle.adapter_table.specs.Productions.{producer_number}
 use Rattle.due_datagrams.proofs.Entries.{known, added}
 use Rattle.due_datagrams.proofs.consumer_table.add_producer.Goals as goal
 
 pub returns-then-has_entry-clause-added : goal.returns-then-has_entry-clause-added
 returns-then-has_entry-clause-added c _ =
-    known c.args.connections.now c.args.nodes.now.items c.args.entries.now.items c.deref.result.now _ c.in-Established.production.producer c.has_entry.result (ap state_number c.in-Established.is) c.has_entry.ensures c.deref.ensures.value c.if-has_entry.true
+    known c.args.connections.now c.args.nodes.now.items c.args.entries.now.items c.deref.result.now _ c.in-Established.production.producer c.has_entry.result (ap producer_number c.in-Established.is) c.has_entry.ensures c.deref.ensures.value c.if-has_entry.true
 
 pub returns-clause-added : goal.returns-clause-added
 returns-clause-added c is =
-    added c.args.connections.now c.args.nodes.now.items c.args.entries.now.items c.deref.result.now _ c.in-Established.production.producer c.has_entry.result _ (ap state_number c.in-Established.is) c.has_entry.ensures c.deref.ensures.value c.if-has_entry.false (c.add_entry.ensures.added is)
+    added c.args.connections.now c.args.nodes.now.items c.args.entries.now.items c.deref.result.now _ c.in-Established.production.producer c.has_entry.result _ (ap producer_number c.in-Established.is) c.has_entry.ensures c.deref.ensures.value c.if-has_entry.false (c.add_entry.ensures.added is)
