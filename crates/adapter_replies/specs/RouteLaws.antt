@@ -1,4 +1,4 @@
--- What is routed is what the table answers.
+-- A routed answer is the table's.
 use Rattle.std.proofs.Common.{◌≡◌, ℕ, Option, Some, None, refl}
 use Rattle.cip_types.specs.declared.names.Node.{Node}
 use Rattle.adapter_table.specs.declared.table.AdapterTable.{AdapterTable}

@@ -1,4 +1,4 @@
--- Where the replies of a device go, and what it says of a frame (Volume 2, chapter 2, encapsulation messages).
+-- The routes of a device's replies, and the readings of a frame (Volume 2, chapter 2, encapsulation messages).
 use Rattle.std.specs.Prelude.{ℕ, List, [], ◌∷◌, Option, Some, None}
 use Rattle.cip_types.specs.declared.names.Node.{Node}
 use Rattle.cip_encap.specs.Message.{message_text}

@@ -1,4 +1,4 @@
-//! Where the datagrams of a producer go.
+//! The addresses that producers send to.
 
 ghost use Rattle.std.specs.Prelude.{◌≡◌, ◌≤◌, ◌<◌, ◌^◌, length};
 ghost use Rattle.std.specs.List.{position, position_or_len};
@@ -25,7 +25,7 @@ fn place_of_input(inputs: &[InputPoint], point: u32) -> usize
     input_position(inputs, point).unwrap_or(inputs.len())
 }
 
-/// The bits of an address that are not its network's.
+/// The bits of an address that name the host in its network.
 fn host_id(node: Node, mask: u32) -> u64
     ensures value { result ≡ host_id node.0 mask }
     ensures bound { result < 2 ^ 32 }
@@ -45,7 +45,7 @@ fn multicast_address(profile: &Profile, point: u32) -> Node
     Node((FIRST_MULTICAST + block + place as u64) as u32)
 }
 
-/// Where the datagrams of a producer go: to its group, or to the one consumer.
+/// The address that a producer sends to: its group, or its one consumer.
 pub fn address_of(profile: &Profile, peer: Node, multicast: bool, point: u32) -> Node
     requires { length profile.now.inputs ≤ 8 }
     ensures { result ≡ address_of profile.now peer multicast point }

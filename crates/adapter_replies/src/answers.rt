@@ -1,9 +1,8 @@
-//! Answers that are made before anything changes.
+//! Answers, which the adapter makes before its table changes.
 
 ghost use Rattle.std.specs.Prelude.{◌≡◌, ◌∷◌, ◌++◌, [], IfOk, ◌≤◌};
 ghost use Rattle.cip_router.specs.Replies.{view_reply};
 ghost use Rattle.adapter_table.specs.Opening.{opened_reply, opened_address, replaced_notices};
-ghost use Rattle.cip_events.specs.Answers.{plain_answer};
 ghost use Rattle.adapter_replies.specs.Routes.{view_reply_header, view_frame_reply, IsWritable, IsWritableFrame, routed_frame, routed_answer, framed_answer, unserved_answer};
 
 use crate::replies::{FrameReply, write_frame_reply};
@@ -14,18 +13,6 @@ use cip_fwdopen::Opened;
 use cip_router::{EncapStatus, Reply};
 use cip_types::{Items, Node, OutOfMemory, Triad};
 use std::alloc::Global;
-
-/// An answer with no bytes. Takes no memory.
-pub fn plain_answer(alloc: Global, verdict: Verdict) -> Answer
-    ensures { result ≡ plain_answer verdict }
-{
-    Answer {
-        frames: Items::new(alloc),
-        datagrams: Items::new(alloc),
-        verdict,
-        notices: Items::new(alloc),
-    }
-}
 
 /// An answer with datagrams and notices. Takes no memory.
 pub fn notices_answer(
@@ -55,7 +42,7 @@ fn answer_of(alloc: Global, frame: Frame, notices: Vec<Notice>) -> Result<Answer
     })
 }
 
-/// The frame with a reply, and over a stream with the multicast address of a connection that it opened.
+/// The frame with a reply; over a stream it has the multicast address of a connection that it opened.
 fn routed_frame(
     alloc: Global,
     route: Route,
@@ -80,7 +67,7 @@ fn routed_frame(
     }
 }
 
-/// The answer with a reply on its route. Want of memory is the only fault.
+/// The answer with a reply on its route. Out of memory is the only fault.
 pub fn reply_answer(
     alloc: Global,
     route: Route,
@@ -96,7 +83,7 @@ pub fn reply_answer(
     answer_of(alloc, frame, notices)
 }
 
-/// The answer with the reply to a frame of a stream. Want of memory is the only fault.
+/// The answer with the reply to a frame of a stream. Out of memory is the only fault.
 pub fn frame_answer(
     alloc: Global,
     number: u16,
@@ -114,12 +101,12 @@ pub fn frame_answer(
     answer_of(alloc, frame, notices)
 }
 
-/// The answer where a route brings no request. Want of memory is the only fault.
+/// The answer to bytes that are no request. Out of memory is the only fault.
 pub fn unserved_answer(alloc: Global, route: Route) -> Result<Answer, OutOfMemory>
     ensures { IfOk result (λ answer. answer ≡ unserved_answer route) }
 {
     match route {
-        Route::Peer(_) => Ok(plain_answer(alloc, Verdict::BadFrame)),
+        Route::Peer(_) => Ok(Answer::plain(alloc, Verdict::BadFrame)),
         Route::Stream(number, _, reply_header) => {
             let reply = FrameReply::Refused(EncapStatus::IncorrectData);
             frame_answer(alloc, number, reply_header, &reply, Vec::new(alloc))
@@ -127,7 +114,7 @@ pub fn unserved_answer(alloc: Global, route: Route) -> Result<Answer, OutOfMemor
     }
 }
 
-/// The answer where a stream ended with its session. Want of memory is the only fault.
+/// The answer when a session ends, and its stream with it. Out of memory is the only fault.
 pub fn ended_answer(alloc: Global, number: u16) -> Result<Answer, OutOfMemory>
     ensures { IfOk result (λ answer. answer ≡ record { frames = []; datagrams = []; verdict = Verdict.Done; notices = Notice.StreamClosed number ∷ [] }) }
 {
@@ -136,7 +123,7 @@ pub fn ended_answer(alloc: Global, number: u16) -> Result<Answer, OutOfMemory>
     Ok(notices_answer(alloc, Vec::new(alloc), notices))
 }
 
-/// What is told of an opening: the connection that makes room, and the new one.
+/// The notices of an opening: the connection that is replaced, and the new one.
 pub fn opening_notices(
     alloc: Global,
     replaced: Option<Triad>,
@@ -152,7 +139,7 @@ pub fn opening_notices(
     Ok(notices)
 }
 
-/// What the reply to an opening says.
+/// The fields of the reply to an opening.
 pub fn opened_reply(row: &Row) -> Opened
     requires o_t { row.now.o_t_api_ms ≤ 10000 }
     requires t_o { row.now.t_o_api_ms ≤ 10000 }
@@ -167,7 +154,7 @@ pub fn opened_reply(row: &Row) -> Opened
     }
 }
 
-/// The multicast address that the datagrams of an opened connection go to, if they go to one.
+/// The multicast address of the datagrams of an opened connection, if it is multicast.
 pub fn opened_address(row: &Row) -> Option<Node>
     ensures { result ≡ opened_address row.now }
 {

@@ -1,4 +1,4 @@
-//! What a frame says.
+//! Readings of frames.
 
 ghost use Rattle.std.specs.Prelude.{◌≡◌};
 ghost use Rattle.std.specs.Str.{bytes_eq};
@@ -9,7 +9,7 @@ use crate::replies::PROTOCOL;
 use crate::routes::ReplyHeader;
 use cip_encap::{read_message, read_message_header};
 
-/// The bytes of a frame, by what they say.
+/// The bytes of a frame, read.
 ///
 /// Volume 2, chapter 2, encapsulation messages.
 #[derive(Clone, Copy)]
@@ -22,7 +22,7 @@ pub enum FrameView<'a> {
     Whole(ReplyHeader, &'a [u8]),
 }
 
-/// What the bytes of a frame say. Status and options of a request are not looked at.
+/// Reads the bytes of a frame. The status and options of a request are ignored.
 pub fn read_frame(bytes: &[u8]) -> FrameView<'_>
     ensures { view_frame result ≡ frame_reading bytes.now }
 {
@@ -35,7 +35,7 @@ pub fn read_frame(bytes: &[u8]) -> FrameView<'_>
     }
 }
 
-/// Whether the data of RegisterSession ask for protocol version 1, without option flags.
+/// Whether the data of RegisterSession request protocol version 1, without option flags.
 ///
 /// Volume 2, chapter 2, RegisterSession.
 pub fn is_protocol(body: &[u8]) -> bool

@@ -9,6 +9,7 @@ ghost use Rattle.adapter_replies.specs.Routes.{view_reply_header, view_frame_rep
 use crate::routes::ReplyHeader;
 use cip_encap::{MessageView, SocketAddress, write_items, write_message};
 use cip_router::{EncapStatus, Reply};
+use cip_types::limits::UDP_PORT;
 use cip_types::{Node, OutOfMemory};
 use std::alloc::Global;
 
@@ -21,19 +22,16 @@ const SERVICES: [u8; 26] = [
 /// Protocol version 1, without option flags.
 pub const PROTOCOL: [u8; 4] = [1, 0, 0, 0];
 
-/// The UDP port of class 1 datagrams.
-const DATAGRAM_PORT: u16 = 2222;
-
-/// What is replied to a frame.
+/// The reply to a frame.
 ///
 /// Volume 2, chapter 2, encapsulation commands.
 #[derive(Clone, Copy)]
 pub enum FrameReply<'a> {
     /// The services of the device.
     Services,
-    /// The session that began, by its handle.
+    /// The session that was registered, by its handle.
     Registered(u32),
-    /// The protocol version that is served in place of another.
+    /// The supported protocol version, in reply to another one.
     OtherVersion,
     /// A reply of the message router, with the multicast address of a connection that it opened.
     Router(Reply<'a>, Option<Node>),
@@ -41,17 +39,17 @@ pub enum FrameReply<'a> {
     Refused(EncapStatus),
 }
 
-/// The socket that the datagrams of a multicast address go to.
+/// The socket address of a multicast address' datagrams.
 fn socket_of(address: Node) -> SocketAddress
     ensures { result ≡ socket_of address }
 {
     SocketAddress {
-        port: DATAGRAM_PORT,
+        port: UDP_PORT,
         address,
     }
 }
 
-/// The message that sends back the command and the sender context of its request.
+/// A message that returns the command and the sender context of its request.
 fn write_headed_reply(
     alloc: Global,
     reply_header: ReplyHeader,
@@ -88,7 +86,7 @@ fn write_router(
     write_headed_reply(alloc, reply_header, reply_header.session, 0, &items)
 }
 
-/// The message of a reply to a frame. Want of memory is the only fault.
+/// The message of a reply to a frame. Out of memory is the only fault.
 ///
 /// Volume 2, chapter 2, encapsulation commands and status codes.
 pub fn write_frame_reply(

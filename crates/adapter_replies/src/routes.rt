@@ -1,4 +1,4 @@
-//! Where replies go.
+//! The routes of replies.
 
 ghost use Rattle.std.specs.Prelude.{◌≡◌};
 ghost use Rattle.adapter_replies.specs.Routes.{view_reply_header, peer_of};
@@ -8,8 +8,7 @@ ghost use Rattle.cip_encap.specs.Message.{view_message, view_header};
 use cip_encap::{MessageHeader, MessageView};
 use cip_types::Node;
 
-/// What a reply sends back of the frame that it answers: its command, its session handle and its sender
-/// context.
+/// The header fields that a reply returns from its request: the command, the session handle and the sender context.
 ///
 /// Volume 2, chapter 2, encapsulation messages.
 #[derive(Clone, Copy, PartialEq, Eq)]
@@ -20,7 +19,7 @@ pub struct ReplyHeader {
 }
 
 impl ReplyHeader {
-    /// What goes back to a whole message.
+    /// The fields that the reply to a whole message returns.
     pub fn of_message(message: &MessageView<'_>) -> ReplyHeader
         ensures { view_reply_header result ≡ reply_header_of (view_message message.now) }
     {
@@ -31,7 +30,7 @@ impl ReplyHeader {
         }
     }
 
-    /// What goes back to a header whose message is not whole.
+    /// The fields that the reply to a header without its whole message returns.
     pub fn of_header(header: &MessageHeader) -> ReplyHeader
         ensures { view_reply_header result ≡ reply_header_in (view_header header.now) }
     {
@@ -43,7 +42,7 @@ impl ReplyHeader {
     }
 }
 
-/// Where the reply to a request of a peer goes.
+/// The route of the reply to a request of a peer.
 #[derive(Clone, Copy, PartialEq, Eq)]
 pub enum Route {
     /// To the peer itself.
@@ -53,7 +52,7 @@ pub enum Route {
 }
 
 impl Route {
-    /// The peer whose request it is.
+    /// The peer that sent the request.
     pub fn peer(&self) -> Node
         ensures { result ≡ peer_of self.now }
     {
