@@ -1,4 +1,4 @@
--- What the values are where no data segment is stored.
+-- The values, if no data segment is stored.
 use Rattle.std.proofs.Common.{◌≡◌, List, Option, Some, None, refl}
 use Rattle.adapter_table.specs.declared.profile.InputPoint.{InputPoint}
 use Rattle.adapter_table.specs.declared.table.PointValue.{PointValue}

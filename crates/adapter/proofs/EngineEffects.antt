@@ -1,4 +1,4 @@
--- What the engine keeps, by the effects of the table.
+-- The invariant of the engine, by the effects of the table.
 use Rattle.std.proofs.Common.{◌≡◌, ◌<◌, ◌≤◌, ◌+◌, ◌^◌, ℕ, Bool, true, false, cond, not, ◌||◌, ◌&&◌, ◌==◌, List, [], ◌∷◌, map, filter, length, drop, get_or, find, Option, Some, None, refl, sym, ◌∙◌, ap, subst}
 use Rattle.std.specs.Prelude.{IsTrue, Result, Ok, Err, OnOk}
 use Rattle.std.specs.Result.{result_err}
@@ -38,9 +38,9 @@ use Rattle.adapter_table.specs.Whole.{ConsumesOutput, IsWhole}
 use Rattle.assembly_set.specs.declared.fault.PointFault.{PointFault}
 use Rattle.assembly_set.specs.declared.fault.PointFault.TheVariants.{WrongLength}
 use Rattle.assembly_set.specs.Assemblies.{is_output, input_fault, write_fault}
-use Rattle.connection_table.specs.declared.table.ReceivedDatagram.{ReceivedDatagram}
-use Rattle.connection_table.specs.Receiving.{received_by, receiving}
-use Rattle.connection_table.specs.Tables.{AreWhole}
+use Rattle.connection_list.specs.declared.table.ReceivedDatagram.{ReceivedDatagram}
+use Rattle.connection_list.specs.Receiving.{received_by, receiving}
+use Rattle.connection_list.specs.Tables.{AreWhole}
 
 -- the connections of a whole table are those of one
 pub are_whole : (t : AdapterTable) → IsWhole t → AreWhole t.rows
@@ -214,13 +214,13 @@ none_produced clock (row ∷ rows) none =
 nothing_due : (clock : Ms) (rows : List Row) (values : List PointValue) → list_any (is_due clock) rows ≡ false → map sent (due_productions clock rows values) ≡ []
 nothing_due clock rows values none = rw (none_passes (is_due clock) rows none) refl
 
--- the producers alone go on
+-- the producers alone change
 unexpired : (t : AdapterTable) → list_any (has_expired t.clock) t.rows ≡ false → ListenersAreSupported t.rows → advanced t ≡ (record { frames = []; datagrams = map sent (due_productions t.clock t.rows t.values); verdict = Done; notices = [] }, record t { rows = map (produced_row t.clock) t.rows })
 unfolding expired_table produced_table
 unexpired t none supported =
     rw (none_expired t.clock t.rows none, none_passes (has_expired t.clock) t.rows none, none_passes (is_unsupported t.rows) t.rows supported, unpassed (is_unsupported t.rows) t.rows supported) refl
 
--- the answer and the table where the producers alone go on
+-- the answer and the table if the producers alone change
 pub produces : (t : AdapterTable) (ms : ℕ) → list_any (has_expired (record { 0 = t.clock.0 + ms })) t.rows ≡ false → ListenersAreSupported t.rows → advanced (clocked_table t ms) ≡ (record { frames = []; datagrams = map sent (due_productions (record { 0 = t.clock.0 + ms }) t.rows t.values); verdict = Done; notices = [] }, record t { rows = map (produced_row (record { 0 = t.clock.0 + ms })) t.rows; clock = record { 0 = t.clock.0 + ms } })
 unfolding clocked_table
 produces t ms none supported = unexpired (record t { clock = record { 0 = t.clock.0 + ms } }) none supported

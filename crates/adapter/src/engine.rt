@@ -18,7 +18,7 @@ ghost use Rattle.cip_datagram.specs.Header.{header_at};
 ghost use Rattle.adapter_table.specs.Datagrams.{is_for, run_data, accepted_values, delivered, found_datagram, received};
 ghost use Rattle.adapter_table.specs.Productions.{produces_on_change, is_due};
 ghost use Rattle.adapter_table.specs.Ticks.{clocked_table, has_expired, advanced, expired_values, tick};
-ghost use Rattle.connection_table.specs.Tables.{advanced_rows};
+ghost use Rattle.connection_list.specs.Tables.{advanced_rows};
 ghost use Rattle.adapter_table.specs.Shapes.{len_of};
 ghost use Rattle.adapter_table.specs.Whole.{IsWhole};
 ghost use Rattle.adapter_table.specs.Step.{adapter_step, write, read, written_table, changed_table, write_answer, written};
@@ -28,46 +28,37 @@ ghost use Rattle.assembly_set.specs.Assemblies.{config_len, is_output, write_fau
 ghost use Rattle.std.specs.List.{list_any};
 
 use adapter_replies::{
-    Route, address_of, copied_streams, notices_answer, opened_address, opened_reply,
-    opening_notices, plain_answer, reply_answer, unserved_answer,
+    Route, address_of, notices_answer, opened_address, opened_reply, opening_notices, reply_answer,
+    unserved_answer,
 };
 use adapter_table::drives;
 use adapter_table::laws::{admitted_requests_fit, applied_data_fit, tables_are_whole};
 use app_rules::{View, admit, drawn_ids};
 use assembly_set::AssemblySet;
 use cip_datagram::{Datagram, read_datagram, read_header};
+use cip_fwdopen::service::{FORWARD_CLOSE, FORWARD_OPEN, GET_ATTRIBUTE_SINGLE, LARGE_FORWARD_OPEN};
 use cip_fwdopen::{CloseRequest, OpenRequest};
 use cip_tables::{
     AdapterTable, Admission, Answer, Config, Delivery, Device, DeviceTable, Event, NewFault,
     Outcome, Production, Refusal, Reply, RouterRequest, Row, State, Status, StepFault, Stream,
     TableCopy, Verdict, read_router_request,
 };
+use cip_types::limits::{CLOCK_END_MS, FIRST_WATCHDOG_MS, IDS_PER_INCARNATION, LONGEST_TICK_MS};
 use cip_types::{ConnId, Items, Ms, Node, OutOfMemory};
-use connection_list::{expired, expired_rows, expiry_notices, sent_when_due, staying};
-use connection_table::ConnectionTable;
+use connection_list::{
+    ConnectionTable, expired, expired_rows, expiry_notices, sent_when_due, staying,
+};
+use session_streams::copied_streams;
 use std::alloc::Global;
 use std::marker::Model;
 
-/// The milliseconds that the first watchdog waits at least.
-const FIRST_WATCHDOG: u64 = 10_000;
-
-/// What the incarnation counts in a connection id.
-const INCARNATION: u32 = 1 << 24;
-
-/// The longest tick, and the end of the clock, in milliseconds.
-const LONGEST_TICK: u32 = 60_000;
-
-const CLOCK_END: u64 = 1 << 48;
-
-/// The service that reads an attribute, and the attribute that is an assembly's value.
-const GET_ATTRIBUTE_SINGLE: u8 = 0x0E;
-
+/// The attribute of an assembly that is its value.
 const VALUE: u32 = 3;
 
 /// An adapter over a table of connections, which contracts see as its table.
 ///
-/// It keeps the allocator that it was made with. What is special to a table is behind the contract of
-/// `ConnectionTable`, and shows in no outcome.
+/// It keeps the allocator that it was made with. The kind of the table shows in no outcome: the contract of
+/// `ConnectionTable` says each call's result.
 #[derive(Drop)]
 pub struct Adapter<T: ConnectionTable> {
     alloc: Global,
@@ -92,7 +83,7 @@ impl<T: ConnectionTable> Model for Adapter<T> {
 // OPENING
 
 impl<T: ConnectionTable> Adapter<T> {
-    /// What the configuration holds.
+    /// The bytes of the configuration.
     fn config_bytes(&self) -> Option<&[u8]>
         ensures { option_map (λ lent. lent.now) result ≡ config_bytes self.now.values self.now.profile.config }
     {
@@ -102,7 +93,7 @@ impl<T: ConnectionTable> Adapter<T> {
         }
     }
 
-    /// What a request to open a connection is admitted as, or why it is refused. Takes no memory.
+    /// The connection that an open request is admitted as, or why it is refused. Takes no memory.
     fn judge<'a>(&self, request: &OpenRequest<'a>) -> Result<Admission<'a>, Refusal>
         ensures { Gives view_admission result (admission self.now (view_open request.now)) }
     {
@@ -115,7 +106,7 @@ impl<T: ConnectionTable> Adapter<T> {
         admit(&view, request)
     }
 
-    /// The producer that a connection begins.
+    /// The production that a new connection starts.
     fn production(&self, peer: Node, admission: &Admission<'_>) -> Production
         ensures { result ≡ opened_production self.now peer (view_admission admission.now) }
     {
@@ -133,7 +124,7 @@ impl<T: ConnectionTable> Adapter<T> {
         }
     }
 
-    /// The state of a connection that is opened: it shares a producer, or begins one.
+    /// The state of a connection that is opened: it shares a producer, or starts one.
     fn opened_state(&self, peer: Node, admission: &Admission<'_>) -> State
         ensures { result ≡ opened_state self.now peer (view_admission admission.now) admission.now.group }
     {
@@ -147,7 +138,7 @@ impl<T: ConnectionTable> Adapter<T> {
         requires { counter ≤ 16777215 }
         ensures { result ≡ connection_id self.now.profile counter }
     {
-        ConnId(u32::from(self.assemblies.profile().incarnation) * INCARNATION + counter)
+        ConnId(u32::from(self.assemblies.profile().incarnation) * IDS_PER_INCARNATION + counter)
     }
 
     /// The T->O id of a connection that is opened.
@@ -191,7 +182,7 @@ impl<T: ConnectionTable> Adapter<T> {
             multicast: admission.multicast,
             opening: self.next_id,
             last: None,
-            deadline: Ms(self.clock.0 + FIRST_WATCHDOG.max(admission.watchdog.0)),
+            deadline: Ms(self.clock.0 + FIRST_WATCHDOG_MS.max(admission.watchdog.0)),
             state: self.opened_state(peer, admission),
         }
     }
@@ -208,6 +199,7 @@ impl<T: ConnectionTable> Adapter<T> {
         requires { admission self.old (view_open request.now) ≡ Ok (view_admission admitted.now) }
         ensures { Follows (Ok (routed self.old route (Some (admitted_open self.old (peer_of route) large (view_open request.now) (view_admission admitted.now))))) self.old result self.new }
     {
+        // The table stays whole, and what was admitted is within the limits.
         tables_are_whole();
         admitted_requests_fit();
         let row = self.opened_row(route.peer(), request, admitted);
@@ -228,7 +220,11 @@ impl<T: ConnectionTable> Adapter<T> {
         match self.judge(request) {
             Ok(admitted) => self.open(route, large, request, &admitted),
             Err(why) => {
-                let service = if large { 0x5B } else { 0x54 };
+                let service = if large {
+                    LARGE_FORWARD_OPEN
+                } else {
+                    FORWARD_OPEN
+                };
                 let reply = Reply::Refused(service, why.fault(), Some(request.triad));
                 Ok(self.reply(route, reply)?)
             }
@@ -258,6 +254,7 @@ impl<T: ConnectionTable> Adapter<T> {
     fn close(&mut self, route: Route, row: &Row) -> Outcome
         ensures { Follows (Ok (routed self.old route (Some (known_close self.old row.now)))) self.old result self.new }
     {
+        // The table stays whole.
         tables_are_whole();
         let notices = self.table.closed_notices(self.alloc, row.triad)?;
         let reply = Reply::Closed(row.triad);
@@ -276,7 +273,7 @@ impl<T: ConnectionTable> Adapter<T> {
             Some(row) => self.close(route, &row),
             None => {
                 let fault = Refusal::NotFound.fault();
-                let reply = Reply::Refused(0x4E, fault, Some(request.triad));
+                let reply = Reply::Refused(FORWARD_CLOSE, fault, Some(request.triad));
                 Ok(self.reply(route, reply)?)
             }
         }
@@ -309,7 +306,7 @@ impl<T: ConnectionTable> Adapter<T> {
         Ok(self.reply(route, Reply::Got(value))?)
     }
 
-    /// A request that comes on a route, or bytes that are none.
+    /// The bytes of a request on a route.
     fn serve(&mut self, route: Route, bytes: &[u8]) -> Outcome
         ensures { Follows (Ok (routed self.old route (served self.old (peer_of route) (router_request_reading bytes.now)))) self.old result self.new }
     {
@@ -336,12 +333,13 @@ impl<T: ConnectionTable> Adapter<T> {
 // DATAGRAMS
 
 impl<T: ConnectionTable> Adapter<T> {
-    /// A datagram of a peer: where the connection that it is for has accepted it, its data stand at the output,
-    /// or the idle action is done, as its delivery says.
+    /// A datagram of a peer: the connection that it is for receives it. By its delivery the output has its data, or
+    /// the idle action is done.
     #[tactic(auto, unfolding(adapter_table::specs::Datagrams::accepted_table))]
     fn receive_datagram(&mut self, peer: Node, datagram: &Datagram<'_>) -> Delivery
         ensures { found_datagram self.old peer (view_datagram datagram.now) (find (is_for peer datagram.now.connection.0) self.old.rows) ≡ delivered result self.new }
     {
+        // The table stays whole, and applied data have the length of their output.
         tables_are_whole();
         applied_data_fit();
         let profile = self.assemblies.profile();
@@ -375,7 +373,7 @@ fn run_data<'a>(datagram: &Datagram<'a>) -> &'a [u8]
     }
 }
 
-/// What a datagram with this delivery does to the output of its connection. Takes no memory.
+/// Changes the output of a connection by a datagram with this delivery. Takes no memory.
 fn accept_values(
     assemblies: &mut AssemblySet,
     point: u32,
@@ -397,7 +395,7 @@ fn accept_values(
 // TIME
 
 impl<T: ConnectionTable> Adapter<T> {
-    /// Goes on at another time, some connections having timed out.
+    /// Time advances to the clock, and these connections time out.
     fn pass(&mut self, clock: Ms, timed_out: &[Row])
         requires whole { IsWhole (record self.old { rows = advanced_rows clock self.old.rows; values = expired_values self.old.profile timed_out.now self.old.values; clock = clock }) }
         requires time { clock.0 ≤ 2 ^ 48 }
@@ -415,6 +413,7 @@ impl<T: ConnectionTable> Adapter<T> {
         requires { self.old.clock.0 + ms ≤ 2 ^ 48 }
         ensures { Follows (Ok (advanced (clocked_table self.old ms))) self.old result self.new }
     {
+        // The table stays whole.
         tables_are_whole();
         let clock = Ms(self.clock.0 + u64::from(ms));
         let rows = self.table.to_vec(self.alloc)?;
@@ -434,6 +433,7 @@ impl<T: ConnectionTable> Adapter<T> {
         requires unexpired { list_any (has_expired (record { 0 = self.old.clock.0 + ms })) self.old.rows ≡ false }
         ensures { Follows (Ok (advanced (clocked_table self.old ms))) self.old result self.new }
     {
+        // The table stays whole.
         tables_are_whole();
         let clock = Ms(self.clock.0 + u64::from(ms));
         let datagrams = self
@@ -453,10 +453,10 @@ impl<T: ConnectionTable> Adapter<T> {
         ensures { Follows (Ok (advanced (clocked_table self.old ms))) self.old result self.new }
     {
         self.clock = Ms(self.clock.0 + u64::from(ms));
-        Ok(plain_answer(self.alloc, Verdict::Done))
+        Ok(Answer::plain(self.alloc, Verdict::Done))
     }
 
-    /// Whether the deadline of a connection has come at a later time.
+    /// Whether the deadline of a connection has been reached at a later time.
     #[inline(always)]
     fn has_expired(&mut self, clock: Ms) -> bool
         ensures expired { result ≡ list_any (has_expired clock) self.old.rows }
@@ -487,10 +487,10 @@ impl<T: ConnectionTable> Adapter<T> {
     fn tick(&mut self, ms: u32) -> Outcome
         ensures { Follows (tick self.old ms) self.old result self.new }
     {
-        if ms > LONGEST_TICK {
+        if ms > LONGEST_TICK_MS {
             return Err(StepFault::TickTooLong);
         }
-        if self.clock.0 + u64::from(ms) > CLOCK_END {
+        if self.clock.0 + u64::from(ms) > CLOCK_END_MS {
             return Err(StepFault::ClockEnd);
         }
         self.advance(ms)
@@ -509,18 +509,19 @@ fn lose_owners(assemblies: &mut AssemblySet, timed_out: &[Row])
 // POINTS
 
 impl<T: ConnectionTable> Adapter<T> {
-    /// Puts other bytes at an input, and its producers have done what that asks of them.
+    /// Puts other bytes at an input, and its producers act on the write.
     #[tactic(auto, unfolding(adapter_table::specs::Step::written_table, adapter_table::specs::Step::changed_table))]
     fn put(&mut self, point: u32, bytes: &[u8])
         requires { write_fault self.old.profile point (length bytes.now) ≡ None }
         ensures { self.new ≡ changed_table (written_table self.old point bytes.now) point }
     {
+        // The table stays whole. The write does not fail: the caller found the input, and its length.
         tables_are_whole();
         let _written = self.assemblies.write(point, bytes);
         self.table.write(self.clock, point);
     }
 
-    /// Sets what an input holds, where no producer produces at once.
+    /// Writes an input, if no producer produces at once.
     #[tactic(auto, unfolding(adapter_table::specs::Step::written_table))]
     fn write_quietly(&mut self, point: u32, bytes: &[u8]) -> Outcome
         requires input { write_fault self.old.profile point (length bytes.now) ≡ None }
@@ -529,10 +530,10 @@ impl<T: ConnectionTable> Adapter<T> {
         ensures table { self.new ≡ changed_table (written_table self.old point bytes.now) point }
     {
         self.put(point, bytes);
-        Ok(plain_answer(self.alloc, Verdict::Done))
+        Ok(Answer::plain(self.alloc, Verdict::Done))
     }
 
-    /// Sets what an input holds, and its change-of-state producers produce.
+    /// Writes an input, and its change-of-state producers produce.
     #[tactic(auto, unfolding(adapter_table::specs::Step::written_table, adapter_table::specs::Step::changed_table))]
     fn write_on_change(&mut self, point: u32, bytes: &[u8]) -> Outcome
         requires input { write_fault self.old.profile point (length bytes.now) ≡ None }
@@ -546,7 +547,7 @@ impl<T: ConnectionTable> Adapter<T> {
         Ok(notices_answer(self.alloc, datagrams, Vec::new(self.alloc)))
     }
 
-    /// Sets what an input holds.
+    /// Writes an input.
     #[tactic(auto, unfolding(adapter_table::specs::Step::write))]
     fn write(&mut self, point: u32, bytes: &[u8]) -> Outcome
         ensures step { Follows (write self.old point bytes.now) self.old result self.new }
@@ -564,13 +565,13 @@ impl<T: ConnectionTable> Adapter<T> {
         self.write_quietly(point, bytes)
     }
 
-    /// What a point holds.
+    /// Reads a point.
     #[tactic(auto, unfolding(adapter_table::specs::Step::read))]
     fn read(&mut self, point: u32) -> Outcome
         ensures { Follows (read self.old point) self.old result self.new }
     {
         let value = Items::copy_of(self.alloc, self.assemblies.read(point)?)?;
-        Ok(plain_answer(self.alloc, Verdict::Value(value)))
+        Ok(Answer::plain(self.alloc, Verdict::Value(value)))
     }
 }
 
@@ -583,7 +584,7 @@ fn is_value_attribute(attribute: Option<u32>) -> bool
     }
 }
 
-/// Stores a data segment at the configuration, where there is one to store. Takes no memory.
+/// Stores a data segment at the configuration, if there is one to store. Takes no memory.
 #[tactic(auto, using(crate::proofs::Admitted::configured_none))]
 fn configure(assemblies: &mut AssemblySet, segment: Option<&[u8]>)
     requires { ForSome (option_map (λ lent. lent.now) segment) (λ bytes. config_len assemblies.old.profile ≡ Some (length bytes)) }
@@ -606,7 +607,7 @@ fn lose_owner(assemblies: &mut AssemblySet, row: &Row)
 // EVENTS
 
 impl<T: ConnectionTable> Adapter<T> {
-    /// Any event. A tick at which nothing is to be done is cheaper where `step` stands in its caller.
+    /// Any event. It is not inlined, so that `step` is, and an idle tick stays cheap.
     #[inline(never)]
     fn take(&mut self, event: &Event) -> Outcome
         ensures step { Follows (adapter_step self.old event.now) self.old result self.new }
@@ -619,7 +620,7 @@ impl<T: ConnectionTable> Adapter<T> {
             Event::StreamCut { stream } => self.cut_stream(*stream),
             Event::Datagram { peer, bytes } => {
                 let delivery = self.receive(*peer, bytes.as_slice());
-                Ok(plain_answer(self.alloc, Verdict::Delivered(delivery)))
+                Ok(Answer::plain(self.alloc, Verdict::Delivered(delivery)))
             }
             Event::Write { point, bytes } => self.write(*point, bytes.as_slice()),
             Event::Read { point } => self.read(*point),
@@ -696,6 +697,7 @@ impl<T: ConnectionTable> Device for Adapter<T> {
     }
 
     fn is_whole(&self) {
+        // Gives the prover the invariant of the adapter.
         let _clock = self.clock;
     }
 }
@@ -707,7 +709,7 @@ impl<T: ConnectionTable> Adapter<T> {
 
     /// The adapter whose table is the copied one.
     ///
-    /// The faults, in order: `WrongKind` where the copy is of a scanner's table, `OutOfMemory`.
+    /// The faults, in order: `WrongKind` if the copy is of a scanner's table, `OutOfMemory`.
     pub fn from_copy(alloc: Global, copy: &TableCopy) -> Result<Self, NewFault>
         ensures table { IfOk result (λ adapter. DeviceTable.Adapter adapter ≡ copy.now) }
         ensures fault { IfErr result (λ fault. IsRefusedAs None (is_adapter copy.now) fault) }

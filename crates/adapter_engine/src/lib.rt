@@ -1,5 +1,5 @@
-//! An adapter that finds the connection of a datagram by one look-up and sees by two times whether a tick is idle, and
-//! whose every step is the table's.
+//! An adapter that finds the connection of a datagram by one look-up, and that compares two times to find that a tick
+//! is idle. Each of its steps is the table's.
 #![tactic(auto)]
 
 use adapter::Adapter;

@@ -3,3 +3,4 @@ pub mod Orders
 pub mod Support
 pub mod Without
 pub mod Passing
+pub mod Advancing

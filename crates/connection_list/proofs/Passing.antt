@@ -1,4 +1,4 @@
--- Loops that push what passes a test, or something made of it.
+-- Loops that push each element that passes a test, or a value made of it.
 use Rattle.std.proofs.Common.{◌≡◌, ◌<◌, ℕ, ◌+◌, Bool, true, false, List, [], ◌∷◌, ◌++◌, length, take, get_or, filter, map, refl, ◌∙◌, ap, arith}
 use Rattle.std.proofs.lemmas.Grind.{common_steps}
 use Rattle.std.proofs.lemmas.List.Elements.{filter_more}
@@ -14,7 +14,7 @@ left_more p xs i d kept lt are fails =
     let more = filter_more p xs i d lt in
     grind (arith, common_steps)
 
--- one more is told of
+-- one more is reported
 pub reported_more : {X Y : Type 0} (g : X → Y) (front : List Y) (p : X → Bool) (xs : List X) (i : ℕ) (d : X) (reported new : List Y) → i < length xs → reported ≡ front ++ map g (filter p (take i xs)) → p (get_or xs i d) ≡ true → new ≡ reported ++ g (get_or xs i d) ∷ [] → new ≡ front ++ map g (filter p (take (i + 1) xs))
 reported_more g front p xs i d reported new lt are passes grown =
     rw (filter_more p xs i d lt, passes) (grind (arith, common_steps))

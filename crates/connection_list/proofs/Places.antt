@@ -1,4 +1,4 @@
--- Room for a new connection.
+-- Capacity for a new connection.
 use Rattle.std.proofs.Common.{◌≡◌, Bool, List, length, Option, nat_le, find, refl}
 use Rattle.std.specs.List.{list_any}
 use Rattle.std.specs.Option.{option_map}

@@ -1,4 +1,4 @@
--- Listeners without support support none, so the support of the others stays as they go.
+-- Listeners without support support none, so the others keep their support when they are dropped.
 use Rattle.std.proofs.Common.{◌≡◌, ◌<◌, ℕ, ◌+◌, Bool, true, false, cond, not, ◌&&◌, ◌||◌, List, [], ◌∷◌, ◌++◌, length, take, drop, filter, get_or, refl, sym, ◌∙◌, ap, arith}
 use Rattle.std.specs.List.{list_any, remove}
 use Rattle.std.proofs.lemmas.Grind.{common_steps}
@@ -45,7 +45,7 @@ any_front : (q : Row → Bool) (front rows rows' : List Row) → list_any q rows
 any_front q [] rows rows' same = same
 any_front q (row ∷ front) rows rows' same = ap (λ b. q row || b) (any_front q front rows rows' same)
 
--- where those behind a place are gone, listeners are as supported as before
+-- if the ones after an index are dropped, listeners have the same support as before
 supported_at : (all : List Row) (at : ℕ) (kind : Kind) (point : ℕ) → is_listener kind ≡ true → is_supported (take at all ++ filter (stays all) (drop at all)) kind point ≡ is_supported all kind point
 supported_at all at kind point listens =
     let whole : take at all ++ drop at all ≡ all = grind (arith, common_steps) in

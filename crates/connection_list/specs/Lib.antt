@@ -1,2 +1,4 @@
 pub mod Orders
 pub mod Without
+pub mod Tables
+pub mod Receiving

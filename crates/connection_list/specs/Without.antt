@@ -1,4 +1,4 @@
--- Connections beside that of a triad. No public clause cites this module.
+-- The connections other than that of a triad. No public clause cites this module.
 use Rattle.std.specs.Prelude.{ℕ, ◌&&◌, not, Bool, List}
 use Rattle.cip_types.specs.declared.names.Triad.{Triad}
 use Rattle.cip_productions.specs.declared.kind.Kind.{Kind}

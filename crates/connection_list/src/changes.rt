@@ -1,4 +1,4 @@
-//! Changes of state: what a write of an input makes of its producers.
+//! Changes of state: the producers of an input after a write.
 
 ghost use Rattle.std.specs.Prelude.{◌≡◌, ◌≤◌, ◌^◌, map, filter, length, IfOk};
 ghost use Rattle.std.specs.List.{list_any};
@@ -59,7 +59,7 @@ fn producers_on_change(
     sorted(alloc, &producers, &ProducerOrder::Number)
 }
 
-/// What these producers send, when their input holds these bytes.
+/// The datagrams of these producers, if their input holds these bytes.
 fn datagrams(
     alloc: Global,
     rows: &[Row],
@@ -76,7 +76,7 @@ fn datagrams(
     Ok(datagrams)
 }
 
-/// What the change-of-state producers of an input send at once, when it holds these bytes.
+/// The datagrams that the change-of-state producers of an input send at once, if it holds these bytes.
 ///
 /// Volume 1, chapter 3, production triggers and production inhibit time.
 pub fn sent_on_change(
@@ -94,7 +94,7 @@ pub fn sent_on_change(
     datagrams(alloc, rows, input, &changing)
 }
 
-/// The change-of-state producers of an input have done what a write asks of them.
+/// The change-of-state producers of an input have acted on a write.
 fn change_rows(rows: &mut [Row], clock: Ms, point: u32)
     requires fit { RowsFit rows.old }
     requires time { clock.0 ≤ 2 ^ 48 }
@@ -114,8 +114,8 @@ pub fn written_rows(alloc: Global, rows: &[Row], point: u32) -> Result<Vec<Row>,
     Ok(written)
 }
 
-/// The producers of an input have new data, and its change-of-state producers have done what a write asks
-/// of them. Takes no memory.
+/// The producers of an input have new data, and its change-of-state producers have acted on the write. Takes no
+/// memory.
 pub fn write_and_change_rows(rows: &mut [Row], clock: Ms, point: u32)
     requires fit { RowsFit rows.old }
     requires time { clock.0 ≤ 2 ^ 48 }

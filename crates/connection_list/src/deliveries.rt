@@ -1,4 +1,4 @@
-//! Datagrams that come to connections.
+//! Datagrams that connections receive.
 
 ghost use Rattle.std.specs.Prelude.{◌≡◌, ◌≤◌, ◌^◌, find, map};
 ghost use Rattle.cip_datagram.specs.Datagram.{view_datagram};
@@ -18,7 +18,7 @@ pub fn find_target(rows: &[Row], peer: Node, id: ConnId) -> Option<Row>
     rows.iter().copied().find(|row| is_for(row, peer, id))
 }
 
-/// The connection that a datagram is for has accepted it. Takes no memory.
+/// The connection that a datagram is for accepts it. Takes no memory.
 ///
 /// Volume 1, chapter 3, inactivity watchdog.
 pub fn accept_rows(rows: &mut [Row], clock: Ms, peer: Node, datagram: &Datagram<'_>)

@@ -6,7 +6,7 @@ ghost use Rattle.adapter_table.specs.Closing.{staying};
 use crate::rows::is_unsupported;
 use adapter_table::Row;
 
-/// Takes out the listen-only connections without support. Takes no memory.
+/// Removes the listen-only connections without support. Takes no memory.
 ///
 /// Volume 1, chapter 3, listen-only application connections.
 pub fn drop_unsupported(rows: &mut Vec<Row>)

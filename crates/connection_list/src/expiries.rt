@@ -12,7 +12,7 @@ use cip_types::{Ms, OutOfMemory};
 use list_order::sorted;
 use std::alloc::Global;
 
-/// The connections whose deadline has come, by their deadlines and then in the order of openings.
+/// The connections whose deadline has been reached, by their deadlines and then in the order of openings.
 ///
 /// Volume 1, chapter 3, inactivity watchdog.
 pub fn expired(alloc: Global, rows: &[Row], clock: Ms) -> Result<Vec<Row>, OutOfMemory>
@@ -33,7 +33,7 @@ fn expiring(alloc: Global, rows: &[Row], clock: Ms) -> Result<Vec<Row>, OutOfMem
     )
 }
 
-/// The connections whose deadline has come have timed out. Takes no memory.
+/// The connections whose deadline has been reached time out. Takes no memory.
 ///
 /// Volume 1, chapter 3, inactivity watchdog.
 pub fn expire_rows(rows: &mut [Row], clock: Ms)
@@ -44,7 +44,7 @@ pub fn expire_rows(rows: &mut [Row], clock: Ms)
     }
 }
 
-/// The connections once those whose deadline has come have timed out.
+/// The connections after those whose deadline has been reached have timed out.
 ///
 /// Volume 1, chapter 3, inactivity watchdog.
 pub fn expired_rows(alloc: Global, rows: &[Row], clock: Ms) -> Result<Vec<Row>, OutOfMemory>
@@ -55,7 +55,7 @@ pub fn expired_rows(alloc: Global, rows: &[Row], clock: Ms) -> Result<Vec<Row>, 
     Ok(left)
 }
 
-/// What is told of connections that time out, in this order, and then of the listen-only ones among those
+/// The notices of connections that time out, in this order, and then of the listen-only ones among the connections
 /// left that are dropped.
 pub fn expiry_notices(
     alloc: Global,

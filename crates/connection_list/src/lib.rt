@@ -1,6 +1,7 @@
-//! Lists of connections in opening order: what makes room and what is dropped, which connection a datagram
-//! is for, which connections time out, and what their producers send. What happens to one connection is
-//! adapter_table's.
+//! Tables of the connections of an adapter, which contracts see as their list in opening order, and the calls on
+//! such a list: which connection is replaced, which ones are dropped, which one a datagram is for, which ones time
+//! out, and what their producers send. `ConnectionTable` is the trait of a table, and `ConnectionList` a table that
+//! is a plain list. adapter_table changes a single connection.
 //!
 //! Volume 1, chapter 3, application connection types, class 1 transport, connection timeouts, production
 //! triggers.
@@ -11,16 +12,19 @@ mod deliveries;
 mod dropping;
 mod expiries;
 mod order;
+mod plain;
 mod producers;
 mod productions;
 mod rows;
+mod table;
 
 pub use changes::{produces_at_once, sent_on_change, write_and_change_rows, written_rows};
 pub use deliveries::{accept_rows, find_target};
 pub use dropping::drop_unsupported;
 pub use expiries::{expire_rows, expired, expired_rows, expiry_notices};
+pub use plain::ConnectionList;
 pub use productions::{produce_rows, sent_when_due};
 pub use rows::{
-    append_row, close_notices, closed_notices, copied, find_row, remove_triad, replaced,
-    reserve_row, staying,
+    append_row, closed_notices, copied, find_row, remove_triad, replaced, reserve_row, staying,
 };
+pub use table::{ConnectionTable, ReceivedDatagram};

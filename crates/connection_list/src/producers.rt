@@ -1,4 +1,4 @@
-//! Producers of connections, and whom they send to.
+//! Producers of connections, and the nodes that they send to.
 
 ghost use Rattle.std.specs.Prelude.{◌≡◌, ◌≤◌, ◌++◌, map, filter, length, OnOk, IfOk};
 ghost use Rattle.std.specs.List.{list_any, filter_map};
@@ -6,7 +6,7 @@ ghost use Rattle.cip_types.specs.Order.{first_of_each, unless};
 ghost use Rattle.cip_productions.specs.Productions.{same_producer, sent};
 ghost use Rattle.adapter_table.specs.Productions.{producer_in, producers, group, same_node, peer_of, consumers, production_of};
 
-use adapter_table::{Row, is_produced_by, producer_in};
+use adapter_table::{Row, has_node, is_produced_by, producer_in};
 use cip_events::{Consumers, OutgoingDatagram};
 use cip_productions::{Producer, same_producer, sent_by};
 use cip_types::{Node, OutOfMemory};
@@ -18,7 +18,7 @@ fn has_producer(producers: &[Producer], producer: &Producer) -> bool
     producers.iter().any(|other| same_producer(other, producer))
 }
 
-/// Adds a producer, where it is not there yet.
+/// Adds a producer that is not there yet.
 fn add_producer(producers: &mut Vec<Producer>, producer: Producer) -> Result<(), OutOfMemory>
     ensures { OnOk result (producers.new.items ≡ producers.old.items ++ unless (list_any (λ other. same_producer other producer) producers.old.items) producer) }
 {
@@ -48,7 +48,7 @@ fn all_producers(alloc: Global, rows: &[Row]) -> Result<Vec<Producer>, OutOfMemo
     )
 }
 
-/// The producers of connections, each once, as the first of its connections tells of it.
+/// The producers of connections, each once, as its first connection has it.
 pub fn producers(alloc: Global, rows: &[Row]) -> Result<Vec<Producer>, OutOfMemory>
     ensures { IfOk result (λ each. each.items ≡ producers rows.now) }
 {
@@ -56,13 +56,7 @@ pub fn producers(alloc: Global, rows: &[Row]) -> Result<Vec<Producer>, OutOfMemo
     each_producer(alloc, &all)
 }
 
-fn has_node(nodes: &[Node], node: Node) -> bool
-    ensures { result ≡ list_any (λ other. same_node other node) nodes.now }
-{
-    nodes.iter().any(|other| other.0 == node.0)
-}
-
-/// Adds a node, where it is not there yet.
+/// Adds a node that is not there yet.
 fn add_node(nodes: &mut Vec<Node>, node: Node) -> Result<(), OutOfMemory>
     ensures { OnOk result (nodes.new.items ≡ nodes.old.items ++ unless (list_any (λ other. same_node other node) nodes.old.items) node) }
 {
@@ -102,7 +96,7 @@ fn consumers(alloc: Global, rows: &[Row], number: u32) -> Result<Vec<Node>, OutO
     each_node(alloc, &peers)
 }
 
-/// What a producer of the connections sends next, where its input holds these bytes.
+/// The next datagram of a producer of the connections, if its input holds these bytes.
 pub fn datagram(
     alloc: Global,
     rows: &[Row],

@@ -1,8 +1,8 @@
 //! Productions that are due.
 
-ghost use Rattle.std.specs.Prelude.{◌≡◌, ◌≤◌, ◌^◌, map, filter, length, IfOk};
+ghost use Rattle.std.specs.Prelude.{◌≡◌, ◌≤◌, ◌^◌, map, filter, IfOk};
 ghost use Rattle.cip_productions.specs.Productions.{sent};
-ghost use Rattle.adapter_table.specs.Productions.{is_due, due_producers, input_of, due_production, due_productions, produced_row};
+ghost use Rattle.adapter_table.specs.Productions.{is_due, due_producers, due_production, due_productions, produced_row};
 ghost use Rattle.adapter_table.specs.Whole.{RowsFit};
 
 use crate::order::ProducerOrder;
@@ -26,7 +26,7 @@ fn due_only(alloc: Global, rows: &[Row], clock: Ms) -> Result<Vec<Row>, OutOfMem
     )
 }
 
-/// The producers that are due, by when they are and then by their numbers.
+/// The producers that are due, by the time at which they are, and then by their numbers.
 fn due_producers(alloc: Global, rows: &[Row], clock: Ms) -> Result<Vec<Producer>, OutOfMemory>
     ensures { IfOk result (λ due. due.items ≡ due_producers clock rows.now) }
 {
@@ -35,18 +35,7 @@ fn due_producers(alloc: Global, rows: &[Row], clock: Ms) -> Result<Vec<Producer>
     sorted(alloc, &producers, &ProducerOrder::Due)
 }
 
-/// What the input of a producer holds.
-fn input_of<'a>(assemblies: &'a AssemblySet, producer: &Producer) -> &'a [u8]
-    ensures value { result.now ≡ input_of assemblies.now.values producer.now }
-    ensures short { length result.now ≤ 65533 }
-{
-    match assemblies.read(producer.point) {
-        Ok(input) => input,
-        Err(_) => &[],
-    }
-}
-
-/// What a producer that is due sends.
+/// The datagram of a producer that is due.
 fn due_datagram(
     alloc: Global,
     rows: &[Row],
@@ -55,10 +44,10 @@ fn due_datagram(
 ) -> Result<OutgoingDatagram, OutOfMemory>
     ensures { IfOk result (λ datagram. datagram ≡ sent (due_production rows.now assemblies.now.values producer.now)) }
 {
-    datagram(alloc, rows, input_of(assemblies, producer), producer)
+    datagram(alloc, rows, assemblies.input_of(producer), producer)
 }
 
-/// What these producers send.
+/// The datagrams of these producers.
 fn datagrams(
     alloc: Global,
     rows: &[Row],
@@ -74,7 +63,7 @@ fn datagrams(
     Ok(datagrams)
 }
 
-/// What the producers that are due send: one datagram each.
+/// The datagrams of the producers that are due, one each.
 ///
 /// Volume 1, chapter 3, class 1 transport; Volume 2, chapter 3, multicast connections.
 pub fn sent_when_due(

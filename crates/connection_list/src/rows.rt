@@ -8,10 +8,11 @@ ghost use Rattle.connection_list.specs.Without.{supports_without, loses_support}
 ghost use Rattle.adapter_table.specs.Opening.{is_opened_as, is_replaced_by, is_replaced, replaced_triad};
 
 use adapter_table::{
-    MOST_ROWS, Row, has_triad, is_established, is_supported, is_timed_out, supports, written_row,
+    Row, has_triad, is_established, is_supported, is_timed_out, supports, written_row,
 };
 use cip_events::Notice;
 use cip_productions::Kind;
+use cip_types::limits::MOST_CONNECTIONS;
 use cip_types::{OutOfMemory, Triad};
 use std::alloc::Global;
 
@@ -37,7 +38,7 @@ fn is_opened_as(found: Option<Row>, row: &Row) -> bool
     }
 }
 
-/// What tells which connection makes room for a new one.
+/// All that decides which connection a new one replaces.
 #[derive(Clone, Copy)]
 struct Replacement {
     triad: Triad,
@@ -55,12 +56,12 @@ fn replacement_for(rows: &[Row], triad: Triad) -> Replacement
     Replacement {
         triad,
         known: has_row(rows, triad),
-        full: rows.len() >= MOST_ROWS,
+        full: rows.len() >= MOST_CONNECTIONS,
         first: first_timed_out(rows),
     }
 }
 
-/// Whether a connection makes the room.
+/// Whether the new connection replaces this one.
 fn is_replaced(replacement: Replacement, row: &Row) -> bool
     ensures { result ≡ is_replaced_by replacement.known replacement.full replacement.first replacement.triad row.now }
 {
@@ -71,7 +72,7 @@ fn is_replaced(replacement: Replacement, row: &Row) -> bool
     }
 }
 
-/// The connection that makes the room.
+/// The connection that the new one replaces.
 fn replaced_row(rows: &[Row], replacement: Replacement) -> Option<Row>
     ensures { result ≡ find (is_replaced_by replacement.known replacement.full replacement.first replacement.triad) rows.now }
 {
@@ -80,7 +81,7 @@ fn replaced_row(rows: &[Row], replacement: Replacement) -> Option<Row>
         .find(|row| is_replaced(replacement, row))
 }
 
-/// The triad of the connection that makes room for a new one.
+/// The triad of the connection that a new one replaces.
 pub fn replaced(rows: &[Row], triad: Triad) -> Option<Triad>
     ensures { result ≡ replaced_triad rows.now triad }
 {
@@ -90,7 +91,7 @@ pub fn replaced(rows: &[Row], triad: Triad) -> Option<Triad>
     }
 }
 
-/// Takes out the connection that makes the room.
+/// Removes the connection that the new one replaces.
 fn remove_replaced(rows: &mut Vec<Row>, replacement: Replacement)
     ensures items { rows.new.items ≡ others (is_replaced_by replacement.known replacement.full replacement.first replacement.triad) rows.old.items }
     ensures len { vec_len rows.new ≤ vec_len rows.old }
@@ -106,7 +107,7 @@ pub fn find_row(rows: &[Row], triad: Triad) -> Option<Row>
     rows.iter().copied().find(|row| has_triad(row, triad))
 }
 
-/// Takes out the connection of a triad, if there is one. Takes no memory.
+/// Removes the connection of a triad, if there is one. Takes no memory.
 pub fn remove_triad(rows: &mut Vec<Row>, triad: Triad)
     ensures { rows.new.items ≡ without_triad triad rows.old.items }
 {
@@ -154,7 +155,7 @@ fn loses_support(rows: &[Row], triad: Triad, row: &Row) -> bool
         && !is_supported_without(rows, triad, row.kind, row.produced)
 }
 
-/// The connections that stay where the listeners without support go.
+/// The connections that stay when the listeners without support are dropped.
 pub fn staying(alloc: Global, rows: &[Row]) -> Result<Vec<Row>, OutOfMemory>
     ensures { IfOk result (λ left. left.items ≡ staying rows.now) }
 {
@@ -167,23 +168,11 @@ pub fn staying(alloc: Global, rows: &[Row]) -> Result<Vec<Row>, OutOfMemory>
     Ok(left)
 }
 
-/// What is told of the close of a connection, the others being left.
-pub fn closed_notices(alloc: Global, left: &[Row], triad: Triad) -> Result<Vec<Notice>, OutOfMemory>
-    ensures { IfOk result (λ notices. notices.items ≡ Notice.Closed triad ∷ map dropped_notice (unsupported left.now)) }
-{
-    let mut notices = Vec::new(alloc);
-    notices.push(Notice::Closed(triad))?;
-    for row in left {
-        if is_unsupported(left, row) {
-            notices.push(Notice::Dropped(row.triad))?;
-        }
-    }
-    Ok(notices)
-}
-
-/// That the connection of a triad is closed, and which ones are left alone.
-fn notices_of_close(alloc: Global, rows: &[Row], triad: Triad) -> Result<Vec<Notice>, OutOfMemory>
-    ensures { IfOk result (λ notices. notices.items ≡ Notice.Closed triad ∷ map dropped_notice (filter (loses_support triad rows.now) rows.now)) }
+/// The notices of a close of the connection of a triad: it is closed, and then the listen-only connections that lose
+/// their support with it are dropped. Out of memory is the only fault.
+#[tactic(auto, using(crate::proofs::Without::left_alone))]
+pub fn closed_notices(alloc: Global, rows: &[Row], triad: Triad) -> Result<Vec<Notice>, OutOfMemory>
+    ensures { IfOk result (λ notices. notices.items ≡ Notice.Closed triad ∷ map dropped_notice (unsupported (without_triad triad rows.now))) }
 {
     let mut notices = Vec::new(alloc);
     notices.push(Notice::Closed(triad))?;
@@ -195,14 +184,6 @@ fn notices_of_close(alloc: Global, rows: &[Row], triad: Triad) -> Result<Vec<Not
     Ok(notices)
 }
 
-/// What is told where the connection of a triad is closed: that it is, and the listen-only ones that this leaves
-/// without support. Want of memory is the only fault.
-pub fn close_notices(alloc: Global, rows: &[Row], triad: Triad) -> Result<Vec<Notice>, OutOfMemory>
-    ensures { IfOk result (λ notices. notices.items ≡ Notice.Closed triad ∷ map dropped_notice (unsupported (without_triad triad rows.now))) }
-{
-    notices_of_close(alloc, rows, triad)
-}
-
 /// The producers of an input have new data. Takes no memory.
 pub fn write_rows(rows: &mut [Row], point: u32)
     ensures { rows.new ≡ map (written_row point) rows.old }
@@ -212,7 +193,7 @@ pub fn write_rows(rows: &mut [Row], point: u32)
     }
 }
 
-/// Makes room for one more connection.
+/// Reserves capacity for one more connection.
 pub fn reserve_row(rows: &mut Vec<Row>) -> Result<(), OutOfMemory>
     ensures same { rows.new.items ≡ rows.old.items }
     ensures spare { OnOk result (vec_len rows.new < vec_capacity rows.new) }
@@ -221,7 +202,7 @@ pub fn reserve_row(rows: &mut Vec<Row>) -> Result<(), OutOfMemory>
     Ok(())
 }
 
-/// Puts a connection last, and takes out the one that makes room for it. Takes no memory.
+/// Removes the connection that a new one replaces, and appends the new one. Takes no memory.
 pub fn append_row(rows: &mut Vec<Row>, row: Row)
     requires { vec_len rows.old < vec_capacity rows.old }
     ensures { rows.new.items ≡ others (is_replaced rows.old.items row.triad) rows.old.items ++ row ∷ [] }

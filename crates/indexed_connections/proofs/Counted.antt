@@ -104,7 +104,7 @@ received_found profile clock peer d counts rows (Some row) counted = received_if
 pub received_counted : (profile : Profile) (clock : Ms) (peer : Node) (d : DatagramFields) (counts : Counts) (rows : List Row) → AreCounted counts rows → AreCounted counts (reception profile clock peer d (find (is_for peer d.connection) rows) rows)
 received_counted profile clock peer d counts rows counted = received_found profile clock peer d counts rows (find (is_for peer d.connection) rows) counted
 
--- ---- who listens stays
+-- ---- listen-only connections stay
 
 listens_kept : (row changed : Row) → KeepsCounted row changed → is_listening changed ≡ is_listening row
 listens_kept row changed keeps = rw (keeps.established, keeps.kind) refl

@@ -1,4 +1,4 @@
--- Listeners without support that go one after another: the support of the others stays.
+-- Listeners without support that are dropped one after another: the others keep their support.
 use Rattle.std.proofs.Common.{◌≡◌, ◌≤◌, ℕ, ◌+◌, Bool, true, false, cond, not, ◌&&◌, ◌||◌, List, [], ◌∷◌, filter, find, length, Some, None, refl, sym, ap, ◌∙◌, true≢false, arith, Option, ◌++◌}
 use Rattle.std.specs.List.{list_any}
 use Rattle.cip_types.specs.declared.names.Triad.{Triad}

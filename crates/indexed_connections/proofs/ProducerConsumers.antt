@@ -1,4 +1,4 @@
--- Changes that leave each connection with its producer and its peer, so that producers serve whom they served.
+-- Changes that leave each connection its producer and its peer, so that producers keep their consumers.
 use Rattle.std.proofs.Common.{◌≡◌, ℕ, Bool, true, false, cond, ◌==◌, List, map, find, Option, Some, None, refl, ap, ◌∙◌}
 use Rattle.cip_types.specs.declared.names.Ms.{Ms}
 use Rattle.cip_types.specs.declared.names.Node.{Node}

@@ -1,4 +1,4 @@
--- Running counts as connections go, time out and change.
+-- Running counts as connections are removed, time out and change.
 use Rattle.std.proofs.Common.{◌≡◌, ◌≤◌, ◌<◌, ℕ, ◌+◌, ◌==◌, ◌&&◌, ◌||◌, Bool, true, false, cond, not, List, [], ◌∷◌, ◌++◌, map, filter, find, length, Option, Some, None, refl, sym, ap, subst, ◌∙◌, true≢false, arith}
 use Rattle.std.specs.List.{list_any}
 use Rattle.std.proofs.lemmas.Bool.Decides.{nat_tests}
@@ -15,7 +15,7 @@ use Rattle.owner_counts.specs.Counts.{Counts, number_at, total, is_driver, is_su
 use Rattle.indexed_connections.specs.CountChanges.{named, HaveJoined, AreLess}
 use Rattle.indexed_connections.proofs.Lone.{some_is, neither, triad_only}
 
--- ---- a connection that is found stands among others
+-- ---- a connection that is found is among others
 
 not_found : (b : Bool) (test : Row → Bool) (x : Row) (rows : List Row) → test x ≡ b → find test (x ∷ rows) ≡ cond b (Some x) (find test rows)
 not_found b test x rows is = ap (λ c. cond c (Some x) (find test rows)) is
@@ -162,7 +162,7 @@ less_out old new triad rows (Some row) differ is are counted =
     let left : AreCounted new (a.front ++ a.back) = are a.front a.back (subst (AreCounted old) a.whole counted) in
     subst (AreCounted new) (sym a.out) (idle_joined new a.front (timed_out_if triad row) a.back (out_idle (is_established row) triad row a.has refl) left)
 
--- ---- what counts tell
+-- ---- what follows from counts
 
 -- where there are few, few are counted
 pub few_counted : (counts : Counts) (rows : List Row) → length rows < 64 → AreCounted counts rows → (total counts.owners < 64) × (total counts.supporters < 64)

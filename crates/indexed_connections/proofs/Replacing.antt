@@ -1,4 +1,4 @@
--- The connection that makes room goes by its triad.
+-- The connection that is replaced is removed by its triad.
 use Rattle.std.proofs.Common.{◌≡◌, ◌≤◌, ◌<◌, ℕ, ◌==◌, ◌||◌, Bool, true, false, cond, nat_le, List, [], ◌∷◌, find, length, Option, Some, None, is_some, refl, sym, ap, subst, ◌∙◌, true≢false, arith}
 use Rattle.std.specs.Option.{option_map}
 use Rattle.std.specs.List.{list_any}

@@ -47,7 +47,7 @@ pub none_due : (bound : ℕ) (clock : Ms) (rows : List Row) → clock.0 < bound 
 none_due bound clock [] early all = refl
 none_due bound clock (row ∷ rows) early all = rw (state_early bound clock row.state early all.0) (none_due bound clock rows early all.1)
 
--- ---- changes that keep deadlines and who lives
+-- ---- changes that keep deadlines and states
 
 pub ends_mapped : (f : Row → Row) → ((row : Row) → end_of (f row).deadline.0 (f row).state ≡ end_of row.deadline.0 row.state) → (rows : List Row) → first_end (map f rows) ≡ first_end rows
 ends_mapped f same [] = refl
@@ -143,7 +143,7 @@ received_rest : (b : Bool) (clock : Ms) (peer : Node) (d : DatagramFields) (boun
 received_rest true clock peer d bound rows all = rests_same clock peer d bound rows all
 received_rest false clock peer d bound rows all = all
 
--- where it was heard, the earlier of the bound and the deadline of the one that heard it is a bound
+-- if it was received, the earlier of the bound and the deadline of the receiving connection is a bound
 ends_found : (profile : Profile) (clock : Ms) (peer : Node) (d : DatagramFields) (low next_watchdog : ℕ) (rows : List Row) (o : Option Row) (received : Received) → find (is_for peer d.connection) rows ≡ o → IdsDiffer rows → Some received ≡ option_map (received_of profile clock d) o → low ≤ next_watchdog → low ≤ received.deadline.0 → next_watchdog ≤ first_end rows → low ≤ first_end (reception profile clock peer d o rows)
 ends_found profile clock peer d low next_watchdog rows None received is differ reported below after before = absurd cc
 ends_found profile clock peer d low next_watchdog rows (Some row) received is differ reported below after before =
@@ -161,7 +161,7 @@ rests_found profile clock peer d bound rows (Some row) all = received_rest (is_a
 pub rests_received : (profile : Profile) (clock : Ms) (peer : Node) (d : DatagramFields) (bound : ℕ) (rows : List Row) → AllNotDueBefore bound rows → AllNotDueBefore bound (reception profile clock peer d (find (is_for peer d.connection) rows) rows)
 rests_received profile clock peer d bound rows all = rests_found profile clock peer d bound rows (find (is_for peer d.connection) rows) all
 
--- ---- connections that go, and one that comes
+-- ---- connections that are removed, and one that is appended
 
 pub ends_left : (low : ℕ) (p : Row → Bool) (rows : List Row) → low ≤ first_end rows → low ≤ first_end (filter p rows)
 ends_left low p [] before = before

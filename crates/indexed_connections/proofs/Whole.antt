@@ -1,9 +1,9 @@
--- What is drawn on of the connections of a whole table.
+-- Facts of the connections of a whole table.
 use Rattle.std.proofs.Common.{List, subst}
 use Rattle.adapter_table.specs.declared.row.Row.{Row}
 use Rattle.adapter_table.specs.Sound.{TriadsDiffer, IdsDiffer, GroupsAloneShare, OpeningsRise}
 use Rattle.adapter_table.specs.Whole.{RowsFit}
-use Rattle.connection_table.specs.Tables.{AreWhole}
+use Rattle.connection_list.specs.Tables.{AreWhole}
 use Rattle.conn_slab.specs.Connections.{AreConnections}
 
 pub whole_connections : (rows : List Row) → AreWhole rows → AreConnections rows

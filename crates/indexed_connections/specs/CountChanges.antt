@@ -1,4 +1,4 @@
--- Running counts as connections go.
+-- Running counts as connections are removed.
 use Rattle.std.specs.Prelude.{◌≡◌, List, ◌∷◌, ◌++◌, find, Option, Some, None}
 use Rattle.cip_types.specs.declared.names.Triad.{Triad}
 use Rattle.adapter_table.specs.declared.row.Row.{Row}

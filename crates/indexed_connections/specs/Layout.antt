@@ -1,4 +1,4 @@
--- What belongs together in `IndexedConnections`. No public clause cites this module.
+-- The invariant of `IndexedConnections`. No public clause cites this module.
 use Rattle.std.specs.Prelude.{ℕ, ◌≡◌, ◌≤◌, Bool, true, false, List}
 use Rattle.std.specs.List.{list_any}
 use Rattle.adapter_table.specs.declared.row.Row.{Row}

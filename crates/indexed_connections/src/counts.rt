@@ -1,4 +1,4 @@
-//! Connections that come and go, with running counts of their owners and supporters.
+//! Opening, closing and time-out of connections, with running counts of their owners and supporters.
 
 ghost use Rattle.std.specs.Prelude.{◌≡◌, ◌≤◌, ◌++◌, ◌∷◌, [], OnOk, OnErr, IfOk, map, length};
 ghost use Rattle.adapter_table.specs.Closing.{without_triad};
@@ -13,7 +13,7 @@ use conn_slab::Connections;
 use owner_counts::Rules;
 use std::alloc::Global;
 
-/// Counts of these connections. Want of memory is the only fault.
+/// Counts of these connections. Out of memory is the only fault.
 pub fn counted(alloc: Global, rows: &[Row]) -> Result<Rules, OutOfMemory>
     requires { length rows.now ≤ 64 }
     ensures { IfOk result (λ rules. AreCounted rules rows.now) }
@@ -25,7 +25,7 @@ pub fn counted(alloc: Global, rows: &[Row]) -> Result<Rules, OutOfMemory>
     Ok(rules)
 }
 
-/// Counts without a connection that had joined, where there is one. Takes no memory.
+/// No longer counts a connection that had joined, if there is one. Takes no memory.
 fn forget(rules: &mut Rules, removed: Option<Row>)
     requires { HaveJoined removed rules.old }
     ensures { AreLess removed rules.old rules.new }
@@ -35,7 +35,7 @@ fn forget(rules: &mut Rules, removed: Option<Row>)
     }
 }
 
-/// The connection of the triad, where one is named.
+/// The connection of the triad, if one is named.
 fn named(connections: &Connections, triad: Option<Triad>) -> Option<Row>
     ensures { result ≡ named triad connections.now }
 {
@@ -45,8 +45,8 @@ fn named(connections: &Connections, triad: Option<Triad>) -> Option<Row>
     }
 }
 
-/// Puts a connection last. Where a triad is named, the connection of that triad is taken out. Want of memory is
-/// the only fault, and then nothing is changed.
+/// Appends a connection, and removes the one of the named triad. Out of memory is the only fault, and then nothing is
+/// changed.
 ///
 /// Volume 1, chapter 3, Forward_Open.
 pub fn open(
@@ -69,7 +69,7 @@ pub fn open(
     Ok(())
 }
 
-/// Takes the connection of a triad out, in any state. Takes no memory.
+/// Removes the connection of a triad, in any state. Takes no memory.
 ///
 /// Volume 1, chapter 3, Forward_Close.
 pub fn close(connections: &mut Connections, rules: &mut Rules, triad: Triad)
@@ -82,7 +82,7 @@ pub fn close(connections: &mut Connections, rules: &mut Rules, triad: Triad)
     forget(rules, removed);
 }
 
-/// Lets the established connection of a triad time out. Takes no memory.
+/// The established connection of a triad times out. Takes no memory.
 ///
 /// Volume 1, chapter 3, inactivity watchdog.
 pub fn time_out(connections: &mut Connections, rules: &mut Rules, triad: Triad)

@@ -14,7 +14,7 @@ use cip_types::Ms;
 use conn_slab::Connections;
 use owner_counts::Rules;
 
-/// The connections whose deadline has come have timed out. Takes no memory.
+/// The connections whose deadline has been reached time out. Takes no memory.
 ///
 /// Volume 1, chapter 3, inactivity watchdog.
 pub fn expire(connections: &mut Connections, rules: &mut Rules, clock: Ms)
@@ -31,7 +31,7 @@ pub fn expire(connections: &mut Connections, rules: &mut Rules, clock: Ms)
     }
 }
 
-/// Takes out the listen-only connections without support, where there may be listen-only ones. Takes no memory.
+/// Removes the listen-only connections without support, unless there are none. Takes no memory.
 ///
 /// Volume 1, chapter 3, listen-only application connections.
 pub fn drop_unsupported(connections: &mut Connections, rules: &mut Rules, listening: bool)

@@ -1,4 +1,4 @@
-//! What is asked of connections one after another. No question takes memory.
+//! Searches through connections, one after another. No call takes memory.
 
 ghost use Rattle.std.specs.Prelude.{◌≡◌, ◌≤◌, ◌^◌, List, find};
 ghost use Rattle.std.specs.List.{list_any};
@@ -29,7 +29,7 @@ pub fn is_any_established(rows: Rows<'_>) -> bool
     false
 }
 
-/// Whether the producer of one is due.
+/// Whether the producer of some connection is due.
 #[inline(never)]
 pub fn is_any_due(rows: Rows<'_>, clock: Ms) -> bool
     ensures { result ≡ list_any (is_due clock) rows.entry }
@@ -42,7 +42,7 @@ pub fn is_any_due(rows: Rows<'_>, clock: Ms) -> bool
     false
 }
 
-/// Whether a write of the input makes the producer of one produce at once.
+/// Whether a write of the input makes the producer of some connection produce at once.
 pub fn is_any_on_change(rows: Rows<'_>, clock: Ms, point: u32) -> bool
     requires { clock.0 ≤ 2 ^ 48 }
     ensures { result ≡ list_any (produces_on_change clock point) rows.entry }
@@ -79,7 +79,7 @@ pub fn first_timed_out(rows: Rows<'_>) -> Option<Row>
     None
 }
 
-/// The first connection whose deadline has come.
+/// The first established connection whose deadline has been reached.
 pub fn first_expired(rows: Rows<'_>, clock: Ms) -> Option<Row>
     ensures { result ≡ find (has_expired clock) rows.entry }
 {

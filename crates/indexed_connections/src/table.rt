@@ -1,4 +1,4 @@
-//! The table.
+//! The table of connections with indexes, counts and bounds.
 
 ghost use Rattle.std.specs.Prelude.{◌≡◌, ◌||◌, ◌∷◌, [], true, IfOk};
 ghost use Rattle.std.specs.List.{list_any};
@@ -15,34 +15,36 @@ use crate::queries::{
     first_expired, first_member, first_timed_out, is_any_due, is_any_established, is_any_on_change,
     is_listening,
 };
-use adapter_table::{MOST_ROWS, Profile, Row, State};
+use adapter_table::{Profile, Row, State};
 use app_rules::ConnectionsView;
 use assembly_set::AssemblySet;
 use cip_datagram::Datagram;
 use cip_events::{Notice, OutgoingDatagram};
+use cip_types::limits::MOST_CONNECTIONS;
 use cip_types::{Ms, Node, OutOfMemory, Triad};
-use connection_list::{close_notices, sent_on_change, sent_when_due, written_rows};
-use connection_table::{ConnectionTable, ReceivedDatagram};
+use connection_list::{
+    ConnectionTable, ReceivedDatagram, closed_notices, sent_on_change, sent_when_due, written_rows,
+};
 use due_datagrams::{ConsumerTable, due_datagrams};
 use owner_counts::Rules;
 use std::alloc::Global;
 use std::marker::Model;
 
-/// Connections in a slab, running counts of their owners and supporters, bounds on their times, and whom their
-/// producers serve.
+/// Connections in a slab, running counts of their owners and supporters, bounds on their times, and the consumers of
+/// their producers.
 ///
 /// A datagram finds its connection by peer and O->T id, and a tick at which nothing happens compares two times.
 #[derive(Drop)]
 pub struct IndexedConnections {
     connections: conn_slab::Connections,
     rules: Rules,
-    /// Where this is false, none is an established listen-only one.
+    /// If this is false, there is no established listen-only connection.
     listening: bool,
     /// No watchdog runs out before this.
     next_watchdog: u64,
     /// No producer is due before this.
     next_production: u64,
-    /// Whether it is known whom each producer serves.
+    /// Whether the consumer table is that of the connections.
     consumers_valid: bool,
     consumer_table: ConsumerTable,
 }
@@ -59,7 +61,7 @@ impl Model for IndexedConnections {
     ghost invariant = { λ t. AreConsistent t.connections t.rules t.listening t.next_watchdog t.next_production t.consumers_valid t.consumer_table };
 }
 
-/// When the producer of a connection is due; that of one that has timed out never is.
+/// When the producer of a connection is due; `u64::MAX` for a timed-out one.
 fn due_of(row: &Row) -> u64
     ensures { NotDueBefore result row.now }
 {
@@ -69,14 +71,14 @@ fn due_of(row: &Row) -> u64
     }
 }
 
-/// Whether there may be listen-only connections with one more.
+/// Whether there may be a listen-only connection once this one is added.
 fn listens_with(listening: bool, row: &Row) -> bool
     ensures { result ≡ (listening || is_listening row.now) }
 {
     listening || is_listening(row)
 }
 
-/// A time before which no producer is due: the known one, until it has come.
+/// A time before which no producer is due: the present bound, until the clock reaches it.
 fn next_due_from(connections: &conn_slab::Connections, clock: Ms, next_production: u64) -> u64
     requires { AllNotDueBefore next_production connections.now }
     ensures { AllNotDueBefore result connections.now }
@@ -87,7 +89,7 @@ fn next_due_from(connections: &conn_slab::Connections, clock: Ms, next_productio
     connections.first_due()
 }
 
-/// Whether it is known whom each producer serves, which is found out where it is asked for. Takes no memory.
+/// Whether the consumer table is valid. If it is needed and is not valid, it is built anew. Takes no memory.
 fn refresh_consumers(
     consumer_table: &mut ConsumerTable,
     connections: &conn_slab::Connections,
@@ -103,7 +105,7 @@ fn refresh_consumers(
     consumer_table.rebuild(connections)
 }
 
-/// That the connection of a triad is closed, and no other one is lost.
+/// The notice of a close with which no other connection is dropped.
 fn lone_close_notice(alloc: Global, triad: Triad) -> Result<Vec<Notice>, OutOfMemory>
     ensures { IfOk result (λ notices. notices.items ≡ Notice.Closed triad ∷ []) }
 {
@@ -113,8 +115,8 @@ fn lone_close_notice(alloc: Global, triad: Triad) -> Result<Vec<Notice>, OutOfMe
 }
 
 impl IndexedConnections {
-    /// Whether the deadline of a connection has come, where a bound has. The bounds are put right, and whom producers
-    /// serve is found out where one may be due. Takes no memory.
+    /// Whether the deadline of an established connection has been reached, once the clock has reached a bound. It
+    /// renews the bounds, and the consumer table if a producer may be due. Takes no memory.
     #[inline(never)]
     fn look(&mut self, clock: Ms) -> bool
         ensures expired { result ≡ list_any (has_expired clock) self.old }
@@ -160,7 +162,7 @@ impl ConnectionsView for IndexedConnections {
     }
 
     fn is_full(&self) -> bool {
-        self.connections.len() >= MOST_ROWS
+        self.connections.len() >= MOST_CONNECTIONS
     }
 
     fn has_timed_out(&self) -> bool {
@@ -225,7 +227,7 @@ impl ConnectionTable for IndexedConnections {
             return lone_close_notice(alloc, triad);
         }
         let rows = self.connections.to_vec(alloc)?;
-        close_notices(alloc, &rows, triad)
+        closed_notices(alloc, &rows, triad)
     }
 
     fn close(&mut self, triad: Triad) {

@@ -1,8 +1,8 @@
-//! Devices over plain lists, whose every step is the table's.
+//! Devices over plain lists. Each of their steps is the table's.
 #![tactic(auto)]
 
 use adapter::Adapter;
-use connection_table::ConnectionList;
+use connection_list::ConnectionList;
 
 /// An adapter over a plain list of connections, which contracts see as its table.
 pub type PlainAdapter = Adapter<ConnectionList>;

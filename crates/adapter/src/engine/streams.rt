@@ -1,4 +1,4 @@
-//! Streams of peers, and the messages that come over them.
+//! Streams of peers, and the messages that are received over them.
 
 ghost use Rattle.std.specs.Prelude.{◌≡◌, ◌∷◌, [], Ok, IfOk, Some};
 ghost use Rattle.cip_events.specs.declared.event.Notice.TheVariants.{StreamClosed};
@@ -11,15 +11,16 @@ ghost use Rattle.adapter_replies.specs.Routes.{view_reply_header, view_frame_rep
 
 use super::Adapter;
 use adapter_replies::{
-    FrameReply, FrameView, ReplyHeader, Route, add_stream, drop_stream, ended_answer, find_stream,
-    frame_answer, has_session, is_protocol, is_taken, plain_answer, read_frame, register_stream,
-    session_of,
+    FrameReply, FrameView, ReplyHeader, Route, ended_answer, frame_answer, is_protocol, read_frame,
 };
 use adapter_table::laws::tables_are_whole;
 use cip_encap::read_items;
 use cip_tables::{Answer, Command, EncapStatus, Outcome, StepFault, Stream, Verdict};
 use cip_types::{Node, OutOfMemory};
-use connection_table::ConnectionTable;
+use connection_list::ConnectionTable;
+use session_streams::{
+    add_stream, drop_stream, find_stream, has_session, is_taken, register_stream, session_of,
+};
 
 // STREAMS
 
@@ -32,6 +33,7 @@ impl<T: ConnectionTable> Adapter<T> {
         if is_taken(&self.streams, number) {
             return Err(StepFault::NotAllowedNow);
         }
+        // The table stays whole.
         tables_are_whole();
         let stream = Stream {
             number,
@@ -39,7 +41,7 @@ impl<T: ConnectionTable> Adapter<T> {
             registered: false,
         };
         add_stream(&mut self.streams, stream)?;
-        Ok(plain_answer(self.alloc, Verdict::Done))
+        Ok(Answer::plain(self.alloc, Verdict::Done))
     }
 
     /// A stream breaks, or its peer ends it.
@@ -51,7 +53,7 @@ impl<T: ConnectionTable> Adapter<T> {
             return Err(StepFault::NotAllowedNow);
         };
         self.drop_stream(stream.number);
-        Ok(plain_answer(self.alloc, Verdict::Done))
+        Ok(Answer::plain(self.alloc, Verdict::Done))
     }
 }
 
@@ -63,6 +65,7 @@ impl<T: ConnectionTable> Adapter<T> {
     fn drop_stream(&mut self, number: u16)
         ensures { self.new ≡ without_stream self.old number }
     {
+        // The table stays whole.
         tables_are_whole();
         drop_stream(&mut self.streams, number);
     }
@@ -72,6 +75,7 @@ impl<T: ConnectionTable> Adapter<T> {
     fn register_stream(&mut self, number: u16)
         ensures { self.new ≡ registered_table self.old number }
     {
+        // The table stays whole.
         tables_are_whole();
         register_stream(&mut self.streams, number);
     }
@@ -148,7 +152,7 @@ impl<T: ConnectionTable> Adapter<T> {
         if has_session(stream, reply_header.session) {
             return self.end_session(stream.number);
         }
-        Ok(plain_answer(self.alloc, Verdict::Done))
+        Ok(Answer::plain(self.alloc, Verdict::Done))
     }
 }
 
@@ -176,7 +180,7 @@ impl<T: ConnectionTable> Adapter<T> {
         ensures { Follows (Ok (framed stream.now.number (view_reply_header reply_header) (handled self.old stream.now (view_reply_header reply_header) body.now (command_of reply_header.command)))) self.old result self.new }
     {
         match Command::of(reply_header.command) {
-            Command::Nop => Ok(plain_answer(self.alloc, Verdict::Done)),
+            Command::Nop => Ok(Answer::plain(self.alloc, Verdict::Done)),
             Command::ListServices => Ok(self.answer_frame(
                 stream.number,
                 reply_header,
@@ -198,12 +202,12 @@ impl<T: ConnectionTable> Adapter<T> {
         ensures { Follows (Ok (misfit_answer self.old number (view_reply_header reply_header))) self.old result self.new }
     {
         if Command::of(reply_header.command).is_silent() {
-            return Ok(plain_answer(self.alloc, Verdict::BadFrame));
+            return Ok(Answer::plain(self.alloc, Verdict::BadFrame));
         }
         self.refuse_frame(number, reply_header, EncapStatus::InvalidLength)
     }
 
-    /// The bytes of a frame that came over a stream.
+    /// The bytes of a frame that is received over a stream.
     #[tactic(auto, unfolding(adapter_table::specs::Encapsulation::frame))]
     pub(crate) fn frame(&mut self, number: u16, bytes: &[u8]) -> Outcome
         ensures { Follows (frame self.old number bytes.now) self.old result self.new }
@@ -212,7 +216,7 @@ impl<T: ConnectionTable> Adapter<T> {
             return Err(StepFault::NotAllowedNow);
         };
         match read_frame(bytes) {
-            FrameView::Headless => Ok(plain_answer(self.alloc, Verdict::BadFrame)),
+            FrameView::Headless => Ok(Answer::plain(self.alloc, Verdict::BadFrame)),
             FrameView::Misfit(reply_header) => self.misfit(stream.number, reply_header),
             FrameView::Whole(reply_header, body) => self.handle(&stream, reply_header, body),
         }

@@ -6,8 +6,8 @@ use Rattle.indexed_connections.proofs.from_list.replaced_row.Goals as goal
 pub returns-in-Some : goal.returns-in-Some
 returns-in-Some c = sym (leaves_found c.args.connections.now c.args.triad c.in-Some.row (sym c.in-Some.is ∙ c.of.ensures))
 
-pub returns-then-len-lt-MOST_ROWS : goal.returns-then-len-lt-MOST_ROWS
-returns-then-len-lt-MOST_ROWS c =
+pub returns-then-len-lt-MOST_CONNECTIONS : goal.returns-then-len-lt-MOST_CONNECTIONS
+returns-then-len-lt-MOST_CONNECTIONS c =
     let lt : c.len.result < 64 = search rules in
     let len = c.len.ensures.len in
     sym (leaves_replaced c.args.connections.now c.args.triad (sym c.in_default.is ∙ c.of.ensures) (omega arith))

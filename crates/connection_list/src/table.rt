@@ -1,4 +1,4 @@
-//! Tables of connections.
+//! Tables of connections, which contracts see as lists.
 
 ghost use Rattle.std.specs.Prelude.{◌≡◌, ◌≤◌, ◌^◌, ◌∷◌, ◌++◌, [], find, map, length, IfOk, OnOk, OnErr};
 ghost use Rattle.std.specs.List.{list_any};
@@ -12,8 +12,8 @@ ghost use Rattle.adapter_table.specs.Closing.{without_triad, staying, unsupporte
 ghost use Rattle.adapter_table.specs.Datagrams.{is_for};
 ghost use Rattle.adapter_table.specs.Productions.{is_due, due_productions, produced_row, produces_on_change, productions_on_change, changed_row};
 ghost use Rattle.adapter_table.specs.Ticks.{has_expired};
-ghost use Rattle.connection_table.specs.Tables.{AreWhole, advanced_rows};
-ghost use Rattle.connection_table.specs.Receiving.{received_by, receiving};
+ghost use Rattle.connection_list.specs.Tables.{AreWhole, advanced_rows};
+ghost use Rattle.connection_list.specs.Receiving.{received_by, receiving};
 
 use adapter_table::{Profile, Row};
 use app_rules::ConnectionsView;
@@ -23,7 +23,7 @@ use cip_events::{Delivery, Notice, OutgoingDatagram};
 use cip_types::{Ms, Node, OutOfMemory, Triad};
 use std::alloc::Global;
 
-/// What became of a datagram that was for a connection, and the point that the connection consumes.
+/// The delivery of a datagram that was for a connection, and the point that the connection consumes.
 #[derive(Clone, Copy, PartialEq, Eq)]
 pub struct ReceivedDatagram {
     pub delivery: Delivery,
@@ -32,20 +32,20 @@ pub struct ReceivedDatagram {
 
 /// The connections of an adapter, which contracts see as their list in opening order.
 ///
-/// What is asked at each datagram and at each tick may be answered by indexes and bounds; each answer is that of
-/// the list. A call that is refused leaves the connections as they were. Calls that change connections expect
-/// those of a whole table of an adapter, and opening, closing and the passing of time lead to such connections.
+/// A table may answer the calls at each datagram and each tick by indexes and bounds; each answer is that of the
+/// list. A call that fails leaves the connections unchanged. The calls that change connections require those of a
+/// whole table of an adapter; opening, closing and the passing of time lead to such connections again.
 pub trait ConnectionTable: ConnectionsView + Drop {
-    /// No connections. Want of memory is the only fault.
+    /// No connections. Out of memory is the only fault.
     fn new(alloc: Global) -> Result<Self, OutOfMemory>
         ensures { IfOk result (λ table. Self.rows table ≡ []) };
 
-    /// These connections. Want of memory is the only fault.
+    /// These connections. Out of memory is the only fault.
     fn holding(alloc: Global, rows: &[Row]) -> Result<Self, OutOfMemory>
         requires { AreWhole rows.now }
         ensures { IfOk result (λ table. Self.rows table ≡ rows.now) };
 
-    /// A copy of the connections. Want of memory is the only fault.
+    /// A copy of the connections. Out of memory is the only fault.
     fn to_vec(&self, alloc: Global) -> Result<Vec<Row>, OutOfMemory>
         ensures { IfOk result (λ copy. copy.items ≡ Self.rows self.now) };
 
@@ -55,23 +55,23 @@ pub trait ConnectionTable: ConnectionsView + Drop {
     fn find(&self, triad: Triad) -> Option<Row>
         ensures { result ≡ find (has_triad triad) (Self.rows self.now) };
 
-    /// The triad of the connection that makes room for a new one. Takes no memory.
+    /// The triad of the connection that a new one replaces. Takes no memory.
     fn replaced(&self, triad: Triad) -> Option<Triad>
         ensures { result ≡ replaced_triad (Self.rows self.now) triad };
 
-    /// Puts a connection last, and takes out the one that makes room for it. Want of memory is the only fault.
+    /// Appends a connection, and removes the one that it replaces. Out of memory is the only fault.
     fn open(&mut self, row: Row) -> Result<(), OutOfMemory>
         requires whole { AreWhole (Self.rows self.old) }
         requires next { AreWhole (others (is_replaced (Self.rows self.old) row.triad) (Self.rows self.old) ++ row ∷ []) }
         ensures ok { OnOk result (Self.rows self.new ≡ others (is_replaced (Self.rows self.old) row.triad) (Self.rows self.old) ++ row ∷ []) }
         ensures err { OnErr result (Self.rows self.new ≡ Self.rows self.old) };
 
-    /// What is told where the connection of a triad is closed: that it is, and the listen-only ones that are
-    /// dropped with it. Want of memory is the only fault.
+    /// The notices of a close of the connection of a triad: it is closed, and then the listen-only connections that
+    /// lose their support with it are dropped. Out of memory is the only fault.
     fn closed_notices(&self, alloc: Global, triad: Triad) -> Result<Vec<Notice>, OutOfMemory>
         ensures { IfOk result (λ notices. notices.items ≡ Notice.Closed triad ∷ map dropped_notice (unsupported (without_triad triad (Self.rows self.now)))) };
 
-    /// Takes out the connection of a triad, and then the listen-only ones without support. Takes no memory.
+    /// Removes the connection of a triad, and then the listen-only ones without support. Takes no memory.
     fn close(&mut self, triad: Triad)
         requires whole { AreWhole (Self.rows self.old) }
         requires next { AreWhole (staying (without_triad triad (Self.rows self.old))) }
@@ -79,7 +79,8 @@ pub trait ConnectionTable: ConnectionsView + Drop {
 
     // DATAGRAMS
 
-    /// The connection that a datagram is for accepts it, where its delivery says so. Takes no memory.
+    /// The connection that a datagram is for receives it, and accepts it if its delivery is an accepted one. Takes no
+    /// memory.
     ///
     /// Volume 1, chapter 3, class 1 transport and inactivity watchdog.
     fn receive(
@@ -96,7 +97,7 @@ pub trait ConnectionTable: ConnectionsView + Drop {
 
     // TIME
 
-    /// Whether the deadline of a connection has come. Takes no memory.
+    /// Whether the deadline of an established connection has been reached. Takes no memory.
     ///
     /// Volume 1, chapter 3, inactivity watchdog.
     fn has_expired(&mut self, clock: Ms) -> bool
@@ -107,7 +108,7 @@ pub trait ConnectionTable: ConnectionsView + Drop {
     fn is_due(&self, clock: Ms) -> bool
         ensures { result ≡ list_any (is_due clock) (Self.rows self.now) };
 
-    /// What the producers that are due send: one datagram each. Want of memory is the only fault.
+    /// The datagrams of the producers that are due, one each. Out of memory is the only fault.
     ///
     /// Volume 1, chapter 3, class 1 transport; Volume 2, chapter 3, multicast connections.
     fn sent_when_due(
@@ -127,8 +128,8 @@ pub trait ConnectionTable: ConnectionsView + Drop {
         requires time { clock.0 ≤ 2 ^ 48 }
         ensures { Self.rows self.new ≡ map (produced_row clock) (Self.rows self.old) };
 
-    /// The connections whose deadline has come have timed out, the listen-only ones that this leaves without
-    /// support are gone, and the producers that are due have produced. Takes no memory.
+    /// The connections whose deadline has been reached time out, the listen-only ones that lose their support are
+    /// dropped, and the producers that are due have produced. Takes no memory.
     fn advance(&mut self, clock: Ms)
         requires whole { AreWhole (Self.rows self.old) }
         requires next { AreWhole (advanced_rows clock (Self.rows self.old)) }
@@ -144,8 +145,8 @@ pub trait ConnectionTable: ConnectionsView + Drop {
         requires { clock.0 ≤ 2 ^ 48 }
         ensures { result ≡ list_any (produces_on_change clock point) (Self.rows self.now) };
 
-    /// What the producers of an input send at once when these bytes are written there. Want of memory is the
-    /// only fault.
+    /// The datagrams that the producers of an input send at once when these bytes are written there. Out of memory is
+    /// the only fault.
     fn sent_on_change(
         &self,
         alloc: Global,
@@ -158,8 +159,8 @@ pub trait ConnectionTable: ConnectionsView + Drop {
         requires short { length input.now ≤ 65533 }
         ensures { IfOk result (λ datagrams. datagrams.items ≡ map sent (productions_on_change clock point input.now (map (written_row point) (Self.rows self.now)))) };
 
-    /// The producers of an input have new data, and its change-of-state producers have done what a write asks
-    /// of them. Takes no memory.
+    /// The producers of an input have new data, and its change-of-state producers have acted on the write. Takes no
+    /// memory.
     fn write(&mut self, clock: Ms, point: u32)
         requires whole { AreWhole (Self.rows self.old) }
         requires time { clock.0 ≤ 2 ^ 48 }

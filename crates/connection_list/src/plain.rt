@@ -1,23 +1,23 @@
 //! A table that is a plain list of connections.
 
-ghost use Rattle.std.specs.Prelude.{◌≡◌};
-ghost use Rattle.cip_events.specs.Answers.{is_accepted};
-
+use crate::changes::{produces_at_once, sent_on_change, write_and_change_rows, written_rows};
+use crate::deliveries::{accept_rows, find_target};
+use crate::dropping::drop_unsupported;
+use crate::expiries::expire_rows;
+use crate::productions::{produce_rows, sent_when_due};
+use crate::rows::{
+    append_row, closed_notices, copied, find_row, remove_triad, replaced, reserve_row,
+};
 use crate::table::{ConnectionTable, ReceivedDatagram};
 use adapter_table::{Profile, Row, has_expired, is_due, row_delivery};
 use app_rules::{ConnectionsView, ListView};
 use assembly_set::AssemblySet;
 use cip_datagram::Datagram;
-use cip_events::{Delivery, Notice, OutgoingDatagram};
+use cip_events::{Notice, OutgoingDatagram};
 use cip_types::{Ms, Node, OutOfMemory, Triad};
-use connection_list::{
-    accept_rows, append_row, close_notices, copied, drop_unsupported, expire_rows, find_row,
-    find_target, produce_rows, produces_at_once, remove_triad, replaced, reserve_row,
-    sent_on_change, sent_when_due, write_and_change_rows, written_rows,
-};
 use std::alloc::Global;
 
-/// Connections in a list, in opening order, which is gone through at each question.
+/// Connections in a list, in opening order, which each call searches.
 #[derive(Drop)]
 pub struct ConnectionList(Vec<Row>);
 
@@ -53,16 +53,6 @@ impl ConnectionsView for ConnectionList {
     }
 }
 
-/// Whether a datagram with this delivery is accepted.
-fn is_accepted(delivery: Delivery) -> bool
-    ensures { result ≡ is_accepted delivery }
-{
-    match delivery {
-        Delivery::Applied | Delivery::Idle | Delivery::Heartbeat | Delivery::Duplicate => true,
-        Delivery::Old | Delivery::UnknownId | Delivery::WrongSize | Delivery::Malformed => false,
-    }
-}
-
 impl ConnectionTable for ConnectionList {
     fn new(alloc: Global) -> Result<Self, OutOfMemory> {
         Ok(ConnectionList(Vec::new(alloc)))
@@ -91,7 +81,7 @@ impl ConnectionTable for ConnectionList {
     }
 
     fn closed_notices(&self, alloc: Global, triad: Triad) -> Result<Vec<Notice>, OutOfMemory> {
-        close_notices(alloc, &self.0, triad)
+        closed_notices(alloc, &self.0, triad)
     }
 
     fn close(&mut self, triad: Triad) {
@@ -108,7 +98,7 @@ impl ConnectionTable for ConnectionList {
     ) -> Option<ReceivedDatagram> {
         let row = find_target(&self.0, peer, datagram.connection)?;
         let delivery = row_delivery(profile, &row, datagram);
-        if is_accepted(delivery) {
+        if delivery.is_accepted() {
             accept_rows(&mut self.0, clock, peer, datagram);
         }
         let consumed = row.consumed;

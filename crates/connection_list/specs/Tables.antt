@@ -1,4 +1,4 @@
--- Connections that an adapter can have, and what becomes of them as time passes.
+-- Connections that an adapter can have, and the connections after time has passed.
 use Rattle.std.specs.Prelude.{◌≡◌, List, map}
 use Rattle.cip_types.specs.declared.names.Ms.{Ms}
 use Rattle.adapter_table.specs.declared.row.Row.{Row}
@@ -14,7 +14,7 @@ pub record AreWhole (rows : List Row) : Type 0 where
   pub whole : IsWhole table
   pub same : table.rows ≡ rows
 
--- those whose deadline has come have timed out, the listeners that this leaves without support are gone, and
--- the producers that are due have produced
+-- the connections whose deadline has been reached have timed out, the listeners that lost their support are dropped,
+-- and the producers that are due have produced
 abbrev pub advanced_rows : Ms → List Row → List Row
 advanced_rows clock rows = map (produced_row clock) (staying (expired_rows clock rows))

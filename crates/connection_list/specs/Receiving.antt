@@ -1,4 +1,4 @@
--- What connections make of a datagram.
+-- Connections that receive a datagram.
 use Rattle.std.specs.Prelude.{if◌then◌else◌, List, map, Option, None, Some}
 use Rattle.cip_types.specs.declared.names.Ms.{Ms}
 use Rattle.cip_types.specs.declared.names.Node.{Node}
@@ -7,14 +7,13 @@ use Rattle.cip_events.specs.Answers.{is_accepted}
 use Rattle.adapter_table.specs.declared.profile.Profile.{Profile}
 use Rattle.adapter_table.specs.declared.row.Row.{Row}
 use Rattle.adapter_table.specs.Datagrams.{row_delivery, accepted_if_for}
-use Rattle.connection_table.specs.declared.table.ReceivedDatagram.{ReceivedDatagram}
+use Rattle.connection_list.specs.declared.table.ReceivedDatagram.{ReceivedDatagram}
 
--- what becomes of a datagram that is for a connection
+-- the result of a datagram that is for a connection
 abbrev pub received_by : Profile → DatagramFields → Row → ReceivedDatagram
 received_by profile d row = record { delivery = row_delivery profile row d; consumed = row.consumed }
 
--- the connections after a datagram that is for the found one of them: it has accepted it, where its delivery
--- says so
+-- the connections after a datagram that is for the found one: it has accepted it, if its delivery is an accepted one
 abbrev pub receiving : Profile → Ms → Node → DatagramFields → Option Row → List Row → List Row
 receiving profile clock peer d None rows = rows
 receiving profile clock peer d (Some row) rows =

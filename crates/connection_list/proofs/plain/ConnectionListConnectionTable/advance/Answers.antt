@@ -1,7 +1,7 @@
 use Rattle.std.proofs.Common.{subst}
 use Rattle.adapter_table.specs.Whole.{RowsFit}
-use Rattle.connection_table.proofs.Advancing.{advancing_fit}
-use Rattle.connection_table.proofs.plain.ConnectionListConnectionTable.advance.Goals as goal
+use Rattle.connection_list.proofs.Advancing.{advancing_fit}
+use Rattle.connection_list.proofs.plain.ConnectionListConnectionTable.advance.Goals as goal
 
 pub produce_rows-requires-clause-fit : goal.produce_rows-requires-clause-fit
 produce_rows-requires-clause-fit c =
