@@ -86,10 +86,10 @@ fn take_out(
 {
     // Gives the prover the invariant of the pool.
     let _groups = pool.len();
-    let place = hint_among(by_triad, triad);
+    let hint = hint_among(by_triad, triad);
     let record = take_record(records, by_triad, by_source, key_for(triad))?;
-    let row = row_of(pool, &record, place);
-    leave(pool, record.producer, place);
+    let row = row_of(pool, &record, hint);
+    leave(pool, record.producer, hint);
     Some(row)
 }
 
@@ -146,7 +146,7 @@ impl Connections {
             records: &self.records,
             keys: self.by_triad.values(),
             pool: &self.pool,
-            place: 0,
+            hint: 0,
         }
     }
 
@@ -197,11 +197,11 @@ impl Connections {
     pub fn find(&self, peer: Node, id: ConnId) -> Option<Row>
         ensures { result ≡ find (is_for peer id.0) self.now }
     {
-        let place = Source {
+        let source = Source {
             peer: peer.0,
             id: id.0,
         };
-        let (key, _) = running(&self.records, self.by_source.get(&place))?;
+        let (key, _) = running(&self.records, self.by_source.get(&source))?;
         let record = self.records.get(key)?;
         Some(row_of(&self.pool, record, 0))
     }
@@ -290,11 +290,11 @@ impl Connections {
         ensures found { result ≡ list_any (is_for peer id.0) self.old }
         ensures rows { self.new ≡ map (accepting_if peer id.0 accepted.number accepted.count deadline) self.old }
     {
-        let place = Source {
+        let source = Source {
             peer: peer.0,
             id: id.0,
         };
-        let Some((key, _)) = running(&self.records, self.by_source.get(&place)) else {
+        let Some((key, _)) = running(&self.records, self.by_source.get(&source)) else {
             return false;
         };
         let record = &mut self.records[key];
@@ -319,15 +319,15 @@ impl Connections {
         ensures received { result ≡ option_map (received_of profile.now clock (view_datagram datagram.now)) (find (is_for peer datagram.now.connection.0) self.old) }
         ensures rows { self.new ≡ reception profile.now clock peer (view_datagram datagram.now) (find (is_for peer datagram.now.connection.0) self.old) self.old }
     {
-        let place = Source {
+        let source = Source {
             peer: peer.0,
             id: datagram.connection.0,
         };
-        let slot = place.id as usize % POSITIONS;
+        let slot = source.id as usize % POSITIONS;
         let (position, filed) = find_at_position(
             &self.by_source,
             self.last_positions[slot],
-            place,
+            source,
         )?;
         self.last_positions[slot] = position;
         let (key, _) = running(&self.records, Some(&filed))?;
@@ -357,11 +357,11 @@ impl Connections {
     ///
     /// Volume 1, chapter 3, class 1 transport; Volume 2, chapter 3, multicast connections.
     #[inline(always)]
-    pub fn producer_with_hint(&self, number: u32, place: usize) -> Producer
+    pub fn producer_with_hint(&self, number: u32, hint: usize) -> Producer
         requires { list_any (is_produced_by number) self.now ≡ true }
         ensures { Some result ≡ producer_by number self.now }
     {
-        self.pool.producer_with_hint(number, place)
+        self.pool.producer_with_hint(number, hint)
     }
 
     /// The producers that are due have produced. Takes no memory.

@@ -82,11 +82,11 @@ pub(crate) fn put_last(
     ensures items { items_of records.new by_triad.new.entries ≡ items_of records.old by_triad.old.entries ++ opened ∷ [] }
 {
     let name = key_for(opened.triad);
-    let place = source_of(&opened);
+    let source = source_of(&opened);
     let key = records.insert_reserved(opened);
     // Both indexes have spare capacity, so that no insertion fails.
     by_triad.insert(name, key).unwrap();
-    by_source.insert(place, key).unwrap();
+    by_source.insert(source, key).unwrap();
 }
 
 /// The position of a source in its index, and its key. The search tries one position first.
@@ -94,24 +94,24 @@ pub(crate) fn put_last(
 pub(crate) fn find_at_position(
     by_source: &Sources,
     first: usize,
-    place: Source,
+    source: Source,
 ) -> Option<(usize, usize)>
-    ensures { option_map (λ found. found.1) result ≡ lookup (same_source place) by_source.now.entries }
+    ensures { option_map (λ found. found.1) result ≡ lookup (same_source source) by_source.now.entries }
 {
     if let Some((known, key)) = by_source.get_index(first) {
-        if *known == place {
+        if *known == source {
             return Some((first, *key));
         }
     }
-    find_anew(by_source, place)
+    find_anew(by_source, source)
 }
 
 /// The position of a source in its index, and its key.
 #[inline(never)]
-fn find_anew(by_source: &Sources, place: Source) -> Option<(usize, usize)>
-    ensures { option_map (λ found. found.1) result ≡ lookup (same_source place) by_source.now.entries }
+fn find_anew(by_source: &Sources, source: Source) -> Option<(usize, usize)>
+    ensures { option_map (λ found. found.1) result ≡ lookup (same_source source) by_source.now.entries }
 {
-    let (position, _, key) = by_source.get_full(&place)?;
+    let (position, _, key) = by_source.get_full(&source)?;
     Some((position, *key))
 }
 

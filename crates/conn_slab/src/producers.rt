@@ -11,19 +11,19 @@ use mcast_pool::Pool;
 
 /// The state of a connection whose producer has this number. The search tries one index first.
 #[inline(always)]
-fn state_of(pool: &Pool, producer: Option<u32>, place: usize) -> State
+fn state_of(pool: &Pool, producer: Option<u32>, hint: usize) -> State
     requires { IsLive pool.now producer }
     ensures { result ≡ state_of pool.now producer }
 {
     match producer {
-        Some(number) => State::Established(pool.production_with_hint(number, place)),
+        Some(number) => State::Established(pool.production_with_hint(number, hint)),
         None => State::TimedOut,
     }
 }
 
 /// The connection of a record. The search for its producer tries one index first.
 #[inline(always)]
-pub(crate) fn row_of(pool: &Pool, record: &Record, place: usize) -> Row
+pub(crate) fn row_of(pool: &Pool, record: &Record, hint: usize) -> Row
     requires { IsLive pool.now record.now.producer }
     ensures { result ≡ row_of pool.now record.now }
 {
@@ -42,18 +42,18 @@ pub(crate) fn row_of(pool: &Pool, record: &Record, place: usize) -> Row
         opening: record.opening,
         last: record.last,
         deadline: record.deadline,
-        state: state_of(pool, record.producer, place),
+        state: state_of(pool, record.producer, hint),
     }
 }
 
 /// The index to try first for the producer of the connection after this one.
 #[inline(always)]
-pub(crate) fn hint_after(pool: &Pool, record: &Record, place: usize) -> usize
-    ensures { result ≤ place + 1 }
+pub(crate) fn hint_after(pool: &Pool, record: &Record, hint: usize) -> usize
+    ensures { result ≤ hint + 1 }
 {
     match record.producer {
-        Some(number) => pool.hint_after(number, place),
-        None => place,
+        Some(number) => pool.hint_after(number, hint),
+        None => hint,
     }
 }
 
@@ -69,11 +69,11 @@ pub(crate) fn enter(pool: &mut Pool, row: &Row)
 }
 
 /// A connection leaves its producer. The search for it tries one index first. Takes no memory.
-pub(crate) fn leave(pool: &mut Pool, producer: Option<u32>, place: usize)
+pub(crate) fn leave(pool: &mut Pool, producer: Option<u32>, hint: usize)
     requires { IsLive pool.old producer }
     ensures { pool.new ≡ left_by producer pool.old }
 {
     if let Some(number) = producer {
-        pool.leave_with_hint(number, place);
+        pool.leave_with_hint(number, hint);
     }
 }

@@ -17,7 +17,7 @@ pub struct Rows<'a> {
     pub(crate) keys: Values<'a, TriadKey, usize>,
     pub(crate) pool: &'a Pool,
     /// The index to try first for the next producer.
-    pub(crate) place: usize,
+    pub(crate) hint: usize,
 }
 
 impl<'a> Model for Rows<'a> {
@@ -47,8 +47,8 @@ impl<'a> Iterator for Rows<'a> {
     fn next(&mut self) -> Option<Row> {
         let key = self.keys.next()?;
         let record = self.records.get(*key)?;
-        let row = row_of(self.pool, record, self.place);
-        self.place = hint_after(self.pool, record, self.place);
+        let row = row_of(self.pool, record, self.hint);
+        self.hint = hint_after(self.pool, record, self.hint);
         Some(row)
     }
 }

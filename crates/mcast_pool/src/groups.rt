@@ -46,41 +46,41 @@ pub(crate) fn find_group(groups: &[Group], number: u32) -> Option<Group>
 
 /// The group of a producer's number. The search tries one index first.
 #[inline(always)]
-pub(crate) fn find_with_hint(groups: &[Group], number: u32, place: usize) -> Option<Group>
+pub(crate) fn find_with_hint(groups: &[Group], number: u32, hint: usize) -> Option<Group>
     requires { AreGroups groups.now }
     ensures { result ≡ numbered number groups.now }
 {
-    if place >= groups.len() || !has_number(&groups[place], number) {
+    if hint >= groups.len() || !has_number(&groups[hint], number) {
         return find_group(groups, number);
     }
-    Some(groups[place])
+    Some(groups[hint])
 }
 
 /// The index of the group of a producer's number. The search tries one index first.
-pub(crate) fn index_with_hint(groups: &[Group], number: u32, place: usize) -> Option<usize>
+pub(crate) fn index_with_hint(groups: &[Group], number: u32, hint: usize) -> Option<usize>
     requires { AreGroups groups.now }
     ensures { result ≡ position (has_number number) groups.now }
 {
-    if place >= groups.len() || !has_number(&groups[place], number) {
+    if hint >= groups.len() || !has_number(&groups[hint], number) {
         return index_of(groups, number);
     }
-    Some(place)
+    Some(hint)
 }
 
 /// The index to try first for the producer after this one: the next one, if this one is at the index.
 #[inline(always)]
-pub(crate) fn hint_after(groups: &[Group], number: u32, place: usize) -> usize
-    ensures bounded { result ≤ place + 1 }
+pub(crate) fn hint_after(groups: &[Group], number: u32, hint: usize) -> usize
+    ensures bounded { result ≤ hint + 1 }
 {
-    match groups.get(place) {
-        Some(group) if has_number(group, number) => place.saturating_add(1),
-        _ => place,
+    match groups.get(hint) {
+        Some(group) if has_number(group, number) => hint.saturating_add(1),
+        _ => hint,
     }
 }
 
 /// Adds a connection to the group of a point, and answers its producer.
 pub(crate) fn subscribe(groups: &mut Vec<Group>, at: usize, point: u32) -> Producer
-    requires place { position (serves point) groups.old.items ≡ Some at }
+    requires index { position (serves point) groups.old.items ≡ Some at }
     requires groups { AreGroups groups.old.items }
     requires few { subscribers groups.old.items < 64 }
     ensures producer { Some result ≡ option_map producer_of (find (serves point) groups.old.items) }
@@ -94,7 +94,7 @@ pub(crate) fn subscribe(groups: &mut Vec<Group>, at: usize, point: u32) -> Produ
 
 /// Removes a connection from a producer, and the producer with its last one. True if that was the last.
 pub(crate) fn unsubscribe(groups: &mut Vec<Group>, number: u32, at: usize) -> bool
-    requires place { position (has_number number) groups.old.items ≡ Some at }
+    requires index { position (has_number number) groups.old.items ≡ Some at }
     requires groups { AreGroups groups.old.items }
     ensures last { Some result ≡ option_map is_last (numbered number groups.old.items) }
     ensures groups { groups.new.items ≡ left number groups.old.items }
@@ -112,7 +112,7 @@ pub(crate) fn unsubscribe(groups: &mut Vec<Group>, number: u32, at: usize) -> bo
 
 /// The producer of a number has produced.
 pub(crate) fn produce_at(groups: &mut Vec<Group>, number: u32, at: usize, clock: Ms)
-    requires place { position (has_number number) groups.old.items ≡ Some at }
+    requires index { position (has_number number) groups.old.items ≡ Some at }
     requires groups { AreGroups groups.old.items }
     requires time { clock.0 ≤ 2 ^ 48 }
     ensures groups { groups.new.items ≡ change_first (has_number number) (produced_group clock) groups.old.items }

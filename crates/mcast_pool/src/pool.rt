@@ -148,13 +148,13 @@ impl Pool {
     }
 
     /// The same; the search for the producer tries one index first. Takes no memory.
-    pub fn leave_with_hint(&mut self, number: u32, place: usize) -> bool
+    pub fn leave_with_hint(&mut self, number: u32, hint: usize) -> bool
         requires { IsInUse number self.old }
         ensures last { Some result ≡ option_map is_last (numbered number self.old) }
         ensures groups { self.new ≡ left number self.old }
     {
         // The number is in use, so its group is in the list.
-        let at = index_with_hint(&self.groups, number, place).unwrap();
+        let at = index_with_hint(&self.groups, number, hint).unwrap();
         unsubscribe(&mut self.groups, number, at)
     }
 
@@ -248,12 +248,12 @@ impl Pool {
 
     /// The production of a producer. The search tries one index first. Takes no memory.
     #[inline(always)]
-    pub fn production_with_hint(&self, number: u32, place: usize) -> Production
+    pub fn production_with_hint(&self, number: u32, hint: usize) -> Production
         requires { IsInUse number self.now }
         ensures { Some result ≡ option_map production_of (numbered number self.now) }
     {
         // The number is in use, so its group is in the list.
-        find_with_hint(&self.groups, number, place)
+        find_with_hint(&self.groups, number, hint)
             .unwrap()
             .producer
             .production
@@ -261,22 +261,20 @@ impl Pool {
 
     /// The producer of a number. The search tries one index first. Takes no memory.
     #[inline(always)]
-    pub fn producer_with_hint(&self, number: u32, place: usize) -> Producer
+    pub fn producer_with_hint(&self, number: u32, hint: usize) -> Producer
         requires { IsInUse number self.now }
         ensures { Some result ≡ option_map producer_of (numbered number self.now) }
     {
         // The number is in use, so its group is in the list.
-        find_with_hint(&self.groups, number, place)
-            .unwrap()
-            .producer
+        find_with_hint(&self.groups, number, hint).unwrap().producer
     }
 
     /// The index to try first for the producer after this one. Takes no memory.
     #[inline(always)]
-    pub fn hint_after(&self, number: u32, place: usize) -> usize
-        ensures { result ≤ place + 1 }
+    pub fn hint_after(&self, number: u32, hint: usize) -> usize
+        ensures { result ≤ hint + 1 }
     {
-        hint_after(&self.groups, number, place)
+        hint_after(&self.groups, number, hint)
     }
 
     /// The production of a producer. Takes no memory.

@@ -41,7 +41,7 @@ pub(crate) fn number_at(counts: &[Count], point: u32) -> u32
 
 /// Adds one to the count of a point that has one.
 fn raise(counts: &mut Vec<Count>, point: u32, at: usize)
-    requires place { position (is_at point) counts.old.items ≡ Some at }
+    requires index { position (is_at point) counts.old.items ≡ Some at }
     requires few { total counts.old.items < 64 }
     ensures counts { counts.new.items ≡ one_more point counts.old.items }
     ensures capacity { vec_capacity counts.new ≡ vec_capacity counts.old }

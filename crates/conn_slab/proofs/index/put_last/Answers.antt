@@ -11,7 +11,7 @@ whole c =
     let placed = rw c.unwrap-2.ensures at c.insert-2.ensures.updates in
     added c.args.records.now c.args.by_triad.now.entries c.args.by_source.now.entries c.requires.filed
     c.insert_reserved-key.new.self c.insert.new.self.entries c.insert-2.new.self.entries c.insert_reserved-key.result c.args.opened
-    c.key_for-name.result c.source_of-place.result c.key_for-name.ensures c.source_of-place.ensures
+    c.key_for-name.result c.source_of-source.result c.key_for-name.ensures c.source_of-source.ensures
     c.insert_reserved-key.ensures.was_vacant c.insert_reserved-key.ensures.updates
     c.requires.new_triad c.requires.new_source
     put finds.0 c.insert.ensures.unique placed.0

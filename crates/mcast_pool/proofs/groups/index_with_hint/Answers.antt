@@ -4,6 +4,6 @@ use Rattle.mcast_pool.proofs.groups.index_with_hint.Goals as goal
 
 pub returns : goal.returns
 returns c =
-    let within : c.args.place < length c.args.groups.now = search rules in
+    let within : c.args.hint < length c.args.groups.now = search rules in
     let has : c.has_number.result ≡ true = search rules in
-    index_by_hint c.args.number c.args.groups.now c.args.place _ c.has_number.result c.requires within c.has_number.ensures has
+    index_by_hint c.args.number c.args.groups.now c.args.hint _ c.has_number.result c.requires within c.has_number.ensures has
