@@ -10,7 +10,7 @@ use Rattle.scanner_table.specs.declared.slot.Slot.{Slot}
 use Rattle.scanner_table.specs.declared.slot.SlotState.{SlotState}
 use Rattle.scanner_table.specs.declared.slot.SlotState.TheVariants.{Idle, Opening, Established, TimedOut, Closing}
 use Rattle.scanner_table.specs.declared.table.ScannerTable.{ScannerTable}
-use Rattle.scanner_table.specs.Slots.{is_resting}
+use Rattle.scanner_table.specs.Slots.{is_closed}
 use Rattle.scanner_table.specs.Requests.{connection_id}
 use Rattle.scanner_table.specs.Opening.{opening_slot}
 use Rattle.scanner_table.specs.Productions.{written_state, state_is_due, produced_state}
@@ -63,7 +63,7 @@ next_drawn : (profile : ScannerProfile) (n : ℕ) (multicast : Bool) → WantsDr
 next_drawn profile n true = tt
 next_drawn profile n false = record { counter = n; is = refl; begins = omega arith; ends = omega arith }
 
-not_opening : (state : SlotState) (opening : pending.PendingOpen) → is_resting state ≡ true → state ≡ Opening opening → ⊥
+not_opening : (state : SlotState) (opening : pending.PendingOpen) → is_closed state ≡ true → state ≡ Opening opening → ⊥
 not_opening Idle opening resting is = absurd cc
 not_opening (Opening o) opening resting is = absurd cc
 not_opening (Established c) opening resting is = absurd cc

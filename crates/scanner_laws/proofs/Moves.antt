@@ -38,7 +38,7 @@ use Rattle.scanner_table.specs.declared.table.Session.{Session}
 use Rattle.scanner_table.specs.declared.table.Stage.{Stage}
 use Rattle.scanner_table.specs.declared.table.Stage.TheVariants.{Waiting, Up, Unused}
 use Rattle.scanner_table.specs.declared.table.TargetStream.{TargetStream}
-use Rattle.scanner_table.specs.Slots.{IndexedSlot, indexed_slots, slot_at, is_numbered, is_with, with_slot, is_resting}
+use Rattle.scanner_table.specs.Slots.{IndexedSlot, indexed_slots, slot_at, is_numbered, is_with, with_slot, is_closed}
 use Rattle.scanner_table.specs.Sessions.{session_with, is_stream, is_taken, with_stream, without_stream, with_stage}
 use Rattle.scanner_table.specs.Requests.{is_large}
 use Rattle.scanner_table.specs.Effects.{Next, Effect, nothing, on_each, counted, changed, done}
@@ -65,7 +65,7 @@ pub record BecomesIdle (old new : Slot) : Type 0 where
 pub record Kept (R : ScannerTable → ScannerTable → Type 0) : Type 0 where
   pub same : (t : ScannerTable) → R t t
   pub after : (t u v : ScannerTable) → R t u → R u v → R t v
-  pub opening : (t : ScannerTable) (indexed : IndexedSlot) → Stands t indexed → is_resting indexed.slot.state ≡ true → R t (with_slot (counted (drawn t indexed.config)) indexed.number (opening_slot t indexed))
+  pub opening : (t : ScannerTable) (indexed : IndexedSlot) → Stands t indexed → is_closed indexed.slot.state ≡ true → R t (with_slot (counted (drawn t indexed.config)) indexed.number (opening_slot t indexed))
   pub idling : (t : ScannerTable) (indexed : IndexedSlot) (slot : Slot) → Stands t indexed → BecomesIdle indexed.slot slot → R t (with_slot t indexed.number slot)
   pub timing_out : (t : ScannerTable) (indexed : IndexedSlot) (c : Connection) → Stands t indexed → indexed.slot.state ≡ Established c → R t (with_slot t indexed.number (failed_slot t (TimedOut c.link) indexed.slot))
   pub closing : (t : ScannerTable) (indexed : IndexedSlot) (c : Connection) → Stands t indexed → indexed.slot.state ≡ Established c → R t (with_slot (counted t) indexed.number (closing_slot t c indexed.slot))
@@ -153,17 +153,17 @@ does_clear R kept t indexed stands = does_idle R kept t indexed (idle_slot index
 
 -- ---- openings
 
-open_step : (b : Bool) (R : ScannerTable → ScannerTable → Type 0) → Kept R → (t : ScannerTable) (indexed : IndexedSlot) (session : Session) → Stands t indexed → is_resting indexed.slot.state ≡ true → Does R t indexed (cond b (open_requested t indexed session) (exhausted t indexed))
+open_step : (b : Bool) (R : ScannerTable → ScannerTable → Type 0) → Kept R → (t : ScannerTable) (indexed : IndexedSlot) (session : Session) → Stands t indexed → is_closed indexed.slot.state ≡ true → Does R t indexed (cond b (open_requested t indexed session) (exhausted t indexed))
 open_step true R kept t indexed session stands resting = record { leads = kept.opening t indexed stands resting; local = set_local t (counted (drawn t indexed.config)) indexed.number (opening_slot t indexed) refl refl }
 open_step false R kept t indexed session stands resting = does_resigned R kept t indexed (notice.NoIds indexed.number ∷ []) stands
 
-within_does : (R : ScannerTable → ScannerTable → Type 0) → Kept R → (t : ScannerTable) (indexed : IndexedSlot) (session : Option Session) → Stands t indexed → is_resting indexed.slot.state ≡ true → Does R t indexed (opened_within t indexed session)
+within_does : (R : ScannerTable → ScannerTable → Type 0) → Kept R → (t : ScannerTable) (indexed : IndexedSlot) (session : Option Session) → Stands t indexed → is_closed indexed.slot.state ≡ true → Does R t indexed (opened_within t indexed session)
 within_does R kept t indexed None stands resting = does_nothing R kept t indexed
 within_does R kept t indexed (Some session) stands resting = open_step (can_open t indexed.config) R kept t indexed session stands resting
 
 -- nothing is sent and nothing waited for
 abbrev pub IsResting : IndexedSlot → Type 0
-IsResting indexed = is_resting indexed.slot.state ≡ true
+IsResting indexed = is_closed indexed.slot.state ≡ true
 
 pub opened_does : (R : ScannerTable → ScannerTable → Type 0) → Kept R → (t : ScannerTable) (indexed : IndexedSlot) → Stands t indexed → IsResting indexed → Does R t indexed (opened t indexed)
 unfolding opened
@@ -183,7 +183,7 @@ each_does R kept Q effect does (indexed ∷ rest) t stand apart holds =
     (each_does R kept Q effect does rest next (stand_on t next indexed.number rest first.local apart.0 stand.1) apart.1 holds.1)
 
 ready_rests : (clock : Ms) (indexed : IndexedSlot) → is_ready_slot clock indexed ≡ true → IsResting indexed
-ready_rests clock indexed ready = (and_parts (is_resting indexed.slot.state) _ (and_parts indexed.slot.desired_up _ ready).1).0
+ready_rests clock indexed ready = (and_parts (is_closed indexed.slot.state) _ (and_parts indexed.slot.desired_up _ ready).1).0
 
 ready_stand : (t : ScannerTable) → Each (Stands t) (ready_slots t)
 ready_stand t = each_filter (Stands t) (is_ready_slot t.clock) (indexed_slots t) (each_stands t)

@@ -13,7 +13,7 @@ use Rattle.scanner_table.specs.declared.slot.PendingOpen as opening
 use Rattle.scanner_table.specs.declared.slot.Slot.{Slot}
 use Rattle.scanner_table.specs.declared.slot.SlotState.TheVariants.{Opening, Established, TimedOut}
 use Rattle.scanner_table.specs.declared.table.ScannerTable.{ScannerTable}
-use Rattle.scanner_table.specs.Slots.{IndexedSlot, indexed_from, indexed_slots, with_slot, is_resting}
+use Rattle.scanner_table.specs.Slots.{IndexedSlot, indexed_from, indexed_slots, with_slot, is_closed}
 use Rattle.scanner_table.specs.Effects.{counted}
 use Rattle.scanner_table.specs.Opening.{drawn, opening_slot}
 use Rattle.scanner_table.specs.Replies.{new_connection, established_slot, failed_slot}
@@ -79,7 +79,7 @@ ModesSo S = (t : ScannerTable) (run : Bool) (indexed : IndexedSlot) → S t (mod
 pub record Slotwise (S : Relation) : Type 0 where
   pub stays : StaysSo S
   pub after : (t u v : ScannerTable) (number : ℕ) (config : SlotConfig) (a b c : Slot) → Later t u → Later u v → S t u number config a b → S u v number config b c → S t v number config a c
-  pub opening : (t : ScannerTable) (indexed : IndexedSlot) → is_resting indexed.slot.state ≡ true → S t (with_slot (counted (drawn t indexed.config)) indexed.number (opening_slot t indexed)) indexed.number indexed.config indexed.slot (opening_slot t indexed)
+  pub opening : (t : ScannerTable) (indexed : IndexedSlot) → is_closed indexed.slot.state ≡ true → S t (with_slot (counted (drawn t indexed.config)) indexed.number (opening_slot t indexed)) indexed.number indexed.config indexed.slot (opening_slot t indexed)
   pub idling : (t : ScannerTable) (indexed : IndexedSlot) (slot : Slot) → BecomesIdle indexed.slot slot → S t (with_slot t indexed.number slot) indexed.number indexed.config indexed.slot slot
   pub timing_out : (t : ScannerTable) (indexed : IndexedSlot) (c : Connection) → indexed.slot.state ≡ Established c → S t (with_slot t indexed.number (failed_slot t (TimedOut c.link) indexed.slot)) indexed.number indexed.config indexed.slot (failed_slot t (TimedOut c.link) indexed.slot)
   pub closing : (t : ScannerTable) (indexed : IndexedSlot) (c : Connection) → indexed.slot.state ≡ Established c → S t (with_slot (counted t) indexed.number (closing_slot t c indexed.slot)) indexed.number indexed.config indexed.slot (closing_slot t c indexed.slot)

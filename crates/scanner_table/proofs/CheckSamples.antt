@@ -147,12 +147,12 @@ great_mult : alone (record owner { mult = 8 }) ≡ Some Timing
 unfolding profile_fault
 great_mult = refl
 
--- a cyclic producer is not held back
+-- a cyclic producer has no inhibit time
 cyclic_inhibit : alone (record owner { inhibit = 1 }) ≡ Some Timing
 unfolding profile_fault
 cyclic_inhibit = refl
 
--- a producer of changes is held back for at most its packet interval
+-- the inhibit time of a change-of-state producer is at most its packet interval
 inhibit : alone (record owner { trigger = ChangeOfState; inhibit = 10 }) ≡ None
 unfolding profile_fault
 inhibit = refl

@@ -1,9 +1,9 @@
--- What an open connection sends and gathers, told from the events at a small scanner.
+-- Samples of the data of an open connection at a small scanner: what it sends and what it receives.
 use Rattle.std.proofs.Common.{◌≡◌, ℕ, true, false, List, [], ◌∷◌, ◌++◌, Err, refl}
 use Rattle.cip_events.specs.declared.event.Delivery.TheVariants.{Applied, Duplicate, Old, UnknownId, WrongSize, Malformed}
 use Rattle.cip_events.specs.declared.event.Event.TheVariants.{StreamCut, Frame, Datagram, Write, Read, Tick, Mode, Start, Stop}
 use Rattle.cip_events.specs.declared.event.StepFault.TheVariants as fault
-use Rattle.scanner_table.proofs.SmallScanner.{target, other_target, owner, gatherer, profile, reported, after, quiet, held, not_now, delivered, becomes, sends, asks, items, success, opening_frame, opened_frame, registers, connected}
+use Rattle.scanner_table.proofs.SmallScanner.{target, other_target, owner, gatherer, profile, reported, after, quiet, reads_bytes, not_now, delivered, becomes, sends, sends_request, items, success, opening_frame, opened_frame, registers, connected}
 use Rattle.cip_encap.specs.Reading as messages
 use Rattle.cip_encap.specs.PacketReading as packets
 use Rattle.cip_fwdopen.specs.Open as opens
@@ -68,14 +68,14 @@ short = 0x02 ∷ 0x00 ∷ 0x02 ∷ 0x80 ∷ 0x08 ∷ 0x00 ∷ 0x01 ∷ 0x00 ∷ 
 
 -- data are applied to the image; an older number, another sender, another id, another length and other bytes are
 -- not; the same count brings no new data
-gathered : reported open_table (Datagram target (got_data 5 1 0xAA) ∷ Datagram target (got_data 5 2 0xBB) ∷ Datagram target (got_data 4 2 0xBB) ∷ Datagram other_target (got_data 6 2 0xBB) ∷ Datagram target short ∷ Datagram target (0 ∷ []) ∷ Read 0 ∷ Datagram target (got_data 6 1 0xBB) ∷ Read 0 ∷ Datagram target (got_data 6 2 0xBB) ∷ Datagram target (got_data 7 2 0xBB) ∷ Datagram target (got_data 8 3 0xBB) ∷ Read 0 ∷ []) ≡ delivered Applied ∷ delivered Old ∷ delivered Old ∷ delivered UnknownId ∷ delivered WrongSize ∷ delivered Malformed ∷ held (four 0xAA) ∷ delivered Duplicate ∷ held (four 0xAA) ∷ delivered Old ∷ delivered Applied ∷ delivered Applied ∷ held (four 0xBB) ∷ []
+gathered : reported open_table (Datagram target (got_data 5 1 0xAA) ∷ Datagram target (got_data 5 2 0xBB) ∷ Datagram target (got_data 4 2 0xBB) ∷ Datagram other_target (got_data 6 2 0xBB) ∷ Datagram target short ∷ Datagram target (0 ∷ []) ∷ Read 0 ∷ Datagram target (got_data 6 1 0xBB) ∷ Read 0 ∷ Datagram target (got_data 6 2 0xBB) ∷ Datagram target (got_data 7 2 0xBB) ∷ Datagram target (got_data 8 3 0xBB) ∷ Read 0 ∷ []) ≡ delivered Applied ∷ delivered Old ∷ delivered Old ∷ delivered UnknownId ∷ delivered WrongSize ∷ delivered Malformed ∷ reads_bytes (four 0xAA) ∷ delivered Duplicate ∷ reads_bytes (four 0xAA) ∷ delivered Old ∷ delivered Applied ∷ delivered Applied ∷ reads_bytes (four 0xBB) ∷ []
 unfolding messages.message_reading packets.packet_reading packets.behind_socket packets.are_sockets replies.open_reply_reading replies.unread_reading opens.open_text closes.close_text datagrams.datagram_reading opened ready_opened target_opened open_answer answered target_lost stream_opened stream_cut frame received produced_table all_expired all_given_up tick write read mode start stop
 gathered = refl
 
--- The first datagram is waited for 10 seconds, and each later one for 160 ms after the last that was accepted. The
--- image stays when the connection times out and while it is asked for again, and is zeros when it is open again.
+-- The first watchdog runs for 10 seconds, and each later one for 160 ms after the last accepted datagram. The image stays
+-- when the connection times out and while the slot opens it again; a new connection begins with an image of zeros.
 -- What times out in a tick sends nothing in it.
-expires : reported (after open_table (Mode true ∷ Tick 9998 ∷ [])) (Tick 1 ∷ Datagram target (got_data 1 1 0xAA) ∷ Tick 159 ∷ Tick 1 ∷ Read 0 ∷ Datagram target (got_data 2 2 0xBB) ∷ Start 0 ∷ Tick 2999 ∷ Tick 1 ∷ Read 0 ∷ Frame 0 (items 2 30 (success 2 2 2)) ∷ Read 0 ∷ []) ≡ quiet ∷ delivered Applied ∷ sends (sent_data 2 1 1 0) ∷ becomes 4 ∷ held (four 0xAA) ∷ delivered UnknownId ∷ not_now ∷ quiet ∷ asks (opening_frame 2) 2 ∷ held (four 0xAA) ∷ becomes 3 ∷ held (four 0) ∷ []
+expires : reported (after open_table (Mode true ∷ Tick 9998 ∷ [])) (Tick 1 ∷ Datagram target (got_data 1 1 0xAA) ∷ Tick 159 ∷ Tick 1 ∷ Read 0 ∷ Datagram target (got_data 2 2 0xBB) ∷ Start 0 ∷ Tick 2999 ∷ Tick 1 ∷ Read 0 ∷ Frame 0 (items 2 30 (success 2 2 2)) ∷ Read 0 ∷ []) ≡ quiet ∷ delivered Applied ∷ sends (sent_data 2 1 1 0) ∷ becomes 4 ∷ reads_bytes (four 0xAA) ∷ delivered UnknownId ∷ not_now ∷ quiet ∷ sends_request (opening_frame 2) 2 ∷ reads_bytes (four 0xAA) ∷ becomes 3 ∷ reads_bytes (four 0) ∷ []
 unfolding messages.message_reading packets.packet_reading packets.behind_socket packets.are_sockets replies.open_reply_reading replies.unread_reading opens.open_text closes.close_text datagrams.datagram_reading opened ready_opened target_opened open_answer answered target_lost stream_opened stream_cut frame received produced_table all_expired all_given_up tick write read mode start stop
 expires = refl
 
@@ -85,7 +85,7 @@ unfolding messages.message_reading packets.packet_reading packets.behind_socket 
 never_received = refl
 
 -- an image is kept when the connection is stopped
-image_kept : reported open_table (Datagram target (got_data 1 1 0xAA) ∷ StreamCut 0 ∷ Stop 0 ∷ Read 0 ∷ Datagram target (got_data 2 2 0xBB) ∷ []) ≡ delivered Applied ∷ quiet ∷ becomes 0 ∷ held (four 0xAA) ∷ delivered UnknownId ∷ []
+image_kept : reported open_table (Datagram target (got_data 1 1 0xAA) ∷ StreamCut 0 ∷ Stop 0 ∷ Read 0 ∷ Datagram target (got_data 2 2 0xBB) ∷ []) ≡ delivered Applied ∷ quiet ∷ becomes 0 ∷ reads_bytes (four 0xAA) ∷ delivered UnknownId ∷ []
 unfolding messages.message_reading packets.packet_reading packets.behind_socket packets.are_sockets replies.open_reply_reading replies.unread_reading opens.open_text closes.close_text datagrams.datagram_reading opened ready_opened target_opened open_answer answered target_lost stream_opened stream_cut frame received produced_table all_expired all_given_up tick write read mode start stop
 image_kept = refl
 

@@ -1,4 +1,4 @@
--- How a scanner's connections are asked for, told from the events at a small one.
+-- Samples of openings at a small scanner: each says which outcomes a list of events has.
 use Rattle.std.proofs.Common.{◌≡◌, ℕ, true, List, [], ◌∷◌, Some, Ok, refl, lit<, replicate}
 use Rattle.cip_netparams.specs.declared.Trigger.TheVariants.{ChangeOfState}
 use Rattle.cip_events.specs.declared.event.Event.{Event}
@@ -10,7 +10,7 @@ use Rattle.cip_events.specs.declared.event.Verdict.TheVariants.{Done, BadFrame, 
 use Rattle.cip_events.specs.Answers.{plain_answer}
 use Rattle.scanner_table.specs.declared.profile.SlotConfig.{SlotConfig}
 use Rattle.scanner_table.specs.Requests.{open_fields, next_requested, is_large, manager_text, open_service}
-use Rattle.scanner_table.proofs.SmallScanner.{target, other_target, owner, gatherer, profile, reported, after, quiet, only, not_now, tells, becomes, refuses, asks, registration, registered, items, forward_open, opening_frame, success, opened_frame, ownership, registers, connected}
+use Rattle.scanner_table.proofs.SmallScanner.{target, other_target, owner, gatherer, profile, reported, after, quiet, only, not_now, reports_notices, becomes, refuses, sends_request, registration, registered, items, forward_open, opening_frame, success, opened_frame, ownership, registers, connected}
 use Rattle.cip_encap.specs.Reading as messages
 use Rattle.cip_encap.specs.PacketReading as packets
 use Rattle.cip_fwdopen.specs.Open as opens
@@ -35,17 +35,17 @@ abbrev tries_events : List Event
 tries_events = Start 0 ∷ Tick 1999 ∷ Tick 1 ∷ Tick 2999 ∷ Tick 1 ∷ Frame 0 opened_frame ∷ Frame 0 (items 2 16 (ownership 2)) ∷ Tick 2999 ∷ Tick 1 ∷ Frame 0 (items 3 16 (ownership 3)) ∷ Tick 3000 ∷ Frame 0 (items 4 30 (success 4 2 4)) ∷ []
 
 tries : reported connected tries_events
-    ≡ asks (opening_frame 1) 2
+    ≡ sends_request (opening_frame 1) 2
     ∷ quiet
     ∷ becomes 0
     ∷ quiet
-    ∷ asks (opening_frame 2) 2
+    ∷ sends_request (opening_frame 2) 2
     ∷ only Ignored
     ∷ refuses (reason.Cip (record { general = 1; extended = Some 0x0106 }))
     ∷ quiet
-    ∷ asks (opening_frame 3) 2
+    ∷ sends_request (opening_frame 3) 2
     ∷ refuses (reason.Cip (record { general = 1; extended = Some 0x0106 }))
-    ∷ asks (opening_frame 4) 2
+    ∷ sends_request (opening_frame 4) 2
     ∷ becomes 3
     ∷ []
 unfolding messages.message_reading packets.packet_reading packets.behind_socket packets.are_sockets replies.open_reply_reading replies.unread_reading opens.open_text closes.close_text datagrams.datagram_reading opened ready_opened target_opened open_answer answered target_lost stream_opened stream_cut frame received produced_table all_expired all_given_up tick write read mode start stop
@@ -53,8 +53,8 @@ tries = refl
 
 -- ---- streams
 
--- A stream is asked for a session. Until the reply with sender context 0 comes, messages with another context are
--- ignored, and frames that are no whole message leave it waiting. Each stream has its own number and target.
+-- The scanner registers a session on each new stream. Until the reply with sender context 0 comes, it ignores messages with
+-- another context, and frames that are no whole message leave it waiting. Each stream has its own number and target.
 abbrev streams_events : List Event
 streams_events = StreamOpened 0 target ∷ StreamOpened 0 other_target ∷ StreamOpened 1 target ∷ Frame 1 registered ∷ StreamCut 1 ∷ Request target [] ∷ Frame 0 opened_frame ∷ Frame 0 (0x65 ∷ []) ∷ Start 0 ∷ Frame 0 registered ∷ Frame 0 registered ∷ []
 
@@ -68,7 +68,7 @@ streams : reported (scanner_table (profile (owner ∷ []))) streams_events
     ∷ only Ignored
     ∷ only BadFrame
     ∷ quiet
-    ∷ asks (opening_frame 1) 2
+    ∷ sends_request (opening_frame 1) 2
     ∷ only Ignored
     ∷ []
 unfolding messages.message_reading packets.packet_reading packets.behind_socket packets.are_sockets replies.open_reply_reading replies.unread_reading opens.open_text closes.close_text datagrams.datagram_reading opened ready_opened target_opened open_answer answered target_lost stream_opened stream_cut frame received produced_table all_expired all_given_up tick write read mode start stop
@@ -112,12 +112,12 @@ abbrev cut_opening_events : List Event
 cut_opening_events = Start 0 ∷ StreamCut 0 ∷ StreamOpened 0 target ∷ Tick 2999 ∷ Frame 0 registered ∷ Tick 1 ∷ []
 
 cut_opening : reported connected cut_opening_events
-    ≡ asks (opening_frame 1) 2
+    ≡ sends_request (opening_frame 1) 2
     ∷ becomes 0
     ∷ Ok (record (plain_answer Done) { frames = record { to = recipient.Stream 0; bytes = registration } ∷ [] })
     ∷ quiet
     ∷ quiet
-    ∷ asks (opening_frame 2) 2
+    ∷ sends_request (opening_frame 2) 2
     ∷ []
 unfolding messages.message_reading packets.packet_reading packets.behind_socket packets.are_sockets replies.open_reply_reading replies.unread_reading opens.open_text closes.close_text datagrams.datagram_reading opened ready_opened target_opened open_answer answered target_lost stream_opened stream_cut frame received produced_table all_expired all_given_up tick write read mode start stop
 cut_opening = refl
@@ -145,7 +145,7 @@ both_open = refl
 abbrev last_serial : ScannerTable
 last_serial = record connected { next_serial = 65535 }
 
-last_request : reported last_serial (Start 0 ∷ []) ≡ asks (items 1 50 (0x54 ∷ 0x02 ∷ 0x20 ∷ 0x06 ∷ 0x24 ∷ 0x01 ∷ 0x0A ∷ 0x0E ∷ 0x00 ∷ 0x00 ∷ 0x00 ∷ 0x00 ∷ 0x01 ∷ 0x00 ∷ 0x00 ∷ 0x20 ∷ 0xFF ∷ 0xFF ∷ 0x34 ∷ 0x12 ∷ 0x78 ∷ 0x56 ∷ 0x34 ∷ 0x12 ∷ 0x02 ∷ 0x00 ∷ 0x00 ∷ 0x00 ∷ 0x10 ∷ 0x27 ∷ 0x00 ∷ 0x00 ∷ 0x0A ∷ 0x48 ∷ 0x10 ∷ 0x27 ∷ 0x00 ∷ 0x00 ∷ 0x06 ∷ 0x48 ∷ 0x01 ∷ 0x04 ∷ 0x20 ∷ 0x04 ∷ 0x24 ∷ 0x97 ∷ 0x2C ∷ 0x96 ∷ 0x2C ∷ 0x64 ∷ [])) 2 ∷ []
+last_request : reported last_serial (Start 0 ∷ []) ≡ sends_request (items 1 50 (0x54 ∷ 0x02 ∷ 0x20 ∷ 0x06 ∷ 0x24 ∷ 0x01 ∷ 0x0A ∷ 0x0E ∷ 0x00 ∷ 0x00 ∷ 0x00 ∷ 0x00 ∷ 0x01 ∷ 0x00 ∷ 0x00 ∷ 0x20 ∷ 0xFF ∷ 0xFF ∷ 0x34 ∷ 0x12 ∷ 0x78 ∷ 0x56 ∷ 0x34 ∷ 0x12 ∷ 0x02 ∷ 0x00 ∷ 0x00 ∷ 0x00 ∷ 0x10 ∷ 0x27 ∷ 0x00 ∷ 0x00 ∷ 0x0A ∷ 0x48 ∷ 0x10 ∷ 0x27 ∷ 0x00 ∷ 0x00 ∷ 0x06 ∷ 0x48 ∷ 0x01 ∷ 0x04 ∷ 0x20 ∷ 0x04 ∷ 0x24 ∷ 0x97 ∷ 0x2C ∷ 0x96 ∷ 0x2C ∷ 0x64 ∷ [])) 2 ∷ []
 unfolding messages.message_reading packets.packet_reading packets.behind_socket packets.are_sockets replies.open_reply_reading replies.unread_reading opens.open_text closes.close_text datagrams.datagram_reading opened ready_opened target_opened open_answer answered target_lost stream_opened stream_cut frame received produced_table all_expired all_given_up tick write read mode start stop
 last_request = refl
 
@@ -153,11 +153,11 @@ first_again : (after last_serial (Start 0 ∷ [])).next_serial ≡ 1
 unfolding messages.message_reading packets.packet_reading packets.behind_socket packets.are_sockets replies.open_reply_reading replies.unread_reading opens.open_text closes.close_text datagrams.datagram_reading opened ready_opened target_opened open_answer answered target_lost stream_opened stream_cut frame received produced_table all_expired all_given_up tick write read mode start stop
 first_again = refl
 
--- the fifth opening is one of a group: the target chooses its id, and none is drawn
+-- the fifth opening is multicast: the target chooses its id, and the scanner uses up none
 abbrev grouped : ScannerTable
 grouped = record (after (scanner_table (profile (gatherer ∷ []))) registers) { next_serial = 5 }
 
-group_request : reported grouped (Start 0 ∷ []) ≡ asks (items 1 50 (0x54 ∷ 0x02 ∷ 0x20 ∷ 0x06 ∷ 0x24 ∷ 0x01 ∷ 0x0A ∷ 0x0E ∷ 0x00 ∷ 0x00 ∷ 0x00 ∷ 0x00 ∷ 0x00 ∷ 0x00 ∷ 0x00 ∷ 0x00 ∷ 0x05 ∷ 0x00 ∷ 0x34 ∷ 0x12 ∷ 0x78 ∷ 0x56 ∷ 0x34 ∷ 0x12 ∷ 0x02 ∷ 0x00 ∷ 0x00 ∷ 0x00 ∷ 0x10 ∷ 0x27 ∷ 0x00 ∷ 0x00 ∷ 0x02 ∷ 0x48 ∷ 0x10 ∷ 0x27 ∷ 0x00 ∷ 0x00 ∷ 0x06 ∷ 0x28 ∷ 0x01 ∷ 0x04 ∷ 0x20 ∷ 0x04 ∷ 0x24 ∷ 0x97 ∷ 0x2C ∷ 0x98 ∷ 0x2C ∷ 0x64 ∷ [])) 2 ∷ []
+group_request : reported grouped (Start 0 ∷ []) ≡ sends_request (items 1 50 (0x54 ∷ 0x02 ∷ 0x20 ∷ 0x06 ∷ 0x24 ∷ 0x01 ∷ 0x0A ∷ 0x0E ∷ 0x00 ∷ 0x00 ∷ 0x00 ∷ 0x00 ∷ 0x00 ∷ 0x00 ∷ 0x00 ∷ 0x00 ∷ 0x05 ∷ 0x00 ∷ 0x34 ∷ 0x12 ∷ 0x78 ∷ 0x56 ∷ 0x34 ∷ 0x12 ∷ 0x02 ∷ 0x00 ∷ 0x00 ∷ 0x00 ∷ 0x10 ∷ 0x27 ∷ 0x00 ∷ 0x00 ∷ 0x02 ∷ 0x48 ∷ 0x10 ∷ 0x27 ∷ 0x00 ∷ 0x00 ∷ 0x06 ∷ 0x28 ∷ 0x01 ∷ 0x04 ∷ 0x20 ∷ 0x04 ∷ 0x24 ∷ 0x97 ∷ 0x2C ∷ 0x98 ∷ 0x2C ∷ 0x64 ∷ [])) 2 ∷ []
 unfolding messages.message_reading packets.packet_reading packets.behind_socket packets.are_sockets replies.open_reply_reading replies.unread_reading opens.open_text closes.close_text datagrams.datagram_reading opened ready_opened target_opened open_answer answered target_lost stream_opened stream_cut frame received produced_table all_expired all_given_up tick write read mode start stop
 group_request = refl
 
@@ -165,16 +165,16 @@ no_id_drawn : (after grouped (Start 0 ∷ [])).next_id ≡ 1
 unfolding messages.message_reading packets.packet_reading packets.behind_socket packets.are_sockets replies.open_reply_reading replies.unread_reading opens.open_text closes.close_text datagrams.datagram_reading opened ready_opened target_opened open_answer answered target_lost stream_opened stream_cut frame received produced_table all_expired all_given_up tick write read mode start stop
 no_id_drawn = refl
 
--- no id is left: the slot is not to be open any more, and no serial number is drawn
+-- no id is left: the slot's connection is no longer desired, and the scanner uses up no serial number
 abbrev no_ids : ScannerTable
 no_ids = record connected { next_id = 16777216 }
 
--- what is told of it, once
+-- one notice says so
 abbrev ids_end_events : List Event
 ids_end_events = Start 0 ∷ Tick 3000 ∷ Stop 0 ∷ []
 
 ids_end : reported no_ids ids_end_events
-    ≡ tells (notice.NoIds 0 ∷ [])
+    ≡ reports_notices (notice.NoIds 0 ∷ [])
     ∷ quiet
     ∷ not_now
     ∷ []
@@ -195,7 +195,7 @@ numbers_end_events = Tick 2999 ∷ Tick 1 ∷ Tick 3000 ∷ []
 
 numbers_end : reported no_numbers numbers_end_events
     ≡ quiet
-    ∷ tells (notice.NoIds 0 ∷ notice.Slot 0 0 ∷ [])
+    ∷ reports_notices (notice.NoIds 0 ∷ notice.Slot 0 0 ∷ [])
     ∷ quiet
     ∷ []
 unfolding messages.message_reading packets.packet_reading packets.behind_socket packets.are_sockets replies.open_reply_reading replies.unread_reading opens.open_text closes.close_text datagrams.datagram_reading opened ready_opened target_opened open_answer answered target_lost stream_opened stream_cut frame received produced_table all_expired all_given_up tick write read mode start stop
@@ -205,7 +205,7 @@ numbers_end = refl
 abbrev last_number : ScannerTable
 last_number = record connected { next_request = 281474976710656 }
 
-last_numbered : reported last_number (Start 0 ∷ []) ≡ asks (0x6F ∷ 0x00 ∷ 0x42 ∷ 0x00 ∷ 0x01 ∷ 0x00 ∷ 0x00 ∷ 0x00 ∷ 0x00 ∷ 0x00 ∷ 0x00 ∷ 0x00 ∷ 0x00 ∷ 0x00 ∷ 0x00 ∷ 0x00 ∷ 0x00 ∷ 0x00 ∷ 0x01 ∷ 0x00 ∷ 0x00 ∷ 0x00 ∷ 0x00 ∷ 0x00 ∷ 0x00 ∷ 0x00 ∷ 0x00 ∷ 0x00 ∷ 0x00 ∷ 0x00 ∷ 0x02 ∷ 0x00 ∷ 0x00 ∷ 0x00 ∷ 0x00 ∷ 0x00 ∷ 0xB2 ∷ 0x00 ∷ 0x32 ∷ 0x00 ∷ forward_open 1 1) 2 ∷ []
+last_numbered : reported last_number (Start 0 ∷ []) ≡ sends_request (0x6F ∷ 0x00 ∷ 0x42 ∷ 0x00 ∷ 0x01 ∷ 0x00 ∷ 0x00 ∷ 0x00 ∷ 0x00 ∷ 0x00 ∷ 0x00 ∷ 0x00 ∷ 0x00 ∷ 0x00 ∷ 0x00 ∷ 0x00 ∷ 0x00 ∷ 0x00 ∷ 0x01 ∷ 0x00 ∷ 0x00 ∷ 0x00 ∷ 0x00 ∷ 0x00 ∷ 0x00 ∷ 0x00 ∷ 0x00 ∷ 0x00 ∷ 0x00 ∷ 0x00 ∷ 0x02 ∷ 0x00 ∷ 0x00 ∷ 0x00 ∷ 0x00 ∷ 0x00 ∷ 0xB2 ∷ 0x00 ∷ 0x32 ∷ 0x00 ∷ forward_open 1 1) 2 ∷ []
 unfolding messages.message_reading packets.packet_reading packets.behind_socket packets.are_sockets replies.open_reply_reading replies.unread_reading opens.open_text closes.close_text datagrams.datagram_reading opened ready_opened target_opened open_answer answered target_lost stream_opened stream_cut frame received produced_table all_expired all_given_up tick write read mode start stop
 last_numbered = refl
 
@@ -215,12 +215,12 @@ last_numbered = refl
 abbrev requested_by : SlotConfig → List ℕ
 requested_by config = manager_text (open_service (is_large config)) (opens.open_text (is_large config) (open_fields config (next_requested connected config)))
 
--- a target that produces at a change, held back for 5 ms
+-- a target that produces at a change, with an inhibit time of 5 ms
 at_change : requested_by (record owner { trigger = ChangeOfState; inhibit = 5 }) ≡ 0x54 ∷ 0x02 ∷ 0x20 ∷ 0x06 ∷ 0x24 ∷ 0x01 ∷ 0x0A ∷ 0x0E ∷ 0x00 ∷ 0x00 ∷ 0x00 ∷ 0x00 ∷ 0x01 ∷ 0x00 ∷ 0x00 ∷ 0x20 ∷ 0x01 ∷ 0x00 ∷ 0x34 ∷ 0x12 ∷ 0x78 ∷ 0x56 ∷ 0x34 ∷ 0x12 ∷ 0x02 ∷ 0x00 ∷ 0x00 ∷ 0x00 ∷ 0x10 ∷ 0x27 ∷ 0x00 ∷ 0x00 ∷ 0x0A ∷ 0x48 ∷ 0x10 ∷ 0x27 ∷ 0x00 ∷ 0x00 ∷ 0x06 ∷ 0x48 ∷ 0x11 ∷ 0x05 ∷ 0x43 ∷ 0x05 ∷ 0x20 ∷ 0x04 ∷ 0x24 ∷ 0x97 ∷ 0x2C ∷ 0x96 ∷ 0x2C ∷ 0x64 ∷ []
 unfolding messages.message_reading packets.packet_reading packets.behind_socket packets.are_sockets replies.open_reply_reading replies.unread_reading opens.open_text closes.close_text datagrams.datagram_reading opened ready_opened target_opened open_answer answered target_lost stream_opened stream_cut frame received produced_table all_expired all_given_up tick write read mode start stop
 at_change = refl
 
--- an output of 505 bytes is the longest that a Forward_Open asks for
+-- an output of 505 bytes is the longest that a Forward_Open can request
 longest : requested_by (record owner { out_len = 505 }) ≡ 0x54 ∷ 0x02 ∷ 0x20 ∷ 0x06 ∷ 0x24 ∷ 0x01 ∷ 0x0A ∷ 0x0E ∷ 0x00 ∷ 0x00 ∷ 0x00 ∷ 0x00 ∷ 0x01 ∷ 0x00 ∷ 0x00 ∷ 0x20 ∷ 0x01 ∷ 0x00 ∷ 0x34 ∷ 0x12 ∷ 0x78 ∷ 0x56 ∷ 0x34 ∷ 0x12 ∷ 0x02 ∷ 0x00 ∷ 0x00 ∷ 0x00 ∷ 0x10 ∷ 0x27 ∷ 0x00 ∷ 0x00 ∷ 0xFF ∷ 0x49 ∷ 0x10 ∷ 0x27 ∷ 0x00 ∷ 0x00 ∷ 0x06 ∷ 0x48 ∷ 0x01 ∷ 0x04 ∷ 0x20 ∷ 0x04 ∷ 0x24 ∷ 0x97 ∷ 0x2C ∷ 0x96 ∷ 0x2C ∷ 0x64 ∷ []
 unfolding messages.message_reading packets.packet_reading packets.behind_socket packets.are_sockets replies.open_reply_reading replies.unread_reading opens.open_text closes.close_text datagrams.datagram_reading opened ready_opened target_opened open_answer answered target_lost stream_opened stream_cut frame received produced_table all_expired all_given_up tick write read mode start stop
 longest = refl
@@ -235,7 +235,7 @@ larger_input : requested_by (record owner { in_len = 510 }) ≡ 0x5B ∷ 0x02 �
 unfolding messages.message_reading packets.packet_reading packets.behind_socket packets.are_sockets replies.open_reply_reading replies.unread_reading opens.open_text closes.close_text datagrams.datagram_reading opened ready_opened target_opened open_answer answered target_lost stream_opened stream_cut frame received produced_table all_expired all_given_up tick write read mode start stop
 larger_input = refl
 
--- the key of the device that is wanted goes first in the path, and the configuration last
+-- the electronic key comes first in the path, and the configuration data last
 keyed : requested_by (record owner { key = Some (record { vendor = 1; device_type = 12; product = 7; compatible = true; major = 2; minor = 2; seven_bits = lit< tt }); config_data = 1 ∷ 2 ∷ 3 ∷ 4 ∷ [] }) ≡ 0x54 ∷ 0x02 ∷ 0x20 ∷ 0x06 ∷ 0x24 ∷ 0x01 ∷ 0x0A ∷ 0x0E ∷ 0x00 ∷ 0x00 ∷ 0x00 ∷ 0x00 ∷ 0x01 ∷ 0x00 ∷ 0x00 ∷ 0x20 ∷ 0x01 ∷ 0x00 ∷ 0x34 ∷ 0x12 ∷ 0x78 ∷ 0x56 ∷ 0x34 ∷ 0x12 ∷ 0x02 ∷ 0x00 ∷ 0x00 ∷ 0x00 ∷ 0x10 ∷ 0x27 ∷ 0x00 ∷ 0x00 ∷ 0x0A ∷ 0x48 ∷ 0x10 ∷ 0x27 ∷ 0x00 ∷ 0x00 ∷ 0x06 ∷ 0x48 ∷ 0x01 ∷ 0x0C ∷ 0x34 ∷ 0x04 ∷ 0x01 ∷ 0x00 ∷ 0x0C ∷ 0x00 ∷ 0x07 ∷ 0x00 ∷ 0x82 ∷ 0x02 ∷ 0x20 ∷ 0x04 ∷ 0x24 ∷ 0x97 ∷ 0x2C ∷ 0x96 ∷ 0x2C ∷ 0x64 ∷ 0x80 ∷ 0x02 ∷ 0x01 ∷ 0x02 ∷ 0x03 ∷ 0x04 ∷ []
 unfolding messages.message_reading packets.packet_reading packets.behind_socket packets.are_sockets replies.open_reply_reading replies.unread_reading opens.open_text closes.close_text datagrams.datagram_reading opened ready_opened target_opened open_answer answered target_lost stream_opened stream_cut frame received produced_table all_expired all_given_up tick write read mode start stop
 keyed = refl

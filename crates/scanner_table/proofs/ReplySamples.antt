@@ -1,4 +1,4 @@
--- Replies to a scanner's requests, told from the events at a small one.
+-- Samples of replies at a small scanner: each says which outcomes a list of events has.
 use Rattle.std.proofs.Common.{◌≡◌, ℕ, List, [], ◌∷◌, ◌++◌, None, refl}
 use Rattle.cip_types.specs.declared.names.Mismatch.TheVariants as mismatch
 use Rattle.cip_events.specs.declared.event.Event.TheVariants.{Frame, Tick, Start, Stop, StreamCut}
@@ -7,7 +7,7 @@ use Rattle.cip_events.specs.declared.event.Reason.{Reason}
 use Rattle.cip_events.specs.declared.event.Reason.TheVariants as reason
 use Rattle.cip_events.specs.declared.event.Verdict.TheVariants.{BadFrame, Ignored}
 use Rattle.cip_events.specs.Outcomes.{Outcome}
-use Rattle.scanner_table.proofs.SmallScanner.{owner, gatherer, profile, reported, after, quiet, only, not_now, becomes, tells, refuses, asks, items, success, forward_open, opened_frame, forward_close, registers, connected}
+use Rattle.scanner_table.proofs.SmallScanner.{owner, gatherer, profile, reported, after, quiet, only, not_now, becomes, reports_notices, refuses, sends_request, items, success, forward_open, opened_frame, forward_close, registers, connected}
 use Rattle.cip_encap.specs.Reading as messages
 use Rattle.cip_encap.specs.PacketReading as packets
 use Rattle.cip_fwdopen.specs.Open as opens
@@ -71,7 +71,7 @@ other_triad : replied (items 1 30 (success 9 1 9)) ≡ refused_for (reason.Misma
 unfolding messages.message_reading packets.packet_reading packets.behind_socket packets.are_sockets replies.open_reply_reading replies.unread_reading opens.open_text closes.close_text datagrams.datagram_reading opened ready_opened target_opened open_answer answered target_lost stream_opened stream_cut frame received produced_table all_expired all_given_up tick write read mode start stop
 other_triad = refl
 
--- a success with another T->O id than the one that was asked for
+-- a successful reply with another T->O id than the requested one
 other_id : replied (items 1 30 (success 1 1 2)) ≡ refused_for (reason.Mismatch mismatch.Id)
 unfolding messages.message_reading packets.packet_reading packets.behind_socket packets.are_sockets replies.open_reply_reading replies.unread_reading opens.open_text closes.close_text datagrams.datagram_reading opened ready_opened target_opened open_answer answered target_lost stream_opened stream_cut frame received produced_table all_expired all_given_up tick write read mode start stop
 other_id = refl
@@ -96,7 +96,7 @@ abbrev two_groups : ScannerTable
 two_groups = after (scanner_table (profile (gatherer ∷ record gatherer { produced = 101 } ∷ []))) (registers ++ (Start 0 ∷ Frame 0 (items 1 30 (0xD4 ∷ 0x00 ∷ 0x00 ∷ 0x00 ∷ 0x01 ∷ 0x00 ∷ 0x00 ∷ 0x10 ∷ 0x02 ∷ 0x00 ∷ 0x00 ∷ 0x10 ∷ 0x01 ∷ 0x00 ∷ 0x34 ∷ 0x12 ∷ 0x78 ∷ 0x56 ∷ 0x34 ∷ 0x12 ∷ 0x10 ∷ 0x27 ∷ 0x00 ∷ 0x00 ∷ 0x10 ∷ 0x27 ∷ 0x00 ∷ 0x00 ∷ 0x00 ∷ 0x00 ∷ [])) ∷ Start 1 ∷ []))
 
 -- no other established slot of the target may have the id
-id_in_use : reported two_groups (Frame 0 (items 2 30 (0xD4 ∷ 0x00 ∷ 0x00 ∷ 0x00 ∷ 0x03 ∷ 0x00 ∷ 0x00 ∷ 0x10 ∷ 0x02 ∷ 0x00 ∷ 0x00 ∷ 0x10 ∷ 0x02 ∷ 0x00 ∷ 0x34 ∷ 0x12 ∷ 0x78 ∷ 0x56 ∷ 0x34 ∷ 0x12 ∷ 0x10 ∷ 0x27 ∷ 0x00 ∷ 0x00 ∷ 0x10 ∷ 0x27 ∷ 0x00 ∷ 0x00 ∷ 0x00 ∷ 0x00 ∷ [])) ∷ []) ≡ tells (notice.Refused 1 (reason.Mismatch mismatch.Id) ∷ notice.Slot 1 0 ∷ []) ∷ []
+id_in_use : reported two_groups (Frame 0 (items 2 30 (0xD4 ∷ 0x00 ∷ 0x00 ∷ 0x00 ∷ 0x03 ∷ 0x00 ∷ 0x00 ∷ 0x10 ∷ 0x02 ∷ 0x00 ∷ 0x00 ∷ 0x10 ∷ 0x02 ∷ 0x00 ∷ 0x34 ∷ 0x12 ∷ 0x78 ∷ 0x56 ∷ 0x34 ∷ 0x12 ∷ 0x10 ∷ 0x27 ∷ 0x00 ∷ 0x00 ∷ 0x10 ∷ 0x27 ∷ 0x00 ∷ 0x00 ∷ 0x00 ∷ 0x00 ∷ [])) ∷ []) ≡ reports_notices (notice.Refused 1 (reason.Mismatch mismatch.Id) ∷ notice.Slot 1 0 ∷ []) ∷ []
 unfolding messages.message_reading packets.packet_reading packets.behind_socket packets.are_sockets replies.open_reply_reading replies.unread_reading opens.open_text closes.close_text datagrams.datagram_reading opened ready_opened target_opened open_answer answered target_lost stream_opened stream_cut frame received produced_table all_expired all_given_up tick write read mode start stop
 id_in_use = refl
 
@@ -121,22 +121,22 @@ unfolding messages.message_reading packets.packet_reading packets.behind_socket 
 stop_opening = refl
 
 -- a connection is closed over its session; the slot cannot be stopped or started until the answer comes
-stop_open : reported open_table (Start 0 ∷ Stop 0 ∷ Stop 0 ∷ Start 0 ∷ Frame 0 (items 2 14 (0xCE ∷ 0x00 ∷ 0x00 ∷ 0x00 ∷ 0x01 ∷ 0x00 ∷ 0x34 ∷ 0x12 ∷ 0x78 ∷ 0x56 ∷ 0x34 ∷ 0x12 ∷ 0x00 ∷ 0x00 ∷ [])) ∷ Start 0 ∷ []) ≡ not_now ∷ asks closing_frame 6 ∷ not_now ∷ not_now ∷ becomes 0 ∷ asks (items 3 50 (forward_open 2 2)) 2 ∷ []
+stop_open : reported open_table (Start 0 ∷ Stop 0 ∷ Stop 0 ∷ Start 0 ∷ Frame 0 (items 2 14 (0xCE ∷ 0x00 ∷ 0x00 ∷ 0x00 ∷ 0x01 ∷ 0x00 ∷ 0x34 ∷ 0x12 ∷ 0x78 ∷ 0x56 ∷ 0x34 ∷ 0x12 ∷ 0x00 ∷ 0x00 ∷ [])) ∷ Start 0 ∷ []) ≡ not_now ∷ sends_request closing_frame 6 ∷ not_now ∷ not_now ∷ becomes 0 ∷ sends_request (items 3 50 (forward_open 2 2)) 2 ∷ []
 unfolding messages.message_reading packets.packet_reading packets.behind_socket packets.are_sockets replies.open_reply_reading replies.unread_reading opens.open_text closes.close_text datagrams.datagram_reading opened ready_opened target_opened open_answer answered target_lost stream_opened stream_cut frame received produced_table all_expired all_given_up tick write read mode start stop
 stop_open = refl
 
 -- whatever the answer says, the slot is idle then
-close_refused : reported open_table (Stop 0 ∷ Frame 0 (items 2 16 (0xCE ∷ 0x00 ∷ 0x01 ∷ 0x01 ∷ 0x07 ∷ 0x01 ∷ 0x01 ∷ 0x00 ∷ 0x34 ∷ 0x12 ∷ 0x78 ∷ 0x56 ∷ 0x34 ∷ 0x12 ∷ 0x00 ∷ 0x00 ∷ [])) ∷ []) ≡ asks closing_frame 6 ∷ becomes 0 ∷ []
+close_refused : reported open_table (Stop 0 ∷ Frame 0 (items 2 16 (0xCE ∷ 0x00 ∷ 0x01 ∷ 0x01 ∷ 0x07 ∷ 0x01 ∷ 0x01 ∷ 0x00 ∷ 0x34 ∷ 0x12 ∷ 0x78 ∷ 0x56 ∷ 0x34 ∷ 0x12 ∷ 0x00 ∷ 0x00 ∷ [])) ∷ []) ≡ sends_request closing_frame 6 ∷ becomes 0 ∷ []
 unfolding messages.message_reading packets.packet_reading packets.behind_socket packets.are_sockets replies.open_reply_reading replies.unread_reading opens.open_text closes.close_text datagrams.datagram_reading opened ready_opened target_opened open_answer answered target_lost stream_opened stream_cut frame received produced_table all_expired all_given_up tick write read mode start stop
 close_refused = refl
 
 -- a closing that is not answered is over after 2 seconds and no sooner, and is not tried again
-close_unanswered : reported open_table (Stop 0 ∷ Tick 1999 ∷ Tick 1 ∷ Tick 3000 ∷ []) ≡ asks closing_frame 6 ∷ quiet ∷ becomes 0 ∷ quiet ∷ []
+close_unanswered : reported open_table (Stop 0 ∷ Tick 1999 ∷ Tick 1 ∷ Tick 3000 ∷ []) ≡ sends_request closing_frame 6 ∷ quiet ∷ becomes 0 ∷ quiet ∷ []
 unfolding messages.message_reading packets.packet_reading packets.behind_socket packets.are_sockets replies.open_reply_reading replies.unread_reading opens.open_text closes.close_text datagrams.datagram_reading opened ready_opened target_opened open_answer answered target_lost stream_opened stream_cut frame received produced_table all_expired all_given_up tick write read mode start stop
 close_unanswered = refl
 
 -- a closing is over with its stream
-close_cut : reported open_table (Stop 0 ∷ StreamCut 0 ∷ []) ≡ asks closing_frame 6 ∷ becomes 0 ∷ []
+close_cut : reported open_table (Stop 0 ∷ StreamCut 0 ∷ []) ≡ sends_request closing_frame 6 ∷ becomes 0 ∷ []
 unfolding messages.message_reading packets.packet_reading packets.behind_socket packets.are_sockets replies.open_reply_reading replies.unread_reading opens.open_text closes.close_text datagrams.datagram_reading opened ready_opened target_opened open_answer answered target_lost stream_opened stream_cut frame received produced_table all_expired all_given_up tick write read mode start stop
 close_cut = refl
 
@@ -151,6 +151,6 @@ unfolding messages.message_reading packets.packet_reading packets.behind_socket 
 stop_timed_out = refl
 
 -- no request number is left for the close: none is sent
-stop_without_number : reported (record open_table { next_request = 281474976710657 }) (Stop 0 ∷ []) ≡ tells (notice.NoIds 0 ∷ notice.Slot 0 0 ∷ []) ∷ []
+stop_without_number : reported (record open_table { next_request = 281474976710657 }) (Stop 0 ∷ []) ≡ reports_notices (notice.NoIds 0 ∷ notice.Slot 0 0 ∷ []) ∷ []
 unfolding messages.message_reading packets.packet_reading packets.behind_socket packets.are_sockets replies.open_reply_reading replies.unread_reading opens.open_text closes.close_text datagrams.datagram_reading opened ready_opened target_opened open_answer answered target_lost stream_opened stream_cut frame received produced_table all_expired all_given_up tick write read mode start stop
 stop_without_number = refl

@@ -88,12 +88,12 @@ abbrev pub after : ScannerTable → List Event → ScannerTable
 after t [] = t
 after t (event ∷ events) = after (left t (scanner_step t event)) events
 
--- nothing is sent or told
+-- the answer sends nothing and has no notices
 abbrev pub quiet : Outcome
 quiet = Ok (plain_answer Done)
 
-abbrev pub held : List ℕ → Outcome
-held bytes = Ok (value_answer bytes)
+abbrev pub reads_bytes : List ℕ → Outcome
+reads_bytes bytes = Ok (value_answer bytes)
 
 abbrev pub only : Verdict → Outcome
 only verdict = Ok (plain_answer verdict)
@@ -104,21 +104,21 @@ delivered delivery = only (Delivered delivery)
 abbrev pub not_now : Outcome
 not_now = Err fault.NotAllowedNow
 
--- these are told
-abbrev pub tells : List Notice → Outcome
-tells notices = Ok (record (plain_answer Done) { notices = notices })
+-- the answer has these notices alone
+abbrev pub reports_notices : List Notice → Outcome
+reports_notices notices = Ok (record (plain_answer Done) { notices = notices })
 
--- the slot 0 comes into a state
+-- slot 0 changes to this state
 abbrev pub becomes : ℕ → Outcome
-becomes state = tells (notice.Slot 0 state ∷ [])
+becomes state = reports_notices (notice.Slot 0 state ∷ [])
 
--- the slot 0 is refused, and is idle
+-- the reply to slot 0 is refused, and the slot becomes idle
 abbrev pub refuses : Reason → Outcome
-refuses why = tells (notice.Refused 0 why ∷ notice.Slot 0 0 ∷ [])
+refuses why = reports_notices (notice.Refused 0 why ∷ notice.Slot 0 0 ∷ [])
 
--- these bytes go over stream 0, and the slot 0 comes into a state
-abbrev pub asks : List ℕ → ℕ → Outcome
-asks bytes state = Ok (record (plain_answer Done) { frames = record { to = recipient.Stream 0; bytes = bytes } ∷ []; notices = notice.Slot 0 state ∷ [] })
+-- these bytes go over stream 0, and slot 0 changes to this state
+abbrev pub sends_request : List ℕ → ℕ → Outcome
+sends_request bytes state = Ok (record (plain_answer Done) { frames = record { to = recipient.Stream 0; bytes = bytes } ∷ []; notices = notice.Slot 0 state ∷ [] })
 
 -- these bytes go to the target
 abbrev pub sends : List ℕ → Outcome

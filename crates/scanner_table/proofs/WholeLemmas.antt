@@ -1,4 +1,4 @@
--- What is whole stays so when one slot is changed, numbers are drawn, and streams open and end.
+-- A whole table stays whole when one slot changes, when numbers are used up, and when streams open and close.
 use Rattle.std.proofs.Common.{◌≡◌, ◌≤◌, ℕ, zero, suc, ◌+◌, Bool, true, false, cond, ◌||◌, ◌==◌, List, [], ◌∷◌, ◌++◌, length, map, filter, find, slice_get, slice_set, Option, Some, refl, sym, ◌∙◌, ap, subst, arith, length-append}
 use Rattle.std.specs.List.{list_any}
 use Rattle.std.proofs.lemmas.Bool.{or_parts}
@@ -48,9 +48,9 @@ same_later t = record { profile = refl; clock = refl; requests = omega arith }
 pub later_later : (t u v : ScannerTable) → Later t u → Later u v → Later t v
 later_later t u v first next = record { profile = next.profile ∙ first.profile; clock = next.clock ∙ first.clock; requests = omega (arith, first.requests, next.requests) }
 
--- ---- places
+-- ---- indexed slots
 
--- the place is one of the table's, or was
+-- the indexed slot has a configuration of the table's profile, and fits it
 pub record IsAt (t : ScannerTable) (indexed : IndexedSlot) : Type 0 where
   pub config : slice_get t.profile.slots indexed.number ≡ Some indexed.config
   pub fits : FitsSlot t.next_request t.clock.0 indexed.config indexed.slot
@@ -61,7 +61,7 @@ is_at_later t u indexed later at = record {
   fits = rw later.clock (slot_later t.next_request u.next_request t.clock.0 t.clock.0 indexed.config indexed.slot later.requests (omega arith) at.fits);
 }
 
--- it holds of each place
+-- it holds of each indexed slot
 abbrev pub Each : (IndexedSlot → Type 0) → List IndexedSlot → Type 0
 Each P [] = Unit {0}
 Each P (indexed ∷ rest) = P indexed × Each P rest
@@ -82,7 +82,7 @@ pub each_found : (P : IndexedSlot → Type 0) (p : IndexedSlot → Bool) (all : 
 each_found P p [] indexed is all = absurd cc
 each_found P p (first ∷ rest) indexed is all = found_step (p first) P first indexed (find p rest) is all.0 (λ later. each_found P p rest indexed later all.1)
 
--- what stands in places from a number on stands so in all places
+-- the configurations of the slots from a number on are those of the whole profile
 abbrev StandsIn : List SlotConfig → ℕ → List SlotConfig → Type 0
 StandsIn all number configs = (k : ℕ) (config : SlotConfig) → slice_get configs k ≡ Some config → slice_get all (number + k) ≡ Some config
 
@@ -106,7 +106,7 @@ all_stand configs = λ k config is. let same : k ≡ 0 + k = omega arith in subs
 pub each_at : (t : ScannerTable) → IsWhole t → Each (IsAt t) (indexed_slots t)
 each_at t whole = slots_at t 0 t.profile.slots t.slots (all_stand t.profile.slots) whole.slots
 
--- the place is one of the table's now
+-- the indexed slot is one of the table's now
 abbrev pub IsNow : ScannerTable → IndexedSlot → Type 0
 IsNow t indexed = slice_get t.slots indexed.number ≡ Some indexed.slot
 
@@ -171,7 +171,7 @@ pub record Keeps (t : ScannerTable) (effect : Effect) : Type 0 where
 pub keeps_nothing : (t : ScannerTable) → IsWhole t → Keeps t (nothing t)
 keeps_nothing t whole = record { whole = whole; later = same_later t }
 
--- an effect on places of which something holds keeps a table whole
+-- an effect on slots of which something holds keeps a table whole
 abbrev pub KeepsAt : (IndexedSlot → Type 0) → (ScannerTable → IndexedSlot → Effect) → Type 0
 KeepsAt Q effect = (t : ScannerTable) (indexed : IndexedSlot) → IsWhole t → IsAt t indexed → Q indexed → Keeps t (effect t indexed)
 
@@ -198,7 +198,7 @@ passes_step : (p : IndexedSlot → Bool) (b : Bool) (indexed : IndexedSlot) (res
 passes_step p true indexed rest is all = (is, all)
 passes_step p false indexed rest is all = all
 
--- a filter's places pass it
+-- the slots that a filter selects pass its test
 pub each_passes : (p : IndexedSlot → Bool) (all : List IndexedSlot) → Each (λ indexed. p indexed ≡ true) (filter p all)
 each_passes p [] = tt
 each_passes p (indexed ∷ rest) = passes_step p (p indexed) indexed (filter p rest) refl (each_passes p rest)
@@ -206,7 +206,7 @@ each_passes p (indexed ∷ rest) = passes_step p (p indexed) indexed (filter p r
 -- ---- streams
 
 pub few_with : (streams : List TargetStream) (stream : TargetStream) → length streams + 1 ≤ 16 → length (streams ++ stream ∷ []) ≤ 16
-few_with streams stream room = simp length-append (omega arith)
+few_with streams stream space = simp length-append (omega arith)
 
 other_number : (a b : ℕ) → (a == b) ≡ false → (b == a) ≡ false
 other_number a b h = grind (arith, nat_tests)

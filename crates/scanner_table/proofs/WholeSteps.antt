@@ -65,7 +65,7 @@ quiet_set : (t : ScannerTable) (indexed : IndexedSlot) (slot : Slot) → IsWhole
 quiet_set t indexed slot whole quieter =
     differ_quieter t.slots (slice_set t.slots indexed.number slot) (set_quieter indexed.number t.slots slot (λ old is. quieter old.state)) whole.requests_differ
 
--- another slot in a place, and nothing else
+-- another slot under one number, and nothing else
 pub keeps_changed : (t : ScannerTable) (indexed : IndexedSlot) (slot : Slot) (reported : List Notice) → IsWhole t → IsAt t indexed → FitsSlot t.next_request t.clock.0 indexed.config slot → ((old : SlotState) → Weaker old slot.state) → ((old : SlotState) → Quieter old slot.state) → Keeps t (changed t indexed slot reported)
 keeps_changed t indexed slot reported whole at fits weaker quieter = record {
   whole = whole_with t indexed slot whole at.config fits (differ_set t indexed slot whole weaker) (quiet_set t indexed slot whole quieter);
@@ -152,8 +152,8 @@ opening_fits t indexed at desired_up = record { output = at.fits.output; image =
 keeps_open_requested : (t : ScannerTable) (indexed : IndexedSlot) (session : Session) → can_open t indexed.config ≡ true → IsWhole t → IsAt t indexed → indexed.slot.desired_up ≡ true → Keeps t (open_requested t indexed session)
 keeps_open_requested t indexed session can whole at desired_up =
     let left = and_parts (has_request t) (has_id t indexed.config) can in
-    let asked = keeps_requested (drawn t indexed.config) indexed (opening_slot t indexed) [] left.0 (whole_drawn t indexed.config left.1 whole) at.config (opening_fits t indexed at desired_up) (λ old. opening_weaker old _) refl in
-    record { whole = asked.whole; later = record { profile = refl; clock = refl; requests = asked.later.requests } }
+    let kept = keeps_requested (drawn t indexed.config) indexed (opening_slot t indexed) [] left.0 (whole_drawn t indexed.config left.1 whole) at.config (opening_fits t indexed at desired_up) (λ old. opening_weaker old _) refl in
+    record { whole = kept.whole; later = record { profile = refl; clock = refl; requests = kept.later.requests } }
 
 can_step : (b : Bool) (t : ScannerTable) (indexed : IndexedSlot) (session : Session) → can_open t indexed.config ≡ b → IsWhole t → IsAt t indexed → indexed.slot.desired_up ≡ true → Keeps t (cond b (open_requested t indexed session) (exhausted t indexed))
 can_step true t indexed session can whole at desired_up = keeps_open_requested t indexed session can whole at desired_up
@@ -264,8 +264,8 @@ closing_fits t indexed c at = record { output = at.fits.output; image = at.fits.
 
 close_step : (b : Bool) (t : ScannerTable) (indexed : IndexedSlot) (c : Connection) (session : Session) → has_request t ≡ b → IsWhole t → IsAt t indexed → Keeps t (cond b (close_requested t indexed c session) (exhausted t indexed))
 close_step true t indexed c session left whole at =
-    let asked = keeps_requested t indexed (closing_slot t c indexed.slot) [] left whole at.config (closing_fits t indexed c at) (λ old. closing_weaker old _) refl in
-    record { whole = asked.whole; later = asked.later }
+    let kept = keeps_requested t indexed (closing_slot t c indexed.slot) [] left whole at.config (closing_fits t indexed c at) (λ old. closing_weaker old _) refl in
+    record { whole = kept.whole; later = kept.later }
 close_step false t indexed c session left whole at = keeps_resigned (notice.NoIds indexed.number ∷ []) t indexed whole at
 
 keeps_closed : (t : ScannerTable) (indexed : IndexedSlot) (c : Connection) (session : Option Session) → IsWhole t → IsAt t indexed → Keeps t (closed_within t indexed c session)
@@ -297,8 +297,8 @@ stop_whole t number whole = stop_at_whole t number (slot_at t number) refl whole
 
 -- ---- streams
 
-room_left : (streams : List TargetStream) → nat_le 16 (length streams) ≡ false → length streams + 1 ≤ 16
-room_left streams free = grind (arith, nat_tests, free)
+space_left : (streams : List TargetStream) → nat_le 16 (length streams) ≡ false → length streams + 1 ≤ 16
+space_left streams free = grind (arith, nat_tests, free)
 
 whole_streamed : (t : ScannerTable) (number : ℕ) (target : Node) → is_taken t.streams number target ≡ false → IsWhole t → IsWhole (with_stream t number target)
 whole_streamed t number target free whole =
@@ -315,7 +315,7 @@ whole_streamed t number target free whole =
       serial_begins = whole.serial_begins;
       serial_ends = whole.serial_ends;
       requests = whole.requests;
-      few_streams = few_with t.streams new (room_left t.streams alone.1);
+      few_streams = few_with t.streams new (space_left t.streams alone.1);
       streams_differ = differ_with t.streams new whole.streams_differ none.0 alone.0;
     }
 
@@ -408,7 +408,7 @@ frame_whole t number bytes whole = frame_of_whole t bytes (find (is_stream numbe
 
 -- ---- datagrams
 
--- the place's slot stands in the table now, in this state
+-- the indexed slot is the table's now, in this state
 pub record IsSame (t : ScannerTable) (indexed : IndexedSlot) (state : SlotState) : Type 0 where
   pub now : slice_get t.slots indexed.number ≡ Some indexed.slot
   pub stands : indexed.slot.state ≡ state

@@ -119,7 +119,7 @@ slots_produced r clock [] (slot ∷ slots) fit = absurd fit
 slots_produced r clock (config ∷ configs) [] fit = absurd fit
 slots_produced r clock (config ∷ configs) (slot ∷ slots) fit = (due_step (state_is_due clock slot.state) r clock config slot refl fit.0, slots_produced r clock configs slots fit.1)
 
--- the slots are others, and each fits its place
+-- the slots are others, and each fits its configuration
 whole_slots : (t : ScannerTable) (slots : List Slot) → IsWhole t → SlotsFit t.next_request t.clock.0 t.profile.slots slots → AllWeaker t.slots slots → AllQuieter t.slots slots → IsWhole (record t { slots = slots })
 whole_slots t slots whole fit weaker quieter = record {
   requests_differ = differ_quieter t.slots slots quieter whole.requests_differ;

@@ -1,6 +1,5 @@
--- Class 1 datagrams that come to a scanner: which slot they are for, whether they are accepted, and what they
--- do to its image (Volume 1, chapter 3, class 1 transport, connection timeouts; Volume 2, chapter 2, sequenced
--- address item).
+-- Class 1 datagrams that a scanner receives: which slot each is for, whether the slot accepts it, and what it does to the
+-- slot's image (Volume 1, chapter 3, class 1 transport, connection timeouts; Volume 2, chapter 2, sequenced address item).
 use Rattle.std.specs.Prelude.{ℕ, ◌==◌, ◌&&◌, Bool, if◌then◌else◌, List, length, find, Option, Some, None, Result, Ok, Err}
 use Rattle.cip_types.specs.declared.names.Node.{Node}
 use Rattle.cip_types.specs.declared.names.Ms.{Ms}
@@ -26,14 +25,14 @@ use Rattle.scanner_table.specs.Replies.{state_consumes}
 abbrev pub is_for : Node → ℕ → IndexedSlot → Bool
 is_for peer id indexed = is_with peer indexed && state_consumes (record { 0 = id }) indexed.slot.state
 
--- the datagram is the last that the connection accepted, and the next one is waited for from now on
+-- the connection records the datagram as its last accepted one, and starts its watchdog anew
 abbrev pub accepted_connection : Ms → ℕ → DatagramFields → Connection → Connection
 accepted_connection clock mult d c = record c {
   last = Some (record { number = d.sequence; count = d.count });
   deadline = later clock (timeout mult c.t_o_api_ms);
 }
 
--- the image of the slot becomes these bytes, at an accepted datagram
+-- the table after an accepted datagram, with these bytes as the slot's image
 abbrev pub accepted_table : ScannerTable → IndexedSlot → DatagramFields → Connection → List ℕ → ScannerTable
 accepted_table t indexed d c bytes =
     with_slot t indexed.number (record indexed.slot { state = Established (accepted_connection t.clock indexed.config.mult d c); image = bytes })
@@ -41,7 +40,7 @@ accepted_table t indexed d c bytes =
 abbrev pub delivered : Delivery → ScannerTable → Next
 delivered delivery t = (plain_answer (Delivered delivery), t)
 
--- the count of the last accepted datagram again brings no new data
+-- a datagram with the count of the last accepted one is a duplicate: it restarts the watchdog, and the image stays
 abbrev pub accepted : ScannerTable → IndexedSlot → DatagramFields → Connection → Next
 accepted t indexed d c =
     if is_duplicate c.last d.count then delivered Duplicate (accepted_table t indexed d c indexed.slot.image)
@@ -60,7 +59,7 @@ state_received t indexed d (Established c) = connected t indexed d c
 state_received t indexed d (TimedOut link) = delivered UnknownId t
 state_received t indexed d (Closing c) = delivered UnknownId t
 
--- the same of the slot that it is for, if there is one
+-- the delivery to the slot that the datagram is for, if any
 abbrev pub received_at : ScannerTable → DatagramFields → Option IndexedSlot → Next
 received_at t d None = delivered UnknownId t
 received_at t d (Some indexed) = state_received t indexed d indexed.slot.state
@@ -69,6 +68,6 @@ abbrev pub received_as : ScannerTable → Node → Result DatagramFields Datagra
 received_as t peer (Err fault) = delivered Malformed t
 received_as t peer (Ok d) = received_at t d (find (is_for peer d.connection) (indexed_slots t))
 
--- a datagram of a peer
+-- the delivery of a datagram of a peer
 unfoldable pub received : ScannerTable → Node → List ℕ → Next
 received t peer bytes = received_as t peer (datagram_reading bytes)

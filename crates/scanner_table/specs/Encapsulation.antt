@@ -1,5 +1,5 @@
--- Streams to targets, and the messages that come over them (Volume 2, chapter 2, encapsulation messages,
--- RegisterSession and SendRRData).
+-- Streams to targets, and the encapsulation messages that a scanner receives over them (Volume 2, chapter 2,
+-- encapsulation messages, RegisterSession and SendRRData).
 use Rattle.std.specs.Prelude.{ℕ, ◌==◌, ◌&&◌, Bool, false, if◌then◌else◌, List, [], ◌∷◌, length, find, Option, Some, None, Result, Ok, Err}
 use Rattle.cip_types.specs.declared.names.Node.{Node}
 use Rattle.cip_encap.specs.declared.message.EncapFault.{EncapFault}
@@ -23,36 +23,37 @@ use Rattle.scanner_table.specs.Opening.{target_opened}
 use Rattle.scanner_table.specs.Replies.{open_answer, answered}
 use Rattle.scanner_table.specs.Closing.{idle_slot, target_lost}
 
--- STREAMS THAT OPEN AND BREAK
+-- STREAMS OPEN AND CLOSE
 
--- a session is asked for on a stream that opens
+-- the scanner registers a session on a new stream
 abbrev pub registering_on : ScannerTable → ℕ → Node → Effect
 registering_on t number target = record { sent = registration number ∷ []; notices = []; table = with_stream t number target }
 
--- a stream to a target opens
+-- A stream to a target opens. The scanner refuses a stream number in use, a second stream to a target, and a seventeenth
+-- stream.
 unfoldable pub stream_opened : ScannerTable → ℕ → Node → Result Next StepFault
 stream_opened t number target = if is_taken t.streams number target then Err NotAllowedNow else Ok (done (registering_on t number target))
 
--- the same of the stream that is found, if one is
+-- the cut of the stream that the lookup found, if any
 abbrev pub cut_of : ScannerTable → Option TargetStream → Result Next StepFault
 cut_of t None = Err NotAllowedNow
 cut_of t (Some stream) = Ok (done (target_lost stream.peer (without_stream t stream.number)))
 
--- a stream breaks, or its target ends it
+-- a stream is cut, or its target closes it
 unfoldable pub stream_cut : ScannerTable → ℕ → Result Next StepFault
 stream_cut t number = cut_of t (find (is_stream number) t.streams)
 
 -- REGISTRATION
 
--- the message is RegisterSession's, a success, and has its four bytes
+-- the message is a successful RegisterSession reply, with its four bytes of data
 abbrev pub is_registered : MessageFields → Bool
 is_registered m = m.command == 0x0065 && (m.status == 0 && length m.payload == 4)
 
--- the session is registered, and the slots of its target that may try now open
+-- the session is registered, and the target's slots that are ready open
 abbrev pub session_begun : ScannerTable → TargetStream → ℕ → Effect
 session_begun t stream handle = target_opened stream.peer (with_stage t stream.number (Up handle))
 
--- the registration failed
+-- the registration failed, and the stream stays unused
 abbrev pub session_failed : ScannerTable → TargetStream → Effect
 session_failed t stream = nothing (with_stage t stream.number Unused)
 
@@ -61,7 +62,7 @@ registered t stream m = if is_registered m then session_begun t stream m.session
 
 -- MESSAGES
 
--- a message that nothing waits for
+-- no slot and no registration waits for the message
 abbrev pub ignored : ScannerTable → Next
 ignored t = (plain_answer Ignored, t)
 
@@ -76,7 +77,7 @@ waits_for number (Closing c) = c.request == number
 abbrev pub is_awaiting : Node → ℕ → IndexedSlot → Bool
 is_awaiting target number indexed = is_with target indexed && waits_for number indexed.slot.state
 
--- a reply to a request to close ends the connection, whatever it says
+-- The reply to the slot's request. Any reply to a Forward_Close ends the connection, whatever it says.
 abbrev pub replied : ScannerTable → IndexedSlot → MessageFields → SlotState → Next
 replied t indexed m Idle = ignored t
 replied t indexed m (Opening o) = done (answered t indexed o (open_answer (is_large indexed.config) m))
@@ -84,27 +85,28 @@ replied t indexed m (Established c) = ignored t
 replied t indexed m (TimedOut link) = ignored t
 replied t indexed m (Closing c) = done (changed t indexed (idle_slot indexed.slot) [])
 
--- the same of the slot that waits for it, if one does
+-- the reply at the slot that waits for it, if any
 abbrev pub replied_to : ScannerTable → MessageFields → Option IndexedSlot → Next
 replied_to t m None = ignored t
 replied_to t m (Some indexed) = replied t indexed m indexed.slot.state
 
--- what becomes of a message: the reply to the registration has sender context 0, and that to a request its number
+-- A message by the state of the session. The reply to the registration has sender context 0, and the reply to a request has
+-- the request's number.
 abbrev pub reported : ScannerTable → TargetStream → MessageFields → Stage → Next
 reported t stream m Waiting = if m.context == 0 then done (registered t stream m) else ignored t
 reported t stream m (Up handle) = replied_to t m (find (is_awaiting stream.peer m.context) (indexed_slots t))
 reported t stream m Unused = ignored t
 
--- what becomes of a frame of an open stream
+-- the answer to a frame of an open stream
 abbrev pub frame_answer : ScannerTable → TargetStream → Result MessageFields EncapFault → Next
 frame_answer t stream (Err fault) = (plain_answer BadFrame, t)
 frame_answer t stream (Ok m) = reported t stream m stream.stage
 
--- the same of the stream that is found, if one is
+-- the frame at the stream that the lookup found, if any
 abbrev pub frame_of : ScannerTable → List ℕ → Option TargetStream → Result Next StepFault
 frame_of t bytes None = Err NotAllowedNow
 frame_of t bytes (Some stream) = Ok (frame_answer t stream (message_reading bytes))
 
--- a frame on a stream
+-- the scanner receives a frame over a stream
 unfoldable pub frame : ScannerTable → ℕ → List ℕ → Result Next StepFault
 frame t number bytes = frame_of t bytes (find (is_stream number) t.streams)

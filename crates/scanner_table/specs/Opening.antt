@@ -1,4 +1,4 @@
--- Openings: a slot whose connection is to be open asks its target for it (Volume 1, chapter 3, Forward_Open
+-- Openings: a slot whose connection is desired sends a Forward_Open to its target (Volume 1, chapter 3, Forward_Open
 -- service).
 use Rattle.std.specs.Prelude.{ℕ, ◌+◌, ◌^◌, ◌==◌, ◌&&◌, ◌||◌, nat_le, Bool, false, if◌then◌else◌, List, [], ◌∷◌, filter, Option, Some, None}
 use Rattle.cip_types.specs.declared.names.Node.{Node}
@@ -14,13 +14,13 @@ use Rattle.scanner_table.specs.Sessions.{session_with}
 use Rattle.scanner_table.specs.Requests.{opening, is_large, next_requested, open_fields}
 use Rattle.scanner_table.specs.Effects.{Effect, nothing, on_each, changed, request_sent}
 
--- NUMBERS THAT ARE DRAWN
+-- NUMBERS
 
 -- a request number is left
 abbrev pub has_request : ScannerTable → Bool
 has_request t = nat_le t.next_request (2 ^ 48)
 
--- a connection id is left, or none is drawn
+-- a connection id is left, or the slot needs none, since the target chooses the id of a multicast connection
 abbrev pub has_id : ScannerTable → SlotConfig → Bool
 has_id t config = config.multicast || nat_le t.next_id 16777215
 
@@ -34,7 +34,7 @@ serial_after serial = if serial == 65535 then 1 else serial + 1
 abbrev pub id_after : SlotConfig → ℕ → ℕ
 id_after config counter = if config.multicast then counter else counter + 1
 
--- the serial number of an opening of the slot is drawn, and its id where it has one
+-- the table after an opening of the slot took a serial number and, if it is point to point, a connection id
 abbrev pub drawn : ScannerTable → SlotConfig → ScannerTable
 drawn t config = record t { next_id = id_after config t.next_id; next_serial = serial_after t.next_serial }
 
@@ -43,47 +43,47 @@ drawn t config = record t { next_id = id_after config t.next_id; next_serial = s
 abbrev pub later : Ms → ℕ → Ms
 later clock ms = record { 0 = clock.0 + ms }
 
--- the slot waits for the answer to its next opening
+-- the slot waits for the reply to its Forward_Open
 abbrev pub opening_slot : ScannerTable → IndexedSlot → Slot
 opening_slot t indexed = record indexed.slot {
   state = Opening (record { request = t.next_request; requested = next_requested t indexed.config; deadline = later t.clock t.profile.open_timeout });
 }
 
--- the slot is not to be open
+-- the slot is idle, and its connection is no longer desired
 abbrev pub resigned : Slot → Slot
 resigned slot = record slot { state = Idle; desired_up = false }
 
--- no number is left for what the slot was to ask
+-- no number is left for the request of the slot: it stays closed, and a notice says so
 abbrev pub exhausted : ScannerTable → IndexedSlot → Effect
 exhausted t indexed = changed t indexed (resigned indexed.slot) (notice.NoIds indexed.number ∷ [])
 
--- a Forward_Open is sent
+-- the slot sends a Forward_Open
 abbrev pub open_requested : ScannerTable → IndexedSlot → Session → Effect
 open_requested t indexed session =
     request_sent (drawn t indexed.config) indexed session (opening (is_large indexed.config) (open_fields indexed.config (next_requested t indexed.config))) (opening_slot t indexed)
 
--- the same, where numbers are left for it, within a session
+-- the slot opens over a session, if one is registered and numbers are left
 abbrev pub opened_within : ScannerTable → IndexedSlot → Option Session → Effect
 opened_within t indexed None = nothing t
 opened_within t indexed (Some session) = if can_open t indexed.config then open_requested t indexed session else exhausted t indexed
 
--- a slot opens, where the session with its target is registered
+-- a slot opens, if the session with its target is registered
 unfoldable pub opened : ScannerTable → IndexedSlot → Effect
 opened t indexed = opened_within t indexed (session_with t indexed.config.target)
 
--- OPENING ALL THAT MAY
+-- OPENING ALL READY SLOTS
 
 abbrev pub is_ready_slot : Ms → IndexedSlot → Bool
 is_ready_slot clock indexed = is_ready clock indexed.slot
 
--- the slots that may try now, in their order
+-- the slots that are ready to open, in the order of their numbers
 abbrev pub ready_slots : ScannerTable → List IndexedSlot
 ready_slots t = filter (is_ready_slot t.clock) (indexed_slots t)
 
--- all slots that may try now
+-- all ready slots open
 unfoldable pub ready_opened : ScannerTable → Effect
 ready_opened t = on_each opened (ready_slots t) t
 
--- those among them with the target
+-- the ready slots of one target open
 unfoldable pub target_opened : Node → ScannerTable → Effect
 target_opened target t = on_each opened (filter (is_with target) (ready_slots t)) t

@@ -1,5 +1,5 @@
--- What the application does at a scanner: it writes outputs, reads images, runs or is idle, and starts and
--- stops slots (Volume 1, chapter 3, real time formats and run/idle).
+-- The application at a scanner: it writes outputs, reads images, changes between run and idle, and starts and stops slots
+-- (Volume 1, chapter 3, real time formats and run/idle).
 use Rattle.std.specs.Prelude.{ℕ, ◌==◌, not, Bool, true, false, if◌then◌else◌, List, length, map, Option, Some, None, Result, Ok, Err}
 use Rattle.cip_events.specs.declared.event.StepFault.{StepFault}
 use Rattle.cip_events.specs.declared.event.StepFault.TheVariants as fault
@@ -18,7 +18,7 @@ use Rattle.scanner_table.specs.Productions.{written_state}
 
 -- OUTPUTS AND IMAGES
 
--- other bytes for the slot's output, which are new data
+-- the slot with another output, which its producer sends as new data
 abbrev pub output_slot : List ℕ → Slot → Slot
 output_slot bytes slot = record slot { output = bytes; state = written_state slot.state }
 
@@ -28,12 +28,12 @@ output_written t indexed bytes = (plain_answer Done, with_slot t indexed.number 
 abbrev pub write_length : ScannerTable → IndexedSlot → List ℕ → Result Next StepFault
 write_length t indexed bytes = if length bytes == indexed.config.out_len then Ok (output_written t indexed bytes) else Err fault.WrongLength
 
--- only an owner has an output
+-- only an exclusive owner has an output
 abbrev pub write_at : ScannerTable → List ℕ → Option IndexedSlot → Result Next StepFault
 write_at t bytes None = Err fault.NoSuchSlot
 write_at t bytes (Some indexed) = if is_owner indexed.config.kind then write_length t indexed bytes else Err fault.NotAllowedNow
 
--- other bytes for an output
+-- the application writes the output of a slot
 unfoldable pub write : ScannerTable → ℕ → List ℕ → Result Next StepFault
 write t number bytes = write_at t bytes (slot_at t number)
 
@@ -41,40 +41,40 @@ abbrev pub read_at : ScannerTable → Option IndexedSlot → Result Next StepFau
 read_at t None = Err fault.NoSuchSlot
 read_at t (Some indexed) = Ok (value_answer indexed.slot.image, t)
 
--- what a slot gathered
+-- the application reads the image of a slot
 unfoldable pub read : ScannerTable → ℕ → Result Next StepFault
 read t number = read_at t (slot_at t number)
 
 -- RUN AND IDLE
 
--- two modes are one
+-- the two modes are equal
 abbrev pub same_mode : Bool → Bool → Bool
 same_mode true other = other
 same_mode false other = not other
 
--- an owner's producer has new data, since the mode goes with them
+-- an exclusive owner has new data at a change of mode, since its data carry the mode
 abbrev pub moded_slot : IndexedSlot → Slot
 moded_slot indexed = if is_owner indexed.config.kind then record indexed.slot { state = written_state indexed.slot.state } else indexed.slot
 
--- the application changes to a mode
+-- the table after a change of mode
 abbrev pub moded_table : ScannerTable → Bool → ScannerTable
 moded_table t run = record t { run = run; slots = map moded_slot (indexed_slots t) }
 
--- the mode that holds already is no change
+-- the application sets the mode; the present mode again changes nothing
 unfoldable pub mode : ScannerTable → Bool → Next
 mode t run = (plain_answer Done, if same_mode run t.run then t else moded_table t run)
 
 -- STARTS AND STOPS
 
--- the slot is to be open, from now on
+-- the connection is desired from now on
 abbrev pub desired_slot : ScannerTable → Slot → Slot
 desired_slot t slot = record slot { desired_up = true; retry_at = t.clock }
 
--- the slot opens, where it can at once
+-- the connection is desired, and the slot opens at once if it can
 abbrev pub started : ScannerTable → IndexedSlot → Slot → Effect
 started t indexed slot = opened (with_slot t indexed.number slot) (record indexed { slot = slot })
 
--- only an idle slot that is not to be open can be started
+-- only an idle slot whose connection is not desired yet accepts a start
 abbrev pub start_state : ScannerTable → IndexedSlot → SlotState → Result Next StepFault
 start_state t indexed Idle = if indexed.slot.desired_up then Err fault.NotAllowedNow else Ok (done (started t indexed (desired_slot t indexed.slot)))
 start_state t indexed (Opening o) = Err fault.NotAllowedNow
@@ -86,7 +86,7 @@ abbrev pub start_at : ScannerTable → Option IndexedSlot → Result Next StepFa
 start_at t None = Err fault.NoSuchSlot
 start_at t (Some indexed) = start_state t indexed indexed.slot.state
 
--- a slot is to be open
+-- the application starts a slot
 unfoldable pub start : ScannerTable → ℕ → Result Next StepFault
 start t number = start_at t (slot_at t number)
 
@@ -94,6 +94,6 @@ abbrev pub stop_of : Result Effect StepFault → Result Next StepFault
 stop_of (Err why) = Err why
 stop_of (Ok effect) = Ok (done effect)
 
--- a slot is not to be open
+-- the application stops a slot
 unfoldable pub stop : ScannerTable → ℕ → Result Next StepFault
 stop t number = stop_of (stopped_at t (slot_at t number))

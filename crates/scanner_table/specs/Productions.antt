@@ -1,4 +1,4 @@
--- What the slots send: when each is due, and what it produces (Volume 1, chapter 3, class 1 transport and real
+-- Productions of the slots: when each is due, and which datagram it sends (Volume 1, chapter 3, class 1 transport and real
 -- time formats; Volume 2, chapter 2, sequenced address item).
 use Rattle.std.specs.Prelude.{ℕ, ◌==◌, ◌&&◌, ◌||◌, nat_lt, Bool, true, false, if◌then◌else◌, List, [], ◌∷◌, ◌++◌, map, filter, Option, Some, None}
 use Rattle.std.specs.Int.{w32, to_le_bytes}
@@ -29,9 +29,9 @@ written_state (Established c) = Established (written_connection c)
 written_state (TimedOut link) = TimedOut link
 written_state (Closing c) = Closing c
 
--- WHAT A SLOT PRODUCES
+-- THE DATAGRAM OF A SLOT
 
--- what a slot sends: an owner the mode of the application and its output, another kind nothing
+-- the data of a slot: an exclusive owner sends the run/idle header and its output, another kind sends no data
 abbrev pub slot_data : Bool → IndexedSlot → List ℕ
 slot_data run indexed = if is_owner indexed.config.kind then to_le_bytes w32 (mode_header run) ++ indexed.slot.output else []
 
@@ -39,7 +39,7 @@ slot_data run indexed = if is_owner indexed.config.kind then to_le_bytes w32 (mo
 abbrev pub connection_producer : IndexedSlot → Connection → Producer
 connection_producer indexed c = record { point = indexed.number; id = c.link.o_t_id; production = c.production }
 
--- what a connection produces next, for its target alone
+-- the next production of a connection, for its target alone
 abbrev pub connection_production : Bool → IndexedSlot → Connection → Produced
 connection_production run indexed c = produced_by (indexed.config.target ∷ []) (slot_data run indexed) (connection_producer indexed c)
 
@@ -50,11 +50,11 @@ state_production run indexed (Established c) = Some (connection_production run i
 state_production run indexed (TimedOut link) = None
 state_production run indexed (Closing c) = None
 
--- what a slot produces next, which one with an established connection does
+-- the next production of a slot, if its connection is established
 abbrev pub slot_production : Bool → IndexedSlot → Option Produced
 slot_production run indexed = state_production run indexed indexed.slot.state
 
--- SLOTS THAT ARE DUE
+-- DUE SLOTS
 
 abbrev pub state_is_due : Ms → SlotState → Bool
 state_is_due clock Idle = false
@@ -73,7 +73,7 @@ due_of (Established c) = c.production.due.0
 due_of (TimedOut link) = 0
 due_of (Closing c) = 0
 
--- by when they are due, and then by their numbers
+-- by their due times, and then by their numbers
 abbrev pub by_due : IndexedSlot → IndexedSlot → Bool
 by_due indexed other =
     nat_lt (due_of indexed.slot.state) (due_of other.slot.state) || (due_of indexed.slot.state == due_of other.slot.state && nat_lt indexed.number other.number)
@@ -81,7 +81,7 @@ by_due indexed other =
 abbrev pub due_slots : ScannerTable → List IndexedSlot
 due_slots t = in_order by_due (filter (is_due t.clock) (indexed_slots t))
 
--- what the slots that are due produce
+-- the productions of the due slots
 abbrev pub due_productions : ScannerTable → List Produced
 due_productions t = filter_map (slot_production t.run) (due_slots t)
 
@@ -95,10 +95,10 @@ produced_state clock (Established c) = Established (produced_connection clock c)
 produced_state clock (TimedOut link) = TimedOut link
 produced_state clock (Closing c) = Closing c
 
--- a slot has produced, where it was due
+-- the slot after its production, if it was due
 abbrev pub produced_slot : Ms → Slot → Slot
 produced_slot clock slot = if state_is_due clock slot.state then record slot { state = produced_state clock slot.state } else slot
 
--- the table after the productions that are due
+-- the table after the due productions
 unfoldable pub produced_table : ScannerTable → ScannerTable
 produced_table t = record t { slots = map (produced_slot t.clock) t.slots }

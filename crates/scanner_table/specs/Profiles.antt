@@ -1,5 +1,5 @@
--- What a scanner is made of, and the first thing that is wrong with it (Volume 1, chapter 3, application
--- connection types, requested packet interval, connection timeout multiplier, production inhibit time).
+-- The check of a scanner's profile: its tests, and the first fault (Volume 1, chapter 3, application connection types,
+-- requested packet interval, connection timeout multiplier, production inhibit time).
 use Rattle.std.specs.Prelude.{ℕ, ◌%◌, ◌==◌, ◌&&◌, ◌||◌, not, nat_le, Bool, true, if◌then◌else◌, List, [], ◌∷◌, length, Option, Some, None}
 use Rattle.std.specs.List.{list_any, list_all}
 use Rattle.cip_types.specs.Cases.{Case, first_case}
@@ -19,18 +19,18 @@ use Rattle.scanner_table.specs.declared.profile.ScannerProfile.{ScannerProfile}
 abbrev pub are_few : List SlotConfig → Bool
 are_few slots = nat_le 1 (length slots) && nat_le (length slots) 64
 
--- a listener listens to a group
+-- a listen-only slot is multicast
 abbrev pub listens_to_group : SlotConfig → Bool
 listens_to_group slot = not (is_listener slot.kind) || slot.multicast
 
 abbrev pub are_served : ScannerProfile → Bool
 are_served profile = are_few profile.slots && list_all listens_to_group profile.slots
 
--- two slots are multicast, for one produced point of one target
+-- both slots are multicast, and name one produced point of one target
 abbrev pub shares_group : SlotConfig → SlotConfig → Bool
 shares_group slot other = (slot.multicast && other.multicast) && (slot.target.0 == other.target.0 && slot.produced == other.produced)
 
--- no two slots are
+-- no two slots share a group
 abbrev pub are_apart : List SlotConfig → Bool
 are_apart [] = true
 are_apart (slot ∷ slots) = not (list_any (shares_group slot) slots) && are_apart slots
@@ -41,11 +41,11 @@ are_apart (slot ∷ slots) = not (list_any (shares_group slot) slots) && are_apa
 abbrev pub is_point_len : ℕ → Bool
 is_point_len len = nat_le 1 len && nat_le len 1400
 
--- an owner sends an output, and a connection of another kind sends nothing
+-- an exclusive owner sends an output, and a connection of another kind sends no data
 abbrev pub is_out_len : Kind → ℕ → Bool
 is_out_len kind len = if is_owner kind then is_point_len len else len == 0
 
--- 0 to 400 bytes in whole words of two bytes, and none where no configuration is named
+-- 0 to 400 bytes in whole words of two bytes, and none if the slot names no configuration instance
 abbrev pub is_config : Option ℕ → List ℕ → Bool
 is_config None bytes = length bytes == 0
 is_config (Some instance) bytes = nat_le (length bytes) 400 && length bytes % 2 == 0
@@ -55,7 +55,7 @@ has_lengths slot = is_point_len slot.in_len && (is_out_len slot.kind slot.out_le
 
 -- TIMES
 
--- only a producer of changes is held back, for no longer than its packet interval
+-- only a change-of-state producer has an inhibit time, at most its packet interval in milliseconds
 abbrev pub is_inhibit : Trigger → ℕ → ℕ → Bool
 is_inhibit Cyclic inhibit api = inhibit == 0
 is_inhibit ChangeOfState inhibit api = nat_le inhibit api
@@ -74,7 +74,7 @@ keeps_time profile = list_all has_times profile.slots && (is_wait profile.open_t
 
 -- THE FIRST FAULT
 
--- each test of a profile that may fail, and what is wrong where it does
+-- the tests of a profile in their order, each with its fault
 abbrev pub profile_tests : ScannerProfile → List (Case ProfileFault)
 profile_tests profile =
     (profile.incarnation == 0, Incarnation)
@@ -84,6 +84,6 @@ profile_tests profile =
     ∷ (not (keeps_time profile), Timing)
     ∷ []
 
--- what is wrong by the first test that fails
+-- the fault of the first test that fails
 unfoldable pub profile_fault : ScannerProfile → Option ProfileFault
 profile_fault profile = first_case (profile_tests profile)

@@ -1,5 +1,5 @@
--- Replies to a slot's requests: why one does not open the connection, and what one does (Volume 1, chapter 3,
--- Forward_Open service, successful and unsuccessful response; Volume 2, chapter 2, SendRRData).
+-- Replies to a Forward_Open: how the scanner reads one, and what it does to the slot (Volume 1, chapter 3, Forward_Open
+-- service, successful and unsuccessful response; Volume 2, chapter 2, SendRRData).
 use Rattle.std.specs.Prelude.{ℕ, ◌==◌, ◌&&◌, not, Bool, true, false, if◌then◌else◌, [], ◌∷◌, replicate, Option, Some, None, Result, Ok, Err}
 use Rattle.std.specs.List.{list_any}
 use Rattle.cip_types.specs.Cases.{first_case}
@@ -34,9 +34,9 @@ use Rattle.scanner_table.specs.Slots.{IndexedSlot, indexed_slots, is_numbered, i
 use Rattle.scanner_table.specs.Effects.{Effect, changed}
 use Rattle.scanner_table.specs.Opening.{later}
 
--- WHAT A MESSAGE ANSWERS
+-- READING A REPLY
 
--- a reply is one of the service that was asked for
+-- the reply is readable if its service is that of the request
 abbrev pub serviced : Bool → OpenReply → Result OpenAnswer Reason
 serviced large reply = if reply.service == opened_service large then Ok reply.answer else Err reason.Unreadable
 
@@ -48,15 +48,15 @@ abbrev pub packet_answer : Bool → Result PacketFields ItemFault → Result Ope
 packet_answer large (Err fault) = Err reason.Unreadable
 packet_answer large (Ok packet) = reply_answer large (open_reply_reading packet.payload)
 
--- only a message of SendRRData has items
+-- only a SendRRData message carries a reply
 abbrev pub command_answer : Bool → MessageFields → Result OpenAnswer Reason
 command_answer large m = if m.command == 0x006F then packet_answer large (packet_reading m.payload) else Err reason.Unreadable
 
--- what a message answers to a Forward_Open of either size; its status goes first
+-- the answer in a message to a Forward_Open or, if large, to a Large_Forward_Open; the encapsulation status goes first
 unfoldable pub open_answer : Bool → MessageFields → Result OpenAnswer Reason
 open_answer large m = if m.status == 0 then command_answer large m else Err (reason.Encap m.status)
 
--- WHAT AN ANSWER DOES
+-- THE EFFECT OF A REPLY
 
 abbrev pub state_consumes : ConnId → SlotState → Bool
 state_consumes id Idle = false
@@ -73,7 +73,7 @@ uses_id number target id indexed = not (is_numbered number indexed) && (is_with 
 abbrev pub is_id_free : ScannerTable → IndexedSlot → ConnId → Bool
 is_id_free t indexed id = not (list_any (uses_id indexed.number indexed.config.target id) (indexed_slots t))
 
--- the producer of a connection that begins: it is cyclic, its data are new, and due at once
+-- the producer of a new connection: it is cyclic, has new data, and is due at once
 abbrev pub new_production : ScannerTable → IndexedSlot → Production
 new_production t indexed = record {
   producer = indexed.number;
@@ -87,7 +87,7 @@ new_production t indexed = record {
   last = None;
 }
 
--- the connection that a success opens, with the packet intervals that it tells
+-- the connection that a successful reply opens, with the actual packet intervals of the reply
 abbrev pub new_connection : ScannerTable → IndexedSlot → pending.PendingOpen → made.Opened → Connection
 new_connection t indexed opening opened = record {
   opening = opening.request;
@@ -99,15 +99,15 @@ new_connection t indexed opening opened = record {
   production = new_production t indexed;
 }
 
--- the slot has the connection, and has gathered nothing yet
+-- the slot with its new connection, and an image of zeros
 abbrev pub established_slot : IndexedSlot → Connection → Slot
 established_slot indexed connection = record indexed.slot { state = Established connection; image = replicate indexed.config.in_len 0 }
 
--- the slot may try again after a while
+-- the slot opens again after the retry time
 abbrev pub failed_slot : ScannerTable → SlotState → Slot → Slot
 failed_slot t state slot = record slot { state = state; retry_at = later t.clock t.profile.retry }
 
--- a reply that opens nothing
+-- the reply opens no connection: a notice gives the reason
 abbrev pub refused : ScannerTable → IndexedSlot → Reason → Effect
 refused t indexed why = changed t indexed (failed_slot t Idle indexed.slot) (notice.Refused indexed.number why ∷ [])
 
@@ -115,7 +115,7 @@ abbrev pub judged_success : ScannerTable → IndexedSlot → pending.PendingOpen
 judged_success t indexed opening opened (Some why) = refused t indexed (reason.Mismatch why)
 judged_success t indexed opening opened None = changed t indexed (established_slot indexed (new_connection t indexed opening opened)) []
 
--- what an answer does to the slot that waits for it
+-- the effect of the answer on the slot that waits for it
 unfoldable pub answered : ScannerTable → IndexedSlot → pending.PendingOpen → Result OpenAnswer Reason → Effect
 answered t indexed opening (Err why) = refused t indexed why
 answered t indexed opening (Ok (answer.Refused r)) = refused t indexed (reason.Cip r.fault)

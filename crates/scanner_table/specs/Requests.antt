@@ -1,4 +1,4 @@
--- What a scanner asks of its targets, and the messages that ask it (Volume 1, chapter 3, Forward_Open,
+-- The requests that a scanner sends to its targets, and their messages (Volume 1, chapter 3, Forward_Open,
 -- Large_Forward_Open and Forward_Close services; Volume 2, chapter 2, RegisterSession and SendRRData).
 use Rattle.std.specs.Prelude.{ℕ, ◌+◌, ◌*◌, ◌/◌, ◌^◌, ◌==◌, ◌||◌, nat_lt, Bool, false, if◌then◌else◌, List, [], ◌∷◌, ◌++◌, length, Option, Some, None}
 use Rattle.std.specs.Option.{option_map}
@@ -37,7 +37,7 @@ o_t_size config = if is_owner config.kind then config.out_len + 6 else 2
 abbrev pub t_o_size : SlotConfig → ℕ
 t_o_size config = config.in_len + 2
 
--- a size does not fit the parameters of a Forward_Open: a Large_Forward_Open is sent
+-- a size does not fit into the parameters of a Forward_Open, so the slot sends a Large_Forward_Open
 abbrev pub is_large : SlotConfig → Bool
 is_large config = nat_lt 511 (o_t_size config) || nat_lt 511 (t_o_size config)
 
@@ -48,11 +48,11 @@ slot_params size kind = record { size = size; variable = false; priority = Sched
 abbrev pub t_o_type : Bool → ConnectionType
 t_o_type multicast = if multicast then Multicast else PointToPoint
 
--- no inhibit segment is written for 0
+-- an inhibit time of 0 needs no segment
 abbrev pub inhibit_of : ℕ → Option ℕ
 inhibit_of inhibit = if inhibit == 0 then None else Some inhibit
 
--- no data segment is written for no data
+-- configuration data of no bytes need no segment
 abbrev pub segment_of : List ℕ → Option (List ℕ)
 segment_of [] = None
 segment_of (byte ∷ bytes) = Some (byte ∷ bytes)
@@ -69,11 +69,11 @@ slot_path config = record {
   segment = segment_of config.config_data;
 }
 
--- the byte that begins a device's ids, and a counter
+-- the incarnation as the high byte, and the counter as the low 24 bits
 abbrev pub connection_id : ScannerProfile → ℕ → ConnId
 connection_id profile counter = record { 0 = profile.incarnation * 2 ^ 24 + counter }
 
--- the serial number of the next opening, by the scanner's own numbers
+-- the triad of the next opening: the next serial number, and the scanner's vendor id and serial number
 abbrev pub next_triad : ScannerTable → Triad
 next_triad t = record { serial = t.next_serial; vendor = t.profile.vendor; originator = t.profile.serial }
 
@@ -81,7 +81,7 @@ next_triad t = record { serial = t.next_serial; vendor = t.profile.vendor; origi
 abbrev pub next_t_o_id : ScannerTable → SlotConfig → Option ConnId
 next_t_o_id t config = if config.multicast then None else Some (connection_id t.profile t.next_id)
 
--- what the next opening of a slot asks for
+-- the triad and the id that the next opening of a slot asks for
 abbrev pub next_requested : ScannerTable → SlotConfig → Requested
 next_requested t config = record { triad = next_triad t; t_o_id = next_t_o_id t config }
 
@@ -89,7 +89,7 @@ abbrev pub id_or_zero : Option ConnId → ConnId
 id_or_zero None = record { 0 = 0 }
 id_or_zero (Some id) = id
 
--- the request that asks for a connection; the target chooses the O->T id
+-- the Forward_Open request of a slot; the target chooses the O->T id
 abbrev pub open_fields : SlotConfig → Requested → OpenFields
 open_fields config requested = record {
   priority_tick = 0x0A;
@@ -106,19 +106,19 @@ open_fields config requested = record {
   path = path_text (slot_path config);
 }
 
--- the request that ends it
+-- the Forward_Close request of a slot
 abbrev pub close_fields : SlotConfig → Triad → CloseFields
 close_fields config triad = record { priority_tick = 0x0A; ticks = 0x0E; triad = triad; path = path_text (slot_path config) }
 
 -- MESSAGES
 
--- what a scanner asks: a session, a connection by a Forward_Open of either size, or its end
+-- a request: to register a session, to open a connection by a Forward_Open or a Large_Forward_Open, or to close it
 pub data Request : Type 0 where
   registering : Request
   opening : Bool → OpenFields → Request
   closing : CloseFields → Request
 
--- a request on its way: the number of the stream, the handle of the session, and the number of the request
+-- a request with the number of its stream, the handle of its session, and its own number
 pub record Sent : Type 0 where
   pub stream : ℕ
   pub session : ℕ
@@ -148,7 +148,7 @@ request_data registering = protocol_text
 request_data (opening large fields) = packet_text (manager_text (open_service large) (open_text large fields)) None
 request_data (closing fields) = packet_text (manager_text 0x4E (close_text fields)) None
 
--- the request's number is the sender context, which the reply sends back
+-- the number of the request is its sender context, which the reply repeats
 abbrev pub sent_message : Sent → MessageFields
 sent_message sent = record {
   command = request_command sent.request;

@@ -15,7 +15,7 @@ use Rattle.scanner_table.specs.declared.table.TargetStream.{TargetStream}
 abbrev pub is_stream : ℕ → TargetStream → Bool
 is_stream number stream = stream.number == number
 
--- it has another one
+-- the stream has another number
 abbrev pub is_other_stream : ℕ → TargetStream → Bool
 is_other_stream number stream = not (is_stream number stream)
 
@@ -23,19 +23,19 @@ is_other_stream number stream = not (is_stream number stream)
 abbrev pub is_to : Node → TargetStream → Bool
 is_to target stream = stream.peer.0 == target.0
 
--- a stream of this number is open, or one to this target, or 16 are
+-- the number is in use, the target has a stream already, or 16 streams are open
 abbrev pub is_taken : List TargetStream → ℕ → Node → Bool
 is_taken streams number target = list_any (is_stream number) streams || (list_any (is_to target) streams || nat_le 16 (length streams))
 
--- the stream is open, the last one, and its registration is waited for
+-- the table with one more stream, whose registration waits for its reply
 abbrev pub with_stream : ScannerTable → ℕ → Node → ScannerTable
 with_stream t number target = record t { streams = t.streams ++ record { number = number; peer = target; stage = Waiting } ∷ [] }
 
--- the stream is not open any more
+-- the table without the stream of this number
 abbrev pub without_stream : ScannerTable → ℕ → ScannerTable
 without_stream t number = record t { streams = filter (is_other_stream number) t.streams }
 
--- the stream of this number has come so far
+-- the stream, in the new stage if it has this number
 abbrev pub staged_stream : ℕ → Stage → TargetStream → TargetStream
 staged_stream number stage stream = if is_stream number stream then record stream { stage = stage } else stream
 

@@ -1,5 +1,5 @@
--- The slots of a scanner in their places, and how far the connection of each is (Volume 1, chapter 3,
--- connection object state).
+-- The slots of a scanner with their numbers, and the state of each connection (Volume 1, chapter 3, connection object
+-- state).
 use Rattle.std.specs.Prelude.{ℕ, suc, ◌==◌, nat_le, ◌&&◌, Bool, true, false, List, [], ◌∷◌, find, slice_set, Option}
 use Rattle.cip_types.specs.declared.names.Node.{Node}
 use Rattle.cip_types.specs.declared.names.Ms.{Ms}
@@ -9,15 +9,15 @@ use Rattle.scanner_table.specs.declared.slot.SlotState.{SlotState}
 use Rattle.scanner_table.specs.declared.slot.SlotState.TheVariants.{Idle, Opening, Established, TimedOut, Closing}
 use Rattle.scanner_table.specs.declared.table.ScannerTable.{ScannerTable}
 
--- PLACES
+-- INDEXED SLOTS
 
--- a slot with its number and what the profile says of it
+-- a slot with its number and its configuration
 pub record IndexedSlot : Type 0 where
   pub number : ℕ
   pub config : SlotConfig
   pub slot : Slot
 
--- the slots in their places, from a number on
+-- the slots with their configurations, numbered from this number on
 abbrev pub indexed_from : ℕ → List SlotConfig → List Slot → List IndexedSlot
 indexed_from number [] slots = []
 indexed_from number (config ∷ configs) [] = []
@@ -29,21 +29,21 @@ indexed_slots t = indexed_from 0 t.profile.slots t.slots
 abbrev pub is_numbered : ℕ → IndexedSlot → Bool
 is_numbered number indexed = indexed.number == number
 
--- the place of a number, if the scanner has so many slots
+-- the slot of this number, if the scanner has one
 abbrev pub slot_at : ScannerTable → ℕ → Option IndexedSlot
 slot_at t number = find (is_numbered number) (indexed_slots t)
 
--- the place is for connections with the target
+-- the slot connects to this target
 abbrev pub is_with : Node → IndexedSlot → Bool
 is_with target indexed = indexed.config.target.0 == target.0
 
--- the table with another slot in a place
+-- the table with another slot under this number
 abbrev pub with_slot : ScannerTable → ℕ → Slot → ScannerTable
 with_slot t number slot = record t { slots = slice_set t.slots number slot }
 
 -- STATES
 
--- the standard's number of a state
+-- the number of a state in the standard and in notices
 abbrev pub number_of : SlotState → ℕ
 number_of Idle = 0
 number_of (Opening o) = 2
@@ -51,14 +51,14 @@ number_of (Established c) = 3
 number_of (TimedOut link) = 4
 number_of (Closing c) = 6
 
--- nothing is sent and nothing waited for: a wanted slot may try again
-abbrev pub is_resting : SlotState → Bool
-is_resting Idle = true
-is_resting (Opening o) = false
-is_resting (Established c) = false
-is_resting (TimedOut link) = true
-is_resting (Closing c) = false
+-- the slot has no connection and waits for no reply, so it may open
+abbrev pub is_closed : SlotState → Bool
+is_closed Idle = true
+is_closed (Opening o) = false
+is_closed (Established c) = false
+is_closed (TimedOut link) = true
+is_closed (Closing c) = false
 
--- the slot is to be open, is not, and may try now
+-- the connection is desired, is not open, and its retry time has come
 abbrev pub is_ready : Ms → Slot → Bool
-is_ready clock slot = slot.desired_up && (is_resting slot.state && nat_le slot.retry_at.0 clock.0)
+is_ready clock slot = slot.desired_up && (is_closed slot.state && nat_le slot.retry_at.0 clock.0)

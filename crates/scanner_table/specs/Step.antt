@@ -15,7 +15,8 @@ use Rattle.scanner_table.specs.Datagrams.{received}
 use Rattle.scanner_table.specs.Points.{write, read, mode, start, stop}
 use Rattle.scanner_table.specs.Ticks.{tick}
 
--- Either the first fault, the table staying, or an answer and the next table. Want of memory is never named.
+-- The first fault, or the answer and the next table. A fault leaves the table unchanged. The definition has no fault for
+-- lack of memory: contracts of devices say where that may come.
 abbrev pub scanner_step : ScannerTable → Event → Result Next StepFault
 scanner_step t (Request peer bytes) = Err NotAllowedNow
 scanner_step t (StreamOpened stream peer) = stream_opened t stream peer
@@ -29,7 +30,7 @@ scanner_step t (Mode run) = Ok (mode t run)
 scanner_step t (Start slot) = start t slot
 scanner_step t (Stop slot) = stop t slot
 
--- a slot that was never started: nothing is to be open, and there are zeros on both sides
+-- a slot before its first start: its connection is not desired, and output and image are zeros
 abbrev pub fresh_slot : SlotConfig → Slot
 fresh_slot config = record {
   state = Idle;
@@ -39,7 +40,7 @@ fresh_slot config = record {
   image = replicate config.in_len 0;
 }
 
--- the table of a fresh scanner: it is idle, its clock 0, its numbers the first ones, and no stream is open
+-- the table of a fresh scanner: idle, with clock 0, with all numbers at 1, and without streams
 abbrev pub scanner_table : ScannerProfile → ScannerTable
 scanner_table profile = record {
   profile = profile;

@@ -1,6 +1,5 @@
--- Time at a scanner. A tick moves the clock, then connections whose deadline has come time out, then slots give
--- up answers that did not come, then slots that may try open, and then the slots that are due produce (Volume 1,
--- chapter 3, connection timeouts, inactivity watchdog).
+-- Time at a scanner. A tick moves the clock; then connections whose deadline has come time out; then slots give up late
+-- replies; then ready slots open; then due slots produce (Volume 1, chapter 3, connection timeouts, inactivity watchdog).
 use Rattle.std.specs.Prelude.{ℕ, ◌+◌, ◌==◌, ◌&&◌, ◌||◌, nat_lt, nat_le, Bool, false, List, [], ◌∷◌, map, filter, Result, Ok, Err}
 use Rattle.cip_types.specs.Cases.{first_case_or}
 use Rattle.cip_types.specs.declared.names.Ms.{Ms}
@@ -39,7 +38,7 @@ deadline_of (Established c) = c.deadline.0
 deadline_of (TimedOut link) = 0
 deadline_of (Closing c) = c.deadline.0
 
--- by deadlines, and then by their numbers
+-- by their deadlines, and then by their numbers
 abbrev pub by_deadline : IndexedSlot → IndexedSlot → Bool
 by_deadline indexed other =
     nat_lt (deadline_of indexed.slot.state) (deadline_of other.slot.state) || (deadline_of indexed.slot.state == deadline_of other.slot.state && nat_lt indexed.number other.number)
@@ -47,7 +46,7 @@ by_deadline indexed other =
 abbrev pub expired_slots : ScannerTable → List IndexedSlot
 expired_slots t = in_order by_deadline (filter (has_expired t.clock) (indexed_slots t))
 
--- a connection times out: its image stays, and it may be tried again after a while
+-- the connection times out: the image stays, and the slot opens again after the retry time
 abbrev pub expired_state : ScannerTable → IndexedSlot → SlotState → Effect
 expired_state t indexed Idle = nothing t
 expired_state t indexed (Opening o) = nothing t
@@ -61,7 +60,7 @@ expired t indexed = expired_state t indexed indexed.slot.state
 unfoldable pub all_expired : ScannerTable → Effect
 all_expired t = on_each expired (expired_slots t) t
 
--- ANSWERS THAT DO NOT COME
+-- LATE REPLIES
 
 abbrev pub state_is_overdue : Ms → SlotState → Bool
 state_is_overdue clock Idle = false
@@ -70,7 +69,7 @@ state_is_overdue clock (Established c) = false
 state_is_overdue clock (TimedOut link) = false
 state_is_overdue clock (Closing c) = nat_le c.deadline.0 clock.0
 
--- the slot has waited for an answer long enough
+-- the deadline of the slot's request has come
 abbrev pub is_overdue : Ms → IndexedSlot → Bool
 is_overdue clock indexed = state_is_overdue clock indexed.slot.state
 
@@ -82,15 +81,15 @@ all_given_up t = on_each given_up (filter (is_overdue t.clock) (indexed_slots t)
 abbrev pub clocked_table : ScannerTable → ℕ → ScannerTable
 clocked_table t ms = record t { clock = record { 0 = t.clock.0 + ms } }
 
--- what becomes of connections, before productions
+-- the connections after the clock has moved, before productions
 abbrev pub advanced : ScannerTable → Effect
 advanced t = and_then (and_then (all_expired t) all_given_up) ready_opened
 
--- what is sent and told, and the table after the productions
+-- the answer with the requests, the notices and the due datagrams, and the table after the productions
 abbrev pub ticked : Effect → Next
 ticked effect = (sent_answer effect (map sent (due_productions effect.table)), produced_table effect.table)
 
--- some milliseconds pass; not too many, and the clock does not pass its end
+-- a number of milliseconds passes: at most the longest tick, and not beyond the end of the clock
 unfoldable pub tick : ScannerTable → ℕ → Result Next StepFault
 tick t ms = first_case_or (Ok (ticked (advanced (clocked_table t ms)))) (
     (nat_lt longest_tick ms, Err fault.TickTooLong)

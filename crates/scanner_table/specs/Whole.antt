@@ -1,5 +1,5 @@
--- What every table of a scanner keeps that was made from a faultless profile, whatever happens to it: slots
--- with their bytes, requests that were numbered, and numbers that have not passed their limits.
+-- The invariant of a scanner's table: it holds of a fresh table whose profile has no fault, and every step keeps it. Slots
+-- match their configurations, requests and streams are distinct, and numbers are within their limits.
 use Rattle.std.specs.Prelude.{◌≡◌, ℕ, ◌&&◌, ◌+◌, ◌<◌, ◌≤◌, ◌^◌, Bool, true, false, List, [], ◌∷◌, length, None}
 use Rattle.std.specs.List.{list_any}
 use Rattle.scanner_table.specs.declared.profile.SlotConfig.{SlotConfig}
@@ -17,16 +17,16 @@ use Rattle.scanner_table.specs.Sessions.{is_stream, is_to}
 
 -- SLOTS
 
--- an open connection came from a numbered opening, has packet intervals of at most 10 seconds in milliseconds,
--- and is due within one of them
+-- the number of the opening was given out before, the packet intervals are at most 10,000 ms, and the producer is due within
+-- 10,000 ms
 pub record FitsConnection (next_request clock : ℕ) (c : Connection) : Type 0 where
   pub opening : c.opening < next_request
   pub o_t_api_ms : c.o_t_api_ms ≤ 10000
   pub t_o_api_ms : c.t_o_api_ms ≤ 10000
   pub due : c.production.due.0 ≤ clock + 10000
 
--- A slot that is not to be open does not open: only one that is to be is opening, open or timed out, and only
--- one that is not closes. Requests that are not answered were numbered.
+-- Only a slot whose connection is desired opens, is established or has timed out; only one whose connection is not desired
+-- closes. The number of a pending request was given out before.
 abbrev pub FitsState : ℕ → ℕ → Bool → SlotState → Type 0
 FitsState next_request clock desired_up Idle = Unit {0}
 FitsState next_request clock desired_up (Opening o) = (desired_up ≡ true) × (o.request < next_request)
@@ -34,13 +34,13 @@ FitsState next_request clock desired_up (Established c) = (desired_up ≡ true) 
 FitsState next_request clock desired_up (TimedOut link) = desired_up ≡ true
 FitsState next_request clock desired_up (Closing c) = (desired_up ≡ false) × (c.request < next_request)
 
--- a slot has as many bytes as its points
+-- output and image have the lengths that the configuration says, and the state fits
 pub record FitsSlot (next_request clock : ℕ) (config : SlotConfig) (slot : Slot) : Type 0 where
   pub output : length slot.output ≡ config.out_len
   pub image : length slot.image ≡ config.in_len
   pub state : FitsState next_request clock slot.desired_up slot.state
 
--- each slot of the profile stands in its place
+-- there are as many slots as configurations, and each fits its own
 abbrev pub SlotsFit : ℕ → ℕ → List SlotConfig → List Slot → Type 0
 SlotsFit next_request clock [] [] = Unit {0}
 SlotsFit next_request clock [] (slot ∷ slots) = ⊥
@@ -49,7 +49,7 @@ SlotsFit next_request clock (config ∷ configs) (slot ∷ slots) = FitsSlot nex
 
 -- CONNECTION IDS
 
--- the first is established with the id that the second is established with
+-- both are established, with one T->O id
 abbrev pub states_clash : SlotState → SlotState → Bool
 states_clash Idle other = false
 states_clash (Opening o) other = false
@@ -57,18 +57,18 @@ states_clash (Established c) other = state_consumes c.link.t_o_id other
 states_clash (TimedOut link) other = false
 states_clash (Closing c) other = false
 
--- two slots are established with one target, and have one T->O id
+-- both slots are established with one target and one T->O id
 abbrev pub clashes : IndexedSlot → IndexedSlot → Bool
 clashes indexed other = is_with indexed.config.target other && states_clash indexed.slot.state other.slot.state
 
--- no two slots are
+-- no two established slots of one target have one T->O id
 abbrev pub IdsDiffer : List IndexedSlot → Type 0
 IdsDiffer [] = Unit {0}
 IdsDiffer (indexed ∷ rest) = (list_any (clashes indexed) rest ≡ false) × IdsDiffer rest
 
 -- REQUESTS
 
--- the second waits for the reply to the request that the first waits for
+-- both wait for the reply to one request
 abbrev pub states_share : SlotState → SlotState → Bool
 states_share Idle other = false
 states_share (Opening o) other = waits_for o.request other

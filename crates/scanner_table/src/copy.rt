@@ -1,4 +1,4 @@
-//! Copies of profiles and of tables, and tables with a later counter.
+//! Copies of profiles and tables, and a table with a later counter for connection ids.
 
 ghost use Rattle.std.specs.Prelude.{◌≡◌, ◌≤◌, ◌↔◌, IfOk, IsTrue};
 ghost use Rattle.scanner_table.specs.Whole.{IsWhole};
@@ -10,7 +10,7 @@ use cip_types::{Items, OutOfMemory};
 use std::alloc::Global;
 
 impl SlotConfig {
-    /// A copy of what is to be known of a slot.
+    /// Copies the configuration of a slot. `OutOfMemory` is the only error.
     pub fn copy(&self, alloc: Global) -> Result<SlotConfig, OutOfMemory>
         ensures { IfOk result (λ copy. copy ≡ self.now) }
     {
@@ -35,7 +35,7 @@ impl SlotConfig {
     }
 }
 
-/// Copies of slots.
+/// Copies the configurations of all slots, in order.
 fn copy_slots(alloc: Global, slots: &[SlotConfig]) -> Result<Items<SlotConfig>, OutOfMemory>
     ensures { IfOk result (λ copies. copies ≡ slots.now) }
 {
@@ -47,7 +47,7 @@ fn copy_slots(alloc: Global, slots: &[SlotConfig]) -> Result<Items<SlotConfig>, 
 }
 
 impl ScannerProfile {
-    /// A copy of the profile.
+    /// Copies the profile. `OutOfMemory` is the only error.
     pub fn copy(&self, alloc: Global) -> Result<ScannerProfile, OutOfMemory>
         ensures { IfOk result (λ copy. copy ≡ self.now) }
     {
@@ -65,7 +65,7 @@ impl ScannerProfile {
 }
 
 impl Slot {
-    /// A copy of the slot.
+    /// Copies the slot, with its output and its image. `OutOfMemory` is the only error.
     pub fn copy(&self, alloc: Global) -> Result<Slot, OutOfMemory>
         ensures { IfOk result (λ copy. copy ≡ self.now) }
     {
@@ -81,7 +81,7 @@ impl Slot {
     }
 }
 
-/// Copies of slots with what they hold.
+/// Copies slots with their outputs and images, in order. `OutOfMemory` is the only error.
 pub fn copy_of_slots(alloc: Global, slots: &[Slot]) -> Result<Vec<Slot>, OutOfMemory>
     ensures { IfOk result (λ copies. copies.items ≡ slots.now) }
 {
@@ -93,7 +93,7 @@ pub fn copy_of_slots(alloc: Global, slots: &[Slot]) -> Result<Vec<Slot>, OutOfMe
 }
 
 impl ScannerTable {
-    /// A copy of the table.
+    /// Copies the table. `OutOfMemory` is the only error.
     pub fn copy(&self, alloc: Global) -> Result<ScannerTable, OutOfMemory>
         ensures { IfOk result (λ copy. copy ≡ self.now) }
     {
@@ -112,16 +112,16 @@ impl ScannerTable {
         })
     }
 
-    /// Whether two tables are equal. Takes no memory.
+    /// Returns whether two tables are equal. Takes no memory.
     pub fn same(&self, other: &ScannerTable) -> bool
         ensures { IsTrue result ↔ (self.now ≡ other.now) }
     {
         self == other
     }
 
-    /// The table with a later counter for the next connection id. Takes no memory.
+    /// Moves the counter of the next connection id forward. Takes no memory.
     ///
-    /// The counter is no less than the present one, and at most 16,777,216, where no id is left.
+    /// The new counter is no less than the present one, and at most 16,777,216, at which no id is left.
     pub fn with_next_id(self, counter: u32) -> ScannerTable
         requires whole { IsWhole self }
         requires later { self.next_id ≤ counter }

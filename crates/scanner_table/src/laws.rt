@@ -1,5 +1,5 @@
-//! What holds of every table that a run of a scanner reaches, from a fresh device on. Each call does
-//! nothing: its contract is the law.
+//! Laws of the step: a fresh table is whole, and every step keeps a table whole. `specs/Whole` says what a
+//! whole table is. A law call does nothing; its contract states the law.
 
 ghost use Rattle.std.specs.Prelude.{◌≡◌, ◌≤◌, ◌+◌, ◌^◌, ℕ, None, IfOk};
 ghost use Rattle.cip_events.specs.declared.event.Event.{Event};
@@ -10,17 +10,22 @@ ghost use Rattle.scanner_table.specs.Step.{scanner_step, scanner_table};
 ghost use Rattle.scanner_table.specs.Ticks.{clocked_table, advanced};
 ghost use Rattle.scanner_table.specs.Whole.{IsWhole};
 
-/// A fresh scanner of a faultless profile has a whole table.
+/// The table of a fresh scanner is whole, if its profile has no fault.
 pub fn fresh_tables_are_whole()
     ensures { (profile : ScannerProfile) → profile_fault profile ≡ None → IsWhole (scanner_table profile) }
 {}
 
-/// Each step keeps a table whole.
+/// A step from a whole table leads to a whole table. The law speaks of each event that the step accepts;
+/// an event that is refused leaves the table unchanged.
 pub fn steps_keep_tables_whole()
     ensures { (t : ScannerTable) (event : Event) → IsWhole t → IfOk (scanner_step t event) (λ next. IsWhole next.1) }
 {}
 
-/// What becomes of connections within a tick, before the productions, keeps a table whole.
+/// The part of a tick before its productions keeps a table whole: the clock moves, connections time out,
+/// slots give up late replies, and slots open. The premise is that the clock stays at most 2^48 milliseconds.
 pub fn advancing_keeps_tables_whole()
-    ensures { (t : ScannerTable) (ms : ℕ) → t.clock.0 + ms ≤ 2 ^ 48 → IsWhole t → IsWhole (advanced (clocked_table t ms)).table }
+    ensures {
+        (t : ScannerTable) (ms : ℕ) → t.clock.0 + ms ≤ 2 ^ 48 →
+        IsWhole t → IsWhole (advanced (clocked_table t ms)).table
+    }
 {}

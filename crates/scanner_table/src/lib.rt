@@ -1,5 +1,5 @@
-//! The table of a scanner: its profile and the check of it, its slots, its streams, one definition for each
-//! effect of an event, and the step.
+//! The table of a scanner: its profile and the check of the profile, its slots, and its streams. The definitions
+//! in `specs` say what each event does to the table; `specs/Step` joins them to the step of a scanner.
 #![tactic(auto)]
 
 mod copy;

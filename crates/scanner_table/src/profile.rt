@@ -1,4 +1,4 @@
-//! What a scanner is made of: who it is, and the connections that it keeps open.
+//! The profile of a scanner: its identity, and the connections that it keeps open.
 
 use cip_epath::ElectronicKey;
 use cip_netparams::Trigger;
@@ -14,44 +14,63 @@ pub const LONGEST_POINT: u64 = 1_400;
 /// The most bytes of a configuration.
 pub const LONGEST_CONFIG: usize = 400;
 
-/// The longest time for a target to answer, and the longest wait for another try, in milliseconds.
+/// The longest `open_timeout` and the longest `retry` of a profile, in milliseconds.
 pub const LONGEST_WAIT: u64 = 60_000;
 
-/// One connection that a scanner is to keep open: its target, what it is for, the target's points with the
-/// bytes that each has, the requested packet intervals in microseconds with the time-out multiplier, whether
-/// the target produces for a group, the device that is wanted there, the configuration that is to stand, and
-/// when the target produces, with the least number of milliseconds between two productions at a change.
+/// One connection that a scanner keeps open.
 ///
 /// Volume 1, chapter 3, Forward_Open service and connection path.
 #[derive(PartialEq, Drop)]
 pub struct SlotConfig {
+    /// The adapter that the scanner connects to.
     pub target: Node,
+    /// The application connection type.
     pub kind: Kind,
+    /// The assembly instance of the target's configuration, if the path names one.
     pub config: Option<u32>,
+    /// The assembly instance that the target consumes into: its output point.
     pub consumed: u32,
+    /// The assembly instance that the target produces from: its input point.
     pub produced: u32,
+    /// Bytes of the output that an exclusive owner sends; 0 for the other kinds.
     pub out_len: u64,
+    /// Bytes of the input that the target sends.
     pub in_len: u64,
+    /// The requested packet interval from scanner to target, in microseconds.
     pub o_t_rpi: u32,
+    /// The requested packet interval from target to scanner, in microseconds.
     pub t_o_rpi: u32,
+    /// The connection timeout multiplier, 0 to 7: the timeout is 4 · 2^mult actual packet intervals.
     pub mult: u8,
+    /// Whether the target sends its input to a multicast group.
     pub multicast: bool,
+    /// The identity that the target must have, if the path names one.
     pub key: Option<ElectronicKey>,
+    /// The configuration data that the path carries.
     pub config_data: Items<u8>,
+    /// When the target produces: cyclically, or also at a change of its input.
     pub trigger: Trigger,
+    /// The least number of milliseconds between two productions at a change; 0 for a cyclic target.
     pub inhibit: u8,
 }
 
-/// A scanner: the byte that begins its connection ids (its incarnation), its address, its vendor number and
-/// serial number, how many milliseconds a target has to answer and how many pass before another try, and its
-/// slots.
+/// A scanner: its identity, its times, and its slots.
+///
+/// Volume 1, chapter 3, Forward_Open service.
 #[derive(PartialEq, Drop)]
 pub struct ScannerProfile {
+    /// The byte that begins each connection id that the scanner chooses; never 0.
     pub incarnation: u8,
+    /// The address of the scanner.
     pub node: Node,
+    /// The originator vendor id in connection triads.
     pub vendor: u16,
+    /// The originator serial number in connection triads.
     pub serial: u32,
+    /// How long a target has to answer a request, in milliseconds.
     pub open_timeout: u64,
+    /// How long a slot waits after a failure before it opens again, in milliseconds.
     pub retry: u64,
+    /// The connections; a slot's number is its index here.
     pub slots: Items<SlotConfig>,
 }

@@ -1,4 +1,4 @@
-//! The check of a profile.
+//! The check of a profile. Each function below decides the definition of its name in `specs/Profiles`.
 
 ghost use Rattle.std.specs.Prelude.{◌≡◌, ◌↔◌, None, Some, IsOk, IfErr};
 ghost use Rattle.std.specs.List.{list_any, list_all};
@@ -137,7 +137,7 @@ fn are_long_enough(slots: &[SlotConfig]) -> bool
     slots.iter().all(|slot| has_lengths(slot))
 }
 
-/// What is wrong with a profile first.
+/// Returns the first fault of a profile.
 #[tactic(auto, unfolding(crate::specs::Profiles::profile_fault))]
 fn fault_of(profile: &ScannerProfile) -> Option<ProfileFault>
     ensures { result ≡ profile_fault profile.now }
@@ -161,11 +161,13 @@ fn fault_of(profile: &ScannerProfile) -> Option<ProfileFault>
 }
 
 impl ScannerProfile {
-    /// Checks the profile: its incarnation; how many slots it has, and that listeners listen to a group; that
-    /// no two slots share a group; lengths; packet intervals, multipliers, inhibit times and waits, in this
-    /// order. Takes no memory.
+    /// Checks the profile, and returns the first fault in this order. Takes no memory.
     ///
-    /// Answers the first thing that is wrong.
+    /// - `Incarnation`: the incarnation is 0.
+    /// - `Points`: the profile has no slot or more than 64, or a listen-only slot is not multicast.
+    /// - `SameInstance`: two multicast slots name one produced point of one target.
+    /// - `Length`: an input, an output or configuration data have a length that is not allowed.
+    /// - `Timing`: a packet interval, a timeout multiplier, an inhibit time, `open_timeout` or `retry` is out of range.
     pub fn check(&self) -> Result<(), ProfileFault>
         ensures ok { IsOk result ↔ (profile_fault self.now ≡ None) }
         ensures fault { IfErr result (λ f. profile_fault self.now ≡ Some f) }

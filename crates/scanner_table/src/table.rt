@@ -4,47 +4,58 @@ use crate::profile::ScannerProfile;
 use crate::slot::Slot;
 use cip_types::{Items, Ms, Node};
 
-/// How far the session of a stream is.
+/// The state of the session on a stream.
 ///
 /// Volume 2, chapter 2, RegisterSession.
 #[derive(Clone, Copy, PartialEq, Eq)]
 pub enum Stage {
-    /// The reply to the registration is waited for.
+    /// The scanner has sent RegisterSession and waits for the reply.
     Waiting,
     /// The session is registered, and has this handle.
     Up(u32),
-    /// The registration failed, and the stream serves nothing.
+    /// The registration failed. No request goes over the stream.
     Unused,
 }
 
-/// A stream to a target that is open: its number, whose it is, and how far its session is.
+/// An open stream to a target.
 #[derive(Clone, Copy, PartialEq, Eq)]
 pub struct TargetStream {
+    /// The number of the stream.
     pub number: u16,
+    /// The target.
     pub peer: Node,
+    /// The state of the session on the stream.
     pub stage: Stage,
 }
 
-/// A session that is registered: the number of its stream, and its handle.
+/// A registered session.
 ///
 /// Volume 2, chapter 2, RegisterSession.
 #[derive(Clone, Copy, PartialEq, Eq)]
 pub struct Session {
+    /// The number of the stream that the session belongs to.
     pub stream: u16,
+    /// The session handle.
     pub handle: u32,
 }
 
-/// A scanner: its profile, its slots in the profile's order, whether its application runs, its clock, the
-/// counter part of the next connection id, the serial number of the next opening, the number of the next
-/// request, and the streams that are open, in the order in which they were opened.
+/// The whole state of a scanner.
 #[derive(PartialEq, Drop)]
 pub struct ScannerTable {
+    /// The profile, which no event changes.
     pub profile: ScannerProfile,
+    /// The slots, in the order of the profile.
     pub slots: Items<Slot>,
+    /// Whether the application runs (true) or is idle (false).
     pub run: bool,
+    /// The time since the scanner was made.
     pub clock: Ms,
+    /// The counter of the next connection id: its low 24 bits.
     pub next_id: u32,
+    /// The connection serial number of the next Forward_Open; never 0.
     pub next_serial: u16,
+    /// The number of the next request, from 1 on.
     pub next_request: u64,
+    /// The open streams, in the order in which they were opened.
     pub streams: Items<TargetStream>,
 }

@@ -1,7 +1,7 @@
 //! How far the connection of a slot is.
 
 ghost use Rattle.std.specs.Prelude.{◌≡◌};
-ghost use Rattle.scanner_table.specs.Slots.{number_of, is_resting, is_ready};
+ghost use Rattle.scanner_table.specs.Slots.{number_of, is_closed, is_ready};
 ghost use Rattle.scanner_table.specs.Ticks.{state_has_expired, state_is_overdue};
 ghost use Rattle.scanner_table.specs.Productions.{state_is_due};
 ghost use Rattle.scanner_table.specs.Replies.{state_consumes};
@@ -26,8 +26,8 @@ pub fn number_of(state: &SlotState) -> u8
     }
 }
 
-fn is_resting(state: &SlotState) -> bool
-    ensures { result ≡ is_resting state.now }
+fn is_closed(state: &SlotState) -> bool
+    ensures { result ≡ is_closed state.now }
 {
     match state {
         SlotState::Idle | SlotState::TimedOut(_) => true,
@@ -39,7 +39,7 @@ fn is_resting(state: &SlotState) -> bool
 pub fn is_ready(slot: &Slot, clock: Ms) -> bool
     ensures { result ≡ is_ready clock slot.now }
 {
-    slot.desired_up && is_resting(&slot.state) && slot.retry_at.0 <= clock.0
+    slot.desired_up && is_closed(&slot.state) && slot.retry_at.0 <= clock.0
 }
 
 /// Whether a slot's connection is established, and its deadline has come.
