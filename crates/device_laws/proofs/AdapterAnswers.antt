@@ -53,7 +53,7 @@ received_small : (t : AdapterTable) (peer : Node) (bytes : List ℕ) → IsSmall
 unfolding received
 received_small t peer bytes = datagram_read t peer (datagram_reading bytes)
 
-reads_small : (t : AdapterTable) (held : Option (List ℕ)) → AnswersSmall (read_of t held)
+reads_small : (t : AdapterTable) (stored : Option (List ℕ)) → AnswersSmall (read_of t stored)
 reads_small t None = tt
 reads_small t (Some bytes) = plain_small (Value bytes)
 

@@ -43,7 +43,7 @@ few_producers rows few = few_firsts 64 Any same_producer (filter_map producer_in
 passing_producers : (p : Row → Bool) (before : Producer → Producer → Bool) (rows : List Row) → length rows ≤ 64 → Few 64 Any (in_order before (producers (filter p rows)))
 passing_producers p before rows few = few_ordered 64 Any before (producers (filter p rows)) (few_producers (filter p rows) (few_filtered 64 Any p rows (few_any 64 rows few)).count)
 
--- what they produce is sent in short datagrams, where each sends few bytes
+-- the datagrams of producers are short, if each producer sends few bytes
 abbrev SendsFew : (Producer → List ℕ) → Type 0
 SendsFew input = (producer : Producer) → length (input producer) ≤ 1400
 
@@ -54,14 +54,14 @@ sent_few rows input short ps few =
 
 -- ---- a tick
 
-value_short : (profile : Profile) (values : List PointValue) (point : ℕ) (held : Option (List ℕ)) → bytes_at values point ≡ held → IsShaped profile values → length (unwrap_or held []) ≤ 1400
+value_short : (profile : Profile) (values : List PointValue) (point : ℕ) (stored : Option (List ℕ)) → bytes_at values point ≡ stored → IsShaped profile values → length (unwrap_or stored []) ≤ 1400
 value_short profile values point None is shaped = omega arith
 value_short profile values point (Some bytes) is shaped = held_short profile values point bytes shaped is
 
 inputs_short : (profile : Profile) (values : List PointValue) → IsShaped profile values → SendsFew (input_of values)
 inputs_short profile values shaped producer = value_short profile values producer.point (bytes_at values producer.point) refl shaped
 
--- the connections that are left
+-- the connections that remain
 few_left : (clock : Ms) (rows : List Row) → length rows ≤ 64 → length (filter (stays (expired_rows clock rows)) (expired_rows clock rows)) ≤ 64
 few_left clock rows few =
     let after = expired_rows clock rows in

@@ -1,4 +1,4 @@
--- The frames of an adapter: an event has one reply at most, and that is short.
+-- The frames of an adapter: an answer has one reply at most, and the reply is short.
 use Rattle.std.proofs.Common.{◌≡◌, ◌≤◌, ℕ, ◌==◌, Bool, not, List, [], ◌∷◌, length, find, Option, Some, None, Result, Ok, Err, refl, arith}
 use Rattle.std.specs.Option.{option_map}
 use Rattle.std.specs.Str.{bytes_eq}
@@ -61,12 +61,12 @@ value_few t service point attribute body (Some value) is shaped =
     (either (λ (s : Served). GetsFew s.reply) (not (is_value_attribute attribute)) _ _ tt
     (either (λ (s : Served). GetsFew s.reply) (not (length body == 0)) (router_refusal t service status.TooMuchData) all tt (held_short t.profile t.values point value shaped is)))
 
--- of what is served, where there is a request
+-- of what is served, if there is a request
 abbrev ServesFew : Option Served → Type 0
 ServesFew None = Unit {0}
 ServesFew (Some s) = GetsFew s.reply
 
-serves_few : (t : AdapterTable) (peer : Node) (asked : RouterRequestFields) → IsShaped t.profile t.values → ServesFew (served t peer asked)
+serves_few : (t : AdapterTable) (peer : Node) (request : RouterRequestFields) → IsShaped t.profile t.values → ServesFew (served t peer request)
 unfolding served_open served_close served_assembly
 serves_few t peer nothing shaped = tt
 serves_few t peer (refused service why) shaped = tt
@@ -96,7 +96,7 @@ data_short : (reply_header : ReplyHeader) (reply : FrameReply) → SaysFew reply
 data_short reply_header (router_reply reply address) few = omega (arith, items_length (reply_text reply) (option_map socket_of address), (reply_is_short reply few).few)
 data_short reply_header reply few = omega arith
 
--- the same where there is one
+-- the same, if there is one
 abbrev RepliesFew : Option FrameReply → Type 0
 RepliesFew None = Unit {0}
 RepliesFew (Some reply) = SaysFew reply
@@ -118,12 +118,12 @@ items_few : (t : AdapterTable) (peer : Node) (reading : Result PacketFields Item
 items_few t peer (Err fault) shaped = tt
 items_few t peer (Ok packet) shaped = passes_few t (served t peer (router_request_reading packet.payload)) (serves_few t peer (router_request_reading packet.payload) shaped)
 
-handles_few : (t : AdapterTable) (stream : Stream) (reply_header : ReplyHeader) (body : List ℕ) (asked : Command) → IsShaped t.profile t.values → HandlesFew (handled t stream reply_header body asked)
+handles_few : (t : AdapterTable) (stream : Stream) (reply_header : ReplyHeader) (body : List ℕ) (kind : Command) → IsShaped t.profile t.values → HandlesFew (handled t stream reply_header body kind)
 unfolding handled
 handles_few t stream reply_header body command.RegisterSession shaped = registers_few t stream body
 handles_few t stream reply_header body command.UnregisterSession shaped = either HandlesFew (has_session stream reply_header.session) _ _ tt tt
 handles_few t stream reply_header body command.SendRrData shaped = either HandlesFew (has_session stream reply_header.session) _ _ (items_few t stream.peer (packet_reading body) shaped) tt
-handles_few t stream reply_header body asked shaped = tt
+handles_few t stream reply_header body kind shaped = tt
 
 -- ---- frames
 

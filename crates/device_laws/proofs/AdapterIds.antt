@@ -1,5 +1,5 @@
--- A step of an adapter carries ids: those of its connections, and those that it sends, were there before, came with the
--- event, or are drawn.
+-- A step of an adapter carries ids: those of its connections, and those that it sends, were in the table, came with the
+-- event, or were allocated.
 use Rattle.std.proofs.Common.{◌≡◌, ◌≤◌, ℕ, ◌+◌, ◌==◌, nat_lt, Bool, true, false, cond, not, List, [], ◌++◌, length, map, filter, find, Option, Some, None, Result, Ok, Err, refl, sym, ap, subst, arith, length-append}
 use Rattle.std.specs.List.{AllByRecursion, filter_map}
 use Rattle.std.specs.Option.{IfSome, option_map}
@@ -104,7 +104,7 @@ accepted_holds P Q clock peer d row holds =
 
 -- ---- an opening
 
--- the id of the group that is joined, if one is
+-- the id of the group that the connection joins, if it joins one
 abbrev GroupHolds : (ℕ → Type 0) → Option Row → Type 0
 GroupHolds P group = IfSome group (λ row. P row.t_o_id.0)
 
@@ -145,9 +145,9 @@ admission_holds P Q t request rows =
 
 -- the ids of the new connection
 t_o_holds : (P : ℕ → Type 0) (t : AdapterTable) (request : OpenFields) (multicast : Bool) (group : Option Row) (to : ℕ) → GroupHolds P group → P request.t_o_id.0 → IdsFromTo P t.profile.incarnation t.next_id to → t.next_id + drawn_ids multicast group ≤ to → P (opened_t_o_id t request multicast group).0
-t_o_holds P t request true None to joins asked drawn room = drawn (t.next_id + 1) (omega arith) (omega (arith, room))
-t_o_holds P t request false None to joins asked drawn room = asked
-t_o_holds P t request multicast (Some member) to joins asked drawn room = joins
+t_o_holds P t request true None to joins requested drawn in_range = drawn (t.next_id + 1) (omega arith) (omega (arith, in_range))
+t_o_holds P t request false None to joins requested drawn in_range = requested
+t_o_holds P t request multicast (Some member) to joins requested drawn in_range = joins
 
 draws_one : (multicast : Bool) (group : Option Row) → 1 ≤ drawn_ids multicast group
 draws_one true None = omega arith
@@ -170,17 +170,17 @@ nonzero status.TooMuchData = refl
 refusal_holds : (P Q : ℕ → Type 0) (t : AdapterTable) (service : ℕ) (why : Status) → RowsHold P Q t.rows → ServedHolds P Q (router_refusal t service why)
 refusal_holds P Q t service why rows = (refused_ids P service (status_fault why) None (nonzero why), rows)
 
--- what an opening draws is there for it
+-- the ids and opening numbers that a step allocates have the properties
 abbrev pub HasDrawn : (P Q : ℕ → Type 0) → AdapterTable → ℕ → Type 0
 HasDrawn P Q t to = IdsFromTo P t.profile.incarnation t.next_id to × FromTo Q t.next_id to
 
 open_holds : (P Q : ℕ → Type 0) → Cuts P → (t : AdapterTable) (peer : Node) (large : Bool) (request : OpenFields) (said : Result Admitted Refusal) (to : ℕ) → (judged_open t peer large request said).table.next_id ≤ to → HasDrawn P Q t to → AdmittedHolds P said → P request.t_o_id.0 → RowsHold P Q t.rows → ServedHolds P Q (judged_open t peer large request said)
 unfolding admitted_open opened_table opened_row
-open_holds P Q cuts t peer large request (Err why) to below drawn joins asked rows = (refused_ids P _ (refusal_fault why) (Some request.triad) refl, rows)
-open_holds P Q cuts t peer large request (Ok admitted) to below drawn joins asked rows =
+open_holds P Q cuts t peer large request (Err why) to below drawn joins requested rows = (refused_ids P _ (refusal_fault why) (Some request.triad) refl, rows)
+open_holds P Q cuts t peer large request (Ok admitted) to below drawn joins requested rows =
     let one = draws_one admitted.multicast admitted.group in
     let o_t = drawn.0 t.next_id (omega arith) (omega (arith, below, one)) in
-    let t_o = t_o_holds P t request admitted.multicast admitted.group to joins asked drawn.0 below in
+    let t_o = t_o_holds P t request admitted.multicast admitted.group to joins requested drawn.0 below in
     let opening_holds = drawn.1 t.next_id (omega arith) (omega (arith, below, one)) in (
       opened_ids P large _ (cuts _ o_t) (cuts _ t_o),
       all_both (RowIds P Q) _ _ (all_filtered (RowIds P Q) _ t.rows rows) (record { o_t = o_t; t_o = t_o; opening = opening_holds }, tt),
@@ -200,7 +200,7 @@ assembly_holds P Q t service attribute body (Some value) rows =
     (either (ServedHolds P Q) (not (is_value_attribute attribute)) _ _ (refusal_holds P Q t service status.Attribute rows)
     (either (ServedHolds P Q) (not (length body == 0)) (router_refusal t service status.TooMuchData) all (refusal_holds P Q t service status.TooMuchData rows) (got_ids P value, rows)))
 
--- the same where something is served
+-- the same, if something is served
 abbrev AnyHolds : (P Q : ℕ → Type 0) → Option Served → Type 0
 AnyHolds P Q s = IfSome s (ServedHolds P Q)
 
@@ -208,14 +208,14 @@ abbrev next_of : ℕ → Option Served → ℕ
 next_of next None = next
 next_of next (Some s) = s.table.next_id
 
-served_holds : (P Q : ℕ → Type 0) → Cuts P → (t : AdapterTable) (peer : Node) (asked : RouterRequestFields) (to : ℕ) → next_of to (served t peer asked) ≤ to → HasDrawn P Q t to → RequestIds P asked → RowsHold P Q t.rows → AnyHolds P Q (served t peer asked)
+served_holds : (P Q : ℕ → Type 0) → Cuts P → (t : AdapterTable) (peer : Node) (request : RouterRequestFields) (to : ℕ) → next_of to (served t peer request) ≤ to → HasDrawn P Q t to → RequestIds P request → RowsHold P Q t.rows → AnyHolds P Q (served t peer request)
 unfolding served_open served_close served_assembly
-served_holds P Q cuts t peer nothing to below drawn asks rows = tt
-served_holds P Q cuts t peer (refused service why) to below drawn asks rows = refusal_holds P Q t service why rows
-served_holds P Q cuts t peer (closing request) to below drawn asks rows = close_holds P Q t request (find (has_triad request.triad) t.rows) rows
-served_holds P Q cuts t peer (assembly service instance attribute body) to below drawn asks rows = assembly_holds P Q t service attribute body (bytes_at t.values instance) rows
-served_holds P Q cuts t peer (opening large request) to below drawn asks rows =
-    open_holds P Q cuts t peer large request (admission t request) to below drawn (admission_holds P Q t request rows) asks rows
+served_holds P Q cuts t peer nothing to below drawn ids rows = tt
+served_holds P Q cuts t peer (refused service why) to below drawn ids rows = refusal_holds P Q t service why rows
+served_holds P Q cuts t peer (closing request) to below drawn ids rows = close_holds P Q t request (find (has_triad request.triad) t.rows) rows
+served_holds P Q cuts t peer (assembly service instance attribute body) to below drawn ids rows = assembly_holds P Q t service attribute body (bytes_at t.values instance) rows
+served_holds P Q cuts t peer (opening large request) to below drawn ids rows =
+    open_holds P Q cuts t peer large request (admission t request) to below drawn (admission_holds P Q t request rows) ids rows
 
 -- ---- messages
 
@@ -226,7 +226,7 @@ SaysIds P (registered session) = Unit {0}
 SaysIds P other_version = Unit {0}
 SaysIds P (frames.refused why) = Unit {0}
 
--- what becomes of a message, where no more is drawn than is there
+-- the answer to a message, if the counter stays within the limit
 abbrev HandledHolds : (P Q : ℕ → Type 0) → ℕ → Handled → Type 0
 HandledHolds P Q to done = done.table.next_id ≤ to → IfSome done.reply (SaysIds P) × RowsHold P Q done.table.rows
 
@@ -244,9 +244,9 @@ replied_holds P Q to t (Some s) rows holds = holds
 packet_holds : (P Q : ℕ → Type 0) → Cuts P → (to : ℕ) (t : AdapterTable) (peer : Node) (reading : Result PacketFields ItemFault) → HasDrawn P Q t to → PacketIds P reading → RowsHold P Q t.rows → HandledHolds P Q to (packet_replied t peer reading)
 packet_holds P Q cuts to t peer (Err fault) drawn ids rows = λ below. (tt, rows)
 packet_holds P Q cuts to t peer (Ok packet) drawn ids rows =
-    replied_holds P Q to t (served t peer (router_request_reading packet.payload)) rows (λ below. served_holds P Q cuts t peer (router_request_reading packet.payload) to below drawn ids.asked rows)
+    replied_holds P Q to t (served t peer (router_request_reading packet.payload)) rows (λ below. served_holds P Q cuts t peer (router_request_reading packet.payload) to below drawn ids.requested rows)
 
-handled_holds : (P Q : ℕ → Type 0) → Cuts P → (to : ℕ) (t : AdapterTable) (stream : Stream) (reply_header : ReplyHeader) (body : List ℕ) (asked : Command) → HasDrawn P Q t to → PacketIds P (packet_reading body) → RowsHold P Q t.rows → HandledHolds P Q to (handled t stream reply_header body asked)
+handled_holds : (P Q : ℕ → Type 0) → Cuts P → (to : ℕ) (t : AdapterTable) (stream : Stream) (reply_header : ReplyHeader) (body : List ℕ) (kind : Command) → HasDrawn P Q t to → PacketIds P (packet_reading body) → RowsHold P Q t.rows → HandledHolds P Q to (handled t stream reply_header body kind)
 unfolding handled without_stream
 handled_holds P Q cuts to t stream reply_header body command.RegisterSession drawn ids rows = register_holds P Q to t stream body rows
 handled_holds P Q cuts to t stream reply_header body command.UnregisterSession drawn ids rows =
@@ -297,7 +297,7 @@ replies_hold back P number reply_header (Some reply) ids short = (message_ids P 
 
 -- ---- answers
 
--- an answer and the next table, where no more is drawn than is there and the answer is small
+-- an answer and the next table, if the counter stays within the limit and the answer is small
 abbrev pub NextHolds : (P Q : ℕ → Type 0) → ℕ → Next → Type 0
 NextHolds P Q to next = next.1.next_id ≤ to → IsSmall next.0 → AnswerIds P next.0 × RowsHold P Q next.1.rows
 
@@ -317,7 +317,7 @@ message_holds back P Q cuts to t stream header (Err fault) drawn ids rows = misf
 message_holds back P Q cuts to t stream header (Ok m) drawn ids rows =
     framed_holds back P Q to stream.number (reply_header_of m) (handled t stream (reply_header_of m) m.payload (command_of m.command)) (handled_holds P Q cuts to t stream (reply_header_of m) m.payload (command_of m.command) drawn ids rows)
 
--- where the step gives an answer
+-- if the step gives an answer
 abbrev pub OkHolds : (P Q : ℕ → Type 0) → ℕ → Result Next StepFault → Type 0
 OkHolds P Q to (Ok next) = NextHolds P Q to next
 OkHolds P Q to (Err fault) = Unit {0}
@@ -327,7 +327,7 @@ unfolding frame_reading
 frame_holds back P Q cuts to t bytes None drawn ids rows = tt
 frame_holds back P Q cuts to t bytes (Some stream) drawn ids rows = message_holds back P Q cuts to t stream _ (message_reading bytes) drawn ids rows
 
--- ---- datagrams that come
+-- ---- datagrams received
 
 found_holds : (P Q : ℕ → Type 0) (to : ℕ) (t : AdapterTable) (peer : Node) (d : DatagramFields) (found : Option Row) → RowsHold P Q t.rows → NextHolds P Q to (found_datagram t peer d found)
 unfolding accepted_table
@@ -341,7 +341,7 @@ datagram_holds : (P Q : ℕ → Type 0) (to : ℕ) (t : AdapterTable) (peer : No
 datagram_holds P Q to t peer (Err fault) rows = (λ below small. (record { frames = tt; datagrams = tt }, rows))
 datagram_holds P Q to t peer (Ok d) rows = found_holds P Q to t peer d (find (is_for peer d.connection) t.rows) rows
 
--- ---- datagrams that are sent
+-- ---- datagrams sent
 
 abbrev ProducerHolds : (ℕ → Type 0) → Producer → Type 0
 ProducerHolds P producer = P producer.id.0

@@ -1,4 +1,4 @@
--- Texts that are short, and answers that are small.
+-- Short texts, and small answers.
 use Rattle.std.proofs.Common.{◌≡◌, ◌≤◌, List, length, Result, Ok, Err, refl, arith, length-append}
 use Rattle.cip_types.specs.Fields.{fields_text}
 use Rattle.cip_datagram.specs.Datagram.{DatagramFields, datagram_widths, datagram_numbers, datagram_text}
@@ -41,7 +41,7 @@ plain_small verdict = record { few_frames = omega arith; short_frames = tt; few_
 
 -- ---- steps
 
--- what a step answers is small, where it answers
+-- the answer of a step is small, if it gives one
 abbrev pub AnswersSmall : {T : Type 0} → Result (Answer × T) StepFault → Type 0
 AnswersSmall (Ok next) = IsSmall next.0
 AnswersSmall (Err fault) = Unit {0}

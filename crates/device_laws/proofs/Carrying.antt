@@ -1,4 +1,4 @@
--- What each step of a device does with ids, and what establishes a slot of a scanner.
+-- Each step of a device carries ids, and only its own reply establishes a slot of a scanner.
 use Rattle.std.proofs.Common.{◌≡◌, ◌≤◌, ◌<◌, ◌⊎◌, inl, inr, ℕ, ◌+◌, ◌*◌, ◌^◌, ◌==◌, Bool, true, false, cond, List, [], ◌∷◌, ◌++◌, Option, Some, None, Result, Ok, Err, refl, sym, ◌∙◌, ap, subst, append_assoc, arith}
 use Rattle.std.specs.List.{AllByRecursion, Contains}
 use Rattle.std.proofs.lemmas.Bool.Decides.{nat_tests}
@@ -44,7 +44,7 @@ use Rattle.device_laws.proofs.Slots.{OfSlots, SlotsHold, CanDraw, Kept}
 use Rattle.device_laws.proofs.ScannerIds as scanners
 use Rattle.device_laws.proofs.ScannerIds.{Sends, scanner_holds}
 
--- ---- what steps answer is small
+-- ---- answers are small
 
 abbrev ok_of : DeviceNext → Result DeviceNext StepFault
 ok_of n = Ok n
@@ -68,7 +68,7 @@ ById P number config state = StateIds P state
 
 reported_packet : (P : ℕ → Type 0) (large : Bool) (reading : Result PacketFields ItemFault) → PacketIds P reading → ReplyIds P (packet_answer large reading)
 reported_packet P large (Err fault) ids = tt
-reported_packet P large (Ok packet) ids = ids.reported large
+reported_packet P large (Ok packet) ids = ids.replied large
 
 reported_ids : (P : ℕ → Type 0) (large : Bool) (m : MessageFields) → PacketIds P (packet_reading m.payload) → ReplyIds P (open_answer large m)
 unfolding open_answer
@@ -76,12 +76,12 @@ reported_ids P large m ids =
     either (ReplyIds P) (m.status == 0) (command_answer large m) _
     (either (ReplyIds P) (m.command == 0x006F) (packet_answer large (packet_reading m.payload)) _ (reported_packet P large (packet_reading m.payload) ids) tt) tt
 
--- the ids that a reply tells came with the event
+-- the ids of a reply came with the event
 replied_ids : (P : ℕ → Type 0) (t : ScannerTable) (happens : Event) (config : SlotConfig) (request : ℕ) (success : Opened) → Replied t happens config.target request success → EventIds P happens → P success.o_t_id.0 × P success.t_o_id.0
 replied_ids P t happens config request success replied ids =
     let frame : FrameIds P replied.bytes = subst (EventIds P) replied.is ids in
     let packet : PacketIds P (packet_reading replied.message.payload) = subst (MessageIds P) replied.reads frame in
-    subst (ReplyIds P) replied.tells (reported_ids P replied.large replied.message packet)
+    subst (ReplyIds P) replied.success_is (reported_ids P replied.large replied.message packet)
 
 requested_drawn : (P : ℕ → Type 0) (t now : ScannerTable) (config : SlotConfig) (to : ℕ) (multicast : Bool) → config.multicast ≡ multicast → CanDraw t to now config → IdsFromTo P t.profile.incarnation t.next_id to → RequestedId P (cond multicast None (Some (connection_id now.profile now.next_id)))
 requested_drawn P t now config to true is can drawn = tt
@@ -104,7 +104,7 @@ ids_kept P t to happens drawn ids = record {
   closes = λ number config c close same is. subst (LinkIds P) (sym same) is;
   goes_on = λ number config c d opening link is. subst (LinkIds P) (sym link) is;
   opens = λ number config now o can request requested. let e = ap (λ (w : Requested). w.t_o_id) requested in subst (RequestedId P) (sym e) (next_requested_id P t now config to can drawn);
-  establishes = λ number config o success c waits replied asked opening link is. subst (LinkIds P) (sym link) (replied_ids P t happens config o.request success replied ids);
+  establishes = λ number config o success c waits replied matches opening link is. subst (LinkIds P) (sym link) (replied_ids P t happens config o.request success replied ids);
 }
 
 adapter_carries : (P Q : ℕ → Type 0) (t : AdapterTable) (said : Result Next StepFault) (a : Answer) (next : DeviceTable) → as_adapter said ≡ Ok (a, next) → adapters.OkHolds P Q (next_id_of next) said → IsSmall a → (u : AdapterTable) × (next ≡ Adapter u) × AnswerIds P a × AllByRecursion (RowIds P Q) u.rows
@@ -155,17 +155,17 @@ scanner_keeps back few G t happens a next is whole kept slots =
     let h : scanners.NextHolds G Anything next.next_id (a, next) = subst (scanners.OkHolds G Anything next.next_id) is holds in
     (h (omega arith) small).1
 
--- ---- ids that are drawn with openings
+-- ---- later openings have later ids
 
 abbrev From : ScannerProfile → ℕ → ℕ → OfSlots
 From profile request first number config state = config.multicast ≡ false → StateFrom profile request first state
 
 wants_from : (t now : ScannerTable) (config : SlotConfig) (to first : ℕ) (multicast : Bool) → config.multicast ≡ multicast → multicast ≡ false → CanDraw t to now config → first ≤ t.next_id → to ≤ 2 ^ 24 → WantsFrom t.profile first (cond multicast None (Some (connection_id now.profile now.next_id)))
-wants_from t now config to first true is single can below room = absurd cc
-wants_from t now config to first false is single can below room =
+wants_from t now config to first true is single can below in_range = absurd cc
+wants_from t now config to first false is single can below in_range =
     let under = can.left is in
     let counts = can.counts in
-    record { counter = now.next_id; is = ap (λ (p : ScannerProfile). connection_id p now.next_id) counts.profile; begins = omega (arith, below, counts.ids); ends = omega (arith, under, room) }
+    record { counter = now.next_id; is = ap (λ (p : ScannerProfile). connection_id p now.next_id) counts.profile; begins = omega (arith, below, counts.ids); ends = omega (arith, under, in_range) }
 
 id_same : (a b : ConnId) → (a.0 == b.0) ≡ true → a ≡ b
 id_same a b is = let e : a.0 ≡ b.0 = grind (arith, nat_tests) in ap (λ (n : ℕ). conn n) e where
@@ -174,26 +174,26 @@ id_same a b is = let e : a.0 ≡ b.0 = grind (arith, nat_tests) in ap (λ (n : �
 
 requested_from : (profile : ScannerProfile) (first : ℕ) (requested : Option ConnId) (id : ConnId) → is_requested_id requested id ≡ true → WantsFrom profile first requested → IsFrom profile first id
 requested_from profile first None id is wants = absurd wants
-requested_from profile first (Some asked) id is wants = subst (IsFrom profile first) (id_same asked id is) wants
+requested_from profile first (Some requested) id is wants = subst (IsFrom profile first) (id_same requested id is) wants
 
 from_kept : (request first : ℕ) (t : ScannerTable) (to : ℕ) (happens : Event) → first ≤ t.next_id → to ≤ 2 ^ 24 → Kept (From t.profile request first) t to happens
-from_kept request first t to happens below room = record {
+from_kept request first t to happens below in_range = record {
   rests = λ number config single. tt;
   times_out = λ number config c is single. tt;
   closes = λ number config c close same is single. tt;
   goes_on = λ number config c d opening link is single over.
       let before = is single (omega (arith, over, opening)) in
       subst (IsFrom t.profile first) (ap (λ (l : Link). l.t_o_id) (sym link)) before;
-  opens = λ number config now o can asked requested single over.
-      subst (WantsFrom t.profile first) (sym (ap (λ (w : Requested). w.t_o_id) requested)) (wants_from t now config to first config.multicast refl single can below room);
-  establishes = λ number config o success c waits replied asked opening link is single over.
+  opens = λ number config now o can numbered requested single over.
+      subst (WantsFrom t.profile first) (sym (ap (λ (w : Requested). w.t_o_id) requested)) (wants_from t now config to first config.multicast refl single can below in_range);
+  establishes = λ number config o success c waits replied matches opening link is single over.
       let before = is single (omega (arith, over, opening)) in
-      subst (IsFrom t.profile first) (ap (λ (l : Link). l.t_o_id) (sym link)) (requested_from t.profile first o.requested.t_o_id success.t_o_id asked before);
+      subst (IsFrom t.profile first) (ap (λ (l : Link). l.t_o_id) (sym link)) (requested_from t.profile first o.requested.t_o_id success.t_o_id matches before);
 }
 
 pub steps_keep_from : ItemsReadBack → AnswersAreSmall → StepsKeepFrom
-steps_keep_from back few request first t happens a next is whole below room slots =
-    scanner_keeps back few (From t.profile request first) t happens a next is whole (from_kept request first t next.next_id happens below room) slots
+steps_keep_from back few request first t happens a next is whole below in_range slots =
+    scanner_keeps back few (From t.profile request first) t happens a next is whole (from_kept request first t next.next_id happens below in_range) slots
 
 -- ---- what establishes a slot
 
@@ -209,8 +209,8 @@ came_kept t to happens = record {
   times_out = λ number config c is. tt;
   closes = λ number config c close same is. tt;
   goes_on = λ number config c d opening link is. came_same t happens number c.opening d.opening opening is;
-  opens = λ number config now o can asked requested. tt;
-  establishes = λ number config o success c waits replied asked opening link is.
+  opens = λ number config now o can numbered requested. tt;
+  establishes = λ number config o success c waits replied matches opening link is.
       came_same t happens number o.request c.opening opening
       (inr (record { config = config; opening = o; waits = waits; request_is = refl; success = success; replied = replied }));
 }

@@ -25,7 +25,7 @@ kept_one : (b : Bool) (row : Row) → b ≡ true → cond b (row ∷ []) [] ≡ 
 kept_one true row is = refl
 kept_one false row is = absurd cc
 
--- the only one that passes a test is so among those that are left, where it is left
+-- the only one that passes a test is the only one among those that remain, if it remains
 pub left_alone : (p q : Row → Bool) (rows : List Row) (row : Row) → filter q rows ≡ row ∷ [] → p row ≡ true → filter q (filter p rows) ≡ row ∷ []
 left_alone p q rows row alone stays = filters_turned p q rows ∙ ap (filter p) alone ∙ kept_one (p row) row stays
 

@@ -1,4 +1,4 @@
--- Each effect on a table leaves an output its owner, unless a notice tells that the owner has ended.
+-- Each effect on a table leaves an output its owner, unless a notice reports that the owner has ended.
 use Rattle.std.proofs.Common.{◌≡◌, ◌≤◌, ℕ, ◌+◌, ◌==◌, nat_le, Bool, true, false, cond, not, ◌&&◌, List, [], ◌∷◌, length, map, filter, find, Option, Some, None, refl, sym, ◌∙◌, ap, subst, arith}
 use Rattle.std.specs.List.{list_any}
 use Rattle.std.proofs.lemmas.Bool.{and_parts, or_parts}
@@ -36,16 +36,16 @@ use Rattle.device_laws.proofs.OneOwner.{left_alone, alone_holds, alone_fails, al
 abbrev pub openings : ℕ → List Row → List ℕ
 openings point rows = map opening_of (drivers point rows)
 
--- the only driver of an output is so in the next table, unless a notice tells its end
+-- the only driver of an output is its only driver in the next table, unless a notice reports its end
 abbrev pub KeepsOwner : ℕ → AdapterTable → List Notice → AdapterTable → Type 0
 KeepsOwner point t notices next =
     (row : Row) → drivers point t.rows ≡ row ∷ [] → has_ended notices row ≡ false → openings point next.rows ≡ row.opening ∷ []
 
--- so it is where connections stay as they are
+-- it holds if the connections stay as they are
 pub unchanged : (point : ℕ) (t : AdapterTable) (notices : List Notice) → KeepsOwner point t notices t
 unchanged point t notices = λ row alone lasts. ap (map opening_of) alone
 
--- ---- connections that are changed alone
+-- ---- changes of single connections
 
 -- the second drives what the first drives, and was opened as it
 pub record IsAlike (point : ℕ) (old new : Row) : Type 0 where
@@ -106,7 +106,7 @@ keeps_written point t input bytes notices = λ row alone lasts.
     ∙ openings_mapped point (written_row input) (alike_written point input) t.rows
     ∙ ap (map opening_of) alone
 
--- ---- listeners that go
+-- ---- removed listeners
 
 owner_listens_not : (kind : Kind) → is_owner kind ≡ true → is_listener kind ≡ false
 owner_listens_not ExclusiveOwner is = refl
@@ -125,7 +125,7 @@ driver_stays point rows row is = stays_step (is_established row) (is_listener ro
   stays_step true false c h = refl
   stays_step false b c h = refl
 
--- the only driver is so among those that stay
+-- the only driver is the only one among those that remain
 staying_alone : (point : ℕ) (rows : List Row) (row : Row) → drivers point rows ≡ row ∷ [] → drivers point (staying rows) ≡ row ∷ []
 staying_alone point rows row alone = left_alone (stays rows) (drives point) rows row alone (driver_stays point rows row (alone_passes (drives point) rows row alone))
 
@@ -135,7 +135,7 @@ passes_not : (b : Bool) → b ≡ false → not b ≡ true
 passes_not true is = absurd cc
 passes_not false is = refl
 
--- the connection that is closed is told of by its triad
+-- a notice reports the closed connection by its triad
 pub keeps_closed : (point : ℕ) (t : AdapterTable) (removed : Row) → KeepsOwner point t (closed_notices t.rows removed) (closed_table t removed)
 unfolding closed_table
 keeps_closed point t removed = λ row alone lasts.
@@ -180,19 +180,19 @@ and_other : (a b : Bool) → a ≡ true → (a && b) ≡ false → b ≡ false
 and_other true b lives free = free
 and_other false b lives free = absurd cc
 
--- an established connection makes no room for a triad that is free
-room_is_other : (b c : Bool) (triad : Triad) (point : ℕ) (rows : List Row) (row : Row) → drivers point rows ≡ row ∷ [] → list_any (holds_triad triad) rows ≡ false → OpeningsRise rows → is_replaced_by b c (find is_timed_out rows) triad row ≡ false
-room_is_other true c triad point rows row alone free rise =
+-- no established connection is replaced for a triad that is free
+replaced_is_other : (b c : Bool) (triad : Triad) (point : ℕ) (rows : List Row) (row : Row) → drivers point rows ≡ row ∷ [] → list_any (holds_triad triad) rows ≡ false → OpeningsRise rows → is_replaced_by b c (find is_timed_out rows) triad row ≡ false
+replaced_is_other true c triad point rows row alone free rise =
     and_other (is_established row) (has_triad triad row) (driver_is point row (alone_passes (drives point) rows row alone)).0
     (alone_fails (drives point) (holds_triad triad) rows row alone free)
-room_is_other false true triad point rows row alone free rise = first_is_other point rows row (find is_timed_out rows) refl alone rise
-room_is_other false false triad point rows row alone free rise = refl
+replaced_is_other false true triad point rows row alone free rise = first_is_other point rows row (find is_timed_out rows) refl alone rise
+replaced_is_other false false triad point rows row alone free rise = refl
 
--- what makes room is no driver, and the new connection is none where there is one
+-- the replaced connection is no driver, and the new connection is none if the output has one
 pub keeps_opened : (point : ℕ) (t : AdapterTable) (peer : Node) (request : OpenFields) (admitted : Admitted) (notices : List Notice) → list_any (holds_triad request.triad) t.rows ≡ false → OpeningsRise t.rows → length (drivers point (opened_table t (opened_row t peer request admitted) admitted).rows) ≤ 1 → KeepsOwner point t notices (opened_table t (opened_row t peer request admitted) admitted)
 unfolding opened_table opened_row
 keeps_opened point t peer request admitted notices free rise one = λ row alone lasts.
-    let other = room_is_other (list_any (has_triad request.triad) t.rows) (nat_le most_rows (length t.rows)) request.triad point t.rows row alone free rise in
+    let other = replaced_is_other (list_any (has_triad request.triad) t.rows) (nat_le most_rows (length t.rows)) request.triad point t.rows row alone free rise in
     let left = left_alone (λ r. not (is_replaced t.rows request.triad r)) (drives point) t.rows row alone (passes_not (is_replaced t.rows request.triad row) other) in
     ap (map opening_of) (alone_before (drives point) (others (is_replaced t.rows request.triad) t.rows) (opened_row t peer request admitted) row left one)
 
@@ -210,7 +210,7 @@ faded clock point (row ∷ rows) = faded_step (has_expired clock row) point row 
 same_itself : (triad : Triad) → same_triad triad triad ≡ true
 same_itself triad = grind (arith, nat_tests)
 
--- each connection that times out is told of
+-- a notice reports each connection that times out
 not_reported : (clock : Ms) (rows : List Row) (row : Row) → has_ended (expiry_notices clock rows) row ≡ false → list_any (λ (r : Row). same_triad row.triad r.triad) (filter (has_expired clock) rows) ≡ false
 not_reported clock rows row lasts =
     let reported = list_any-append (reports_end row.triad) (map expired_notice (expired clock rows)) (map dropped_notice (unsupported (expired_rows clock rows))) in

@@ -1,4 +1,4 @@
--- Each step leaves an output its owner, unless a notice of its answer tells that the owner has ended.
+-- Each step leaves an output its owner, unless a notice of its answer reports that the owner has ended.
 use Rattle.std.proofs.Common.{◌≡◌, ℕ, ◌+◌, ◌==◌, nat_lt, Bool, true, false, cond, not, List, [], ◌∷◌, length, find, Option, Some, None, Result, Ok, Err, refl, subst}
 use Rattle.std.specs.List.{list_any}
 use Rattle.std.specs.Result.{result_ok}
@@ -104,12 +104,12 @@ keeps_assembly point t service attribute body (Some value) =
     (either (ServedKeeps point t) (not (is_value_attribute attribute)) _ _ same
     (either (ServedKeeps point t) (not (length body == 0)) _ _ same same))
 
--- the same of what is served, where something is
+-- the same of what is served, if something is
 abbrev AnyKeeps : ℕ → AdapterTable → Option Served → Type 0
 AnyKeeps point t None = Unit {0}
 AnyKeeps point t (Some s) = ServedKeeps point t s
 
-keeps_served : (point : ℕ) (t : AdapterTable) → OpeningsKeep point t → (peer : Node) (asked : RouterRequestFields) → AnyKeeps point t (served t peer asked)
+keeps_served : (point : ℕ) (t : AdapterTable) → OpeningsKeep point t → (peer : Node) (request : RouterRequestFields) → AnyKeeps point t (served t peer request)
 unfolding served_open served_close served_assembly
 keeps_served point t opens peer nothing = tt
 keeps_served point t opens peer (refused service why) = unchanged point t []
@@ -146,7 +146,7 @@ keeps_packet : (point : ℕ) (t : AdapterTable) → OpeningsKeep point t → (pe
 keeps_packet point t opens peer (Err fault) = unchanged point t []
 keeps_packet point t opens peer (Ok packet) = keeps_replied point t (served t peer (router_request_reading packet.payload)) (keeps_served point t opens peer (router_request_reading packet.payload))
 
-keeps_handled : (point : ℕ) (t : AdapterTable) → OpeningsKeep point t → (stream : Stream) (reply_header : ReplyHeader) (body : List ℕ) (asked : Command) → HandledKeeps point t (handled t stream reply_header body asked)
+keeps_handled : (point : ℕ) (t : AdapterTable) → OpeningsKeep point t → (stream : Stream) (reply_header : ReplyHeader) (body : List ℕ) (kind : Command) → HandledKeeps point t (handled t stream reply_header body kind)
 unfolding handled without_stream
 keeps_handled point t opens stream reply_header body command.RegisterSession = keeps_register point t stream body
 keeps_handled point t opens stream reply_header body command.UnregisterSession =
@@ -175,7 +175,7 @@ keeps_datagram point t peer (Ok d) = keeps_found point t peer d (find (is_for pe
 
 -- ---- a step that gives an answer
 
--- where the step gives an answer, it keeps the owner
+-- if the step gives an answer, it keeps the owner
 abbrev OkKeeps : ℕ → AdapterTable → Result Next StepFault → Type 0
 OkKeeps point t (Ok next) = NextKeeps point t next
 OkKeeps point t (Err fault) = Unit {0}
@@ -219,6 +219,6 @@ ok_step point t opens (Mode run) = tt
 ok_step point t opens (Start slot) = tt
 ok_step point t opens (Stop slot) = tt
 
--- each step from a whole table that gives an answer keeps the owner, unless the answer tells its end
+-- each step from a whole table that gives an answer keeps the owner, unless the answer reports its end
 pub step_keeps : EffectsKeep IsWhole → (point : ℕ) (t : AdapterTable) (event : Event) (next : Next) → IsWhole t → adapter_step t event ≡ Ok next → KeepsOwner point t next.0.notices next.1
 step_keeps effects point t event next holds is = subst (OkKeeps point t) is (ok_step point t (openings_keep effects point t holds) event)

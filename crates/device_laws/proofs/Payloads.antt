@@ -1,5 +1,5 @@
--- The ids that requests and replies tell as they are read: a request tells the T->O id that it asks for, the success of an
--- opening both ids, and nothing else tells any.
+-- The ids in requests and replies as they are read: a request to open has the T->O id that it requests, its successful
+-- reply has both ids, and nothing else has any.
 use Rattle.std.proofs.Common.{◌≡◌, ◌<◌, ℕ, ◌==◌, ltb, Bool, true, false, cond, List, [], ◌∷◌, ◌++◌, length, take, drop, slice_index, Option, Some, None, Result, Ok, Err, refl, sym, subst, arith}
 use Rattle.std.specs.Int.{w8, w32, from_le_bytes}
 use Rattle.std.specs.Option.{option_map}
@@ -65,10 +65,10 @@ first_byte n rest =
     let same : from_le_bytes w8 (n ∷ []) ≡ n = omega arith in
     rw (some, same) refl
 
--- a text that begins with another service asks for no connection
-pub asks_none : (P : ℕ → Type 0) (service : ℕ) (rest : List ℕ) → OpensNone service → RequestIds P (router_request_reading (service ∷ rest))
+-- a text that begins with another service requests no connection
+pub requests_none : (P : ℕ → Type 0) (service : ℕ) (rest : List ℕ) → OpensNone service → RequestIds P (router_request_reading (service ∷ rest))
 unfolding router_request_reading request_reading
-asks_none P service rest none =
+requests_none P service rest none =
     subst (λ (first : Option (ℕ × List ℕ)). RequestIds P (router_request_of service (request_of (parted request_path_len (then_at first (λ n more. then_at (fields_at (w8 ∷ []) more) (λ ns after. Some (n ∷ ns, after))))))))
     (sym (first_byte service rest)) (requested_front_ids P service (fields_at (w8 ∷ []) rest) none)
 
@@ -147,18 +147,18 @@ opened_opens_none : (large : Bool) → OpensNone (opened_service large)
 opened_opens_none true = record { small = refl; large = refl }
 opened_opens_none false = record { small = refl; large = refl }
 
--- the success of an opening tells its two ids
+-- a successful reply has its two ids
 pub opened_ids : (P : ℕ → Type 0) (large : Bool) (o : Opened) → P (again w32 o.o_t_id.0) → P (again w32 o.t_o_id.0) → PayloadIds P (opened_text large o)
 unfolding opened_text
 opened_ids P large o o_holds t_holds = record {
-  asked = asks_none P (opened_service large) _ (opened_opens_none large);
-  reported = λ as_large. success_front P (opened_service large) as_large o o_holds t_holds;
+  requested = requests_none P (opened_service large) _ (opened_opens_none large);
+  replied = λ as_large. success_front P (opened_service large) as_large o o_holds t_holds;
 }
 
 -- ---- other replies
 
 pub other_ids : (P : ℕ → Type 0) (service : ℕ) (rest : List ℕ) → OpensNone service → AnswersNone service → PayloadIds P (service ∷ rest)
-other_ids P service rest opens answers = record { asked = asks_none P service rest opens; reported = λ large. reports_none P service rest large answers }
+other_ids P service rest opens answers = record { requested = requests_none P service rest opens; replied = λ large. reports_none P service rest large answers }
 
 pub closed_ids : (P : ℕ → Type 0) (triad : Triad) → PayloadIds P (closed_text triad)
 unfolding closed_text
@@ -176,12 +176,12 @@ replies_open_none service = record { small = above (reply_service service) 0x54 
 
 refused_parts : (P : ℕ → Type 0) (service general : ℕ) (extended : Option ℕ) (more : List ℕ) → (general == 0) ≡ false → PayloadIds P (reply_service service ∷ 0 ∷ general ∷ extended_text extended ++ more)
 refused_parts P service general None more fails = record {
-  asked = asks_none P (reply_service service) _ (replies_open_none service);
-  reported = λ large. reports_refusal P (reply_service service) general 0 more large fails;
+  requested = requests_none P (reply_service service) _ (replies_open_none service);
+  replied = λ large. reports_refusal P (reply_service service) general 0 more large fails;
 }
 refused_parts P service general (Some code) more fails = record {
-  asked = asks_none P (reply_service service) _ (replies_open_none service);
-  reported = λ large. reports_refusal P (reply_service service) general 1 _ large fails;
+  requested = requests_none P (reply_service service) _ (replies_open_none service);
+  replied = λ large. reports_refusal P (reply_service service) general 1 _ large fails;
 }
 
 pub refused_ids : (P : ℕ → Type 0) (service : ℕ) (fault : Fault) (triad : Option Triad) → (fault.general == 0) ≡ false → PayloadIds P (refused_text service fault triad)
@@ -204,9 +204,9 @@ abbrev OpenedSo : (ℕ → Type 0) → Result OpenFields ReadFault → Type 0
 OpenedSo P (Ok request) = P request.t_o_id.0
 OpenedSo P (Err fault) = Unit {0}
 
-asks_so : (P : ℕ → Type 0) (service : ℕ) (large : Bool) (reading : Result OpenFields ReadFault) → OpenedSo P reading → RequestIds P (request_to_open service large reading)
-asks_so P service large (Ok request) holds = holds
-asks_so P service large (Err fault) holds = tt
+requests_so : (P : ℕ → Type 0) (service : ℕ) (large : Bool) (reading : Result OpenFields ReadFault) → OpenedSo P reading → RequestIds P (request_to_open service large reading)
+requests_so P service large (Ok request) holds = holds
+requests_so P service large (Err fault) holds = tt
 
 open_found : (P : ℕ → Type 0) (large : Bool) (len : ℕ) (p : Tailed) → P (slice_index p.0 3) → OpenedSo P (answer_of (found_image (open_of large) (tail_found len p)))
 open_found P large len p holds =
@@ -229,15 +229,15 @@ requested_of_manager P service body holds =
     subst (λ (f : Option (Tailed × List ℕ)). RequestIds P (router_request_of service (request_of f))) (sym (manager_front service body))
     (subst (λ (r : Result Target PathFault). RequestIds P (router_request_of service (with_target service body r))) (sym manager_path) holds)
 
--- a request to open tells the T->O id that it asks for
+-- a request to open has the T->O id that it requests
 pub request_ids : (P : ℕ → Type 0) (large : Bool) (request : OpenFields) → P (again w32 request.t_o_id.0) → PayloadIds P (manager_text (open_service large) (open_text large request))
 request_ids P true request holds = record {
-  asked = requested_of_manager P 0x5B (open_text true request) (asks_so P 0x5B true (open_reading true (open_text true request)) (open_read P true request holds));
-  reported = λ large. reports_none P 0x5B _ large (record { small = refl; large = refl });
+  requested = requested_of_manager P 0x5B (open_text true request) (requests_so P 0x5B true (open_reading true (open_text true request)) (open_read P true request holds));
+  replied = λ large. reports_none P 0x5B _ large (record { small = refl; large = refl });
 }
 request_ids P false request holds = record {
-  asked = requested_of_manager P 0x54 (open_text false request) (asks_so P 0x54 false (open_reading false (open_text false request)) (open_read P false request holds));
-  reported = λ large. reports_none P 0x54 _ large (record { small = refl; large = refl });
+  requested = requested_of_manager P 0x54 (open_text false request) (requests_so P 0x54 false (open_reading false (open_text false request)) (open_read P false request holds));
+  replied = λ large. reports_none P 0x54 _ large (record { small = refl; large = refl });
 }
 
 -- and one to close none

@@ -44,7 +44,7 @@ use Rattle.device_laws.specs.Sizes.{IsShortFrame, IsShortDatagram, IsSmall}
 use Rattle.device_laws.proofs.Answers.{both_small, plain_small, AnswersSmall}
 use Rattle.device_laws.proofs.Few.{Few, few_none, few_one, few_most, few_mapped, each_found, either}
 use Rattle.device_laws.proofs.ScannerDatagrams.{due_few}
-use Rattle.device_laws.proofs.ScannerFrames.{AsksFew, Asks, few_slots, opened_asks, target_asks, closed_asks, IsQuiet, lost_quiet, answered_quiet, advanced_asks}
+use Rattle.device_laws.proofs.ScannerFrames.{HasShortRequests, SendsRequests, few_slots, opened_sends, target_sends, closed_sends, IsQuiet, lost_quiet, answered_quiet, advanced_sends}
 use Rattle.device_laws.proofs.ScannerRequests.{IsShortRequest, registration_short}
 
 -- ---- answers of effects
@@ -52,15 +52,15 @@ use Rattle.device_laws.proofs.ScannerRequests.{IsShortRequest, registration_shor
 abbrev NextSmall : Next → Type 0
 NextSmall next = IsSmall next.0
 
-effect_small : (effect : Effect) (datagrams : List OutgoingDatagram) → Asks 64 effect → Few 64 IsShortDatagram datagrams → IsSmall (sent_answer effect datagrams)
-effect_small effect datagrams asks few =
-    both_small (map sent_frame effect.sent) datagrams Done effect.notices (few_mapped 64 IsShortRequest IsShortFrame sent_frame (λ request short. short) effect.sent asks) few
+effect_small : (effect : Effect) (datagrams : List OutgoingDatagram) → SendsRequests 64 effect → Few 64 IsShortDatagram datagrams → IsSmall (sent_answer effect datagrams)
+effect_small effect datagrams few_requests few =
+    both_small (map sent_frame effect.sent) datagrams Done effect.notices (few_mapped 64 IsShortRequest IsShortFrame sent_frame (λ request short. short) effect.sent few_requests) few
 
-done_small : (effect : Effect) → Asks 64 effect → IsSmall (done effect).0
-done_small effect asks = effect_small effect [] asks (few_none 64 IsShortDatagram)
+done_small : (effect : Effect) → SendsRequests 64 effect → IsSmall (done effect).0
+done_small effect few_requests = effect_small effect [] few_requests (few_none 64 IsShortDatagram)
 
-once_small : (effect : Effect) → Asks 1 effect → IsSmall (done effect).0
-once_small effect asks = done_small effect (few_most 64 1 IsShortRequest effect.sent (omega arith) asks)
+once_small : (effect : Effect) → SendsRequests 1 effect → IsSmall (done effect).0
+once_small effect few_requests = done_small effect (few_most 64 1 IsShortRequest effect.sent (omega arith) few_requests)
 
 quiet_small : (t : ScannerTable) (effect : Effect) → IsQuiet t effect → IsSmall (done effect).0
 quiet_small t effect quiet = done_small effect (subst (Few 64 IsShortRequest) (sym quiet.silent) (few_none 64 IsShortRequest))
@@ -80,9 +80,9 @@ cut_small : (t : ScannerTable) (number : ℕ) → AnswersSmall (stream_cut t num
 unfolding stream_cut
 cut_small t number = cuts_small t (find (is_stream number) t.streams)
 
-registered_asks : (t : ScannerTable) (stream : TargetStream) (m : MessageFields) → profile_fault t.profile ≡ None → Asks 64 (registered t stream m)
-registered_asks t stream m none =
-    either (Asks 64) (is_registered m) (session_begun t stream m.session) (session_failed t stream) (target_asks stream.peer (with_stage t stream.number (Up m.session)) none) (few_none 64 IsShortRequest)
+registered_sends : (t : ScannerTable) (stream : TargetStream) (m : MessageFields) → profile_fault t.profile ≡ None → SendsRequests 64 (registered t stream m)
+registered_sends t stream m none =
+    either (SendsRequests 64) (is_registered m) (session_begun t stream m.session) (session_failed t stream) (target_sends stream.peer (with_stage t stream.number (Up m.session)) none) (few_none 64 IsShortRequest)
 
 replied_small : (t : ScannerTable) (indexed : IndexedSlot) (m : MessageFields) (state : SlotState) → IsSmall (replied t indexed m state).0
 replied_small t indexed m (Opening o) = quiet_small t (answered t indexed o (open_answer (is_large indexed.config) m)) (answered_quiet t indexed o (open_answer (is_large indexed.config) m))
@@ -94,7 +94,7 @@ awaited_small t m None = plain_small Ignored
 awaited_small t m (Some indexed) = replied_small t indexed m indexed.slot.state
 
 reported_small : (t : ScannerTable) (stream : TargetStream) (m : MessageFields) (stage : Stage) → profile_fault t.profile ≡ None → IsSmall (reported t stream m stage).0
-reported_small t stream m Waiting none = either NextSmall (m.context == 0) (done (registered t stream m)) (ignored t) (done_small (registered t stream m) (registered_asks t stream m none)) (plain_small Ignored)
+reported_small t stream m Waiting none = either NextSmall (m.context == 0) (done (registered t stream m)) (ignored t) (done_small (registered t stream m) (registered_sends t stream m none)) (plain_small Ignored)
 reported_small t stream m (Up handle) none = awaited_small t m (find (is_awaiting stream.peer m.context) (indexed_slots t))
 reported_small t stream m Unused none = plain_small Ignored
 
@@ -162,41 +162,41 @@ mode_small t run = plain_small Done
 
 -- ---- starts and stops
 
-state_started : (t : ScannerTable) (indexed : IndexedSlot) (state : SlotState) → AsksFew indexed → AnswersSmall (start_state t indexed state)
+state_started : (t : ScannerTable) (indexed : IndexedSlot) (state : SlotState) → HasShortRequests indexed → AnswersSmall (start_state t indexed state)
 state_started t indexed Idle few =
     let slot = desired_slot t indexed.slot in
-    either (AnswersSmall {T = ScannerTable}) indexed.slot.desired_up (Err fault.NotAllowedNow) (Ok (done (started t indexed slot))) tt (once_small (started t indexed slot) (opened_asks (with_slot t indexed.number slot) (record indexed { slot = slot }) few))
+    either (AnswersSmall {T = ScannerTable}) indexed.slot.desired_up (Err fault.NotAllowedNow) (Ok (done (started t indexed slot))) tt (once_small (started t indexed slot) (opened_sends (with_slot t indexed.number slot) (record indexed { slot = slot }) few))
 state_started t indexed other few = tt
 
-state_stopped : (t : ScannerTable) (indexed : IndexedSlot) (state : SlotState) → AsksFew indexed → AnswersSmall (stop_of (stopped t indexed state))
+state_stopped : (t : ScannerTable) (indexed : IndexedSlot) (state : SlotState) → HasShortRequests indexed → AnswersSmall (stop_of (stopped t indexed state))
 state_stopped t indexed Idle few = either (λ said. AnswersSmall (stop_of said)) indexed.slot.desired_up (Ok (slot_resigned t indexed)) (Err fault.NotAllowedNow) (done_small (slot_resigned t indexed) (few_none 64 IsShortRequest)) tt
-state_stopped t indexed (Established c) few = once_small (closed_within t indexed c (session_with t indexed.config.target)) (closed_asks t indexed c (session_with t indexed.config.target) few)
+state_stopped t indexed (Established c) few = once_small (closed_within t indexed c (session_with t indexed.config.target)) (closed_sends t indexed c (session_with t indexed.config.target) few)
 state_stopped t indexed (Closing c) few = tt
 state_stopped t indexed other few = done_small (slot_resigned t indexed) (few_none 64 IsShortRequest)
 
--- the slot that is found is one of those that ask little
-found_asks : (t : ScannerTable) (number : ℕ) → profile_fault t.profile ≡ None → IfSome (slot_at t number) AsksFew
-found_asks t number none = each_found AsksFew (is_numbered number) (indexed_slots t) (few_slots t none).each
+-- the slot that the lookup found has short requests
+found_sends : (t : ScannerTable) (number : ℕ) → profile_fault t.profile ≡ None → IfSome (slot_at t number) HasShortRequests
+found_sends t number none = each_found HasShortRequests (is_numbered number) (indexed_slots t) (few_slots t none).each
 
-starts_small : (t : ScannerTable) (found : Option IndexedSlot) → IfSome found AsksFew → AnswersSmall (start_at t found)
+starts_small : (t : ScannerTable) (found : Option IndexedSlot) → IfSome found HasShortRequests → AnswersSmall (start_at t found)
 starts_small t None few = tt
 starts_small t (Some indexed) few = state_started t indexed indexed.slot.state few
 
 start_small : (t : ScannerTable) (number : ℕ) → profile_fault t.profile ≡ None → AnswersSmall (start t number)
 unfolding start
-start_small t number none = starts_small t (slot_at t number) (found_asks t number none)
+start_small t number none = starts_small t (slot_at t number) (found_sends t number none)
 
-stops_small : (t : ScannerTable) (found : Option IndexedSlot) → IfSome found AsksFew → AnswersSmall (stop_of (stopped_at t found))
+stops_small : (t : ScannerTable) (found : Option IndexedSlot) → IfSome found HasShortRequests → AnswersSmall (stop_of (stopped_at t found))
 stops_small t None few = tt
 stops_small t (Some indexed) few = state_stopped t indexed indexed.slot.state few
 
 stop_small : (t : ScannerTable) (number : ℕ) → profile_fault t.profile ≡ None → AnswersSmall (stop t number)
 unfolding stop
-stop_small t number none = stops_small t (slot_at t number) (found_asks t number none)
+stop_small t number none = stops_small t (slot_at t number) (found_sends t number none)
 
 -- ---- a tick
 
--- what becomes of connections within a tick keeps a table whole
+-- the part of a tick before its productions keeps a table whole
 abbrev pub AdvancesWhole : Type 0
 AdvancesWhole = (t : ScannerTable) (ms : ℕ) → t.clock.0 + ms ≤ 2 ^ 48 → IsWhole t → IsWhole (advanced (clocked_table t ms)).table
 
@@ -208,7 +208,7 @@ tick_step true b advance t ms is whole = tt
 tick_step false true advance t ms is whole = tt
 tick_step false false advance t ms is whole =
     let effect = advanced (clocked_table t ms) in
-    effect_small effect (map sent (due_productions effect.table)) (advanced_asks (clocked_table t ms) whole.faultless) (due_few effect.table (advance t ms (within (t.clock.0 + ms) is) whole))
+    effect_small effect (map sent (due_productions effect.table)) (advanced_sends (clocked_table t ms) whole.faultless) (due_few effect.table (advance t ms (within (t.clock.0 + ms) is) whole))
 
 tick_small : AdvancesWhole → (t : ScannerTable) (ms : ℕ) → IsWhole t → AnswersSmall (tick t ms)
 unfolding tick

@@ -70,7 +70,7 @@ sent_short : (production : Produced) → SendsFew production → IsShortDatagram
 unfolding SendsFew
 sent_short production few = datagram_short production.datagram (omega arith)
 
--- what the slots that are due send
+-- the datagrams of the due slots
 pub due_few : (t : ScannerTable) → IsWhole t → Few 64 IsShortDatagram (map sent (due_productions t))
 due_few t whole =
     let due = few_ordered 64 HasShortOutput by_due (filter (is_due t.clock) (indexed_slots t)) (few_filtered 64 HasShortOutput (is_due t.clock) (indexed_slots t) (few_outputs t whole)) in

@@ -1,4 +1,4 @@
--- The frames of a scanner: an event asks each slot's target once at most, and each request is short.
+-- The frames of a scanner: an event sends one request at most for each slot, and each request is short.
 use Rattle.std.proofs.Common.{◌≡◌, ◌≤◌, ℕ, suc, ◌+◌, true, List, [], ◌∷◌, ◌++◌, length, filter, Option, Some, None, Result, Ok, Err, refl, sym, ◌∙◌, subst, arith}
 use Rattle.std.specs.List.{AllByRecursion, list_all}
 use Rattle.std.proofs.lemmas.Bool.{not-false, and_parts}
@@ -33,7 +33,7 @@ use Rattle.scanner_table.specs.Ticks.{expired_state, expired, expired_slots, all
 use Rattle.device_laws.proofs.Few.{Few, few_none, few_one, few_more, few_most, few_both, few_filtered, either}
 use Rattle.device_laws.proofs.ScannerRequests.{HasFewData, IsShortRequest, open_short, close_short}
 
--- ---- what a faultless profile has
+-- ---- a profile without a fault
 
 pub record Faultless (profile : ScannerProfile) : Type 0 where
   pub few : length profile.slots ≤ 64
@@ -56,73 +56,73 @@ named_few (Some n) content is = grind (arith, nat_tests)
 config_few : (config : SlotConfig) → has_lengths config ≡ true → HasFewData config
 config_few config is = named_few config.config config.config_data (and_parts _ (is_config config.config config.config_data) (and_parts _ _ is).1).1
 
--- ---- places
+-- ---- slots
 
-abbrev pub AsksFew : IndexedSlot → Type 0
-AsksFew indexed = HasFewData indexed.config
+abbrev pub HasShortRequests : IndexedSlot → Type 0
+HasShortRequests indexed = HasFewData indexed.config
 
-own_slots : (number : ℕ) (configs : List SlotConfig) (slots : List Slot) → list_all has_lengths configs ≡ true → Few (length configs) AsksFew (indexed_from number configs slots)
-own_slots number [] slots all = few_none 0 AsksFew
-own_slots number (config ∷ configs) [] all = few_none (suc (length configs)) AsksFew
+own_slots : (number : ℕ) (configs : List SlotConfig) (slots : List Slot) → list_all has_lengths configs ≡ true → Few (length configs) HasShortRequests (indexed_from number configs slots)
+own_slots number [] slots all = few_none 0 HasShortRequests
+own_slots number (config ∷ configs) [] all = few_none (suc (length configs)) HasShortRequests
 own_slots number (config ∷ configs) (slot ∷ slots) all =
     let parts = and_parts (has_lengths config) (list_all has_lengths configs) all in
-    few_more (length configs) AsksFew (record { number = number; config = config; slot = slot }) (indexed_from (suc number) configs slots) (config_few config parts.0) (own_slots (suc number) configs slots parts.1)
+    few_more (length configs) HasShortRequests (record { number = number; config = config; slot = slot }) (indexed_from (suc number) configs slots) (config_few config parts.0) (own_slots (suc number) configs slots parts.1)
 
-pub few_slots : (t : ScannerTable) → profile_fault t.profile ≡ None → Few 64 AsksFew (indexed_slots t)
+pub few_slots : (t : ScannerTable) → profile_fault t.profile ≡ None → Few 64 HasShortRequests (indexed_slots t)
 few_slots t none =
     let has = faultless t.profile none in
-    few_most 64 (length t.profile.slots) AsksFew (indexed_slots t) has.few (own_slots 0 t.profile.slots t.slots has.lengths)
+    few_most 64 (length t.profile.slots) HasShortRequests (indexed_slots t) has.few (own_slots 0 t.profile.slots t.slots has.lengths)
 
--- ---- effects that ask little
+-- ---- effects with few requests
 
-abbrev pub Asks : ℕ → Effect → Type 0
-Asks most effect = Few most IsShortRequest effect.sent
+abbrev pub SendsRequests : ℕ → Effect → Type 0
+SendsRequests most effect = Few most IsShortRequest effect.sent
 
 -- ---- openings
 
-within_asks : (t : ScannerTable) (indexed : IndexedSlot) (session : Option Session) → AsksFew indexed → Asks 1 (opened_within t indexed session)
-within_asks t indexed None few = few_none 1 IsShortRequest
-within_asks t indexed (Some session) few =
-    either (Asks 1) (can_open t indexed.config) (open_requested t indexed session) (exhausted t indexed)
+within_sends : (t : ScannerTable) (indexed : IndexedSlot) (session : Option Session) → HasShortRequests indexed → SendsRequests 1 (opened_within t indexed session)
+within_sends t indexed None few = few_none 1 IsShortRequest
+within_sends t indexed (Some session) few =
+    either (SendsRequests 1) (can_open t indexed.config) (open_requested t indexed session) (exhausted t indexed)
     (few_one 1 IsShortRequest _ (omega arith) (open_short session t.next_request (is_large indexed.config) indexed.config (next_requested t indexed.config) few)) (few_none 1 IsShortRequest)
 
-pub opened_asks : (t : ScannerTable) (indexed : IndexedSlot) → AsksFew indexed → Asks 1 (opened t indexed)
+pub opened_sends : (t : ScannerTable) (indexed : IndexedSlot) → HasShortRequests indexed → SendsRequests 1 (opened t indexed)
 unfolding opened
-opened_asks t indexed few = within_asks t indexed (session_with t indexed.config.target) few
+opened_sends t indexed few = within_sends t indexed (session_with t indexed.config.target) few
 
-each_asks : (all : List IndexedSlot) → AllByRecursion AsksFew all → (t : ScannerTable) → Asks (length all) (on_each opened all t)
-each_asks [] few t = few_none 0 IsShortRequest
-each_asks (indexed ∷ rest) few t =
+each_sends : (all : List IndexedSlot) → AllByRecursion HasShortRequests all → (t : ScannerTable) → SendsRequests (length all) (on_each opened all t)
+each_sends [] few t = few_none 0 IsShortRequest
+each_sends (indexed ∷ rest) few t =
     let first = opened t indexed in
     let next = on_each opened rest first.table in
-    few_most (suc (length rest)) (1 + length rest) IsShortRequest (first.sent ++ next.sent) (omega arith) (few_both 1 (length rest) IsShortRequest first.sent next.sent (opened_asks t indexed few.0) (each_asks rest few.1 first.table))
+    few_most (suc (length rest)) (1 + length rest) IsShortRequest (first.sent ++ next.sent) (omega arith) (few_both 1 (length rest) IsShortRequest first.sent next.sent (opened_sends t indexed few.0) (each_sends rest few.1 first.table))
 
--- each place asks once at most
-few_ask : (all : List IndexedSlot) (t : ScannerTable) → Few 64 AsksFew all → Asks 64 (on_each opened all t)
-few_ask all t few = few_most 64 (length all) IsShortRequest (on_each opened all t).sent few.count (each_asks all few.each t)
+-- each slot sends one request at most
+few_send : (all : List IndexedSlot) (t : ScannerTable) → Few 64 HasShortRequests all → SendsRequests 64 (on_each opened all t)
+few_send all t few = few_most 64 (length all) IsShortRequest (on_each opened all t).sent few.count (each_sends all few.each t)
 
-few_ready : (t : ScannerTable) → profile_fault t.profile ≡ None → Few 64 AsksFew (ready_slots t)
-few_ready t none = few_filtered 64 AsksFew (is_ready_slot t.clock) (indexed_slots t) (few_slots t none)
+few_ready : (t : ScannerTable) → profile_fault t.profile ≡ None → Few 64 HasShortRequests (ready_slots t)
+few_ready t none = few_filtered 64 HasShortRequests (is_ready_slot t.clock) (indexed_slots t) (few_slots t none)
 
-pub ready_asks : (t : ScannerTable) → profile_fault t.profile ≡ None → Asks 64 (ready_opened t)
+pub ready_sends : (t : ScannerTable) → profile_fault t.profile ≡ None → SendsRequests 64 (ready_opened t)
 unfolding ready_opened
-ready_asks t none = few_ask (ready_slots t) t (few_ready t none)
+ready_sends t none = few_send (ready_slots t) t (few_ready t none)
 
-pub target_asks : (target : Node) (t : ScannerTable) → profile_fault t.profile ≡ None → Asks 64 (target_opened target t)
+pub target_sends : (target : Node) (t : ScannerTable) → profile_fault t.profile ≡ None → SendsRequests 64 (target_opened target t)
 unfolding target_opened
-target_asks target t none = few_ask (filter (is_with target) (ready_slots t)) t (few_filtered 64 AsksFew (is_with target) (ready_slots t) (few_ready t none))
+target_sends target t none = few_send (filter (is_with target) (ready_slots t)) t (few_filtered 64 HasShortRequests (is_with target) (ready_slots t) (few_ready t none))
 
 -- ---- closings
 
-pub closed_asks : (t : ScannerTable) (indexed : IndexedSlot) (c : Connection) (session : Option Session) → AsksFew indexed → Asks 1 (closed_within t indexed c session)
-closed_asks t indexed c None few = few_none 1 IsShortRequest
-closed_asks t indexed c (Some session) few =
-    either (Asks 1) (has_request t) (close_requested t indexed c session) (exhausted t indexed)
+pub closed_sends : (t : ScannerTable) (indexed : IndexedSlot) (c : Connection) (session : Option Session) → HasShortRequests indexed → SendsRequests 1 (closed_within t indexed c session)
+closed_sends t indexed c None few = few_none 1 IsShortRequest
+closed_sends t indexed c (Some session) few =
+    either (SendsRequests 1) (has_request t) (close_requested t indexed c session) (exhausted t indexed)
     (few_one 1 IsShortRequest _ (omega arith) (close_short session t.next_request indexed.config c.link.triad few)) (few_none 1 IsShortRequest)
 
--- ---- effects that ask nothing
+-- ---- effects without a request
 
--- nothing is asked, and the profile stays
+-- the effect sends no request, and the profile stays
 pub record IsQuiet (t : ScannerTable) (effect : Effect) : Type 0 where
   pub silent : effect.sent ≡ []
   pub profile : effect.table.profile ≡ t.profile
@@ -169,11 +169,11 @@ all_given_quiet : (t : ScannerTable) → IsQuiet t (all_given_up t)
 unfolding all_given_up
 all_given_quiet t = each_quiet given_up (λ u indexed. given_quiet u indexed indexed.slot.state) (filter (is_overdue t.clock) (indexed_slots t)) t
 
--- only openings ask, so each slot asks once at most
-pub advanced_asks : (t : ScannerTable) → profile_fault t.profile ≡ None → Asks 64 (advanced t)
-advanced_asks t none =
+-- only openings send requests, so each slot sends one at most
+pub advanced_sends : (t : ScannerTable) → profile_fault t.profile ≡ None → SendsRequests 64 (advanced t)
+advanced_sends t none =
     let before = and_then (all_expired t) all_given_up in
     let quiet = quiet_then t (all_expired t) all_given_up (all_expired_quiet t) (all_given_quiet (all_expired t).table) in
-    let ready = ready_asks before.table (subst (λ (p : ScannerProfile). profile_fault p ≡ None) (sym quiet.profile) none) in
+    let ready = ready_sends before.table (subst (λ (p : ScannerProfile). profile_fault p ≡ None) (sym quiet.profile) none) in
     let silent = quiet.silent in
     rw silent ready

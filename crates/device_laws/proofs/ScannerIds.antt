@@ -1,5 +1,4 @@
--- A step of a scanner keeps what holds of its slots, and what it sends tells ids of connections and those that it asks
--- for.
+-- A step of a scanner keeps what holds of its slots, and it sends only ids of its connections and ids that it requests.
 use Rattle.std.proofs.Common.{◌≡◌, ◌≤◌, ℕ, ◌+◌, ◌==◌, ◌&&◌, nat_lt, Bool, true, false, cond, List, [], ◌∷◌, length, map, filter, find, slice_get, Option, Some, None, Result, Ok, Err, refl, sym, subst, arith}
 use Rattle.std.specs.List.{AllByRecursion, Contains}
 use Rattle.std.proofs.lemmas.List.Elements.{Contains-append_left, Contains-append_right, Contains-push}
@@ -58,11 +57,11 @@ use Rattle.device_laws.proofs.Lists.{all_filtered, all_found, all_made, all_mapp
 use Rattle.device_laws.proofs.Texts.{either, Cuts, message_ids, packet_ids, datagram_id}
 use Rattle.device_laws.proofs.Payloads.{request_ids, close_request_ids}
 use Rattle.device_laws.proofs.AdapterIds.{plain_protocol, few_bytes}
-use Rattle.device_laws.proofs.Slots.{OfSlots, SlotHolds, SlotsHold, Known, known_slots, with_slot_holds, mapped_indexed, mapped_slots, Kept, RequestId, SentId, Asks, EffectHolds, same_counts, changed_counts, changed_holds, opened_holds, target_holds, lost_holds, advanced_holds, SaysSo, answered_holds}
+use Rattle.device_laws.proofs.Slots.{OfSlots, SlotHolds, SlotsHold, IsSlotOf, all_slots, with_slot_holds, mapped_indexed, mapped_slots, Kept, RequestId, SentId, RequestIdsHold, EffectHolds, same_counts, changed_counts, changed_holds, opened_holds, target_holds, lost_holds, advanced_holds, SaysSo, answered_holds}
 
 -- ---- requests that are sent
 
-request_packet : ItemsReadBack → (P : ℕ → Type 0) → Cuts P → (request : Sent) (asks : Request) → request.request ≡ asks → RequestId P asks → length (message_text (sent_message request)) ≤ 2048 → PacketIds P (packet_reading (sent_message request).payload)
+request_packet : ItemsReadBack → (P : ℕ → Type 0) → Cuts P → (request : Sent) (requested_ids : Request) → request.request ≡ requested_ids → RequestId P requested_ids → length (message_text (sent_message request)) ≤ 2048 → PacketIds P (packet_reading (sent_message request).payload)
 request_packet back P cuts request registering is holds short = rw is (subst (PacketIds P) (sym plain_protocol) tt)
 request_packet back P cuts request (opening large fields) is holds short =
     let body = manager_text (open_service large) (open_text large fields) in
@@ -78,7 +77,7 @@ requests_hold back P cuts (request ∷ requests) holds short =
 
 -- ---- answers
 
--- an answer and the next table, where no more is drawn than is there and the answer is small
+-- an answer and the next table, if the counter stays within the limit and the answer is small
 abbrev pub NextHolds : OfSlots → (ℕ → Type 0) → ℕ → Next → Type 0
 NextHolds G P to next = next.1.next_id ≤ to → IsSmall next.0 → AnswerIds P next.0 × SlotsHold G next.1
 
@@ -108,7 +107,7 @@ says_so : (t : ScannerTable) (happens : Event) (stream : TargetStream) (m : Mess
 says_so t happens stream m large target request (Err why) is by peer context = tt
 says_so t happens stream m large target request (Ok (answer.Refused r)) is by peer context = tt
 says_so t happens stream m large target request (Ok (answer.Opened success)) is by peer context =
-    record { stream = by.number; bytes = by.bytes; is = by.is; over = stream; found = by.found; peer = peer; message = m; reads = by.reads; context = context; large = large; tells = is }
+    record { stream = by.number; bytes = by.bytes; is = by.is; over = stream; found = by.found; peer = peer; message = m; reads = by.reads; context = context; large = large; success_is = is }
 
 reply_holds : ItemsReadBack → (G : OfSlots) (P : ℕ → Type 0) → Cuts P → (to : ℕ) (t : ScannerTable) (happens : Event) → Kept G t to happens → (stream : TargetStream) (m : MessageFields) (indexed : IndexedSlot) (state : SlotState) → indexed.slot.state ≡ state → Contains (indexed_slots t) indexed → ComesBy t happens stream m → SlotsHold G t → slice_get t.profile.slots indexed.number ≡ Some indexed.config → G indexed.number indexed.config state → (is_with stream.peer indexed && waits_for m.context state) ≡ true → NextHolds G P to (replied t indexed m state)
 reply_holds back G P cuts to t happens kept stream m indexed (Opening o) is among by slots there waits awaits =
@@ -146,37 +145,37 @@ found_among : (p : IndexedSlot → Bool) (xs : List IndexedSlot) (found : Indexe
 found_among p [] found is = absurd cc
 found_among p (x ∷ xs) found is = among_step (p x) x found (find p xs) xs is (λ after. found_among p xs found after)
 
--- a place that is found is one of the scanner's
-found_known : (G : OfSlots) (t : ScannerTable) (p : IndexedSlot → Bool) → SlotsHold G t → IfSome (find p (indexed_slots t)) (Known G t.profile.slots)
-found_known G t p slots = all_found (Known G t.profile.slots) p (indexed_slots t) (known_slots G t slots)
+-- a slot that a lookup found is one of the scanner's
+found_slot : (G : OfSlots) (t : ScannerTable) (p : IndexedSlot → Bool) → SlotsHold G t → IfSome (find p (indexed_slots t)) (IsSlotOf G t.profile.slots)
+found_slot G t p slots = all_found (IsSlotOf G t.profile.slots) p (indexed_slots t) (all_slots G t slots)
 
-awaited_holds : ItemsReadBack → (G : OfSlots) (P : ℕ → Type 0) → Cuts P → (to : ℕ) (t : ScannerTable) (happens : Event) → Kept G t to happens → (stream : TargetStream) (m : MessageFields) (found : Option IndexedSlot) → find (is_awaiting stream.peer m.context) (indexed_slots t) ≡ found → IfSome found (Known G t.profile.slots) → ComesBy t happens stream m → SlotsHold G t → NextHolds G P to (replied_to t m found)
-awaited_holds back G P cuts to t happens kept stream m None is known by slots = λ below small. (record { frames = tt; datagrams = tt }, slots)
-awaited_holds back G P cuts to t happens kept stream m (Some indexed) is known by slots =
-    reply_holds back G P cuts to t happens kept stream m indexed indexed.slot.state refl (found_among (is_awaiting stream.peer m.context) (indexed_slots t) indexed is) by slots known.there known.holds (found_passes (is_awaiting stream.peer m.context) (indexed_slots t) indexed is)
+awaited_holds : ItemsReadBack → (G : OfSlots) (P : ℕ → Type 0) → Cuts P → (to : ℕ) (t : ScannerTable) (happens : Event) → Kept G t to happens → (stream : TargetStream) (m : MessageFields) (found : Option IndexedSlot) → find (is_awaiting stream.peer m.context) (indexed_slots t) ≡ found → IfSome found (IsSlotOf G t.profile.slots) → ComesBy t happens stream m → SlotsHold G t → NextHolds G P to (replied_to t m found)
+awaited_holds back G P cuts to t happens kept stream m None is is_slot by slots = λ below small. (record { frames = tt; datagrams = tt }, slots)
+awaited_holds back G P cuts to t happens kept stream m (Some indexed) is is_slot by slots =
+    reply_holds back G P cuts to t happens kept stream m indexed indexed.slot.state refl (found_among (is_awaiting stream.peer m.context) (indexed_slots t) indexed is) by slots is_slot.there is_slot.holds (found_passes (is_awaiting stream.peer m.context) (indexed_slots t) indexed is)
 
-registered_holds : ItemsReadBack → (G : OfSlots) (P : ℕ → Type 0) → Cuts P → (to : ℕ) (t : ScannerTable) (happens : Event) → Kept G t to happens → Asks P t to → (stream : TargetStream) (m : MessageFields) → SlotsHold G t → NextHolds G P to (done (registered t stream m))
-registered_holds back G P cuts to t happens kept asks stream m slots =
+registered_holds : ItemsReadBack → (G : OfSlots) (P : ℕ → Type 0) → Cuts P → (to : ℕ) (t : ScannerTable) (happens : Event) → Kept G t to happens → RequestIdsHold P t to → (stream : TargetStream) (m : MessageFields) → SlotsHold G t → NextHolds G P to (done (registered t stream m))
+registered_holds back G P cuts to t happens kept requested_ids stream m slots =
     done_holds back G P cuts to (registered t stream m)
     (either (λ (e : Effect). e.table.next_id ≤ to → EffectHolds G P e) (is_registered m) (session_begun t stream m.session) (session_failed t stream)
-    (λ below. target_holds G P t to happens kept asks stream.peer (with_stage t stream.number (Up m.session)) (record { profile = refl; ids = omega arith; requests = omega arith }) below slots)
+    (λ below. target_holds G P t to happens kept requested_ids stream.peer (with_stage t stream.number (Up m.session)) (record { profile = refl; ids = omega arith; requests = omega arith }) below slots)
     (λ below. record { slots = slots; sent = tt }))
 
-reported_holds : ItemsReadBack → (G : OfSlots) (P : ℕ → Type 0) → Cuts P → (to : ℕ) (t : ScannerTable) (happens : Event) → Kept G t to happens → Asks P t to → (stream : TargetStream) (m : MessageFields) (stage : Stage) → ComesBy t happens stream m → SlotsHold G t → NextHolds G P to (reported t stream m stage)
-reported_holds back G P cuts to t happens kept asks stream m Waiting by slots =
-    either (NextHolds G P to) (m.context == 0) (done (registered t stream m)) (ignored t) (registered_holds back G P cuts to t happens kept asks stream m slots) (λ below small. (record { frames = tt; datagrams = tt }, slots))
-reported_holds back G P cuts to t happens kept asks stream m (Up handle) by slots =
-    awaited_holds back G P cuts to t happens kept stream m (find (is_awaiting stream.peer m.context) (indexed_slots t)) refl (found_known G t (is_awaiting stream.peer m.context) slots) by slots
-reported_holds back G P cuts to t happens kept asks stream m Unused by slots = λ below small. (record { frames = tt; datagrams = tt }, slots)
+reported_holds : ItemsReadBack → (G : OfSlots) (P : ℕ → Type 0) → Cuts P → (to : ℕ) (t : ScannerTable) (happens : Event) → Kept G t to happens → RequestIdsHold P t to → (stream : TargetStream) (m : MessageFields) (stage : Stage) → ComesBy t happens stream m → SlotsHold G t → NextHolds G P to (reported t stream m stage)
+reported_holds back G P cuts to t happens kept requested_ids stream m Waiting by slots =
+    either (NextHolds G P to) (m.context == 0) (done (registered t stream m)) (ignored t) (registered_holds back G P cuts to t happens kept requested_ids stream m slots) (λ below small. (record { frames = tt; datagrams = tt }, slots))
+reported_holds back G P cuts to t happens kept requested_ids stream m (Up handle) by slots =
+    awaited_holds back G P cuts to t happens kept stream m (find (is_awaiting stream.peer m.context) (indexed_slots t)) refl (found_slot G t (is_awaiting stream.peer m.context) slots) by slots
+reported_holds back G P cuts to t happens kept requested_ids stream m Unused by slots = λ below small. (record { frames = tt; datagrams = tt }, slots)
 
-message_holds : ItemsReadBack → (G : OfSlots) (P : ℕ → Type 0) → Cuts P → (to : ℕ) (t : ScannerTable) (number : ℕ) (bytes : List ℕ) → Kept G t to (event.Frame number bytes) → Asks P t to → (stream : TargetStream) (reading : Result MessageFields EncapFault) → message_reading bytes ≡ reading → find (is_stream number) t.streams ≡ Some stream → SlotsHold G t → NextHolds G P to (frame_answer t stream reading)
-message_holds back G P cuts to t number bytes kept asks stream (Err why) reads found slots = λ below small. (record { frames = tt; datagrams = tt }, slots)
-message_holds back G P cuts to t number bytes kept asks stream (Ok m) reads found slots =
-    reported_holds back G P cuts to t (event.Frame number bytes) kept asks stream m stream.stage (record { number = number; bytes = bytes; is = refl; found = found; reads = reads }) slots
+message_holds : ItemsReadBack → (G : OfSlots) (P : ℕ → Type 0) → Cuts P → (to : ℕ) (t : ScannerTable) (number : ℕ) (bytes : List ℕ) → Kept G t to (event.Frame number bytes) → RequestIdsHold P t to → (stream : TargetStream) (reading : Result MessageFields EncapFault) → message_reading bytes ≡ reading → find (is_stream number) t.streams ≡ Some stream → SlotsHold G t → NextHolds G P to (frame_answer t stream reading)
+message_holds back G P cuts to t number bytes kept requested_ids stream (Err why) reads found slots = λ below small. (record { frames = tt; datagrams = tt }, slots)
+message_holds back G P cuts to t number bytes kept requested_ids stream (Ok m) reads found slots =
+    reported_holds back G P cuts to t (event.Frame number bytes) kept requested_ids stream m stream.stage (record { number = number; bytes = bytes; is = refl; found = found; reads = reads }) slots
 
-frame_holds : ItemsReadBack → (G : OfSlots) (P : ℕ → Type 0) → Cuts P → (to : ℕ) (t : ScannerTable) (number : ℕ) (bytes : List ℕ) → Kept G t to (event.Frame number bytes) → Asks P t to → (found : Option TargetStream) → find (is_stream number) t.streams ≡ found → SlotsHold G t → OkHolds G P to (frame_of t bytes found)
-frame_holds back G P cuts to t number bytes kept asks None is slots = tt
-frame_holds back G P cuts to t number bytes kept asks (Some stream) is slots = message_holds back G P cuts to t number bytes kept asks stream (message_reading bytes) refl is slots
+frame_holds : ItemsReadBack → (G : OfSlots) (P : ℕ → Type 0) → Cuts P → (to : ℕ) (t : ScannerTable) (number : ℕ) (bytes : List ℕ) → Kept G t to (event.Frame number bytes) → RequestIdsHold P t to → (found : Option TargetStream) → find (is_stream number) t.streams ≡ found → SlotsHold G t → OkHolds G P to (frame_of t bytes found)
+frame_holds back G P cuts to t number bytes kept requested_ids None is slots = tt
+frame_holds back G P cuts to t number bytes kept requested_ids (Some stream) is slots = message_holds back G P cuts to t number bytes kept requested_ids stream (message_reading bytes) refl is slots
 
 cut_holds : ItemsReadBack → (G : OfSlots) (P : ℕ → Type 0) → Cuts P → (to : ℕ) (t : ScannerTable) (happens : Event) → Kept G t to happens → (found : Option TargetStream) → SlotsHold G t → OkHolds G P to (cut_of t found)
 cut_holds back G P cuts to t happens kept None slots = tt
@@ -184,7 +183,7 @@ cut_holds back G P cuts to t happens kept (Some stream) slots =
     done_holds back G P cuts to (target_lost stream.peer (without_stream t stream.number))
     (λ below. lost_holds G P t to happens kept stream.peer (without_stream t stream.number) (record { profile = refl; ids = omega arith; requests = omega arith }) below slots)
 
--- ---- datagrams that come
+-- ---- datagrams received
 
 accepted_holds : (G : OfSlots) (to : ℕ) (t : ScannerTable) (happens : Event) → Kept G t to happens → (indexed : IndexedSlot) (d : DatagramFields) (c : Connection) (bytes : List ℕ) → SlotsHold G t → slice_get t.profile.slots indexed.number ≡ Some indexed.config → G indexed.number indexed.config (Established c) → SlotsHold G (accepted_table t indexed d c bytes)
 accepted_holds G to t happens kept indexed d c bytes slots there is =
@@ -208,13 +207,13 @@ state_holds G P to t happens kept indexed d (Opening o) slots there is = λ belo
 state_holds G P to t happens kept indexed d (TimedOut link) slots there is = λ below small. (record { frames = tt; datagrams = tt }, slots)
 state_holds G P to t happens kept indexed d (Closing c) slots there is = λ below small. (record { frames = tt; datagrams = tt }, slots)
 
-slot_holds : (G : OfSlots) (P : ℕ → Type 0) (to : ℕ) (t : ScannerTable) (happens : Event) → Kept G t to happens → (d : DatagramFields) (found : Option IndexedSlot) → IfSome found (Known G t.profile.slots) → SlotsHold G t → NextHolds G P to (received_at t d found)
-slot_holds G P to t happens kept d None known slots = λ below small. (record { frames = tt; datagrams = tt }, slots)
-slot_holds G P to t happens kept d (Some indexed) known slots = state_holds G P to t happens kept indexed d indexed.slot.state slots known.there known.holds
+slot_holds : (G : OfSlots) (P : ℕ → Type 0) (to : ℕ) (t : ScannerTable) (happens : Event) → Kept G t to happens → (d : DatagramFields) (found : Option IndexedSlot) → IfSome found (IsSlotOf G t.profile.slots) → SlotsHold G t → NextHolds G P to (received_at t d found)
+slot_holds G P to t happens kept d None is_slot slots = λ below small. (record { frames = tt; datagrams = tt }, slots)
+slot_holds G P to t happens kept d (Some indexed) is_slot slots = state_holds G P to t happens kept indexed d indexed.slot.state slots is_slot.there is_slot.holds
 
 received_holds : (G : OfSlots) (P : ℕ → Type 0) (to : ℕ) (t : ScannerTable) (happens : Event) → Kept G t to happens → (peer : Node) (reading : Result DatagramFields DatagramFault) → SlotsHold G t → NextHolds G P to (received_as t peer reading)
 received_holds G P to t happens kept peer (Err why) slots = λ below small. (record { frames = tt; datagrams = tt }, slots)
-received_holds G P to t happens kept peer (Ok d) slots = slot_holds G P to t happens kept d (find (is_for peer d.connection) (indexed_slots t)) (found_known G t (is_for peer d.connection) slots) slots
+received_holds G P to t happens kept peer (Ok d) slots = slot_holds G P to t happens kept d (find (is_for peer d.connection) (indexed_slots t)) (found_slot G t (is_for peer d.connection) slots) slots
 
 -- ---- the application
 
@@ -225,13 +224,13 @@ written_holds G to t happens kept number config (Established c) is = kept.goes_o
 written_holds G to t happens kept number config (TimedOut link) is = is
 written_holds G to t happens kept number config (Closing c) is = is
 
-write_holds : (G : OfSlots) (P : ℕ → Type 0) (to : ℕ) (t : ScannerTable) (happens : Event) → Kept G t to happens → (bytes : List ℕ) (found : Option IndexedSlot) → IfSome found (Known G t.profile.slots) → SlotsHold G t → OkHolds G P to (write_at t bytes found)
-write_holds G P to t happens kept bytes None known slots = tt
-write_holds G P to t happens kept bytes (Some indexed) known slots =
+write_holds : (G : OfSlots) (P : ℕ → Type 0) (to : ℕ) (t : ScannerTable) (happens : Event) → Kept G t to happens → (bytes : List ℕ) (found : Option IndexedSlot) → IfSome found (IsSlotOf G t.profile.slots) → SlotsHold G t → OkHolds G P to (write_at t bytes found)
+write_holds G P to t happens kept bytes None is_slot slots = tt
+write_holds G P to t happens kept bytes (Some indexed) is_slot slots =
     either (OkHolds G P to) (is_owner indexed.config.kind) (write_length t indexed bytes) (Err fault.NotAllowedNow)
     (either (OkHolds G P to) (length bytes == indexed.config.out_len) (Ok (output_written t indexed bytes)) (Err fault.WrongLength)
     (λ below small.
-    (record { frames = tt; datagrams = tt }, with_slot_holds G t.profile.slots t indexed (output_slot bytes indexed.slot) refl known.there (written_holds G to t happens kept indexed.number indexed.config indexed.slot.state known.holds) slots))
+    (record { frames = tt; datagrams = tt }, with_slot_holds G t.profile.slots t indexed (output_slot bytes indexed.slot) refl is_slot.there (written_holds G to t happens kept indexed.number indexed.config indexed.slot.state is_slot.holds) slots))
     tt) tt
 
 read_holds : (G : OfSlots) (P : ℕ → Type 0) (to : ℕ) (t : ScannerTable) (found : Option IndexedSlot) → SlotsHold G t → OkHolds G P to (read_at t found)
@@ -246,53 +245,53 @@ mode_holds G P to t happens kept run slots = λ below small. (
       (mapped_indexed G moded_slot (λ indexed holds. either (λ (s : Slot). G indexed.number indexed.config s.state) (is_owner indexed.config.kind) _ _ (written_holds G to t happens kept indexed.number indexed.config indexed.slot.state holds) holds) 0 t.profile.slots t.slots slots),
 )
 
-state_started : ItemsReadBack → (G : OfSlots) (P : ℕ → Type 0) → Cuts P → (to : ℕ) (t : ScannerTable) (happens : Event) → Kept G t to happens → Asks P t to → (indexed : IndexedSlot) (state : SlotState) → Known G t.profile.slots indexed → SlotsHold G t → OkHolds G P to (start_state t indexed state)
-state_started back G P cuts to t happens kept asks indexed Idle known slots =
+state_started : ItemsReadBack → (G : OfSlots) (P : ℕ → Type 0) → Cuts P → (to : ℕ) (t : ScannerTable) (happens : Event) → Kept G t to happens → RequestIdsHold P t to → (indexed : IndexedSlot) (state : SlotState) → IsSlotOf G t.profile.slots indexed → SlotsHold G t → OkHolds G P to (start_state t indexed state)
+state_started back G P cuts to t happens kept requested_ids indexed Idle is_slot slots =
     let slot = desired_slot t indexed.slot in
     either (OkHolds G P to) indexed.slot.desired_up (Err fault.NotAllowedNow) (Ok (done (started t indexed (desired_slot t indexed.slot)))) tt
     (done_holds back G P cuts to (started t indexed (desired_slot t indexed.slot))
-    (λ below. opened_holds G P t to happens kept asks (with_slot t indexed.number slot) (record indexed { slot = slot }) (changed_counts t indexed slot) below
-    (with_slot_holds G t.profile.slots t indexed slot refl known.there known.holds slots) (record { there = known.there; holds = known.holds })))
-state_started back G P cuts to t happens kept asks indexed (Opening o) known slots = tt
-state_started back G P cuts to t happens kept asks indexed (Established c) known slots = tt
-state_started back G P cuts to t happens kept asks indexed (TimedOut link) known slots = tt
-state_started back G P cuts to t happens kept asks indexed (Closing c) known slots = tt
+    (λ below. opened_holds G P t to happens kept requested_ids (with_slot t indexed.number slot) (record indexed { slot = slot }) (changed_counts t indexed slot) below
+    (with_slot_holds G t.profile.slots t indexed slot refl is_slot.there is_slot.holds slots) (record { there = is_slot.there; holds = is_slot.holds })))
+state_started back G P cuts to t happens kept requested_ids indexed (Opening o) is_slot slots = tt
+state_started back G P cuts to t happens kept requested_ids indexed (Established c) is_slot slots = tt
+state_started back G P cuts to t happens kept requested_ids indexed (TimedOut link) is_slot slots = tt
+state_started back G P cuts to t happens kept requested_ids indexed (Closing c) is_slot slots = tt
 
-start_holds : ItemsReadBack → (G : OfSlots) (P : ℕ → Type 0) → Cuts P → (to : ℕ) (t : ScannerTable) (happens : Event) → Kept G t to happens → Asks P t to → (found : Option IndexedSlot) → IfSome found (Known G t.profile.slots) → SlotsHold G t → OkHolds G P to (start_at t found)
-start_holds back G P cuts to t happens kept asks None known slots = tt
-start_holds back G P cuts to t happens kept asks (Some indexed) known slots = state_started back G P cuts to t happens kept asks indexed indexed.slot.state known slots
+start_holds : ItemsReadBack → (G : OfSlots) (P : ℕ → Type 0) → Cuts P → (to : ℕ) (t : ScannerTable) (happens : Event) → Kept G t to happens → RequestIdsHold P t to → (found : Option IndexedSlot) → IfSome found (IsSlotOf G t.profile.slots) → SlotsHold G t → OkHolds G P to (start_at t found)
+start_holds back G P cuts to t happens kept requested_ids None is_slot slots = tt
+start_holds back G P cuts to t happens kept requested_ids (Some indexed) is_slot slots = state_started back G P cuts to t happens kept requested_ids indexed indexed.slot.state is_slot slots
 
-resigned_holds : ItemsReadBack → (G : OfSlots) (P : ℕ → Type 0) → Cuts P → (to : ℕ) (t : ScannerTable) (happens : Event) → Kept G t to happens → (indexed : IndexedSlot) → Known G t.profile.slots indexed → SlotsHold G t → NextHolds G P to (done (slot_resigned t indexed))
-resigned_holds back G P cuts to t happens kept indexed known slots =
-    done_holds back G P cuts to (slot_resigned t indexed) (λ below. changed_holds G P t t indexed (resigned indexed.slot) [] (same_counts t) known.there (kept.rests indexed.number indexed.config) slots)
+resigned_holds : ItemsReadBack → (G : OfSlots) (P : ℕ → Type 0) → Cuts P → (to : ℕ) (t : ScannerTable) (happens : Event) → Kept G t to happens → (indexed : IndexedSlot) → IsSlotOf G t.profile.slots indexed → SlotsHold G t → NextHolds G P to (done (slot_resigned t indexed))
+resigned_holds back G P cuts to t happens kept indexed is_slot slots =
+    done_holds back G P cuts to (slot_resigned t indexed) (λ below. changed_holds G P t t indexed (resigned indexed.slot) [] (same_counts t) is_slot.there (kept.rests indexed.number indexed.config) slots)
 
-closed_holds : ItemsReadBack → (G : OfSlots) (P : ℕ → Type 0) → Cuts P → (to : ℕ) (t : ScannerTable) (happens : Event) → Kept G t to happens → (indexed : IndexedSlot) (c : Connection) (session : Option Session) → Known G t.profile.slots indexed → G indexed.number indexed.config (Established c) → SlotsHold G t → NextHolds G P to (done (closed_within t indexed c session))
-closed_holds back G P cuts to t happens kept indexed c None known is slots = resigned_holds back G P cuts to t happens kept indexed known slots
-closed_holds back G P cuts to t happens kept indexed c (Some session) known is slots =
+closed_holds : ItemsReadBack → (G : OfSlots) (P : ℕ → Type 0) → Cuts P → (to : ℕ) (t : ScannerTable) (happens : Event) → Kept G t to happens → (indexed : IndexedSlot) (c : Connection) (session : Option Session) → IsSlotOf G t.profile.slots indexed → G indexed.number indexed.config (Established c) → SlotsHold G t → NextHolds G P to (done (closed_within t indexed c session))
+closed_holds back G P cuts to t happens kept indexed c None is_slot is slots = resigned_holds back G P cuts to t happens kept indexed is_slot slots
+closed_holds back G P cuts to t happens kept indexed c (Some session) is_slot is slots =
     done_holds back G P cuts to (closed_within t indexed c (Some session))
     (λ below.
     either (EffectHolds G P) (has_request t) (close_requested t indexed c session) (exhausted t indexed)
     (record {
-      slots = with_slot_holds G t.profile.slots (counted t) indexed (closing_slot t c indexed.slot) refl known.there (kept.closes indexed.number indexed.config c _ refl is) slots;
+      slots = with_slot_holds G t.profile.slots (counted t) indexed (closing_slot t c indexed.slot) refl is_slot.there (kept.closes indexed.number indexed.config c _ refl is) slots;
       sent = (tt, tt);
     })
-    (record { slots = with_slot_holds G t.profile.slots t indexed (resigned indexed.slot) refl known.there (kept.rests indexed.number indexed.config) slots; sent = tt }))
+    (record { slots = with_slot_holds G t.profile.slots t indexed (resigned indexed.slot) refl is_slot.there (kept.rests indexed.number indexed.config) slots; sent = tt }))
 
-state_stopped : ItemsReadBack → (G : OfSlots) (P : ℕ → Type 0) → Cuts P → (to : ℕ) (t : ScannerTable) (happens : Event) → Kept G t to happens → (indexed : IndexedSlot) (state : SlotState) → Known G t.profile.slots indexed → G indexed.number indexed.config state → SlotsHold G t → OkHolds G P to (stop_of (stopped t indexed state))
-state_stopped back G P cuts to t happens kept indexed Idle known is slots =
-    either (λ said. OkHolds G P to (stop_of said)) indexed.slot.desired_up (Ok (slot_resigned t indexed)) (Err fault.NotAllowedNow) (resigned_holds back G P cuts to t happens kept indexed known slots) tt
-state_stopped back G P cuts to t happens kept indexed (Opening o) known is slots = resigned_holds back G P cuts to t happens kept indexed known slots
-state_stopped back G P cuts to t happens kept indexed (Established c) known is slots = closed_holds back G P cuts to t happens kept indexed c (session_with t indexed.config.target) known is slots
-state_stopped back G P cuts to t happens kept indexed (TimedOut link) known is slots = resigned_holds back G P cuts to t happens kept indexed known slots
-state_stopped back G P cuts to t happens kept indexed (Closing c) known is slots = tt
+state_stopped : ItemsReadBack → (G : OfSlots) (P : ℕ → Type 0) → Cuts P → (to : ℕ) (t : ScannerTable) (happens : Event) → Kept G t to happens → (indexed : IndexedSlot) (state : SlotState) → IsSlotOf G t.profile.slots indexed → G indexed.number indexed.config state → SlotsHold G t → OkHolds G P to (stop_of (stopped t indexed state))
+state_stopped back G P cuts to t happens kept indexed Idle is_slot is slots =
+    either (λ said. OkHolds G P to (stop_of said)) indexed.slot.desired_up (Ok (slot_resigned t indexed)) (Err fault.NotAllowedNow) (resigned_holds back G P cuts to t happens kept indexed is_slot slots) tt
+state_stopped back G P cuts to t happens kept indexed (Opening o) is_slot is slots = resigned_holds back G P cuts to t happens kept indexed is_slot slots
+state_stopped back G P cuts to t happens kept indexed (Established c) is_slot is slots = closed_holds back G P cuts to t happens kept indexed c (session_with t indexed.config.target) is_slot is slots
+state_stopped back G P cuts to t happens kept indexed (TimedOut link) is_slot is slots = resigned_holds back G P cuts to t happens kept indexed is_slot slots
+state_stopped back G P cuts to t happens kept indexed (Closing c) is_slot is slots = tt
 
-stop_holds : ItemsReadBack → (G : OfSlots) (P : ℕ → Type 0) → Cuts P → (to : ℕ) (t : ScannerTable) (happens : Event) → Kept G t to happens → (found : Option IndexedSlot) → IfSome found (Known G t.profile.slots) → SlotsHold G t → OkHolds G P to (stop_of (stopped_at t found))
-stop_holds back G P cuts to t happens kept None known slots = tt
-stop_holds back G P cuts to t happens kept (Some indexed) known slots = state_stopped back G P cuts to t happens kept indexed indexed.slot.state known known.holds slots
+stop_holds : ItemsReadBack → (G : OfSlots) (P : ℕ → Type 0) → Cuts P → (to : ℕ) (t : ScannerTable) (happens : Event) → Kept G t to happens → (found : Option IndexedSlot) → IfSome found (IsSlotOf G t.profile.slots) → SlotsHold G t → OkHolds G P to (stop_of (stopped_at t found))
+stop_holds back G P cuts to t happens kept None is_slot slots = tt
+stop_holds back G P cuts to t happens kept (Some indexed) is_slot slots = state_stopped back G P cuts to t happens kept indexed indexed.slot.state is_slot is_slot.holds slots
 
 -- ---- a tick
 
--- an established connection sends by an id that is carried
+-- an established connection sends with an id that the step carries
 abbrev pub Sends : OfSlots → (ℕ → Type 0) → Type 0
 Sends G P = (number : ℕ) (config : SlotConfig) (c : Connection) → G number config (Established c) → P c.link.o_t_id.0
 
@@ -332,13 +331,13 @@ ticked_holds back G P cuts sends to t happens kept effect holds = λ below small
     let h = holds below in
     (record { frames = requests_hold back P cuts effect.sent h.sent small.short_frames; datagrams = due_hold G P cuts sends effect.table h.slots }, table_produced G to t happens kept effect.table h.slots)
 
-tick_holds : ItemsReadBack → (G : OfSlots) (P : ℕ → Type 0) → Cuts P → Sends G P → (to : ℕ) (t : ScannerTable) (happens : Event) → Kept G t to happens → Asks P t to → (ms : ℕ) → SlotsHold G t → OkHolds G P to (tick t ms)
+tick_holds : ItemsReadBack → (G : OfSlots) (P : ℕ → Type 0) → Cuts P → Sends G P → (to : ℕ) (t : ScannerTable) (happens : Event) → Kept G t to happens → RequestIdsHold P t to → (ms : ℕ) → SlotsHold G t → OkHolds G P to (tick t ms)
 unfolding tick
-tick_holds back G P cuts sends to t happens kept asks ms slots =
+tick_holds back G P cuts sends to t happens kept requested_ids ms slots =
     either (OkHolds G P to) (nat_lt longest_tick ms) (Err fault.TickTooLong) _ tt
     (either (OkHolds G P to) (nat_lt clock_end (t.clock.0 + ms)) (Err fault.ClockEnd) (Ok (ticked (advanced (clocked_table t ms)))) tt
     (ticked_holds back G P cuts sends to t happens kept (advanced (clocked_table t ms))
-    (λ below. advanced_holds G P t to happens kept asks (clocked_table t ms) (record { profile = refl; ids = omega arith; requests = omega arith }) below slots)))
+    (λ below. advanced_holds G P t to happens kept requested_ids (clocked_table t ms) (record { profile = refl; ids = omega arith; requests = omega arith }) below slots)))
 
 -- ---- the step
 
@@ -348,16 +347,16 @@ opens_hold back G P cuts to t number target slots =
     either (OkHolds G P to) (is_taken t.streams number target) (Err fault.NotAllowedNow) (Ok (done (registering_on t number target))) tt
     (done_holds back G P cuts to (registering_on t number target) (λ below. record { slots = slots; sent = (tt, tt) }))
 
-pub scanner_holds : ItemsReadBack → (G : OfSlots) (P : ℕ → Type 0) → Cuts P → Sends G P → (to : ℕ) (t : ScannerTable) (happens : Event) → Kept G t to happens → Asks P t to → SlotsHold G t → OkHolds G P to (scanner_step t happens)
+pub scanner_holds : ItemsReadBack → (G : OfSlots) (P : ℕ → Type 0) → Cuts P → Sends G P → (to : ℕ) (t : ScannerTable) (happens : Event) → Kept G t to happens → RequestIdsHold P t to → SlotsHold G t → OkHolds G P to (scanner_step t happens)
 unfolding received frame stream_cut write read start stop
-scanner_holds back G P cuts sends to t (event.Request peer bytes) kept asks slots = tt
-scanner_holds back G P cuts sends to t (event.StreamOpened number peer) kept asks slots = opens_hold back G P cuts to t number peer slots
-scanner_holds back G P cuts sends to t (event.Frame number bytes) kept asks slots = frame_holds back G P cuts to t number bytes kept asks (find (is_stream number) t.streams) refl slots
-scanner_holds back G P cuts sends to t (event.StreamCut number) kept asks slots = cut_holds back G P cuts to t (event.StreamCut number) kept (find (is_stream number) t.streams) slots
-scanner_holds back G P cuts sends to t (event.Datagram peer bytes) kept asks slots = received_holds G P to t (event.Datagram peer bytes) kept peer (datagram_reading bytes) slots
-scanner_holds back G P cuts sends to t (event.Write point bytes) kept asks slots = write_holds G P to t (event.Write point bytes) kept bytes (slot_at t point) (found_known G t (is_numbered point) slots) slots
-scanner_holds back G P cuts sends to t (event.Read point) kept asks slots = read_holds G P to t (slot_at t point) slots
-scanner_holds back G P cuts sends to t (event.Tick ms) kept asks slots = tick_holds back G P cuts sends to t (event.Tick ms) kept asks ms slots
-scanner_holds back G P cuts sends to t (event.Mode run) kept asks slots = mode_holds G P to t (event.Mode run) kept run slots
-scanner_holds back G P cuts sends to t (event.Start number) kept asks slots = start_holds back G P cuts to t (event.Start number) kept asks (slot_at t number) (found_known G t (is_numbered number) slots) slots
-scanner_holds back G P cuts sends to t (event.Stop number) kept asks slots = stop_holds back G P cuts to t (event.Stop number) kept (slot_at t number) (found_known G t (is_numbered number) slots) slots
+scanner_holds back G P cuts sends to t (event.Request peer bytes) kept requested_ids slots = tt
+scanner_holds back G P cuts sends to t (event.StreamOpened number peer) kept requested_ids slots = opens_hold back G P cuts to t number peer slots
+scanner_holds back G P cuts sends to t (event.Frame number bytes) kept requested_ids slots = frame_holds back G P cuts to t number bytes kept requested_ids (find (is_stream number) t.streams) refl slots
+scanner_holds back G P cuts sends to t (event.StreamCut number) kept requested_ids slots = cut_holds back G P cuts to t (event.StreamCut number) kept (find (is_stream number) t.streams) slots
+scanner_holds back G P cuts sends to t (event.Datagram peer bytes) kept requested_ids slots = received_holds G P to t (event.Datagram peer bytes) kept peer (datagram_reading bytes) slots
+scanner_holds back G P cuts sends to t (event.Write point bytes) kept requested_ids slots = write_holds G P to t (event.Write point bytes) kept bytes (slot_at t point) (found_slot G t (is_numbered point) slots) slots
+scanner_holds back G P cuts sends to t (event.Read point) kept requested_ids slots = read_holds G P to t (slot_at t point) slots
+scanner_holds back G P cuts sends to t (event.Tick ms) kept requested_ids slots = tick_holds back G P cuts sends to t (event.Tick ms) kept requested_ids ms slots
+scanner_holds back G P cuts sends to t (event.Mode run) kept requested_ids slots = mode_holds G P to t (event.Mode run) kept run slots
+scanner_holds back G P cuts sends to t (event.Start number) kept requested_ids slots = start_holds back G P cuts to t (event.Start number) kept requested_ids (slot_at t number) (found_slot G t (is_numbered number) slots) slots
+scanner_holds back G P cuts sends to t (event.Stop number) kept requested_ids slots = stop_holds back G P cuts to t (event.Stop number) kept (slot_at t number) (found_slot G t (is_numbered number) slots) slots

@@ -1,4 +1,4 @@
--- The requests of a scanner: each is short, a path and its configuration being so.
+-- The requests of a scanner are short, since each path and its configuration data are.
 use Rattle.std.proofs.Common.{◌≡◌, ◌≤◌, ℕ, ◌+◌, ltb, Bool, true, false, List, [], ◌∷◌, ◌++◌, length, map, Option, Some, None, refl, arith, length-append}
 use Rattle.std.specs.Prelude.{option_to_list}
 use Rattle.std.specs.Int.{w16, w32, to_le_bytes}

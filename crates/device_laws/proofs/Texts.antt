@@ -1,4 +1,4 @@
--- What is read of texts that were written, whether or not their numbers fit: each number as its field cuts it.
+-- Texts that were written are read back, whether or not their numbers fit: each number as its field cuts it.
 use Rattle.std.proofs.Common.{◌≡◌, ◌<◌, ◌≤◌, ℕ, ◌^◌, ◌+◌, ◌-◌, ltb, Bool, true, false, cond, List, [], ◌∷◌, ◌++◌, length, Option, Some, Ok, Err, refl, sym, ◌∙◌, ap, subst, append_assoc, arith}
 use Rattle.std.specs.Int.{Width, w8, w16, w32, w64, w128, byte_len, from_le_bytes, to_le_bytes}
 use Rattle.std.proofs.lemmas.Bool.{le-ltb}
@@ -100,6 +100,6 @@ message_ids P m holds =
     subst (λ (found : Option Tailed). MessageIds P (messages.found_reading found)) (sym (fields_cut header_widths (header_numbers m) m.payload refl))
     (sized_ids P _ _ holds)
 
--- and those of items are those of what stands among them
+-- the ids of items are those of their data
 pub packet_ids : ItemsReadBack → (P : ℕ → Type 0) (payload : List ℕ) (socket : Option SocketAddress) → 1 ≤ length payload → length payload ≤ 65535 → PayloadIds P payload → PacketIds P (packet_reading (packet_text payload socket))
 packet_ids back P payload socket some few holds = subst (PacketIds P) (sym (back payload socket some few)) holds

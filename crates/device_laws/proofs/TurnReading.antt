@@ -1,4 +1,4 @@
--- Where data come from one connection until it has ended, between data of two stands the end of the first.
+-- If data come from one connection until it has ended, then between data of two connections the first ends.
 use Rattle.std.proofs.Common.{◌≡◌, ◌≢◌, ℕ, ◌==◌, Bool, true, false, cond, List, [], ◌∷◌, ◌++◌, Option, Some, None, refl, sym, subst, arith}
 use Rattle.std.specs.List.{Contains}
 use Rattle.std.proofs.lemmas.Bool.Decides.{nat_tests}

@@ -41,7 +41,7 @@ use Rattle.device_laws.proofs.OwnerSteps.{step_keeps}
 
 -- ---- turns after one another
 
--- which connection brought data last and has not ended, after the turns
+-- the owner after the turns: the connection that brought data last, if it has not ended
 abbrev pub owner_at_end : Option ℕ → List Turn → Option ℕ
 owner_at_end owner [] = owner
 owner_at_end owner (turn ∷ rest) = owner_at_end (owner_after turn owner) rest
@@ -83,7 +83,7 @@ applied_drives point profile peer d row to is =
 first_same : (a b : ℕ) (xs : List ℕ) → xs ≡ a ∷ [] → xs ≡ b ∷ [] → a ≡ b
 first_same a b xs one other = cc
 
--- the only driver of an output is the owner, where there is one
+-- the only driver of an output is the owner, if there is one
 is_in_turn : (point opening : ℕ) (owner : Option ℕ) (t : AdapterTable) → openings point t.rows ≡ opening ∷ [] → Owns point owner t → IsOwner opening owner
 is_in_turn point opening None t one owns = tt
 is_in_turn point opening (Some owner) t one owns = first_same opening owner (openings point t.rows) one owns
@@ -107,7 +107,7 @@ brings_read : (point : ℕ) (owner : Option ℕ) (t : AdapterTable) (peer : Node
 brings_read point owner t peer (Err fault) one owns = (tt, owns)
 brings_read point owner t peer (Ok d) one owns = brings_found point owner t peer d (find (is_for peer d.connection) t.rows) refl one owns
 
--- the data of an event come from the owner, where there is one
+-- the data of an event come from the owner, if there is one
 brings_at : (point : ℕ) (owner : Option ℕ) (t : AdapterTable) (event : Event) → HasOneOwner t.rows → Owns point owner t → Goes point owner (brought_at point t event) t
 brings_at point owner t (Datagram peer bytes) one owns = brings_read point owner t peer (datagram_reading bytes) one owns
 brings_at point owner t event one owns = (tt, owns)

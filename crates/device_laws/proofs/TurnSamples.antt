@@ -22,7 +22,7 @@ use Rattle.cip_tables.specs.Step.{step}
 use Rattle.table_samples.specs.Datagrams.{datagram, running}
 use Rattle.table_samples.specs.Devices.{common, fresh, own, peer}
 use Rattle.table_samples.specs.Hex.{hex}
-use Rattle.table_samples.specs.Requests.{Asking, owner}
+use Rattle.table_samples.specs.Requests.{OpeningRequest, owner}
 use Rattle.table_samples.specs.Rows.{alive, lost}
 use Rattle.table_samples.specs.Runs.{closes, id, opens}
 use Rattle.device_laws.specs.Turns.{brought, ended, reports_end, ended_at, turns, Follow}
@@ -69,7 +69,7 @@ owner_of_another_output = refl
 -- ---- a run
 
 -- the originator opens an owner, which brings data, and closes it; it opens another, which does so and times out
-abbrev second : Asking
+abbrev second : OpeningRequest
 second = record owner { serial = 2 }
 
 abbrev arrives : ℕ → ℕ → Event

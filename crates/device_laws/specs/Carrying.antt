@@ -1,6 +1,5 @@
--- What a step of a device does with connection ids: it carries those that were there or came with the event, and draws
--- the next ones; and which slot of a scanner becomes established (Volume 1, chapter 3, network connection ids and
--- Forward_Open service).
+-- Where the connection ids after a step come from: the table before it, the event, or the counter of the device; and which
+-- reply establishes a slot of a scanner (Volume 1, chapter 3, network connection ids and Forward_Open service).
 use Rattle.std.specs.Prelude.{◌≡◌, ◌⊎◌, ℕ, ◌^◌, ◌<◌, ◌≤◌, Bool, true, false, Option, Some, None, Ok}
 use Rattle.std.specs.List.{AllByRecursion, Contains}
 use Rattle.cip_types.specs.declared.names.ConnId.{ConnId}
@@ -25,21 +24,21 @@ use Rattle.device_laws.specs.Ids.{RowIds, FromTo, IdsFromTo, EventIds, AnswerIds
 
 -- IDS
 
--- the number passes the test
+-- the number passes a test
 abbrev pub Passes : (ℕ → Bool) → ℕ → Type 0
 Passes test n = test n ≡ true
 
 abbrev pub SlotIds : (ℕ → Type 0) → IndexedSlot → Type 0
 SlotIds P indexed = StateIds P indexed.slot.state
 
--- each id of a device's table passes one test, and each opening number of its connections another
+-- each id of a device's table passes the first test, and each opening number of its connections the second
 abbrev pub TableIds : (ids openings : ℕ → Bool) → DeviceTable → Type 0
 TableIds ids openings (Adapter t) = AllByRecursion (RowIds (Passes ids) (Passes openings)) t.rows
 TableIds ids openings (Scanner t) = AllByRecursion (SlotIds (Passes ids)) (indexed_slots t)
 
--- Where the ids of a whole table and of the event pass a test, and so do those that the step draws, then those of the next
--- table and of the answer pass it; and the same of opening numbers. The test is one of ids of 32 bits, and 0, which stands
--- for no id, passes it.
+-- If the ids of a whole table, of the event, and those between the old counter and the new pass a test, then the ids of the
+-- next table and of the answer pass it; likewise for opening numbers. Only ids of 32 bits pass the test, and 0, the id for
+-- none, passes it.
 abbrev pub StepsCarryIds : Type 0
 StepsCarryIds =
     (ids openings : ℕ → Bool) (t : DeviceTable) (event : Event) (answer : Answer) (next : DeviceTable) →
@@ -51,7 +50,7 @@ StepsCarryIds =
 
 -- OPENINGS OF A SCANNER
 
--- the id is one of the scanner's, with a counter of 24 bits from this one on
+-- the id has the scanner's incarnation, and a counter of 24 bits from this one on
 pub record IsFrom (profile : ScannerProfile) (first : ℕ) (id : ConnId) : Type 0 where
   pub counter : ℕ
   pub is : id ≡ connection_id profile counter
@@ -62,7 +61,7 @@ abbrev pub WantsFrom : ScannerProfile → ℕ → Option ConnId → Type 0
 WantsFrom profile first None = ⊥
 WantsFrom profile first (Some id) = IsFrom profile first id
 
--- an opening from a request number on, and a connection that came from one, has a T->O id from a counter on
+-- a pending or established connection that was opened by a request from this number on has a T->O id from this counter on
 abbrev pub StateFrom : ScannerProfile → ℕ → ℕ → SlotState → Type 0
 StateFrom profile request first Idle = Unit {0}
 StateFrom profile request first (Opening o) = request ≤ o.request → WantsFrom profile first o.requested.t_o_id
@@ -73,11 +72,11 @@ StateFrom profile request first (Closing c) = Unit {0}
 abbrev pub SlotFrom : ScannerProfile → ℕ → ℕ → IndexedSlot → Type 0
 SlotFrom profile request first indexed = indexed.config.multicast ≡ false → StateFrom profile request first indexed.slot.state
 
--- so it is of each point to point slot
+-- it holds of each point to point slot
 abbrev pub SlotsFrom : ScannerProfile → ℕ → ℕ → ScannerTable → Type 0
 SlotsFrom profile request first t = AllByRecursion (SlotFrom profile request first) (indexed_slots t)
 
--- and a step keeps it, where the counter has come so far
+-- A step keeps it, if the table's next counter is not below this counter.
 abbrev pub StepsKeepFrom : Type 0
 StepsKeepFrom =
     (request first : ℕ) (t : ScannerTable) (event : Event) (answer : Answer) (next : ScannerTable) →
@@ -86,7 +85,7 @@ StepsKeepFrom =
 
 -- WHAT ESTABLISHES A SLOT
 
--- the slot of this number waits for the answer to this opening
+-- the slot of this number waits for the reply to this opening
 pub record Waits (t : ScannerTable) (number : ℕ) (config : SlotConfig) (opening : pending.PendingOpen) : Type 0 where
   pub indexed : IndexedSlot
   pub there : Contains (indexed_slots t) indexed
@@ -94,14 +93,14 @@ pub record Waits (t : ScannerTable) (number : ℕ) (config : SlotConfig) (openin
   pub config_is : indexed.config ≡ config
   pub state : indexed.slot.state ≡ Opening opening
 
--- it was established by this opening already
+-- the slot of this number was established by the opening of this request
 pub record Stands (t : ScannerTable) (number request : ℕ) : Type 0 where
   pub indexed : IndexedSlot
   pub there : Contains (indexed_slots t) indexed
   pub number_is : indexed.number ≡ number
   pub state : came_from request indexed.slot.state ≡ true
 
--- it waited for this opening, and the event is a success that answers the request of this number
+-- the slot waited for the reply to this request, and the event is its successful reply
 pub record IsAnswered (t : ScannerTable) (event : Event) (number request : ℕ) : Type 0 where
   pub config : SlotConfig
   pub opening : pending.PendingOpen
@@ -120,8 +119,8 @@ StateCame t event number (Closing c) = Unit {0}
 abbrev pub SlotCame : ScannerTable → Event → IndexedSlot → Type 0
 SlotCame t event indexed = StateCame t event indexed.number indexed.slot.state
 
--- A slot that is established after a step was so by the same opening, or waited for it, and the event is the reply to its
--- own request.
+-- A slot that is established after a step was established by the same opening before it, or waited for that opening, and the
+-- event is the successful reply to its own request.
 abbrev pub RepliesEstablish : Type 0
 RepliesEstablish =
     (t : ScannerTable) (event : Event) (answer : Answer) (next : ScannerTable) →

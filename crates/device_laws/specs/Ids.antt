@@ -1,5 +1,5 @@
--- Where connection ids stand: in the requests and replies that a frame can be read as, in a datagram, and in the
--- table of a device (Volume 1, chapter 3, network connection ids).
+-- The connection ids in a request, a reply, a frame, a datagram, an answer, an event, and the table of a device. Each
+-- definition says that a property holds of every such id (Volume 1, chapter 3, network connection ids).
 use Rattle.std.specs.Prelude.{◌≡◌, ℕ, find, ◌+◌, ◌*◌, ◌^◌, ◌<◌, ◌≤◌, Bool, List, Option, Some, None, Result, Ok, Err}
 use Rattle.std.specs.List.{AllByRecursion}
 use Rattle.cip_datagram.specs.declared.datagram.DatagramFault.{DatagramFault}
@@ -36,7 +36,7 @@ use Rattle.scanner_table.specs.Replies.{reply_answer, open_answer}
 
 -- FRAMES
 
--- it holds of the T->O id of a request to open
+-- the property holds of the T->O id that a request to open asks for
 abbrev pub RequestIds : (ℕ → Type 0) → RouterRequestFields → Type 0
 RequestIds P nothing = Unit {0}
 RequestIds P (refused service why) = Unit {0}
@@ -44,16 +44,16 @@ RequestIds P (closing request) = Unit {0}
 RequestIds P (assembly service instance attribute body) = Unit {0}
 RequestIds P (opening large request) = P request.t_o_id.0
 
--- it holds of both ids that the success of an opening tells
+-- the property holds of both ids of a successful reply to a request to open
 abbrev pub ReplyIds : (ℕ → Type 0) → Result OpenAnswer Reason → Type 0
 ReplyIds P (Err why) = Unit {0}
 ReplyIds P (Ok (answer.Refused refusal)) = Unit {0}
 ReplyIds P (Ok (answer.Opened opened)) = P opened.o_t_id.0 × P opened.t_o_id.0
 
--- it holds of each id that these bytes tell: those that ask, and those that answer
+-- the property holds of each id in these bytes, whether a target reads them as a request or a scanner as a reply
 pub record PayloadIds (P : ℕ → Type 0) (payload : List ℕ) : Type 0 where
-  pub asked : RequestIds P (router_request_reading payload)
-  pub reported : (large : Bool) → ReplyIds P (reply_answer large (open_reply_reading payload))
+  pub requested : RequestIds P (router_request_reading payload)
+  pub replied : (large : Bool) → ReplyIds P (reply_answer large (open_reply_reading payload))
 
 abbrev pub PacketIds : (ℕ → Type 0) → Result PacketFields ItemFault → Type 0
 PacketIds P (Err fault) = Unit {0}
@@ -63,7 +63,7 @@ abbrev pub MessageIds : (ℕ → Type 0) → Result MessageFields EncapFault →
 MessageIds P (Err fault) = Unit {0}
 MessageIds P (Ok m) = PacketIds P (packet_reading m.payload)
 
--- it holds of each id that a frame tells, whoever reads it
+-- the property holds of each id in a frame, whoever reads it
 abbrev pub FrameIds : (ℕ → Type 0) → List ℕ → Type 0
 FrameIds P bytes = MessageIds P (message_reading bytes)
 
@@ -73,7 +73,7 @@ abbrev pub ReadId : (ℕ → Type 0) → Result DatagramFields DatagramFault →
 ReadId P (Err fault) = Unit {0}
 ReadId P (Ok d) = P d.connection
 
--- it holds of the id of a datagram
+-- the property holds of the connection id of a datagram
 abbrev pub DatagramId : (ℕ → Type 0) → List ℕ → Type 0
 DatagramId P bytes = ReadId P (datagram_reading bytes)
 
@@ -85,28 +85,29 @@ HasFrameIds P frame = FrameIds P frame.bytes
 abbrev pub HasDatagramId : (ℕ → Type 0) → OutgoingDatagram → Type 0
 HasDatagramId P outgoing = DatagramId P outgoing.bytes
 
--- it holds of each id that an answer sends
+-- the property holds of each id that an answer sends
 pub record AnswerIds (P : ℕ → Type 0) (answer : Answer) : Type 0 where
   pub frames : AllByRecursion (HasFrameIds P) answer.frames
   pub datagrams : AllByRecursion (HasDatagramId P) answer.datagrams
 
 -- AN ADAPTER
 
--- it holds of both ids of a connection, and the other of its opening number
+-- P holds of both ids of a connection, and Q of its opening number
 pub record RowIds (P Q : ℕ → Type 0) (row : Row) : Type 0 where
   pub o_t : P row.o_t_id.0
   pub t_o : P row.t_o_id.0
   pub opening : Q row.opening
 
--- it holds of each number from one on and below another
+-- the property holds of each number from the first on and below the second
 abbrev pub FromTo : (ℕ → Type 0) → ℕ → ℕ → Type 0
 FromTo P from to = (n : ℕ) → from ≤ n → n < to → P n
 
--- of each id of an incarnation whose counter is so
+-- the property holds of each id of an incarnation whose counter is from the first on and below the second
 abbrev pub IdsFromTo : (ℕ → Type 0) → ℕ → ℕ → ℕ → Type 0
 IdsFromTo P incarnation from to = FromTo (λ counter. P (incarnation * 2 ^ 24 + counter)) from to
 
--- an event in a world: no request comes but over a stream
+-- The property holds of each id of an event. A `Request` is excluded, since it comes without a stream; the id of a datagram
+-- does not matter, since no table keeps it.
 abbrev pub EventIds : (ℕ → Type 0) → Event → Type 0
 EventIds P (Request peer bytes) = ⊥
 EventIds P (StreamOpened stream peer) = Unit {0}
@@ -122,7 +123,7 @@ EventIds P (Stop slot) = Unit {0}
 
 -- A SCANNER
 
--- the id that an opening asks for, if it asks for one
+-- the property holds of the id that an opening asks for, if it asks for one
 abbrev pub RequestedId : (ℕ → Type 0) → Option ConnId → Type 0
 RequestedId P None = Unit {0}
 RequestedId P (Some id) = P id.0
@@ -130,7 +131,7 @@ RequestedId P (Some id) = P id.0
 abbrev pub LinkIds : (ℕ → Type 0) → Link → Type 0
 LinkIds P link = P link.o_t_id.0 × P link.t_o_id.0
 
--- it holds of each id of a slot in this state
+-- the property holds of each id of a slot in this state
 abbrev pub StateIds : (ℕ → Type 0) → SlotState → Type 0
 StateIds P Idle = Unit {0}
 StateIds P (Opening o) = RequestedId P o.requested.t_o_id
@@ -138,7 +139,7 @@ StateIds P (Established c) = LinkIds P c.link
 StateIds P (TimedOut link) = LinkIds P link
 StateIds P (Closing c) = LinkIds P c.link
 
--- of a reply that comes over a stream with the target and answers the request of this number: a success, with these ids
+-- the event is a frame from the target with a successful reply to the request of this number
 pub record Replied (t : ScannerTable) (happens : Event) (target : Node) (request : ℕ) (opened : Opened) : Type 0 where
   pub stream : ℕ
   pub bytes : List ℕ
@@ -150,4 +151,4 @@ pub record Replied (t : ScannerTable) (happens : Event) (target : Node) (request
   pub reads : message_reading bytes ≡ Ok message
   pub context : message.context ≡ request
   pub large : Bool
-  pub tells : open_answer large message ≡ Ok (answer.Opened opened)
+  pub success_is : open_answer large message ≡ Ok (answer.Opened opened)

@@ -34,7 +34,7 @@ use Rattle.schedule_laws.proofs.Moves.{EventHolds}
 abbrev pub More : (P Q : ℕ → Type 0) → Type 0
 More P Q = (id : ℕ) → P id → Q id
 
-request_more : (P Q : ℕ → Type 0) → More P Q → (asked : RouterRequestFields) → RequestIds P asked → RequestIds Q asked
+request_more : (P Q : ℕ → Type 0) → More P Q → (requested : RouterRequestFields) → RequestIds P requested → RequestIds Q requested
 request_more P Q more nothing ids = tt
 request_more P Q more (refused service why) ids = tt
 request_more P Q more (closing request) ids = tt
@@ -49,8 +49,8 @@ reported_more P Q more (Ok (answer.Opened o)) ids = (more _ ids.0, more _ ids.1)
 packet_more : (P Q : ℕ → Type 0) → More P Q → (reading : Result PacketFields ItemFault) → PacketIds P reading → PacketIds Q reading
 packet_more P Q more (Err fault) ids = tt
 packet_more P Q more (Ok packet) ids = record {
-  asked = request_more P Q more (router_request_reading packet.payload) ids.asked;
-  reported = λ large. reported_more P Q more (reply_answer large (open_reply_reading packet.payload)) (ids.reported large);
+  requested = request_more P Q more (router_request_reading packet.payload) ids.requested;
+  replied = λ large. reported_more P Q more (reply_answer large (open_reply_reading packet.payload)) (ids.replied large);
 }
 
 message_more : (P Q : ℕ → Type 0) → More P Q → (reading : Result MessageFields EncapFault) → MessageIds P reading → MessageIds Q reading

@@ -93,9 +93,9 @@ unfolding step
 step_same laws (Adapter t) happens a u is = adapter_same laws t happens a u (adapter_step t happens) refl is
 step_same laws (Scanner t) happens a u is = scanner_same laws t happens a u (scanner_step t happens) refl is
 
-whole_room : (u : DeviceTable) → IsWholeDevice u → next_id_of u ≤ 16777216
-whole_room (Adapter u) whole = whole.sound.ids_are_left
-whole_room (Scanner u) whole = whole.table.ids
+whole_in_range : (u : DeviceTable) → IsWholeDevice u → next_id_of u ≤ 16777216
+whole_in_range (Adapter u) whole = whole.sound.ids_are_left
+whole_in_range (Scanner u) whole = whole.table.ids
 
 -- ---- an event
 
@@ -125,7 +125,7 @@ came_drawn laws q w new reported drawn came =
     ] in
     let done = laws.carry (is_drawn tables) (q reported.device) came.before reported.event reported.answer came.after came.stepped whole_t
     (λ id passes. (drawn_parts tables id passes).0) (zero_drawn tables begins)
-    (λ counter from below. now_drawn w.tables reported.device came.before came.after counter drawn.apart at same below (whole_room came.after whole_u))
+    (λ counter from below. now_drawn w.tables reported.device came.before came.after counter drawn.apart at same below (whole_in_range came.after whole_u))
     (λ n from below. drawn.opens reported.device came.before at n from)
     (event_more (Passes (is_drawn w.tables)) now more reported.event came.event)
     (table_more (is_drawn w.tables) (is_drawn tables) (q reported.device) more came.before (drawn.tables reported.device came.before at)) in

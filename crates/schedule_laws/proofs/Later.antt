@@ -70,13 +70,13 @@ ids_to_come_are_unsent w device t counter s d ids at from below there reads is =
 
 -- ---- connections of an adapter
 
-abbrev known_if : AdapterTable → ℕ → Bool → Bool
-known_if t opening true = nat_le t.next_id opening || list_any (was_opened_as opening) t.rows
-known_if t opening false = true
+abbrev opened_or_later : AdapterTable → ℕ → Bool → Bool
+opened_or_later t opening true = nat_le t.next_id opening || list_any (was_opened_as opening) t.rows
+opened_or_later t opening false = true
 
 -- what is known of opening numbers from a moment on: they stood then, or are drawn later
-abbrev known_from : ℕ → AdapterTable → Openings
-known_from device t e opening = known_if t opening (e == device)
+abbrev opened_from : ℕ → AdapterTable → Openings
+opened_from device t e opening = opened_or_later t opening (e == device)
 
 equal_is : (n : ℕ) → (n == n) ≡ true
 equal_is n = grind (arith, nat_tests)
@@ -173,10 +173,10 @@ byte_kept laws q device t u was now acts ran drawn at_was at_now =
 pub at_moment : StepLaws → (start : World) (was now : Story) → IdsAreDrawn start → Moments start was now → Drawn (λ device opening. true) was.world
 at_moment laws start was now ids moments = runs_drawn laws (λ device opening. true) (record { world = start; reported = [] }) was moments.early moments.first (all_drawn start ids)
 
-own_from : (device : ℕ) (t : AdapterTable) (n : ℕ) → t.next_id ≤ n → known_from device t device n ≡ true
-own_from device t n from = ap (λ (b : Bool). known_if t n b) (equal_is device) ∙ ap (λ (b : Bool). b || list_any (was_opened_as n) t.rows) (is_le t.next_id n from)
+own_from : (device : ℕ) (t : AdapterTable) (n : ℕ) → t.next_id ≤ n → opened_from device t device n ≡ true
+own_from device t n from = ap (λ (b : Bool). opened_or_later t n b) (equal_is device) ∙ ap (λ (b : Bool). b || list_any (was_opened_as n) t.rows) (is_le t.next_id n from)
 
-opens_step : (b : Bool) (device e n : ℕ) (t : AdapterTable) (x : DeviceTable) (tables : List DeviceTable) → (e == device) ≡ b → slice_get tables device ≡ Some (Adapter t) → slice_get tables e ≡ Some x → next_id_of x ≤ n → known_if t n b ≡ true
+opens_step : (b : Bool) (device e n : ℕ) (t : AdapterTable) (x : DeviceTable) (tables : List DeviceTable) → (e == device) ≡ b → slice_get tables device ≡ Some (Adapter t) → slice_get tables e ≡ Some x → next_id_of x ≤ n → opened_or_later t n b ≡ true
 opens_step true device e n t x tables is at there from =
     let same = same_is e device is in
     let table : x ≡ Adapter t = some_is x (Adapter t) (sym there ∙ ap (slice_get tables) same ∙ at) in
@@ -202,7 +202,7 @@ mark_table : (ids q : ℕ → Bool) (x : DeviceTable) → ((a : AdapterTable) �
 mark_table ids q (Adapter a) each table = marked (Passes ids) q a.rows (each a refl) table
 mark_table ids q (Scanner s) each table = table
 
-mark_step : (b : Bool) (device e n : ℕ) (t a : AdapterTable) (x : DeviceTable) (tables : List DeviceTable) → (e == device) ≡ b → slice_get tables device ≡ Some (Adapter t) → slice_get tables e ≡ Some x → x ≡ Adapter a → list_any (was_opened_as n) a.rows ≡ true → known_if t n b ≡ true
+mark_step : (b : Bool) (device e n : ℕ) (t a : AdapterTable) (x : DeviceTable) (tables : List DeviceTable) → (e == device) ≡ b → slice_get tables device ≡ Some (Adapter t) → slice_get tables e ≡ Some x → x ≡ Adapter a → list_any (was_opened_as n) a.rows ≡ true → opened_or_later t n b ≡ true
 mark_step true device e n t a x tables is at there table stands =
     let same = same_is e device is in
     let own : a ≡ t = adapter_same a t (sym table ∙ some_is x (Adapter t) (sym there ∙ ap (slice_get tables) same ∙ at)) in
@@ -210,11 +210,11 @@ mark_step true device e n t a x tables is at there table stands =
 mark_step false device e n t a x tables is at there table stands = refl
 
 -- from the moment on it is known of each connection whether it stood then
-marked_moment : (device : ℕ) (t : AdapterTable) (w : World) → slice_get w.tables device ≡ Some (Adapter t) → Drawn (λ e opening. true) w → Drawn (known_from device t) w
+marked_moment : (device : ℕ) (t : AdapterTable) (w : World) → slice_get w.tables device ≡ Some (Adapter t) → Drawn (λ e opening. true) w → Drawn (opened_from device t) w
 marked_moment device t w at drawn = record {
   whole = drawn.whole;
   apart = drawn.apart;
-  tables = λ e x there. mark_table (is_drawn w.tables) (known_from device t e) x (λ a table row stands. mark_step (e == device) device e row.opening t a x w.tables refl at there table stands) (drawn.tables e x there);
+  tables = λ e x there. mark_table (is_drawn w.tables) (opened_from device t e) x (λ a table row stands. mark_step (e == device) device e row.opening t a x w.tables refl at there table stands) (drawn.tables e x there);
   opens = λ e x there n from. opens_step (e == device) device e n t x w.tables refl at there from;
   sent = drawn.sent;
   streams = drawn.streams;
@@ -226,11 +226,11 @@ none_by : (b c : Bool) (x : Acceptance) → b ≡ false → cond (b && c) (x ∷
 none_by true c x is = absurd (let e = is in cc)
 none_by false c x is = refl
 
-left_known : (a b : Bool) → (a || b) ≡ true → b ≡ false → a ≡ true
-left_known true b is none = refl
-left_known false b is none = not_both b is none
+left_is : (a b : Bool) → (a || b) ≡ true → b ≡ false → a ≡ true
+left_is true b is none = refl
+left_is false b is none = not_both b is none
 
-later_row : (was : World) (device : ℕ) (t u : AdapterTable) (opening : ℕ) (peer : Node) (s : Sent) (d : DatagramFields) (row : Row) (ids : ℕ → Bool) → AllByRecursion (SentHolds (Passes (is_drawn was.tables))) was.sent → slice_get was.tables device ≡ Some (Adapter t) → u.profile.incarnation ≡ t.profile.incarnation → IsWholeDevice (Adapter u) → TableIds ids (known_from device t device) (Adapter u) → list_any (was_opened_as opening) t.rows ≡ false → Contains was.sent s → datagram_reading s.bytes ≡ Ok d → find (is_for peer d.connection) u.rows ≡ Some row → was_opened_as opening row ≡ false
+later_row : (was : World) (device : ℕ) (t u : AdapterTable) (opening : ℕ) (peer : Node) (s : Sent) (d : DatagramFields) (row : Row) (ids : ℕ → Bool) → AllByRecursion (SentHolds (Passes (is_drawn was.tables))) was.sent → slice_get was.tables device ≡ Some (Adapter t) → u.profile.incarnation ≡ t.profile.incarnation → IsWholeDevice (Adapter u) → TableIds ids (opened_from device t device) (Adapter u) → list_any (was_opened_as opening) t.rows ≡ false → Contains was.sent s → datagram_reading s.bytes ≡ Ok d → find (is_for peer d.connection) u.rows ≡ Some row → was_opened_as opening row ≡ false
 later_row was device t u opening peer s d row ids all at byte whole table none there reads found =
     false_unless (was_opened_as opening row) (λ is.
     let same = same_is row.opening opening is in
@@ -240,13 +240,13 @@ later_row was device t u opening peer s d row ids all at byte whole table none t
     let id = same_is row.o_t_id.0 d.connection own.1 in
     let drawn_id = rows_found (is_for peer d.connection) u.profile u.next_id u.rows row found whole.sound.ids_are_drawn in
     let value : row.o_t_id.0 ≡ u.profile.incarnation * 2 ^ 24 + row.opening = ap (λ (i : ConnId). i.0) drawn_id.0 in
-    let marks = (all_found (RowIds (Passes ids) (Passes (known_from device t device))) (is_for peer d.connection) u.rows row found table).opening in
-    let known : known_if t row.opening true ≡ true = ap (λ (b : Bool). known_if t row.opening b) (sym (equal_is device)) ∙ marks in
+    let marks = (all_found (RowIds (Passes ids) (Passes (opened_from device t device))) (is_for peer d.connection) u.rows row found table).opening in
+    let known : opened_or_later t row.opening true ≡ true = ap (λ (b : Bool). opened_or_later t row.opening b) (sym (equal_is device)) ∙ marks in
     let stood : list_any (was_opened_as row.opening) t.rows ≡ false = ap (λ (n : ℕ). list_any (was_opened_as n) t.rows) same ∙ none in
-    let from = le_is t.next_id row.opening (left_known (nat_le t.next_id row.opening) (list_any (was_opened_as row.opening) t.rows) known stood) in
-    let room = whole.sound.ids_are_left in
+    let from = le_is t.next_id row.opening (left_is (nat_le t.next_id row.opening) (list_any (was_opened_as row.opening) t.rows) known stood) in
+    let in_range = whole.sound.ids_are_left in
     let below = drawn_id.1 in
-    unsent was device (Adapter t) row.opening s d all at from (omega (arith, room, below)) there reads (omega (arith, id, value, byte)))
+    unsent was device (Adapter t) row.opening s d all at from (omega (arith, in_range, below)) there reads (omega (arith, id, value, byte)))
 
 accepts_none : (opening : ℕ) (u : AdapterTable) (peer : Node) (reading : Result DatagramFields DatagramFault) → ((d : DatagramFields) (row : Row) → reading ≡ Ok d → find (is_for peer d.connection) u.rows ≡ Some row → was_opened_as opening row ≡ false) → accepted_read opening u peer reading ≡ []
 accepts_none opening u peer (Err fault) later = refl
@@ -258,7 +258,7 @@ accepts_none opening u peer (Ok d) later = found_none (find (is_for peer d.conne
 pub later_connections : StepLaws → LaterConnectionsAcceptNoneOfIt
 later_connections laws start was now device opening t u s ids moments at_was at_now none there =
     let drawn = at_moment laws start was now ids moments in
-    let later = runs_drawn laws (known_from device t) was now moments.late moments.rest (marked_moment device t was.world at_was drawn) in
+    let later = runs_drawn laws (opened_from device t) was now moments.late moments.rest (marked_moment device t was.world at_was drawn) in
     let byte = byte_kept laws (λ e o. true) device (Adapter t) (Adapter u) was now moments.late moments.rest drawn at_was at_now in
     accepts_none opening u s.from (datagram_reading s.bytes)
     (λ d row reads found. later_row was.world device t u opening s.from s d row (is_drawn now.world.tables) drawn.sent at_was byte (later.whole device (Adapter u) at_now) (later.tables device (Adapter u) at_now) none there reads found)
@@ -273,6 +273,6 @@ later_groups laws start was now device t u row s d ids moments at_was at_now amo
     let whole = later.whole device (Adapter u) at_now in
     let id = each_contains (MulticastIdIsDrawn u.profile u.next_id) u.rows row whole.sound.producers.multicast among lives multicast in
     let value : row.t_o_id.0 ≡ u.profile.incarnation * 2 ^ 24 + (producer_of row.state + 1) = ap (λ (i : ConnId). i.0) id.0 in
-    let room = whole.sound.ids_are_left in
+    let in_range = whole.sound.ids_are_left in
     let below = id.1 in
-    unsent was.world device (Adapter t) (producer_of row.state + 1) s d drawn.sent at_was (omega (arith, from)) (omega (arith, room, below)) there reads (omega (arith, is, value, byte))
+    unsent was.world device (Adapter t) (producer_of row.state + 1) s d drawn.sent at_was (omega (arith, from)) (omega (arith, in_range, below)) there reads (omega (arith, is, value, byte))

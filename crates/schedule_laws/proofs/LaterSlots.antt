@@ -97,8 +97,8 @@ goes_scanner laws keeps profile request first t u happens a is whole whole_u goe
     let before = goes.0 in
     let from = goes.1 in
     let slots : SlotsFrom t.profile request first t = subst (λ (p : ScannerProfile). SlotsFrom p request first t) (sym before) goes.2 in
-    let room = whole_ids (Scanner u) whole_u in
-    let now = keeps request first t happens a u is whole from (omega (arith, room)) slots in
+    let in_range = whole_ids (Scanner u) whole_u in
+    let now = keeps request first t happens a u is whole from (omega (arith, in_range)) slots in
     (counts.profile ∙ before, omega (arith, from, counts.ids), subst (λ (p : ScannerProfile). SlotsFrom p request first u) before now)
 
 no_scanner : (a : Answer) (u : ScannerTable) (said : Result Next StepFault) → as_adapter said ≡ Ok (a, Scanner u) → ⊥

@@ -124,14 +124,14 @@ not_other id x incarnation counter is below other =
     false_unless (is_to_come id x) (λ come. let c = comes_so id x come in other (omega (arith, is, below, c.from, c.below)))
 
 pub now_drawn : (tables : List DeviceTable) (device : ℕ) (t u : DeviceTable) (counter : ℕ) → AreApart tables → slice_get tables device ≡ Some t → incarnation_of u ≡ incarnation_of t → counter < next_id_of u → next_id_of u ≤ 16777216 → Passes (is_drawn (set tables device u)) (incarnation_of t * 2 ^ 24 + counter)
-now_drawn tables device t u counter apart at same below room =
+now_drawn tables device t u counter apart at same below in_range =
     let id = incarnation_of t * 2 ^ 24 + counter in
     let byte = apart.ends device t at in
-    parts_drawn (set tables device u) (incarnation_of t * 2 ^ 24 + counter) (omega (arith, below, room, byte))
+    parts_drawn (set tables device u) (incarnation_of t * 2 ^ 24 + counter) (omega (arith, below, in_range, byte))
     (any_none (incarnation_of t * 2 ^ 24 + counter) (set tables device u) (λ e x there.
     elim (set_cases tables device e t u x at there) [
       | inl own ↦ subst (λ (y : DeviceTable). is_to_come id y ≡ false) (sym own.1) (not_own id u counter (omega (arith, same)) below)
-      | inr other ↦ not_other id x (incarnation_of t) counter (omega arith) (omega (arith, below, room)) (λ e_is. other.0 (apart.differ e device x t other.1 at e_is))
+      | inr other ↦ not_other id x (incarnation_of t) counter (omega arith) (omega (arith, below, in_range)) (λ e_is. other.0 (apart.differ e device x t other.1 at e_is))
     ]))
 
 -- 0 is no id of a device

@@ -1,5 +1,5 @@
 use Rattle.device_laws.proofs.Carrying.{steps_carry}
-use Rattle.device_laws.proofs.ids_are_carried.Goals as goal
+use Rattle.device_laws.proofs.id_provenance.ids_are_carried.Goals as goal
 
 pub returns : goal.returns
 returns c = steps_carry c.reads_back.ensures.items c.answers_are_small.ensures

@@ -1,6 +1,6 @@
 use Rattle.device_laws.proofs.TurnReading.{ends_between}
 use Rattle.device_laws.proofs.TurnRuns.{owners_follow, drivers_go_on}
-use Rattle.device_laws.proofs.owners_follow_one_another.Goals as goal
+use Rattle.device_laws.proofs.owners.owners_follow_one_another.Goals as goal
 
 pub returns-clause-follow : goal.returns-clause-follow
 returns-clause-follow c = owners_follow c.tables_are_whole.ensures.effects c.tables_are_whole-2.ensures.run

@@ -14,7 +14,7 @@ use Rattle.device_laws.specs.Sizes.{IsSmall}
 use Rattle.device_laws.proofs.Answers.{AnswersSmall}
 use Rattle.device_laws.proofs.AdapterAnswers.{adapter_small}
 use Rattle.device_laws.proofs.ScannerAnswers.{AdvancesWhole, scanner_small}
-use Rattle.device_laws.proofs.answers_are_small.Goals as goal
+use Rattle.device_laws.proofs.answer_bounds.answers_are_small.Goals as goal
 
 of_adapter : (said : Result Next StepFault) → AnswersSmall said → AnswersSmall (as_adapter said)
 of_adapter (Ok next) small = small

@@ -1,0 +1,53 @@
+//! The origin of connection ids, and the replies that establish a slot.
+
+ghost use Rattle.device_laws.specs.Carrying.{StepsCarryIds, StepsKeepFrom, RepliesEstablish};
+
+use crate::answer_bounds::answers_are_small;
+use cip_encap::reads_back;
+
+/// A step brings up no connection id of its own, except the next ids of its counter: each id of the next table and
+/// of the answer is one of the table, one that came with the event, or one that the step allocated.
+///
+/// The law says so of each property of ids of 32 bits that 0, the id for none, has. If the ids of a whole table
+/// have the property, and so do those of the event and those between the old counter and the new, then the ids of
+/// the next table and of the answer have it. The same holds of opening numbers. It speaks of steps that give an
+/// answer, and of every event but `Request`, which comes without a stream.
+///
+/// Volume 1, chapter 3, network connection ids.
+pub fn ids_are_carried()
+    ensures { StepsCarryIds }
+{
+    // Items that are written are read back as they were; that needs short answers.
+    reads_back();
+    answers_are_small();
+}
+
+/// Later openings of a scanner have later ids. Take any request number, and an id counter that is at most the
+/// table's next one. If each point to point slot that was opened by a request from that number on has a T->O id
+/// with a counter from that counter on, then the same holds after a step.
+///
+/// The law speaks of steps from a whole table that give an answer, and whose next counter is at most 2^24.
+///
+/// Volume 1, chapter 3, network connection ids.
+pub fn ids_are_drawn_with_openings()
+    ensures { StepsKeepFrom }
+{
+    // Items that are written are read back as they were; that needs short answers.
+    reads_back();
+    answers_are_small();
+}
+
+/// A slot of a scanner becomes established only by the reply to its own request: a successful reply that comes over
+/// a stream to the slot's target, and has the number of the request that the slot waits for.
+///
+/// The law holds of each step from a whole table that gives an answer. An established slot after it was established
+/// by the same opening before it, or waited for that opening, and the event is its reply.
+///
+/// Volume 1, chapter 3, Forward_Open service; Volume 2, chapter 2, sender context.
+pub fn replies_establish_their_own_slot()
+    ensures { RepliesEstablish }
+{
+    // Items that are written are read back as they were; that needs short answers.
+    reads_back();
+    answers_are_small();
+}
