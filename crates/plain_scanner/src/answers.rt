@@ -1,7 +1,6 @@
 //! Answers.
 
 ghost use Rattle.std.specs.Prelude.{◌≡◌, []};
-ghost use Rattle.cip_events.specs.Answers.{plain_answer};
 ghost use Rattle.scanner_table.specs.declared.profile.ScannerProfile.{ScannerProfile};
 ghost use Rattle.slot_transactions.specs.Transactions.{view_transaction, progress_answer};
 ghost use Rattle.slot_places.specs.Views.{table_of};
@@ -12,27 +11,13 @@ use slot_places::ScannerState;
 use slot_transactions::Transaction;
 use std::alloc::Global;
 
-/// An answer with no bytes. Takes no memory.
-pub fn plain_answer(alloc: Global, verdict: Verdict) -> Answer
-    ensures { result ≡ plain_answer verdict }
-{
-    Answer {
-        frames: Items::new(alloc),
-        datagrams: Items::new(alloc),
-        verdict,
-        notices: Items::new(alloc),
-    }
-}
-
 /// An answer with datagrams. Takes no memory.
 pub fn sent_answer(alloc: Global, datagrams: Vec<OutgoingDatagram>) -> Answer
     ensures { result ≡ record { frames = []; datagrams = datagrams.items; verdict = Verdict.Done; notices = [] } }
 {
     Answer {
-        frames: Items::new(alloc),
         datagrams: Items::from_vec(datagrams),
-        verdict: Verdict::Done,
-        notices: Items::new(alloc),
+        ..Answer::plain(alloc, Verdict::Done)
     }
 }
 

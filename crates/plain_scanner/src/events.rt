@@ -10,11 +10,10 @@ ghost use Rattle.scanner_table.specs.Step.{scanner_step};
 ghost use Rattle.scanner_table.specs.Whole.{IsWhole};
 ghost use Rattle.slot_places.specs.Views.{table_of};
 
-use crate::answers::plain_answer;
 use crate::slots::{start, stop};
 use crate::streams::{cut, frame, open_stream};
 use crate::ticks::tick;
-use cip_events::{Event, Outcome, StepFault, Verdict};
+use cip_events::{Answer, Event, Outcome, StepFault, Verdict};
 use cip_types::Items;
 use scanner_table::ScannerProfile;
 use slot_data::{receive, set_mode, write};
@@ -42,7 +41,7 @@ fn read(alloc: Global, profile: &ScannerProfile, scanner: &mut ScannerState, num
     ensures { Follows (read (table_of profile.now scanner.old) number) (table_of profile.now scanner.old) result (table_of profile.now scanner.new) }
 {
     let value = Items::copy_of(alloc, image_at(profile, scanner, number)?)?;
-    Ok(plain_answer(alloc, Verdict::Value(value)))
+    Ok(Answer::plain(alloc, Verdict::Value(value)))
 }
 
 /// Other bytes for the output of a slot. Takes no memory.
@@ -58,7 +57,7 @@ pub fn written(
     ensures no_memory { result ≢ Err StepFault.OutOfMemory }
 {
     match write(profile, scanner, number, bytes) {
-        Ok(()) => Ok(plain_answer(alloc, Verdict::Done)),
+        Ok(()) => Ok(Answer::plain(alloc, Verdict::Done)),
         Err(why) => Err(why),
     }
 }
@@ -85,14 +84,14 @@ pub fn happened(
         Event::StreamCut { stream } => cut(alloc, profile, scanner, *stream),
         Event::Datagram { peer, bytes } => {
             let delivery = receive(profile, scanner, *peer, bytes.as_slice());
-            Ok(plain_answer(alloc, Verdict::Delivered(delivery)))
+            Ok(Answer::plain(alloc, Verdict::Delivered(delivery)))
         }
         Event::Write { point, bytes } => written(alloc, profile, scanner, *point, bytes.as_slice()),
         Event::Read { point } => read(alloc, profile, scanner, *point),
         Event::Tick { ms } => tick(alloc, profile, scanner, *ms),
         Event::Mode { run } => {
             set_mode(profile, scanner, *run);
-            Ok(plain_answer(alloc, Verdict::Done))
+            Ok(Answer::plain(alloc, Verdict::Done))
         }
         Event::Start { slot } => start(alloc, profile, scanner, *slot),
         Event::Stop { slot } => stop(alloc, profile, scanner, *slot),

@@ -1,6 +1,6 @@
 //! What a scanner begins with.
 
-ghost use Rattle.std.specs.Prelude.{◌≡◌, map, replicate, IfOk};
+ghost use Rattle.std.specs.Prelude.{◌≡◌, map, IfOk};
 ghost use Rattle.scanner_table.specs.Step.{fresh_slot, scanner_table};
 ghost use Rattle.slot_places.specs.Views.{table_of};
 
@@ -9,18 +9,12 @@ use scanner_table::{ScannerProfile, ScannerTable, Slot, SlotConfig, SlotState, c
 use slot_places::ScannerState;
 use std::alloc::Global;
 
-fn zeros(alloc: Global, len: u64) -> Result<Items<u8>, OutOfMemory>
-    ensures { IfOk result (λ bytes. bytes ≡ replicate len 0) }
-{
-    Ok(Items::from_vec(vec![in alloc; 0; len as usize]?))
-}
-
 /// A slot that was never started.
 fn fresh_slot(alloc: Global, config: &SlotConfig) -> Result<Slot, OutOfMemory>
     ensures { IfOk result (λ slot. slot ≡ fresh_slot config.now) }
 {
-    let output = zeros(alloc, config.out_len)?;
-    let image = zeros(alloc, config.in_len)?;
+    let output = Items::zeros(alloc, config.out_len as usize)?;
+    let image = Items::zeros(alloc, config.in_len as usize)?;
     Ok(Slot {
         state: SlotState::Idle,
         desired_up: false,

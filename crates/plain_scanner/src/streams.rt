@@ -8,8 +8,9 @@ ghost use Rattle.scanner_table.specs.Sessions.{is_stream, is_to, is_taken};
 ghost use Rattle.scanner_table.specs.Whole.{IsWhole};
 ghost use Rattle.slot_places.specs.Views.{table_of};
 
-use crate::answers::{plain_answer, taken};
+use crate::answers::taken;
 use cip_events::{Answer, Outcome, StepFault, Verdict};
+use cip_types::limits::MOST_STREAMS;
 use cip_types::{Items, Node, OutOfMemory};
 use scanner_table::{ScannerProfile, Stage, TargetStream};
 use slot_places::ScannerState;
@@ -17,9 +18,6 @@ use slot_requests::registration_frame;
 use slot_runs::{FrameOutcome, cut_stream, receive_frame};
 use slot_transactions::Transaction;
 use std::alloc::Global;
-
-/// The most streams that are open.
-const MOST_STREAMS: usize = 16;
 
 fn has_number(streams: &[TargetStream], number: u16) -> bool
     ensures { result ≡ list_any (is_stream number) streams.now }
@@ -72,9 +70,7 @@ pub fn open_stream(
     add_stream(&mut scanner.streams, stream)?;
     Ok(Answer {
         frames,
-        datagrams: Items::new(alloc),
-        verdict: Verdict::Done,
-        notices: Items::new(alloc),
+        ..Answer::plain(alloc, Verdict::Done)
     })
 }
 
@@ -122,8 +118,8 @@ pub fn frame(
         return Err(StepFault::NotAllowedNow);
     };
     match receive_frame(alloc, profile, scanner, stream, bytes)? {
-        FrameOutcome::BadFrame => Ok(plain_answer(alloc, Verdict::BadFrame)),
-        FrameOutcome::Ignored => Ok(plain_answer(alloc, Verdict::Ignored)),
+        FrameOutcome::BadFrame => Ok(Answer::plain(alloc, Verdict::BadFrame)),
+        FrameOutcome::Ignored => Ok(Answer::plain(alloc, Verdict::Ignored)),
         FrameOutcome::Answered(transaction) => Ok(taken(transaction, scanner, Vec::new(alloc))),
     }
 }

@@ -11,6 +11,7 @@ ghost use Rattle.slot_places.specs.Views.{table_of};
 
 use crate::answers::{sent_answer, taken};
 use cip_events::{Outcome, StepFault};
+use cip_types::limits::{CLOCK_END_MS, LONGEST_TICK_MS};
 use cip_types::{Ms, OutOfMemory};
 use scanner_table::{ScannerProfile, advancing_keeps_tables_whole};
 use slot_data::{due_datagrams, is_quiet, produce};
@@ -18,11 +19,6 @@ use slot_places::ScannerState;
 use slot_runs::advance;
 use slot_transactions::Transaction;
 use std::alloc::Global;
-
-/// The longest tick, and the end of the clock, in milliseconds.
-const LONGEST_TICK: u32 = 60_000;
-
-const CLOCK_END: u64 = 1 << 48;
 
 /// The clock comes to a time by which nothing happens to connections: slots that are due send.
 fn pass(alloc: Global, profile: &ScannerProfile, scanner: &mut ScannerState, clock: Ms) -> Outcome
@@ -79,11 +75,11 @@ pub fn tick(alloc: Global, profile: &ScannerProfile, scanner: &mut ScannerState,
     requires { IsWhole (table_of profile.now scanner.old) }
     ensures { Follows (tick (table_of profile.now scanner.old) ms) (table_of profile.now scanner.old) result (table_of profile.now scanner.new) }
 {
-    if ms > LONGEST_TICK {
+    if ms > LONGEST_TICK_MS {
         return Err(StepFault::TickTooLong);
     }
     let clock = Ms(scanner.clock.0 + u64::from(ms));
-    if clock.0 > CLOCK_END {
+    if clock.0 > CLOCK_END_MS {
         return Err(StepFault::ClockEnd);
     }
     if is_quiet(profile, scanner, clock) {

@@ -24,8 +24,6 @@ pub fn steps_keep_tables_whole()
 /// The part of a tick before its productions keeps a table whole: the clock moves, connections time out,
 /// slots give up late replies, and slots open. The premise is that the clock stays at most 2^48 milliseconds.
 pub fn advancing_keeps_tables_whole()
-    ensures {
-        (t : ScannerTable) (ms : ℕ) → t.clock.0 + ms ≤ 2 ^ 48 →
-        IsWhole t → IsWhole (advanced (clocked_table t ms)).table
-    }
+    ensures { (t : ScannerTable) (ms : ℕ) → t.clock.0 + ms ≤ 2 ^ 48 →
+        IsWhole t → IsWhole (advanced (clocked_table t ms)).table }
 {}

@@ -5,18 +5,6 @@ use cip_netparams::Trigger;
 use cip_productions::Kind;
 use cip_types::{Items, Node};
 
-/// The most slots of a scanner.
-pub const MOST_SLOTS: usize = 64;
-
-/// The most bytes of a point.
-pub const LONGEST_POINT: u64 = 1_400;
-
-/// The most bytes of a configuration.
-pub const LONGEST_CONFIG: usize = 400;
-
-/// The longest `open_timeout` and the longest `retry` of a profile, in milliseconds.
-pub const LONGEST_WAIT: u64 = 60_000;
-
 /// One connection that a scanner keeps open.
 ///
 /// Volume 1, chapter 3, Forward_Open service and connection path.

@@ -5,12 +5,11 @@ ghost use Rattle.std.specs.List.{list_any, list_all};
 ghost use Rattle.cip_netparams.specs.Rate.{is_interval, interval_ms};
 ghost use Rattle.scanner_table.specs.Profiles.{are_few, listens_to_group, are_served, shares_group, are_apart, is_point_len, is_out_len, is_config, has_lengths, is_inhibit, has_times, is_wait, keeps_time, profile_fault};
 
-use crate::profile::{
-    LONGEST_CONFIG, LONGEST_POINT, LONGEST_WAIT, MOST_SLOTS, ScannerProfile, SlotConfig,
-};
+use crate::profile::{ScannerProfile, SlotConfig};
 use cip_events::ProfileFault;
 use cip_netparams::{Trigger, api_of};
 use cip_productions::Kind;
+use cip_types::limits::{LONGEST_CONFIG, LONGEST_POINT, LONGEST_WAIT_MS, MOST_SLOTS};
 
 fn are_few(slots: &[SlotConfig]) -> bool
     ensures { result ≡ are_few slots.now }
@@ -79,7 +78,7 @@ fn is_config(config: Option<u32>, bytes: &[u8]) -> bool
     ensures { result ≡ is_config config bytes.now }
 {
     match config {
-        Some(_) => bytes.len() <= LONGEST_CONFIG && bytes.len() % 2 == 0,
+        Some(_) => bytes.len() as u64 <= LONGEST_CONFIG && bytes.len() % 2 == 0,
         None => bytes.is_empty(),
     }
 }
@@ -116,7 +115,7 @@ fn has_times(slot: &SlotConfig) -> bool
 fn is_wait(ms: u64) -> bool
     ensures { result ≡ is_wait ms }
 {
-    (1..=LONGEST_WAIT).contains(&ms)
+    (1..=LONGEST_WAIT_MS).contains(&ms)
 }
 
 fn have_times(slots: &[SlotConfig]) -> bool

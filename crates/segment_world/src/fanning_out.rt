@@ -2,14 +2,13 @@
 
 ghost use Rattle.std.specs.Prelude.{◌≡◌, ◌≤◌, ◌++◌, ◌*◌, map, length, OnOk};
 ghost use Rattle.std.specs.List.{AllByRecursion};
-ghost use Rattle.cip_events.specs.Answers.{plain_answer};
 ghost use Rattle.device_laws.specs.Sizes.{IsSmall, IsShortDatagram};
 ghost use Rattle.stream_queues.specs.Streams.{answered};
 ghost use Rattle.segment_world.specs.AnswerSpace.{HasSpace};
 ghost use Rattle.segment_world.specs.World.{sent_by};
 
-use cip_events::{Answer, OutgoingDatagram, Verdict};
-use cip_types::{Items, Node, OutOfMemory};
+use cip_events::{Answer, OutgoingDatagram};
+use cip_types::{Node, OutOfMemory};
 use sent_log::SentLog;
 use std::alloc::Global;
 use stream_queues::Streams;
@@ -52,16 +51,4 @@ pub fn fan_out(log: &mut SentLog, streams: &mut Streams, device: u32, node: Node
     send_datagrams(log, node, answer.datagrams.as_slice());
     streams.send_frames(device, answer.frames.as_slice());
     streams.apply_notices(device, answer.notices.as_slice());
-}
-
-/// An answer with nothing to send. Takes no memory.
-pub fn plain_answer(alloc: Global, verdict: Verdict) -> Answer
-    ensures { result ≡ plain_answer verdict }
-{
-    Answer {
-        frames: Items::new(alloc),
-        datagrams: Items::new(alloc),
-        verdict,
-        notices: Items::new(alloc),
-    }
 }

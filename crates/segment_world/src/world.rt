@@ -12,7 +12,7 @@ use crate::act::{Act, ActFault, Call};
 use crate::arrival::{Arrival, event_of_front, known_node, node_of, receiver_of, sender_of};
 use crate::configs::{devices_of, nodes_of, world_fault};
 use crate::devices::{call_at, deliver_at, step_at};
-use crate::fanning_out::{fan_out, plain_answer, reserve_answer};
+use crate::fanning_out::{fan_out, reserve_answer};
 use crate::fault::WorldFault;
 use crate::world_device::WorldDevice;
 use cip_events::{Answer, Verdict};
@@ -130,7 +130,7 @@ impl<A: Device, S: Device> World<A, S> {
             return Err(ActFault::NeverSent);
         };
         let delivery = deliver_at(&mut self.devices, device as usize, from, bytes);
-        Ok(Some(plain_answer(self.alloc, Verdict::Delivered(delivery))))
+        Ok(Some(Answer::plain(self.alloc, Verdict::Delivered(delivery))))
     }
 
     /// The event that the first is which waits in a direction, and whose it is.

@@ -12,18 +12,13 @@ ghost use Rattle.slot_transactions.specs.Transactions.{view_transaction, after_a
 use crate::new_request::{LAST_REQUEST, NewRequest};
 use crate::transaction::{SlotChange, Transaction, change_slot};
 use crate::waits::later;
+use cip_types::limits::IDS_PER_INCARNATION;
 use cip_types::{ConnId, OutOfMemory, Triad};
 use conn_state::Requested;
 use scanner_table::{PendingOpen, ScannerProfile, Session, SlotConfig, SlotState};
 use slot_places::{ScannerState, session_with, slot_at};
 use slot_requests::open_frame;
 use std::alloc::Global;
-
-/// What the incarnation counts in a connection id.
-const INCARNATION: u32 = 1 << 24;
-
-/// The last counter of a connection id.
-const LAST_ID: u32 = INCARNATION - 1;
 
 /// The last serial number, after which the first one comes again.
 const LAST_SERIAL: u16 = u16::MAX;
@@ -32,7 +27,7 @@ const LAST_SERIAL: u16 = u16::MAX;
 fn can_open(scanner: &ScannerState, multicast: bool) -> bool
     ensures { result ≡ (nat_le scanner.now.next_request (2 ^ 48) && (multicast || nat_le scanner.now.next_id 16777215)) }
 {
-    scanner.next_request <= LAST_REQUEST && (multicast || scanner.next_id <= LAST_ID)
+    scanner.next_request <= LAST_REQUEST && (multicast || scanner.next_id < IDS_PER_INCARNATION)
 }
 
 /// The serial number after this one; none is 0.
@@ -55,7 +50,7 @@ fn connection_id(profile: &ScannerProfile, counter: u32) -> ConnId
     requires { counter ≤ 16777215 }
     ensures { result ≡ connection_id profile.now counter }
 {
-    ConnId(u32::from(profile.incarnation) * INCARNATION + counter)
+    ConnId(u32::from(profile.incarnation) * IDS_PER_INCARNATION + counter)
 }
 
 /// The T->O id that an opening asks for: the target chooses that of a multicast connection.

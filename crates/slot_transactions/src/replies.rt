@@ -1,6 +1,6 @@
 //! Replies to openings.
 
-ghost use Rattle.std.specs.Prelude.{◌≡◌, ◌<◌, ◌≤◌, ◌^◌, None, IfOk, length, slice_get, slice_set, replicate};
+ghost use Rattle.std.specs.Prelude.{◌≡◌, ◌<◌, ◌≤◌, ◌^◌, None, IfOk, length, slice_get, slice_set};
 ghost use Rattle.std.specs.Option.{ForSome};
 ghost use Rattle.cip_types.specs.Cases.{first_case};
 ghost use Rattle.cip_netparams.specs.Rate.{interval_ms, timeout};
@@ -15,14 +15,12 @@ use cip_events::{Notice, Reason};
 use cip_fwdopen::{OpenAnswer, OpenReply, Opened};
 use cip_netparams::{Trigger, timeout_of};
 use cip_productions::Production;
+use cip_types::limits::FIRST_WATCHDOG_MS;
 use cip_types::{Items, Mismatch, Ms, OutOfMemory};
 use conn_state::{Idle, Link, Requested};
 use scanner_table::{Connection, PendingOpen, ScannerProfile, Slot, SlotConfig, SlotState};
 use slot_places::{SlotTest, any_passes, slot_at};
 use std::alloc::Global;
-
-/// The milliseconds that the first watchdog waits at least.
-const FIRST_WATCHDOG: u64 = 10_000;
 
 /// The service of a reply to a Forward_Open.
 const OPENED: u8 = 0xD4;
@@ -59,7 +57,7 @@ fn first_deadline(clock: Ms, mult: u8, api: u32) -> Ms
     ensures { result ≡ first_deadline clock (timeout mult api) }
 {
     let wait = timeout_of(mult, api).unwrap();
-    Ms(clock.0 + FIRST_WATCHDOG.max(wait.0))
+    Ms(clock.0 + FIRST_WATCHDOG_MS.max(wait.0))
 }
 
 /// The producer of a connection that begins: it is cyclic, its data are new, and due at once.
@@ -103,15 +101,6 @@ fn new_connection(
         deadline: first_deadline(clock, config.mult, t_o_api_ms),
         production: production(clock, config, number),
     }
-}
-
-/// As many zeros.
-fn zeros(alloc: Global, len: u64) -> Result<Items<u8>, OutOfMemory>
-    ensures { IfOk result (λ zeros. zeros ≡ replicate len 0) }
-{
-    let mut bytes = Vec::new(alloc);
-    bytes.resize(len as usize, 0)?;
-    Ok(Items::from_vec(bytes))
 }
 
 /// Lets the slot of a number have a connection, and these bytes for its image. Takes no memory.
@@ -168,7 +157,7 @@ impl Transaction {
         let Some(indexed) = slot_at(profile.slots.as_slice(), &self.scanner.slots, number) else {
             return Ok(());
         };
-        let image = zeros(self.alloc, indexed.config.in_len)?;
+        let image = Items::zeros(self.alloc, indexed.config.in_len as usize)?;
         let connection = new_connection(
             self.scanner.clock,
             indexed.config,
