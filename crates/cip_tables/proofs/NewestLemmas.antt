@@ -1,4 +1,4 @@
--- What a connection accepts over a run is related as each step relates it to what was accepted before.
+-- If each step relates what a connection accepts to what it accepted before, then each run does.
 use Rattle.std.proofs.Common.{◌≡◌, ◌≤◌, ◌<◌, ℕ, ◌==◌, Bool, true, false, cond, List, [], ◌∷◌, ◌++◌, find, Option, Some, None, Result, Ok, Err, refl, subst, arith}
 use Rattle.std.proofs.lemmas.Bool.Decides.{nat_tests}
 use Rattle.cip_events.specs.declared.event.Event.{Event}
@@ -25,7 +25,7 @@ use Rattle.cip_tables.proofs.ScratchLemmas.{fault_is}
 
 -- ---- what the opening table remembers
 
--- the connections of an opening number, where all behind one have later ones
+-- the connections of an opening number, if all behind one have later ones
 none_later : (opening : ℕ) (last : Option Accepted) (row : Row) (rows : List Row) → row.opening ≡ opening → Each (OpensBefore row) rows → Each (RemembersLast opening last) rows
 none_later opening last row [] same later = tt
 none_later opening last row (other ∷ rows) same later =
@@ -87,7 +87,7 @@ fault_none refused opening (Scanner t) event fault is = refl
 
 -- ---- a run
 
--- so is what is accepted over the events, from each table that remembers some last one
+-- the same over the events, from each table that remembers the last one
 abbrev Accepts : (Option Accepted → Acceptance → Type 0) → ℕ → DeviceTable → List Event → Type 0
 Accepts R opening t events = (last : Option Accepted) → IfAdapter (TableRemembers opening last) t → EachAfter R last (acceptances opening t events)
 

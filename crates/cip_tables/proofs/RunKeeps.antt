@@ -1,4 +1,4 @@
--- What each step keeps, a run keeps.
+-- A run keeps what each step keeps.
 use Rattle.std.proofs.Common.{◌≡◌, ◌≤◌, ℕ, List, [], ◌∷◌, None, Result, Ok, Err, IfOk, refl, sym, subst, arith}
 use Rattle.cip_events.specs.declared.event.Event.{Event}
 use Rattle.cip_events.specs.declared.event.StepFault.{StepFault}
@@ -117,7 +117,7 @@ reached_sound steps fresh = record {
   fresh = λ made events outcomes t ran. run_keeps IsSound (λ t. Unit {0}) steps all_keep (opening_table made) events outcomes (Adapter t) ran (fresh_adapter fresh made);
 }
 
--- what follows from one thing that holds over every run does so too
+-- what follows from a property of every run holds of every run
 pub over_every : (P Q : AdapterTable → Type 0) → ((t : AdapterTable) → P t → Q t) → OverEveryRun P → OverEveryRun Q
 over_every P Q follows over = record {
   whole = λ old events outcomes t whole ran. follows t (over.whole old events outcomes t whole ran);
@@ -126,7 +126,7 @@ over_every P Q follows over = record {
 
 -- ---- whole tables
 
--- a fresh adapter of a faultless profile is whole, and a fresh scanner
+-- a fresh adapter and a fresh scanner are whole, if their profiles have no fault
 abbrev pub FreshAdapters : Type 0
 FreshAdapters = (profile : Profile) → profile_fault profile ≡ None → IsWhole (adapter_table profile)
 
@@ -164,7 +164,7 @@ reached_scanners steps fresh = record {
   fresh = λ made events outcomes t none ran. run_scanner steps (opening_table made) events outcomes t ran (fresh_scanner fresh made none);
 }
 
--- what a whole scanner has holds over every run
+-- a property of whole scanners holds over every run
 pub over_scanners : (P : ScannerTable → Type 0) → ((t : ScannerTable) → IsWholeScanner t → P t) → OverEveryScanner IsWholeScanner → OverEveryScanner P
 over_scanners P has over = record {
   whole = λ old events outcomes t whole ran. has t (over.whole old events outcomes t whole ran);

@@ -1,4 +1,4 @@
--- A run goes on by one event, and is the fold of the step over the events that memory was there for.
+-- A run goes on by one event, and is the fold of the step over the events that found memory.
 use Rattle.std.proofs.Common.{◌≡◌, ℕ, List, [], ◌∷◌, ◌++◌, true, false, filter, ◌≤◌, length, take, refl, subst, Result, Ok, Err}
 use Rattle.std.proofs.lemmas.List.{take_all}
 use Rattle.cip_events.specs.declared.event.Event.{Event}

@@ -1,4 +1,4 @@
--- What holds of a scanner over every list of events holds over every run of it.
+-- A law over every list of events holds over every run of a scanner.
 use Rattle.std.proofs.Common.{◌≡◌, List, [], ◌∷◌, None, Result, Ok, Err, refl, sym, ◌∙◌, ap, subst}
 use Rattle.cip_events.specs.declared.event.Event.{Event}
 use Rattle.cip_events.specs.declared.event.StepFault.{StepFault}
@@ -44,7 +44,7 @@ scanner_is a b is = cc
 ends_in : RunsFoldEvents → (t new : ScannerTable) (events : List Event) (outcomes : List Outcome) → Runs (Scanner t) events outcomes (Scanner new) → scanner_after t (performed events outcomes) ≡ new
 ends_in fold t new events outcomes ran = sym (scanner_is new _ (fold t events outcomes (Scanner new) ran))
 
--- what holds of each whole scanner over all events
+-- a relation that holds of each whole scanner over all events
 abbrev pub OverEvents : (ScannerTable → List Event → ScannerTable → Type 0) → Type 0
 OverEvents Holds = (t : ScannerTable) (events : List Event) → IsWholeScanner t → Holds t events (scanner_after t events)
 

@@ -1,4 +1,4 @@
--- What an output holds after a run is what the last event that touched it left there.
+-- An output holds, after a run, the bytes that the last event which touched it left there.
 use Rattle.std.proofs.Common.{◌≡◌, ℕ, List, [], ◌∷◌, find, replicate, Option, Some, None, Result, Ok, Err, refl, sym, ◌∙◌, ap, subst}
 use Rattle.std.specs.Option.{unwrap_or}
 use Rattle.cip_events.specs.declared.event.Event.{Event}
@@ -25,7 +25,7 @@ use Rattle.scanner_table.specs.Step.{scanner_table}
 use Rattle.scanner_laws.specs.Whole.{IsWholeScanner}
 use Rattle.cip_tables.proofs.RunKeeps.{InAdapter, InDevice, ScannersKeep, none_keep, all_keep, ok_is, follows_keeps, run_keeps}
 
--- what is known of an adapter's steps
+-- the laws of an adapter's steps
 pub record KnowsSteps : Type 0 where
   pub leave : StepsLeave
   pub refuse : RefusalsTouchNothing
@@ -41,7 +41,7 @@ pub record KnowsSteps : Type 0 where
 abbrev HasProfile : Profile → AdapterTable → Type 0
 HasProfile profile t = t.profile ≡ profile
 
--- what a device's step leaves at the outputs of its profile
+-- the bytes that a device's step leaves at the outputs of its profile
 abbrev Moves : Profile → DeviceTable → Event → DeviceTable → Type 0
 Moves profile old event new = (point : ℕ) (output : OutputPoint) → find (is_output_at point) profile.outputs ≡ Some output → bytes_in new point ≡ or_else (touched point old event new) (bytes_in old point)
 
@@ -72,7 +72,7 @@ or_either : (first second third : Option (List ℕ)) → or_else first (or_else 
 or_either None second third = refl
 or_either (Some left) second third = refl
 
--- what a run from one table to another leaves at the outputs, by the events that were performed
+-- the bytes that a run from one table to another leaves at the outputs, by the events that found memory
 abbrev EndsAt : Profile → DeviceTable → List Event → DeviceTable → Type 0
 EndsAt profile old events new = (point : ℕ) (output : OutputPoint) → find (is_output_at point) profile.outputs ≡ Some output → bytes_in new point ≡ or_else (last_touched point old events) (bytes_in old point)
 
@@ -132,9 +132,9 @@ from_scratch knows (Scanner t) new events outcomes point output whole ran is =
 
 -- ---- from a fresh device on
 
-or_zeros : (left : Option (List ℕ)) (held : Option (List ℕ)) (zeros : List ℕ) → held ≡ Some zeros → or_else left held ≡ Some (unwrap_or left zeros)
-or_zeros None held zeros is = is
-or_zeros (Some first) held zeros is = refl
+or_zeros : (left : Option (List ℕ)) (present : Option (List ℕ)) (zeros : List ℕ) → present ≡ Some zeros → or_else left present ≡ Some (unwrap_or left zeros)
+or_zeros None present zeros is = is
+or_zeros (Some first) present zeros is = refl
 
 pub fresh_from_scratch : KnowsSteps → FreshOutputsAreFromScratch
 fresh_from_scratch knows (config.Adapter profile) events outcomes t output none ran is =

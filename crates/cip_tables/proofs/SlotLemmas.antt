@@ -1,4 +1,4 @@
--- What holds of each slot of a whole scanner.
+-- Properties of each slot of a whole scanner.
 use Rattle.std.proofs.Common.{◌≡◌, ℕ, suc, Bool, true, false, List, [], ◌∷◌, length, refl, ap}
 use Rattle.scanner_table.specs.declared.profile.SlotConfig.{SlotConfig}
 use Rattle.scanner_table.specs.declared.slot.Slot.{Slot}
@@ -15,7 +15,7 @@ fitting_slots next_request clock [] (slot ∷ slots) fit = absurd fit
 fitting_slots next_request clock (config ∷ configs) [] fit = absurd fit
 fitting_slots next_request clock (config ∷ configs) (slot ∷ slots) fit = ap suc (fitting_slots next_request clock configs slots fit.1)
 
--- what a slot that fits has
+-- the properties of a slot that fits
 abbrev Fitting : ℕ → ℕ → (IndexedSlot → Type 0) → Type 0
 Fitting next_request clock P = (indexed : IndexedSlot) → FitsSlot next_request clock indexed.config indexed.slot → P indexed
 
@@ -32,11 +32,11 @@ pub each_has_lengths : (t : ScannerTable) → IsWhole t → EachSlot HasLengths 
 each_has_lengths t whole = each_of HasLengths t (λ indexed fit. (fit.output, fit.image)) whole
 
 opens_as_desired : (next_request clock : ℕ) (desired_up : Bool) (state : SlotState) → FitsState next_request clock desired_up state → is_kept_up state ≡ true → desired_up ≡ true
-opens_as_desired next_request clock desired_up Idle fit held = absurd cc
-opens_as_desired next_request clock desired_up (Opening o) fit held = fit.0
-opens_as_desired next_request clock desired_up (Established c) fit held = fit.0
-opens_as_desired next_request clock desired_up (TimedOut link) fit held = fit
-opens_as_desired next_request clock desired_up (Closing c) fit held = absurd cc
+opens_as_desired next_request clock desired_up Idle fit kept_up = absurd cc
+opens_as_desired next_request clock desired_up (Opening o) fit kept_up = fit.0
+opens_as_desired next_request clock desired_up (Established c) fit kept_up = fit.0
+opens_as_desired next_request clock desired_up (TimedOut link) fit kept_up = fit
+opens_as_desired next_request clock desired_up (Closing c) fit kept_up = absurd cc
 
 pub each_opens_as_desired : (t : ScannerTable) → IsWhole t → EachSlot IsOpenAsDesired (indexed_slots t)
 each_opens_as_desired t whole = each_of IsOpenAsDesired t (λ indexed fit. opens_as_desired t.next_request t.clock.0 indexed.slot.desired_up indexed.slot.state fit.state) whole

@@ -1,4 +1,4 @@
--- The step of an adapter or of a scanner is its device's.
+-- If an outcome follows the step of an adapter or a scanner, then it follows the step of the device.
 use Rattle.std.proofs.Common.{Result, Ok, Err, IsOk, ap}
 use Rattle.cip_events.specs.declared.event.StepFault.{StepFault}
 use Rattle.cip_events.specs.declared.event.StepFault.TheVariants.{OutOfMemory, TickTooLong, ClockEnd, NoSuchPoint, WrongLength, NoSuchSlot, NotAllowedNow}

@@ -1,4 +1,4 @@
--- What holds of every table that a run reaches.
+-- Properties of every adapter's table that a run reaches, and of the counter of connection ids.
 use Rattle.std.specs.Prelude.{◌≡◌, ◌≤◌, List, Ok}
 use Rattle.cip_events.specs.declared.event.Event.{Event}
 use Rattle.cip_events.specs.Outcomes.{Outcome}
@@ -12,20 +12,20 @@ use Rattle.cip_tables.specs.Step.{DeviceNext, step, opening_table}
 use Rattle.cip_tables.specs.Run.{Runs}
 use Rattle.cip_tables.specs.Whole.{IsWholeDevice, next_id_of}
 
--- the laws of its kind hold of a device; those of a scanner are part of what a whole one is
+-- the table of an adapter is sound; that of a scanner is whole, which includes its laws
 abbrev pub IsSoundDevice : DeviceTable → Type 0
 IsSoundDevice (Adapter t) = IsSound t
 IsSoundDevice (Scanner t) = IsWholeScanner t
 
--- in every adapter's table that a run reaches this holds: a run from a whole table, and one from a fresh device
+-- the property holds of every adapter's table that a run from a whole table or from a fresh device reaches
 pub record OverEveryRun (Holds : AdapterTable → Type 0) : Type 0 where
   pub whole : (old : DeviceTable) (events : List Event) (outcomes : List Outcome) (t : AdapterTable) → IsWholeDevice old → Runs old events outcomes (Adapter t) → Holds t
   pub fresh : (made : Config) (events : List Event) (outcomes : List Outcome) (t : AdapterTable) → Runs (opening_table made) events outcomes (Adapter t) → Holds t
 
--- the counter of the next connection id is no less after a step
+-- the counter of the next connection id does not fall in a step
 abbrev pub StepsCountOn : Type 0
 StepsCountOn = (old : DeviceTable) (event : Event) (next : DeviceNext) → step old event ≡ Ok next → next_id_of old ≤ next_id_of next.1
 
--- nor after a run
+-- nor in a run
 abbrev pub RunsCountOn : Type 0
 RunsCountOn = (old new : DeviceTable) (events : List Event) (outcomes : List Outcome) → Runs old events outcomes new → next_id_of old ≤ next_id_of new

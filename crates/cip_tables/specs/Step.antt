@@ -1,4 +1,4 @@
--- One event at a device's table, of whatever kind the device is.
+-- One event at the table of a device, adapter or scanner.
 use Rattle.std.specs.Prelude.{ℕ, not, Bool, true, false, List, Option, Some, None, Result, Ok, Err}
 use Rattle.std.specs.List.{list_any}
 use Rattle.cip_types.specs.declared.names.Node.{Node}
@@ -24,7 +24,7 @@ use Rattle.cip_tables.specs.declared.table.DeviceTable.TheVariants.{Adapter, Sca
 
 -- THE STEP
 
--- an answer and the device's table after it
+-- an answer and the next table
 abbrev pub DeviceNext : Type 0
 DeviceNext = Answer × DeviceTable
 
@@ -44,9 +44,9 @@ abbrev pub opening_table : Config → DeviceTable
 opening_table (config.Adapter profile) = Adapter (adapter_table profile)
 opening_table (config.Scanner profile) = Scanner (scanner_table profile)
 
--- WHAT A DEVICE IS
+-- KINDS OF DEVICES
 
--- the address of a device, and the byte that its connection ids begin with
+-- the address of a device, and the byte that begins its connection ids
 abbrev pub node_of : DeviceTable → Node
 node_of (Adapter t) = t.profile.node
 node_of (Scanner t) = t.profile.node
@@ -55,7 +55,7 @@ abbrev pub incarnation_of : DeviceTable → ℕ
 incarnation_of (Adapter t) = t.profile.incarnation
 incarnation_of (Scanner t) = t.profile.incarnation
 
--- what is wrong with what a device is to be made of
+-- the first fault of a device's profile
 abbrev pub config_fault : Config → Option ProfileFault
 config_fault (config.Adapter profile) = profile_fault profile
 config_fault (config.Scanner profile) = scanner_profile_fault profile
@@ -65,12 +65,12 @@ abbrev pub is_adapter : DeviceTable → Bool
 is_adapter (Adapter t) = true
 is_adapter (Scanner t) = false
 
--- an adapter is made of it
+-- the configuration is of an adapter
 abbrev pub makes_adapter : Config → Bool
 makes_adapter (config.Adapter profile) = true
 makes_adapter (config.Scanner profile) = false
 
--- of two devices both are adapters, or neither is
+-- both are adapters, or both are scanners
 abbrev pub same_kind : Bool → Bool → Bool
 same_kind true other = other
 same_kind false other = not other
@@ -81,24 +81,24 @@ abbrev pub image_of : Option IndexedSlot → Option (List ℕ)
 image_of None = None
 image_of (Some indexed) = Some indexed.slot.image
 
--- what a point of an adapter holds, or what the slot of that number of a scanner gathered
+-- the bytes of a point of an adapter, or of the image of a scanner's slot
 abbrev pub bytes_in : DeviceTable → ℕ → Option (List ℕ)
 bytes_in (Adapter t) point = bytes_at t.values point
 bytes_in (Scanner t) number = image_of (slot_at t number)
 
--- the fault where there is no such point, or no such slot
+-- the fault of an unknown point or slot
 abbrev pub no_such : DeviceTable → StepFault
 no_such (Adapter t) = fault.NoSuchPoint
 no_such (Scanner t) = fault.NoSuchSlot
 
--- A write of the input makes a change-of-state producer produce at once. A scanner's producers wait for a tick.
+-- A write of this input makes a change-of-state producer produce at once. A scanner's producers wait for a tick.
 abbrev pub produces_at_once : DeviceTable → ℕ → Bool
 produces_at_once (Adapter t) point = list_any (produces_on_change t.clock point) t.rows
 produces_at_once (Scanner t) number = false
 
 -- DATAGRAMS
 
--- the event is a class 1 datagram, at which a device takes no memory
+-- the event is a class 1 datagram; a device takes no memory for it
 abbrev pub is_datagram : Event → Bool
 is_datagram (Request peer bytes) = false
 is_datagram (StreamOpened stream peer) = false

@@ -25,11 +25,11 @@ abbrev pub with_next_id : DeviceTable → ℕ → DeviceTable
 with_next_id (Adapter t) counter = Adapter (record t { next_id = counter })
 with_next_id (Scanner t) counter = Scanner (record t { next_id = counter })
 
--- each table that a run from a whole one reaches is whole
+-- a run from a whole table reaches a whole table
 abbrev pub RunsKeepWhole : Type 0
 RunsKeepWhole = (old new : DeviceTable) (events : List Event) (outcomes : List Outcome) → IsWholeDevice old → Runs old events outcomes new → IsWholeDevice new
 
--- a fresh device of a faultless profile is whole
+-- the table of a fresh device is whole, if its profile has no fault
 abbrev pub FreshDevicesAreWhole : Type 0
 FreshDevicesAreWhole = (made : Config) → config_fault made ≡ None → IsWholeDevice (opening_table made)
 

@@ -1,4 +1,4 @@
-//! Copies of tables, and of what devices are made of.
+//! Copies of the tables and of the configurations of devices.
 
 ghost use Rattle.std.specs.Prelude.{◌≡◌, ◌≤◌, ◌↔◌, IfOk, IsTrue};
 ghost use Rattle.cip_tables.specs.declared.table.DeviceTable.{DeviceTable};
@@ -15,8 +15,8 @@ use scanner_table::ScannerTable;
 use std::alloc::Global;
 use std::marker::Model;
 
-/// A whole table of a device, which contracts see as that table. A device gives one of itself, and another
-/// can be made that goes on from it.
+/// A copy of a device's table. Contracts see it as that table, which is whole. A device can be made from a copy,
+/// and goes on from that table.
 #[derive(Drop)]
 pub struct TableCopy {
     table: DeviceTable,
@@ -31,7 +31,7 @@ impl Model for TableCopy {
 }
 
 impl TableCopy {
-    /// The copy that is this table of an adapter. Takes no memory.
+    /// Makes a copy of a whole table of an adapter. Takes no memory.
     pub fn adapter(table: AdapterTable) -> TableCopy
         requires { IsWhole table }
         ensures { result ≡ Adapter table }
@@ -41,7 +41,7 @@ impl TableCopy {
         }
     }
 
-    /// The copy that is this table of a scanner. Takes no memory.
+    /// Makes a copy of a whole table of a scanner. Takes no memory.
     pub fn scanner(table: ScannerTable) -> TableCopy
         requires { IsWholeScanner table }
         ensures { result ≡ Scanner table }
@@ -51,7 +51,7 @@ impl TableCopy {
         }
     }
 
-    /// The table.
+    /// Returns the table, which is whole.
     pub fn table(&self) -> &DeviceTable
         ensures value { result.now ≡ self.now }
         ensures whole { IsWholeDevice self.now }
@@ -59,7 +59,8 @@ impl TableCopy {
         &self.table
     }
 
-    /// Whether two copies are of equal tables; those of two kinds are not. Takes no memory.
+    /// Returns whether two copies have equal tables. A table of an adapter never equals one of a scanner. Takes no
+    /// memory.
     pub fn same(&self, other: &TableCopy) -> bool
         ensures { IsTrue result ↔ (self.now ≡ other.now) }
     {
@@ -71,9 +72,9 @@ impl TableCopy {
         }
     }
 
-    /// The same table with a later counter for the next connection id. Takes no memory.
+    /// Moves the counter of the next connection id forward. Takes no memory.
     ///
-    /// The counter is no less than the present one, and at most 16,777,216, where no id is left.
+    /// The new counter is no less than the present one, and at most 16,777,216, at which no id is left.
     pub fn with_next_id(self, counter: u32) -> TableCopy
         requires later { next_id_of self ≤ counter }
         requires last { counter ≤ 16777216 }
@@ -82,6 +83,7 @@ impl TableCopy {
         match self.table {
             DeviceTable::Adapter(table) => TableCopy::adapter(table.with_next_id(counter)),
             DeviceTable::Scanner(table) => {
+                // The table stays whole, as `TableCopy::scanner` requires.
                 later_counters_keep_tables_whole();
                 TableCopy::scanner(table.with_next_id(counter))
             }
@@ -90,7 +92,7 @@ impl TableCopy {
 }
 
 impl Config {
-    /// A copy of what a device is made of.
+    /// Copies the configuration. `OutOfMemory` is the only error.
     pub fn copy(&self, alloc: Global) -> Result<Config, OutOfMemory>
         ensures { IfOk result (λ copy. copy ≡ self.now) }
     {

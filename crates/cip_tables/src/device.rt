@@ -1,4 +1,4 @@
-//! What a device is, and runs of one.
+//! The interface of a device, and runs of a device.
 
 ghost use Rattle.std.specs.Prelude.{◌≡◌, ◌≢◌, ◌↔◌, Bool, false, true, Ok, Err, None, Some, Result, filter, IfOk, IfErr, OnErr, IsErr};
 ghost use Rattle.cip_tables.specs.declared.table.DeviceTable.{DeviceTable};
@@ -18,75 +18,86 @@ use cip_types::{Node, OutOfMemory};
 use scanner_laws::steps_keep_tables_whole;
 use std::alloc::Global;
 
-/// A device, which contracts see as the table of its connections.
+/// A device: an adapter or a scanner. Contracts see it as its table, and each method follows the step of that table.
 pub trait Device {
     ghost table: { Self → DeviceTable };
 
     ghost ADAPTER: { Bool };
 
-    /// Whether devices of this type are adapters.
+    /// Whether devices of this type are adapters (true) or scanners (false).
     const ADAPTER: bool;
 
-    /// A fresh device. Its configuration is taken, and dropped where it is refused.
+    /// Makes a fresh device. An error drops the configuration.
     ///
-    /// The faults, in order: `Profile` with the first thing that is wrong, `WrongKind` where the configuration is
-    /// for a device of the other kind, `OutOfMemory`.
+    /// The errors, in order: `Profile` with the first fault of the profile; `WrongKind` if the configuration is of
+    /// the other kind; `OutOfMemory`.
     fn new(alloc: Global, config: Config) -> Result<Self, NewFault>
         ensures table { IfOk result (λ device. table device ≡ opening_table config) }
         ensures kind { IfOk result (λ device. is_adapter (table device) ≡ ADAPTER) }
         ensures valid { IfOk result (λ _. config_fault config ≡ None) }
-        ensures fault { IfErr result (λ fault. IsRefusedAs (config_fault config) (same_kind ADAPTER (makes_adapter config)) fault) };
+        ensures fault { IfErr result (λ fault.
+            IsRefusedAs (config_fault config) (same_kind ADAPTER (makes_adapter config)) fault) };
 
-    /// One event. The outcome and the next table are those of the table's step. After a fault, want of
-    /// memory included, the device is as it was; want of memory is answered only where the step has an
-    /// answer to give, and never for a class 1 datagram.
+    /// Performs one event: the outcome and the next table are those of the table's step.
+    ///
+    /// An event that is refused, even for lack of memory, leaves the device unchanged. `OutOfMemory` comes only if
+    /// the step has an answer, and never at a class 1 datagram.
     fn step(&mut self, event: &Event) -> Outcome
         ensures step { Follows (step (table self.old) event.now) (table self.old) result (table self.new) }
         ensures no_memory { is_datagram event.now ≡ true → result ≢ Err StepFault.OutOfMemory };
 
-    /// A class 1 datagram of a peer, as the event Datagram: it always answers, and takes no memory.
+    /// Delivers a class 1 datagram of a peer, as the event `Datagram` does. Takes no memory, and never fails.
     fn deliver(&mut self, peer: Node, bytes: &[u8]) -> Delivery
         ensures { step (table self.old) (Event.Datagram peer bytes.now) ≡ Ok (plain_answer (Verdict.Delivered result), table self.new) };
 
-    /// Sets what an input of an adapter holds, or the output of a scanner's slot, as the event Write does, and
-    /// gives the same answer. Takes memory only where a change-of-state producer of the input produces at once.
+    /// Writes an input of an adapter, or the output of a scanner's slot, as the event `Write` does. Takes memory only
+    /// if a change-of-state producer of the input produces at once.
     fn write_point(&mut self, point: u32, bytes: &[u8]) -> Outcome
-        ensures step { Follows (step (table self.old) (Event.Write point bytes.now)) (table self.old) result (table self.new) }
+        ensures step { Follows (step (table self.old) (Event.Write point bytes.now))
+            (table self.old) result (table self.new) }
         ensures no_memory { produces_at_once (table self.old) point ≡ false → result ≢ Err StepFault.OutOfMemory };
 
-    /// What an output, an input or the configuration of an adapter holds, or what a scanner's slot gathered, as
-    /// the event Read answers it. Takes no memory. The one fault is `NoSuchPoint` at an adapter, and `NoSuchSlot`
-    /// at a scanner.
+    /// Reads an output, an input or the configuration of an adapter, or the image of a scanner's slot: the bytes that
+    /// the event `Read` answers. Takes no memory. The only error is `NoSuchPoint` at an adapter, and `NoSuchSlot` at a
+    /// scanner.
     fn read_point(&self, point: u32) -> Result<&[u8], StepFault>
-        ensures step { IfOk result (λ bytes. step (table self.now) (Event.Read point) ≡ Ok (value_answer bytes.now, table self.now)) }
+        ensures step { IfOk result (λ bytes.
+            step (table self.now) (Event.Read point) ≡ Ok (value_answer bytes.now, table self.now)) }
         ensures refused { IfErr result (λ fault. step (table self.now) (Event.Read point) ≡ Err fault) }
         ensures found { IfOk result (λ bytes. bytes_in (table self.now) point ≡ Some bytes.now) }
-        ensures none { IfErr result (λ fault. (fault ≡ no_such (table self.now)) × (bytes_in (table self.now) point ≡ None)) };
+        ensures none { IfErr result (λ fault.
+            (fault ≡ no_such (table self.now)) × (bytes_in (table self.now) point ≡ None)) };
 
-    /// The present table. Want of memory is the only fault.
+    /// Copies the present table. `OutOfMemory` is the only error.
     fn copy(&self) -> Result<TableCopy, OutOfMemory>
         ensures { IfOk result (λ copy. copy ≡ table self.now) };
 
-    /// Does nothing: its contract tells a caller that the table is whole. Takes no memory.
+    /// Does nothing. Its contract gives a caller the fact that the table is whole. Takes no memory.
     fn is_whole(&self)
         ensures { IsWholeDevice (table self.now) };
 }
 
-/// Steps a device through events, in order. Room for all outcomes is made first: where that is refused,
-/// nothing has run.
+/// Performs events at a device, in order, and returns their outcomes. An event that finds no memory has the outcome
+/// `OutOfMemory`, and the run goes on.
+///
+/// `OutOfMemory` of the run itself means that the outcomes found no memory: no event was performed then.
 pub fn run<D: Device>(
     alloc: Global,
     device: &mut D,
     events: &[Event],
 ) -> Result<Vec<Outcome>, OutOfMemory>
-    ensures run { IfOk result (λ outcomes. Runs (D.table device.old) events.now outcomes.items (D.table device.new)) }
-    // As a fold: where memory was refused, the event counts as none.
-    ensures outcomes { IfOk result (λ outcomes. filter found_memory outcomes.items ≡ outcomes_of (D.table device.old) (performed events.now outcomes.items)) }
-    ensures table { IfOk result (λ outcomes. D.table device.new ≡ table_after (D.table device.old) (performed events.now outcomes.items)) }
+    ensures run { IfOk result (λ outcomes.
+        Runs (D.table device.old) events.now outcomes.items (D.table device.new)) }
+    // The same as a fold over the events that found memory.
+    ensures outcomes { IfOk result (λ outcomes.
+        filter found_memory outcomes.items ≡ outcomes_of (D.table device.old) (performed events.now outcomes.items)) }
+    ensures table { IfOk result (λ outcomes.
+        D.table device.new ≡ table_after (D.table device.old) (performed events.now outcomes.items)) }
     ensures sound { IsSoundDevice (D.table device.old) → IsSoundDevice (D.table device.new) }
     ensures whole { IsWholeDevice (D.table device.old) → IsWholeDevice (D.table device.new) }
     ensures err { OnErr result (D.table device.new ≡ D.table device.old) }
 {
+    // Each step keeps a sound and a whole table of either kind.
     laws::tables_are_sound();
     laws::tables_are_whole();
     steps_keep_tables_whole();

@@ -1,6 +1,8 @@
-//! What holds of every table that a run of a device reaches, from any whole table on, and so from a fresh
-//! device on. Each call does nothing: its contract is the law. Those of adapters stand here, those of scanners in a
-//! room of their own.
+//! Laws of every run of a device. A law call does nothing; its contract states the law. The laws of adapters are
+//! here, those of scanners in `scanners`.
+//!
+//! Unless a law says otherwise, it holds of every adapter's table that a run reaches: a run from a whole table, and
+//! a run from a fresh device of any configuration.
 
 pub mod scanners;
 
@@ -17,7 +19,7 @@ ghost use Rattle.adapter_table.specs.Sound.{IsSound, HasOneOwner, TriadsDiffer, 
 use adapter_table::laws;
 use scanner_laws::{fresh_tables_are_whole, steps_keep_tables_whole};
 
-/// Every table is sound: each of the laws below holds of it.
+/// Every table is sound. A sound table has all the properties that the laws of single properties below name.
 pub fn tables_are_sound()
     ensures { OverEveryRun IsSound }
 {
@@ -32,21 +34,21 @@ pub fn at_most_one_owner()
     tables_are_sound();
 }
 
-/// No two connections have one triad.
+/// No two connections have the same triad.
 pub fn triads_are_distinct()
     ensures { OverEveryRun (λ t. TriadsDiffer t.rows) }
 {
     tables_are_sound();
 }
 
-/// No two connections have one O->T id.
+/// No two connections have the same O->T id.
 pub fn ids_are_distinct()
     ensures { OverEveryRun (λ t. IdsDiffer t.rows) }
 {
     tables_are_sound();
 }
 
-/// Each O->T id begins with the device's incarnation, and its counter is below the next one.
+/// Each O->T id has the device's incarnation as its high byte, and a counter below the next one.
 pub fn ids_are_below_the_next()
     ensures { OverEveryRun (λ t. IdsAreDrawn t.profile t.next_id t.rows) }
 {
@@ -60,59 +62,62 @@ pub fn at_most_64_connections()
     tables_are_sound();
 }
 
-/// Each established listen-only connection is supported: an established multicast connection of another
-/// kind gathers the same input.
+/// Each established listen-only connection is supported: an established multicast connection of another kind
+/// consumes the same input.
 pub fn listeners_are_supported()
     ensures { OverEveryRun (λ t. ListenersAreSupported t.rows) }
 {
     tables_are_sound();
 }
 
-/// The established multicast connections of one input have one producer, one T->O id, one packet interval
-/// and equal productions.
+/// The established multicast connections of one input share one producer, one T->O id and one packet interval, and
+/// their productions are equal.
 pub fn groups_share_one_production()
     ensures { OverEveryRun (λ t. GroupsAgree t.rows) }
 {
     tables_are_sound();
 }
 
-/// Opening numbers strictly rise along the connections.
+/// Opening numbers strictly rise along the list of connections.
 pub fn openings_rise()
     ensures { OverEveryRun (λ t. OpeningsRise t.rows) }
 {
     tables_are_sound();
 }
 
-/// The number of a connection's producer is at most its opening number, and below the next id's counter.
+/// The number of an established connection's producer is at most its opening number, and below the counter of the
+/// next id.
 pub fn producers_are_drawn()
     ensures { OverEveryRun (λ t. ProducersAreDrawn t.next_id t.rows) }
 {
     tables_are_sound();
 }
 
-/// A point to point connection's producer has its own opening number.
+/// The producer of an established point to point connection has the connection's own opening number.
 pub fn point_to_point_producers_are_their_own()
     ensures { OverEveryRun (λ t. SinglesHaveTheirOwn t.rows) }
 {
     tables_are_sound();
 }
 
-/// Two established connections have one producer only where both are multicast ones of one input, and then
-/// they have one T->O id, one packet interval and equal productions.
+/// Two established connections have the same producer only if both are multicast connections of one input; then they
+/// have one T->O id and one packet interval, and their productions are equal.
 pub fn groups_alone_share_a_producer()
     ensures { OverEveryRun (λ t. GroupsAloneShare t.rows) }
 {
     tables_are_sound();
 }
 
-/// The counter of a multicast T->O id is its producer's number plus one, and below the next id's counter.
+/// The counter of an established multicast connection's T->O id is its producer's number plus one, and below the
+/// counter of the next id.
 pub fn multicast_ids_are_their_producers()
     ensures { OverEveryRun (λ t. MulticastIdsAreDrawn t.profile t.next_id t.rows) }
 {
     tables_are_sound();
 }
 
-/// The counter of the next connection id never falls, in a step or in a run.
+/// The counter of the next connection id never falls, in a step or in a run, at a device of either kind and from any
+/// table.
 pub fn next_id_never_falls()
     ensures step { StepsCountOn }
     ensures run { RunsCountOn }
@@ -128,17 +133,21 @@ pub fn at_most_16_streams()
     tables_are_sound();
 }
 
-/// No two open streams have one number.
+/// No two open streams have the same number.
 pub fn streams_are_distinct()
     ensures { OverEveryRun (λ t. StreamsDiffer t.streams) }
 {
     tables_are_sound();
 }
 
-/// Every table that a run from a whole table reaches is whole, and so is that of a fresh device of a faultless
-/// profile: each law of its kind holds of it. Of an adapter each point holds as many bytes as the profile says,
-/// each exclusive owner consumes an output, and packet intervals, multipliers, productions and the clock are within
-/// their limits.
+/// Tables are whole.
+///
+/// - `run`: a run from a whole table reaches a whole table, at a device of either kind.
+/// - `opening`: the table of a fresh device is whole, if its configuration has no fault.
+/// - `fresh`: a run from the table of such a device reaches only whole tables of an adapter.
+///
+/// A whole table of an adapter is sound; besides, each point holds as many bytes as the profile says, each exclusive
+/// owner consumes an output, and packet intervals, multipliers, productions and the clock are within their limits.
 pub fn tables_are_whole()
     ensures run { RunsKeepWhole }
     ensures opening { FreshDevicesAreWhole }
@@ -149,9 +158,13 @@ pub fn tables_are_whole()
     fresh_tables_are_whole();
 }
 
-/// What each output holds is what the last event that touched it left there: an owner's newest accepted
-/// run-mode data, the idle action, or the fault action at the loss of the owner; and where no event did, what it
-/// held in the opening table, which is zeros for a fresh device.
+/// Each output of an adapter holds the bytes that the last event which touched it left there: the data of its owner's
+/// last applied datagram, or the bytes of the idle action, or those of the fault action at the loss of the owner.
+///
+/// - `whole`: after a run from a whole table. An output that no event touched holds the bytes of the first table.
+/// - `fresh`: after a run of a fresh device without a fault. An output that no event touched holds zeros.
+///
+/// Events that found no memory do not count.
 pub fn outputs_are_from_scratch()
     ensures whole { OutputsAreFromScratch }
     ensures fresh { FreshOutputsAreFromScratch }
@@ -162,7 +175,8 @@ pub fn outputs_are_from_scratch()
     laws::tables_are_whole();
 }
 
-/// Of one connection, each accepted number is newer than the one accepted before it.
+/// Each sequence number that a connection accepts is newer than the one that it accepted before. The law holds of each
+/// connection of an adapter, named by its opening number, in each run from a whole table.
 pub fn accepted_numbers_are_newer()
     ensures { OverEveryConnection HasNewerNumber }
 {
@@ -170,8 +184,8 @@ pub fn accepted_numbers_are_newer()
     laws::tables_are_sound();
 }
 
-/// What is applied has the run bit, and a count that is not that of the datagram which its connection accepted
-/// before it.
+/// Data are applied only from a datagram with the run bit, and only if its count differs from that of the datagram
+/// that the connection accepted before. The law holds of each connection in each run from a whole table.
 pub fn applied_data_are_new()
     ensures { OverEveryConnection IsAppliedNew }
 {
@@ -179,7 +193,8 @@ pub fn applied_data_are_new()
     laws::tables_are_sound();
 }
 
-/// No datagram is applied that its connection accepted just before.
+/// No connection applies the datagram that it accepted last once more. The law holds of each connection in each run
+/// from a whole table.
 pub fn no_datagram_is_applied_twice()
     ensures { OverEveryConnection IsNotAgain }
 {

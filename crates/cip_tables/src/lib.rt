@@ -1,5 +1,5 @@
-//! The tables of devices of every kind, copies of them, what a device is, runs of one, and the laws over
-//! every run. The public names of the rooms below are offered again.
+//! The table of a device of either kind, the interface `Device`, copies of tables, runs, and the laws of every run.
+//! The crate offers the public names of the events and of both tables again.
 #![tactic(auto)]
 
 mod copy;

@@ -1,18 +1,22 @@
-//! The table of a device of any kind, and what it is made of.
+//! The table and the configuration of a device of either kind.
 
 use adapter_table::{AdapterTable, Profile};
 use scanner_table::{ScannerProfile, ScannerTable};
 
-/// The table of a device of any kind.
+/// The table of a device: its whole state.
 #[derive(PartialEq, Drop)]
 pub enum DeviceTable {
+    /// The table of an adapter.
     Adapter(AdapterTable),
+    /// The table of a scanner.
     Scanner(ScannerTable),
 }
 
-/// What a device is made of.
+/// The configuration of a device.
 #[derive(PartialEq, Drop)]
 pub enum Config {
+    /// The profile of an adapter.
     Adapter(Profile),
+    /// The profile of a scanner.
     Scanner(ScannerProfile),
 }

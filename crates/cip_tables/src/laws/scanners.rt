@@ -1,6 +1,8 @@
-//! What holds of every scanner's table that a run reaches, from any whole table on, and from a fresh device of a
-//! faultless profile on; and of every such run, of the events that memory was there for and the tables before and
-//! after them. Each call does nothing: its contract is the law.
+//! Laws of every run of a scanner. A law call does nothing; its contract states the law.
+//!
+//! Unless a law says otherwise, it holds of runs from a whole table, and of runs from a fresh device without a fault
+//! in its profile. The laws of tables hold of every table that such a run reaches. The laws of runs relate the table
+//! before the run, the events that found memory, and the table after the run.
 
 ghost use Rattle.std.specs.Prelude.{◌≡◌, ◌≤◌, length};
 ghost use Rattle.cip_tables.specs.ScannerRuns.{RunsFoldEvents, OverWholeRuns, OverFreshRuns, OverScannerRuns, HoldsLastImages, HoldsLastImagesOrZeros, HoldsLastOutputs, HoldsLastOutputsOrZeros, AcceptsAfter, OpensAbove, OpensWithNewId};
@@ -18,7 +20,8 @@ use scanner_laws::{
     bytes_are_from_scratch, fresh_tables_are_whole, openings_are_numbered, steps_keep_tables_whole,
 };
 
-/// Every table is whole: each of the laws below holds of it, and its clock and its numbers are within their limits.
+/// Every table is whole. A whole table has all the properties that the laws of tables below name; besides, its clock
+/// and its numbers are within their limits.
 pub fn tables_are_whole()
     ensures { OverEveryScanner IsWholeScanner }
 {
@@ -26,58 +29,58 @@ pub fn tables_are_whole()
     fresh_tables_are_whole();
 }
 
-/// There are as many slots as the profile has.
+/// The table has as many slots as the profile.
 pub fn slots_match_the_profile()
     ensures { OverEveryScanner (λ t. length t.slots ≡ length t.profile.slots) }
 {
     tables_are_whole();
 }
 
-/// The bytes that a slot sends and those that it gathered are as many as its points have.
+/// The output and the image of each slot have the lengths that its configuration says.
 pub fn slots_have_their_lengths()
     ensures { OverEveryScanner (λ t. EachSlot HasLengths (indexed_slots t)) }
 {
     tables_are_whole();
 }
 
-/// A slot that is not to be open does not open: none but one that is to be is opening or open, or fell silent and
-/// is to be tried again.
+/// Only a slot whose connection is desired is opening, established or timed out.
 pub fn slots_open_as_desired()
     ensures { OverEveryScanner (λ t. EachSlot IsOpenAsDesired (indexed_slots t)) }
 {
     tables_are_whole();
 }
 
-/// None but a slot that is not to be open closes.
+/// Only a slot whose connection is not desired is closing.
 pub fn slots_close_as_desired()
     ensures { OverEveryScanner (λ t. EachSlot ClosesAsDesired (indexed_slots t)) }
 {
     tables_are_whole();
 }
 
-/// The T->O id of an established slot is that of no other established slot of its target.
+/// No two established slots of one target have the same T->O id.
 pub fn ids_are_distinct()
     ensures { OverEveryScanner (λ t. IdsDiffer (indexed_slots t)) }
 {
     tables_are_whole();
 }
 
-/// No two slots wait for the reply to one request.
+/// No two slots wait for the reply to the same request.
 pub fn requests_are_distinct()
     ensures { OverEveryScanner (λ t. RequestsDiffer t.slots) }
 {
     tables_are_whole();
 }
 
-/// The request that a slot waits for, and the one that its connection was opened by, have numbers below the next
-/// one.
+/// The number of a pending request, and that of the request that opened an established connection, are below the next
+/// request number.
 pub fn requests_are_below_the_next()
-    ensures { OverEveryScanner (λ t. EachSlot (λ indexed. IsNumberedBelow t.next_request indexed.slot.state) (indexed_slots t)) }
+    ensures { OverEveryScanner (λ t.
+        EachSlot (λ indexed. IsNumberedBelow t.next_request indexed.slot.state) (indexed_slots t)) }
 {
     tables_are_whole();
 }
 
-/// The counter of the next connection id is at most 16,777,216, where no id is left.
+/// The counter of the next connection id is at most 16,777,216, at which no id is left.
 pub fn ids_end()
     ensures { OverEveryScanner (λ t. t.next_id ≤ 16777216) }
 {
@@ -91,45 +94,45 @@ pub fn at_most_16_streams()
     tables_are_whole();
 }
 
-/// No two open streams have one number, or one target.
+/// No two open streams have the same number or the same target.
 pub fn streams_are_distinct()
     ensures { OverEveryScanner (λ t. StreamsDiffer t.streams) }
 {
     tables_are_whole();
 }
 
-/// Every request that a slot waits for, and every opening that a connection came from, is below the next request
-/// number. Every T->O id of a point to point connection that is asked for, open, timed out or closing is the
-/// scanner's, with a counter below the next one, and no two slots have one such id.
+/// The number of a pending request, and that of the request that opened an established connection, are below the next
+/// request number. The T->O id of a point to point slot that is opening, established, timed out or closing has the
+/// scanner's incarnation and a counter below the next one, and no two such slots have the same id.
 pub fn numbers_are_drawn_once()
     ensures { OverEveryScanner NumbersAreOwn }
 {
     tables_are_whole();
 }
 
-/// The producer of a slot's connection has the slot's number, and sends to the slot's target.
+/// The producer of an established slot has the slot's number, and sends to the slot's target.
 pub fn slots_produce_as_themselves()
     ensures { OverEveryScanner SlotsProduceAsThemselves }
 {
     tables_are_whole();
 }
 
-/// A slot that opens or closes has a deadline, at most the time that a target has to answer past the clock.
+/// A slot that is opening or closing waits at most `open_timeout` milliseconds from the present time on.
 pub fn answers_are_waited_for_in_time()
     ensures { OverEveryScanner SlotsWaitInTime }
 {
     tables_are_whole();
 }
 
-/// A run of a scanner ends in the scanner that its events lead to, one after another, where an event that memory
-/// was refused for counts as none.
+/// A run of a scanner, from any table, ends in the table to which the events that found memory lead, one after
+/// another.
 pub fn runs_fold_events()
     ensures { RunsFoldEvents }
 {}
 
-/// The image of each slot is what the last event that touched it left there: zeros where the slot was established,
-/// or the data of a datagram that was applied for it. Where no event did, it is what it was before the run, which
-/// is zeros at a fresh scanner.
+/// The image of each slot holds the bytes that the last event which touched it left there: zeros if the slot became
+/// established, or the data of a datagram that was applied for it. An image that no event touched holds its bytes from
+/// before the run (`whole`), which are zeros at a fresh scanner (`fresh`).
 pub fn images_are_from_scratch()
     ensures whole { OverWholeRuns HoldsLastImages }
     ensures fresh { OverFreshRuns HoldsLastImagesOrZeros }
@@ -138,8 +141,8 @@ pub fn images_are_from_scratch()
     bytes_are_from_scratch();
 }
 
-/// The output of each slot is what was last written there, and where nothing was, what it was before the run,
-/// which is zeros at a fresh scanner.
+/// The output of each slot holds the bytes that were last written there. An output that no event wrote holds its bytes
+/// from before the run (`whole`), which are zeros at a fresh scanner (`fresh`).
 pub fn outputs_are_from_scratch()
     ensures whole { OverWholeRuns HoldsLastOutputs }
     ensures fresh { OverFreshRuns HoldsLastOutputsOrZeros }
@@ -148,7 +151,8 @@ pub fn outputs_are_from_scratch()
     bytes_are_from_scratch();
 }
 
-/// Of one opening of a slot, each accepted number is newer than the one accepted before it.
+/// Each sequence number that a connection accepts is newer than the one that it accepted before. A connection is named
+/// by its slot and the request that opened it.
 pub fn accepted_numbers_are_newer()
     ensures { OverScannerRuns (AcceptsAfter HasNewerNumber) }
 {
@@ -158,7 +162,7 @@ pub fn accepted_numbers_are_newer()
     scanner_laws::accepted_numbers_are_newer();
 }
 
-/// What is applied has a count that is not that of the datagram which its connection accepted before it.
+/// Data are applied only if their count differs from that of the datagram that the connection accepted before.
 pub fn applied_data_are_new()
     ensures { OverScannerRuns (AcceptsAfter IsAppliedNew) }
 {
@@ -168,7 +172,7 @@ pub fn applied_data_are_new()
     scanner_laws::applied_data_are_new();
 }
 
-/// No datagram is applied that its connection accepted just before.
+/// No connection applies the datagram that it accepted last once more.
 pub fn no_datagram_is_applied_twice()
     ensures { OverScannerRuns (AcceptsAfter IsNotAgain) }
 {
@@ -178,8 +182,8 @@ pub fn no_datagram_is_applied_twice()
     scanner_laws::no_datagram_is_applied_twice();
 }
 
-/// The profile stays, and so does the number of slots; neither the counter of connection ids nor that of requests
-/// falls.
+/// A run leaves the profile and the number of slots as they are, and neither the counter of connection ids nor that of
+/// requests falls.
 pub fn counters_never_fall()
     ensures { OverScannerRuns (λ old _ new. CountsOn old new) }
 {
@@ -188,8 +192,8 @@ pub fn counters_never_fall()
     scanner_laws::counters_never_fall();
 }
 
-/// A slot that opens after a run waited for the same opening before it, or the opening began in the run: its
-/// request number, and its T->O id where it is point to point, were drawn between.
+/// A slot that is opening after a run waited for the same reply before it, or the opening began in the run: then the
+/// run allocated its request number and, for a point to point slot, its T->O id.
 pub fn openings_draw_the_next_numbers()
     ensures { OverScannerRuns (λ old _ new. OpeningsBegin old new) }
 {
@@ -198,8 +202,8 @@ pub fn openings_draw_the_next_numbers()
     scanner_laws::openings_draw_the_next_numbers();
 }
 
-/// Request numbers rise: the opening of a slot after a run either was its opening before it, or has a number above
-/// each that was drawn by then.
+/// Request numbers rise: a slot that is opening after a run waited for the same reply before it, or its request number
+/// is above every number that was allocated before the run.
 pub fn request_numbers_rise()
     ensures { OverScannerRuns OpensAbove }
 {
@@ -208,8 +212,8 @@ pub fn request_numbers_rise()
     scanner_laws::request_numbers_rise();
 }
 
-/// No connection id is given twice: an opening that begins in a run asks for none that was drawn before it, whether
-/// a slot still has it or not.
+/// No connection id is allocated twice: an opening that begins in a run requests no id that was allocated before the
+/// run, whether a slot still has that id or not.
 pub fn ids_are_given_once()
     ensures { OverScannerRuns OpensWithNewId }
 {

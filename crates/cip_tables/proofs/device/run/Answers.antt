@@ -10,7 +10,7 @@ loop-event-preserved g c = record {
       rw (c.push_reserved.ensures.items, take_more c.args.events.now c.loop-event.event-index c.event-item.result (omega arith), ← c.event-item.is)
       (Runs_more _ _ _ _ _ _ _ c.loop-event.invariant.reported c.step-outcome.ensures.step);
   count = omega arith;
-  room = omega arith;
+  space = omega arith;
 }
 
 pub returns : goal.returns
