@@ -1,4 +1,4 @@
--- Acts, told of what the code did.
+-- Acts: the code's steps lead to the outcome that the definition gives.
 use Rattle.std.proofs.Common.{◌≡◌, ◌<◌, ◌≤◌, not, Bool, true, false, ℕ, zero, suc, List, [], ◌∷◌, ◌++◌, map, set, length, slice_get, Option, Some, None, Result, Ok, Err, IsOk, subst, refl, sym, ap, ◌∙◌, arith}
 use Rattle.std.proofs.lemmas.List.{append-nil}
 use Rattle.std.proofs.lemmas.Option.{get_or_from_slice_get}
@@ -27,7 +27,7 @@ use Rattle.segment_world.specs.Arrivals.{receiver_in, sender_in}
 use Rattle.segment_world.specs.Follows.{IsPossible, ActFollows}
 use Rattle.segment_world.specs.AnswerSpace.{CameTo, WasDelivered}
 
--- PLACES
+-- INDICES
 
 get_there : {X : Type 0} (xs : List X) (i : ℕ) → i < length xs → (x : X) × (slice_get xs i ≡ Some x)
 get_there [] i lt = absurd (omega arith)
@@ -54,9 +54,9 @@ set_there [] i x is = refl
 set_there (y ∷ xs) zero x is = ap (λ z. z ∷ xs) (let e = is in cc)
 set_there (y ∷ xs) (suc i) x is = ap (λ l. y ∷ l) (set_there xs i x is)
 
--- AN EVENT THAT COMES
+-- AN EVENT AT A DEVICE
 
--- a device of the world: the act can be done but for the step
+-- the world has the device: the act is possible
 possible_so : (device : ℕ) (event : Event) (w : World) (said : Result DeviceNext StepFault) → IsPossible (comes_so device event w said)
 possible_so device event w (Ok next) = tt
 possible_so device event w (Err fault) = tt
@@ -117,7 +117,7 @@ undone_so said old mid device event fault nodes ts tables sent sent' streams str
     ∙ ap (λ (l : List Stream). record { nodes = nodes; tables = ts; sent = sent; streams = l }) unstreamed
     ∙ seen)
 
--- what the code leaves is the world in which the answer was spread
+-- the code leaves the world to which the answer was sent
 pub done_so : (said : Happened) (old mid : World) (device : ℕ) (event : Event) (answer : Answer) (node : Node) (tables : List DeviceTable) (sent : List Sent) (streams : List Stream) → said ≡ comes device event mid → CameTo mid.tables device event (Ok answer) tables → slice_get mid.nodes device ≡ Some node → sent ≡ mid.sent ++ map (sent_by node) answer.datagrams → streams ≡ answered device answer mid.streams → ActFollows said old (Ok (Some answer)) (record { nodes = mid.nodes; tables = tables; sent = sent; streams = streams })
 done_so said old mid device event answer node tables sent streams so came at sent_is streams_is =
     let from : node_at mid device ≡ node = get_or_from_slice_get mid.nodes device node (record { 0 = 0 }) at in
@@ -150,9 +150,9 @@ delivered_nothing w device found lt none =
     let there = get_there w.tables device lt in
     ap (λ (t : Option DeviceTable). delivered device w t found) there.1 ∙ ap (delivered device w (Some there.0)) none
 
--- WHAT COMES OVER A STREAM
+-- EVENTS OVER A STREAM
 
--- the device stands in the world as it is seen
+-- the world that contracts see has the device
 pub stands : (nodes : List Node) (tables : List DeviceTable) (sent : List Sent) (streams : List Stream) (w : World) (device : ℕ) (node : Node) → record { nodes = nodes; tables = tables; sent = sent; streams = streams } ≡ w → length nodes ≡ length tables → slice_get nodes device ≡ Some node → (device < length w.tables) × (slice_get w.nodes device ≡ Some node)
 stands nodes tables sent streams w device node seen long is =
     let lt : device < length nodes = some_within nodes device node is in
@@ -178,11 +178,11 @@ taken_is n d w (Some s) endpoints item there first =
     ∙ ap (λ (i : ℕ). comes i (event_of_item n (node_at w (sender d s)) item) (without_front n d w)) (takes d s endpoints there)
     ∙ ap (λ (i : ℕ). comes (receiver_in d endpoints) (event_of_item n (node_at w i) item) (without_front n d w)) (gives d s endpoints there)
 
--- the same in the world as it is seen, with what the code looked up
+-- the same in the world that contracts see, with the values that the code looked up
 pub comes_over : (n : ℕ) (d : Direction) (v w : World) (endpoints : Endpoints) (item : QueueItem) (device sender : ℕ) (peer : Node) (event : Event) → v ≡ w → Some endpoints ≡ option_map endpoints_of (slice_get v.streams n) → Some item ≡ front_of d (slice_get v.streams n) → device ≡ receiver_in d endpoints → sender ≡ sender_in d endpoints → peer ≡ node_at v sender → event ≡ event_of_item n peer item → taken_at n d w (slice_get w.streams n) ≡ comes device event (without_front n d w)
 comes_over n d v w endpoints item device sender peer event seen there first taker_is giver_is peer_is event_is =
-    let known : peer ≡ node_at v (sender_in d endpoints) = peer_is ∙ ap (node_at v) giver_is in
-    let same : event ≡ event_of_item n (node_at v (sender_in d endpoints)) item = event_is ∙ ap (λ (p : Node). event_of_item n p item) known in
+    let same_node : peer ≡ node_at v (sender_in d endpoints) = peer_is ∙ ap (node_at v) giver_is in
+    let same : event ≡ event_of_item n (node_at v (sender_in d endpoints)) item = event_is ∙ ap (λ (p : Node). event_of_item n p item) same_node in
     let so : taken_at n d v (slice_get v.streams n) ≡ comes device event (without_front n d v) =
     taken_is n d v (slice_get v.streams n) endpoints item there first
     ∙ ap (λ (i : ℕ). comes i (event_of_item n (node_at v (sender_in d endpoints)) item) (without_front n d v)) (sym taker_is)

@@ -1,4 +1,4 @@
--- An event that comes to a device, told of its outcome.
+-- An event at one device among others, by its outcome.
 use Rattle.std.proofs.Common.{◌≡◌, ◌<◌, ℕ, List, set, length, get_or, Some, Ok, Err, IfOk, subst, refl, sym, ap, ◌∙◌}
 use Rattle.std.proofs.lemmas.Option.{slice_get-get_or}
 use Rattle.std.proofs.lemmas.List.{get_or_default}

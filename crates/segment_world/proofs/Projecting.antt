@@ -1,4 +1,4 @@
--- Each device's table is the one that its own events lead to.
+-- Each device's table is the one to which its own events lead.
 use Rattle.std.proofs.Common.{◌≡◌, ◌≢◌, ℕ, zero, suc, ◌==◌, Bool, true, false, cond, List, [], ◌∷◌, ◌++◌, map, filter, set, slice_get, Option, Some, None, Result, Ok, Err, IfOk, refl, sym, ◌∙◌, ap, subst, arith}
 use Rattle.std.proofs.lemmas.List.{append-nil, map-append}
 use Rattle.std.proofs.lemmas.Bool.Decides.{nat_tests}
@@ -99,7 +99,7 @@ after_push : (t : DeviceTable) (events : List Event) (event : Event) → table_a
 after_push t [] event = refl
 after_push t (first ∷ events) event = after_push (table_of t (step t first)) events event
 
--- PLACES
+-- INDICES
 
 set_own : {X : Type 0} (xs : List X) (i : ℕ) (x y : X) → slice_get xs i ≡ Some x → slice_get (set xs i y) i ≡ Some y
 set_own [] i x y is = absurd (let e = is in cc)
@@ -122,8 +122,8 @@ Leads tables device t reported = slice_get tables device ≡ Some (table_after t
 leads_own : (old new : List DeviceTable) (device : ℕ) (t : DeviceTable) (before : List ReportedEvent) (reported : ReportedEvent) → Leads old device t before → Steps old reported new → reported.device ≡ device → is_of device reported ≡ true → Leads new device t (before ++ reported ∷ [])
 leads_own old new device t before reported leads steps same own =
     let now : DeviceTable = table_after t (events_of device before) in
-    let known : Some steps.before ≡ Some now = sym (ap (slice_get old) (sym same) ∙ steps.is) ∙ leads in
-    let is : steps.before ≡ now = let e = known in cc in
+    let same_table : Some steps.before ≡ Some now = sym (ap (slice_get old) (sym same) ∙ steps.is) ∙ leads in
+    let is : steps.before ≡ now = let e = same_table in cc in
     let stepped : step now reported.event ≡ Ok (reported.answer, steps.after) = ap (λ (x : DeviceTable). step x reported.event) (sym is) ∙ steps.stepped in
     let there : slice_get new device ≡ Some steps.after = ap (λ (l : List DeviceTable). slice_get l device) (steps.leaves ∙ ap (λ i. set old i steps.after) same) ∙ set_own old device now steps.after leads in
     there

@@ -1,4 +1,4 @@
--- Room for an answer, and a device among others that an event comes to.
+-- The memory that any answer needs, and the device among others that performs an event.
 use Rattle.std.specs.Prelude.{◌≡◌, ◌≤◌, ℕ, List, set, slice_get, Some, Ok, IfOk}
 use Rattle.cip_types.specs.declared.names.Node.{Node}
 use Rattle.cip_events.specs.Answers.{plain_answer}
@@ -13,13 +13,13 @@ use Rattle.device_laws.specs.Sizes.{IsSmall}
 use Rattle.sent_log.specs.Log.{Log}
 use Rattle.stream_queues.specs.Queues.{Queues}
 
--- 64 frames and 64 datagrams of 2,048 bytes each
+-- memory for 64 frames and 64 datagrams of 2,048 bytes each
 pub record HasSpace (log : Log) (queues : Queues) : Type 0 where
   pub texts : 64 ≤ log.texts
   pub bytes : 131072 ≤ log.bytes
   pub frames : 64 ≤ queues.space
 
--- the event came to this device, with this outcome
+-- the device of this index performed the event, with this outcome; the other devices stay
 pub record CameTo (old : List DeviceTable) (device : ℕ) (event : Event) (outcome : Outcome) (new : List DeviceTable) : Type 0 where
   pub before : DeviceTable
   pub after : DeviceTable
@@ -28,7 +28,7 @@ pub record CameTo (old : List DeviceTable) (device : ℕ) (event : Event) (outco
   pub leaves : new ≡ set old device after
   pub small : IfOk outcome IsSmall
 
--- the datagram came to this device, which made this of it
+-- the device of this index received the datagram, with this delivery; the other devices stay
 pub record WasDelivered (old : List DeviceTable) (device : ℕ) (peer : Node) (bytes : List ℕ) (delivery : Delivery) (new : List DeviceTable) : Type 0 where
   pub before : DeviceTable
   pub after : DeviceTable

@@ -1,8 +1,8 @@
--- A segment of devices: their tables, every datagram that was ever sent, and the streams between them; and what
--- one act does to it.
+-- A simulated network: the tables of its devices, every datagram that was ever sent, and the streams between the devices;
+-- and what one act does to it.
 --
--- Datagrams are delivered to whom an act says, in any order, once, many times or never, but only as they were sent
--- and in the name of whom they were sent by. Streams may be cut, but neither lose, repeat nor reorder what they carry.
+-- An act delivers a datagram to any device, in any order, once, many times or never, but only as it was sent and with its
+-- sender's address. A stream may be cut, but neither loses, repeats nor reorders its frames before that.
 use Rattle.std.specs.Prelude.{ℕ, ◌==◌, ◌&&◌, not, nat_lt, Bool, true, false, List, [], ◌∷◌, ◌++◌, map, set, length, slice_get, slice_index_or, Option, Some, None, Result, Ok, Err}
 use Rattle.cip_types.specs.declared.names.Node.{Node}
 use Rattle.cip_events.specs.declared.event.Answer.{Answer}
@@ -22,7 +22,7 @@ use Rattle.segment_world.specs.declared.act.Call.TheVariants as call
 use Rattle.segment_world.specs.declared.act.ActFault.{ActFault}
 use Rattle.segment_world.specs.declared.act.ActFault.TheVariants.{NoSuchDevice, NeverSent, StreamEmpty, NoSuchStream, Step}
 
--- the addresses of the devices, their tables, what was sent, and the streams: devices are told by their places
+-- the addresses of the devices, their tables, all datagrams sent, and the streams; a device is given by its index
 pub record World : Type 0 where
   pub nodes : List Node
   pub tables : List DeviceTable
@@ -35,20 +35,20 @@ pub record ReportedEvent : Type 0 where
   pub event : Event
   pub answer : Answer
 
--- what an act tells, if it is an event of a device, and the world after it; or why it is none
+-- the event that an act makes at a device, if it makes one, and the next world; or the fault of the act
 abbrev pub Happened : Type 0
 Happened = Result (Option ReportedEvent × World) ActFault
 
 abbrev pub node_at : World → ℕ → Node
 node_at w device = slice_index_or w.nodes device (record { 0 = 0 })
 
--- AN EVENT COMES TO A DEVICE
+-- A DEVICE PERFORMS AN EVENT
 
--- a datagram of an answer is sent once, whoever consumes it
+-- a datagram of an answer enters the log once, however many consumers it has
 abbrev pub sent_by : Node → OutgoingDatagram → Sent
 sent_by node outgoing = record { from = node; bytes = outgoing.bytes }
 
--- what the device sends is there from now on
+-- the world after a device has sent its answer
 abbrev pub fan_out : ℕ → Answer → World → World
 fan_out device answer w = record w {
   sent = w.sent ++ map (sent_by (node_at w device)) answer.datagrams;
@@ -81,7 +81,7 @@ delivered device w None sent = Err NoSuchDevice
 delivered device w (Some t) None = Err NeverSent
 delivered device w (Some t) (Some sent) = comes device (event.Datagram sent.from sent.bytes) w
 
--- what an end of a stream takes, as its event
+-- the event of the end that receives this item
 abbrev pub event_of_item : ℕ → Node → QueueItem → Event
 event_of_item n peer Opening = event.StreamOpened n peer
 event_of_item n peer (Queued bytes) = event.Frame n bytes
@@ -90,7 +90,7 @@ event_of_item n peer Ending = event.StreamCut n
 abbrev pub without_front : ℕ → Direction → World → World
 without_front n direction w = record w { streams = with_stream (taken_from direction) n w.streams }
 
--- the first that waits is taken, and stays where the device does not answer it
+-- the end receives the front of its queue; the front stays if the device refuses the event
 abbrev pub taken : ℕ → Direction → World → Stream → List QueueItem → Happened
 taken n direction w s [] = Err StreamEmpty
 taken n direction w s (item ∷ rest) = comes (receiver direction s) (event_of_item n (node_at w (sender direction s)) item) (without_front n direction w)

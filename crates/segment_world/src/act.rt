@@ -1,64 +1,64 @@
-//! What may happen in a world.
+//! Acts in a world, and their faults.
 
 use cip_events::StepFault;
 use cip_types::{Items, OutOfMemory};
 use stream_queues::Direction;
 use thiserror::Error;
 
-/// What the application of a device does, or that time passes at it.
+/// A call of the application at its device, or a tick of the device's clock.
 #[derive(Drop)]
 pub enum Call {
-    /// Sets what an input of an adapter holds, or the output of a scanner's slot.
+    /// The application writes an input of an adapter, or the output of a scanner's slot.
     Write { point: u32, bytes: Items<u8> },
-    /// Asks what a point holds.
+    /// The application reads a point of an adapter, or the image of a scanner's slot.
     Read { point: u32 },
-    /// The application of a scanner runs, or is idle.
+    /// The application of a scanner changes to run (true) or to idle (false).
     Mode { run: bool },
-    /// A scanner is to open the connection of a slot, and to keep it open.
+    /// The application of a scanner starts a slot, which keeps its connection open from now on.
     Start { slot: u32 },
-    /// A scanner is to close the connection of a slot.
+    /// The application of a scanner stops a slot, which closes its connection.
     Stop { slot: u32 },
-    /// Milliseconds pass, at most 60,000.
+    /// A number of milliseconds passes, at most 60,000.
     Tick { ms: u32 },
 }
 
-/// One act. Devices are told by their places among the configurations of the world, and streams by their numbers,
-/// from 0 in the order in which they were opened.
+/// One act. A device is given by its index among the configurations of the world, a stream by its number: streams
+/// are numbered from 0 in the order in which they were opened.
 #[derive(Drop)]
 pub enum Act {
-    /// A device's application does something, or time passes at the device.
+    /// The application of a device makes a call, or time passes at the device.
     Local { device: u32, call: Call },
-    /// A datagram that was sent, of this place among all, comes to a device, whether it is for that device or not.
-    /// It may come again.
+    /// A device receives a datagram, given by its index among all that were ever sent. The device need not be one that
+    /// the datagram was sent to, and the same datagram may be delivered again.
     Deliver { index: usize, device: u32 },
-    /// What waits first in a direction of a stream comes to the end that takes it.
+    /// The end of a direction of a stream receives the front of its queue.
     NextFrame { stream: u16, direction: Direction },
-    /// A device opens a stream to another.
+    /// A device opens a stream to another device.
     OpenStream { from: u32, to: u32 },
-    /// A stream breaks. What waits is lost, and each end that knows of the stream is to learn that it is cut.
+    /// A stream is cut. Its frames are lost, and each end that has received the mark that the stream has opened will
+    /// receive the mark that it was cut.
     CutStream { stream: u16 },
 }
 
-/// Why an act did not happen. The world is then as it was. They are judged in this order, but for `OutOfMemory`,
-/// which goes before `Step`.
+/// Why an act did not happen. The world is unchanged then. `World::act` gives the order of the faults.
 #[derive(Clone, Copy, Debug, PartialEq, Eq, Error)]
 pub enum ActFault {
-    /// No device stands at the place, or a stream was to run from a device to itself.
+    /// The world has no device of this index, or a stream was to go from a device to itself.
     #[error("no such device")]
     NoSuchDevice,
-    /// Not so many datagrams were sent.
+    /// No datagram of this index was sent.
     #[error("never sent")]
     NeverSent,
-    /// Nothing waits in the direction of the stream.
+    /// Nothing waits in this direction of the stream.
     #[error("nothing waits")]
     StreamEmpty,
-    /// No stream has the number, it has ended, or all numbers are given.
+    /// No stream has this number, a cut stream has ended already, or all stream numbers are in use.
     #[error("no such stream")]
     NoSuchStream,
     /// The device refused the event.
     #[error("fault of a step: {0}")]
     Step(StepFault),
-    /// A growth of the world's own memory was refused.
+    /// The world found no memory for the act or its answer.
     #[error("no memory")]
     OutOfMemory,
 }

@@ -1,4 +1,4 @@
-//! Events that come over streams.
+//! Events that devices receive over streams.
 
 ghost use Rattle.std.specs.Prelude.{◌≡◌, IfOk, slice_get, slice_index_or};
 ghost use Rattle.stream_queues.specs.Fronts.{view_front};
@@ -10,15 +10,18 @@ use cip_types::{Items, Node, OutOfMemory};
 use std::alloc::Global;
 use stream_queues::{Direction, Endpoints, QueueFront};
 
-/// An event that is to come to a device, and the device's address.
+/// An event that a device is about to receive.
 #[derive(Drop)]
 pub struct Arrival {
+    /// The index of the device.
     pub device: u32,
+    /// The address of the device.
     pub node: Node,
+    /// The event.
     pub event: Event,
 }
 
-/// The device that takes what runs in a direction.
+/// Returns the device that receives in a direction.
 pub fn receiver_of(endpoints: Endpoints, direction: Direction) -> u32
     ensures { result ≡ receiver_in direction endpoints }
 {
@@ -28,7 +31,7 @@ pub fn receiver_of(endpoints: Endpoints, direction: Direction) -> u32
     }
 }
 
-/// The device that sends what runs in a direction.
+/// Returns the device that sends in a direction.
 pub fn sender_of(endpoints: Endpoints, direction: Direction) -> u32
     ensures { result ≡ sender_in direction endpoints }
 {
@@ -38,21 +41,22 @@ pub fn sender_of(endpoints: Endpoints, direction: Direction) -> u32
     }
 }
 
-/// The address of a device.
+/// Returns the address of a device, if there is the device.
 pub fn node_of(nodes: &[Node], device: u32) -> Option<Node>
     ensures { result ≡ slice_get nodes.now device }
 {
     nodes.get(device as usize).copied()
 }
 
-/// The address of a device that is known to be there.
-pub fn known_node(nodes: &[Node], device: u32) -> Node
+/// Returns the address of a device, or address 0 if there is no such device. Both ends of a stream are devices of the
+/// world, so the default is never seen.
+pub fn node_or_zero(nodes: &[Node], device: u32) -> Node
     ensures { result ≡ slice_index_or nodes.now device (record { 0 = 0 }) }
 {
     node_of(nodes, device).unwrap_or(Node(0))
 }
 
-/// What waits first on a stream, as an event of the end that takes it.
+/// Makes the event of the end that receives this front of a stream. `OutOfMemory` is the only error.
 pub fn event_of_front(
     alloc: Global,
     stream: u16,

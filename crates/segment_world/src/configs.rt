@@ -1,4 +1,4 @@
-//! What a world is made of.
+//! The configurations of a world: their check, and the devices made from them.
 
 ghost use Rattle.std.specs.Prelude.{◌≡◌, ◌<◌, ◌+◌, ◌==◌, true, false, None, Some, IfOk, IfErr, drop, length, map};
 ghost use Rattle.std.specs.List.{list_any};
@@ -12,12 +12,12 @@ use cip_tables::{Config, Device};
 use cip_types::{Node, OutOfMemory};
 use std::alloc::Global;
 
-/// What tells a device from all others.
+/// A number that no two devices of a world share.
 #[derive(Clone, Copy)]
 pub enum DeviceKey {
-    /// The byte that its connection ids begin with.
+    /// The byte that begins the device's connection ids.
     Incarnation,
-    /// Its address.
+    /// The device's address.
     Address,
 }
 
@@ -48,20 +48,20 @@ fn has_key(key: DeviceKey, configs: &[Config], value: u32) -> bool
     configs.iter().any(|config| key_of(key, config) == value)
 }
 
-/// The configurations behind a place.
-fn later(configs: &[Config], place: usize) -> &[Config]
-    requires { place < length configs.now }
-    ensures { result.now ≡ drop (place + 1) configs.now }
+/// Returns the configurations after an index.
+fn later(configs: &[Config], index: usize) -> &[Config]
+    requires { index < length configs.now }
+    ensures { result.now ≡ drop (index + 1) configs.now }
 {
-    &configs[place + 1..]
+    &configs[index + 1..]
 }
 
-/// Whether two configurations have one key.
+/// Returns whether two configurations have the same key.
 fn any_twice(key: DeviceKey, configs: &[Config]) -> bool
     ensures { result ≡ any_twice key configs.now }
 {
-    for (place, config) in configs.iter().enumerate() {
-        if has_key(key, later(configs, place), key_of(key, config)) {
+    for (index, config) in configs.iter().enumerate() {
+        if has_key(key, later(configs, index), key_of(key, config)) {
             return true;
         }
     }
@@ -77,7 +77,7 @@ fn config_fault(config: &Config) -> Option<ProfileFault>
     }
 }
 
-/// The first fault of a configuration, of the first that has one.
+/// Returns the fault of the first configuration that has one.
 fn first_fault(configs: &[Config]) -> Option<ProfileFault>
     ensures { result ≡ first_fault configs.now }
 {
@@ -89,7 +89,7 @@ fn first_fault(configs: &[Config]) -> Option<ProfileFault>
     None
 }
 
-/// What is wrong with the configurations of a world. Takes no memory.
+/// Returns the first fault of the configurations of a world. Takes no memory.
 pub fn world_fault(configs: &[Config]) -> Option<WorldFault>
     ensures { result ≡ world_fault configs.now }
 {
@@ -105,7 +105,7 @@ pub fn world_fault(configs: &[Config]) -> Option<WorldFault>
     }
 }
 
-/// The addresses of the devices, in order.
+/// Returns the addresses of the devices, in order. `OutOfMemory` is the only error.
 pub fn nodes_of(alloc: Global, configs: &[Config]) -> Result<Vec<Node>, OutOfMemory>
     ensures { IfOk result (λ nodes. nodes.items ≡ map node_of_config configs.now) }
 {
@@ -116,7 +116,7 @@ pub fn nodes_of(alloc: Global, configs: &[Config]) -> Result<Vec<Node>, OutOfMem
     Ok(nodes)
 }
 
-/// Fresh devices of configurations none of which has a fault, in order.
+/// Makes fresh devices of configurations without a fault, in order. `OutOfMemory` is the only error.
 pub fn devices_of<A: Device + Drop, S: Device + Drop>(
     alloc: Global,
     configs: Vec<Config>,

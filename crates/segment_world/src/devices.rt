@@ -1,4 +1,4 @@
-//! Devices, one of which an event comes to.
+//! All devices of a world, one of which performs an event.
 
 ghost use Rattle.std.specs.Prelude.{◌<◌, length};
 ghost use Rattle.segment_world.specs.World.{event_of_call};
@@ -11,7 +11,7 @@ use cip_tables::Device;
 use cip_types::Node;
 use device_laws::answers_are_small;
 
-/// A device's application does something, or time passes at the device.
+/// Performs a call at one device.
 pub fn call_at<A: Device, S: Device>(
     devices: &mut Vec<WorldDevice<A, S>>,
     device: usize,
@@ -20,12 +20,13 @@ pub fn call_at<A: Device, S: Device>(
     requires { device < length devices.old.items }
     ensures { CameTo devices.old.items device (event_of_call call.now) result devices.new.items }
 {
+    // The answer of a device with a whole table is small, so the reserved space suffices.
     answers_are_small();
     devices[device].is_whole();
     devices[device].call(call)
 }
 
-/// An event comes to a device.
+/// Performs an event at one device.
 pub fn step_at<A: Device, S: Device>(
     devices: &mut Vec<WorldDevice<A, S>>,
     device: usize,
@@ -34,12 +35,13 @@ pub fn step_at<A: Device, S: Device>(
     requires { device < length devices.old.items }
     ensures { CameTo devices.old.items device event.now result devices.new.items }
 {
+    // The answer of a device with a whole table is small, so the reserved space suffices.
     answers_are_small();
     devices[device].is_whole();
     devices[device].step(event)
 }
 
-/// A datagram comes to a device. Takes no memory.
+/// Delivers a datagram to one device. Takes no memory.
 pub fn deliver_at<A: Device, S: Device>(
     devices: &mut Vec<WorldDevice<A, S>>,
     device: usize,

@@ -1,4 +1,4 @@
-//! What a device sends.
+//! Fan-out of an answer: its datagrams join the log, its frames join the queues of streams.
 
 ghost use Rattle.std.specs.Prelude.{◌≡◌, ◌≤◌, ◌++◌, ◌*◌, map, length, OnOk};
 ghost use Rattle.std.specs.List.{AllByRecursion};
@@ -8,17 +8,20 @@ ghost use Rattle.segment_world.specs.AnswerSpace.{HasSpace};
 ghost use Rattle.segment_world.specs.World.{sent_by};
 
 use cip_events::{Answer, OutgoingDatagram};
+use cip_types::limits::LONGEST_MESSAGE;
 use cip_types::{Node, OutOfMemory};
 use sent_log::SentLog;
 use std::alloc::Global;
 use stream_queues::Streams;
 
-/// How many datagrams an answer has at most, and how many bytes they have together.
+/// The most datagrams of an answer.
 const MOST_DATAGRAMS: usize = 64;
 
-const MOST_BYTES: usize = 64 * 2_048;
+/// The most bytes of all datagrams of an answer together.
+const MOST_BYTES: usize = MOST_DATAGRAMS * LONGEST_MESSAGE;
 
-/// Makes room for an answer of any device. Whatever it answers, all that was sent and all that waits stays.
+/// Reserves memory for any answer of a device. `OutOfMemory` is the only error. The log and the streams stay, also
+/// after an error.
 pub fn reserve_answer(log: &mut SentLog, streams: &mut Streams) -> Result<(), OutOfMemory>
     ensures sent { log.new.sent ≡ log.old.sent }
     ensures streams { streams.new.streams ≡ streams.old.streams }
@@ -28,7 +31,7 @@ pub fn reserve_answer(log: &mut SentLog, streams: &mut Streams) -> Result<(), Ou
     streams.reserve_answer()
 }
 
-/// Appends the datagrams of an answer, for which there is room, to all that was sent.
+/// Appends the datagrams of an answer to the log. The memory for them is reserved.
 fn send_datagrams(log: &mut SentLog, node: Node, datagrams: &[OutgoingDatagram])
     requires texts { length datagrams.now ≤ log.old.texts }
     requires bytes { 2048 * length datagrams.now ≤ log.old.bytes }
@@ -40,8 +43,8 @@ fn send_datagrams(log: &mut SentLog, node: Node, datagrams: &[OutgoingDatagram])
     }
 }
 
-/// Sends what a device's answer has, for which there is room, and ends the streams that it tells the end of. Takes
-/// no memory.
+/// Sends the datagrams and frames of a device's answer, and closes the streams that its notices report closed. Takes no
+/// memory: the memory for them is reserved.
 pub fn fan_out(log: &mut SentLog, streams: &mut Streams, device: u32, node: Node, answer: &Answer)
     requires space { HasSpace log.old streams.old }
     requires small { IsSmall answer.now }

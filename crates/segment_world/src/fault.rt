@@ -1,4 +1,4 @@
-//! Why a world is not made.
+//! Faults of the configurations of a world.
 
 use cip_events::ProfileFault;
 use cip_types::OutOfMemory;
@@ -7,16 +7,16 @@ use thiserror::Error;
 /// Why a world was not made: the first of these, over all its configurations.
 #[derive(Clone, Copy, Debug, PartialEq, Eq, Error)]
 pub enum WorldFault {
-    /// The connection ids of two devices would begin alike.
+    /// Two devices have the same incarnation, so their connection ids could be equal.
     #[error("two devices have one incarnation")]
     SameIncarnation,
-    /// Two devices have one address.
+    /// Two devices have the same address.
     #[error("two devices have one address")]
     SameNode,
-    /// The profile of a device is wrong: the first fault of the first such device.
+    /// The profile of a device has a fault: the first fault of the first such device.
     #[error("bad profile: {0}")]
     Profile(ProfileFault),
-    /// A growth of memory was refused.
+    /// The world found no memory.
     #[error("no memory")]
     OutOfMemory,
 }

@@ -1,5 +1,5 @@
-//! A simulated network segment: devices, every datagram that was ever sent, and streams between devices. One act
-//! at a time happens in it, and makes at most one event of one device.
+//! A simulated network: devices, a log of every datagram that was ever sent, and streams between the devices. A test or
+//! a program performs one act at a time, and an act makes at most one event at one device.
 #![tactic(auto)]
 
 mod act;

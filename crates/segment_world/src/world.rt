@@ -1,4 +1,4 @@
-//! A world, and one act in it.
+//! A world: the simulated network, and one act in it.
 
 ghost use Rattle.std.specs.Prelude.{◌≡◌, true, false, Err, None, Some, IfOk, IfErr, IfSome, IfNone, length, slice_get, nat_lt};
 ghost use Rattle.segment_world.specs.World.{World as Segment, comes, event_of_call, delivered, taken_at, happens, are_two, opened_if, cut_at, most_stream_numbers};
@@ -9,7 +9,7 @@ ghost use Rattle.segment_world.specs.Arrivals.{IsArrival};
 ghost use Rattle.segment_world.specs.Configs.{opening_world, world_fault, IsRefused};
 
 use crate::act::{Act, ActFault, Call};
-use crate::arrival::{Arrival, event_of_front, known_node, node_of, receiver_of, sender_of};
+use crate::arrival::{Arrival, event_of_front, node_of, node_or_zero, receiver_of, sender_of};
 use crate::configs::{devices_of, nodes_of, world_fault};
 use crate::devices::{call_at, deliver_at, step_at};
 use crate::fanning_out::{fan_out, reserve_answer};
@@ -23,10 +23,10 @@ use std::alloc::Global;
 use std::marker::Model;
 use stream_queues::{Direction, Endpoints, QueueFront, Streams};
 
-/// How many streams can be numbered.
+/// The most streams that a world ever opens, since a stream's number has 16 bits.
 const MOST_STREAM_NUMBERS: usize = 65_536;
 
-/// Devices on a segment, what they ever sent, and the streams between them.
+/// Devices on a simulated network, the log of all datagrams that they ever sent, and the streams between them.
 ///
 /// It keeps the allocator that it was made with.
 #[derive(Drop)]
@@ -50,11 +50,11 @@ impl<A: Device, S: Device> Model for World<A, S> {
 }
 
 impl<A: Device + Drop, S: Device + Drop> World<A, S> {
-    /// Fresh devices of these configurations, in order, of which nothing was sent and between which no stream was
-    /// opened. The configurations are taken, and dropped where they are refused.
+    /// Makes a world of fresh devices, in the order of their configurations, with an empty log and no stream. An error
+    /// drops the configurations.
     ///
-    /// The faults, in order, over the whole list: `SameIncarnation`, `SameNode`, `Profile` with the first fault of
-    /// the first device that has one, `OutOfMemory`.
+    /// The errors, in order, over the whole list: `SameIncarnation`; `SameNode`; `Profile` with the first fault of the
+    /// first device that has one; `OutOfMemory`.
     pub fn new(alloc: Global, configs: Vec<Config>) -> Result<World<A, S>, WorldFault>
         requires adapter { A.ADAPTER ≡ true }
         requires scanner { S.ADAPTER ≡ false }
@@ -82,12 +82,19 @@ impl<A: Device + Drop, S: Device + Drop> World<A, S> {
 }
 
 impl<A: Device, S: Device> World<A, S> {
-    /// One act, which answers what the device does whose event it is, if it is one. After a fault the world is as it
-    /// was.
+    /// Performs one act, and returns the answer of the device whose event it is, if it is an event. An act that fails
+    /// leaves the world unchanged.
     ///
-    /// The faults, in order: `NoSuchDevice`, `NeverSent`, `StreamEmpty`, `NoSuchStream`, `OutOfMemory` where room for
-    /// whatever the device could answer is refused, `Step` with what the device says. A datagram that comes and the
-    /// cut of a stream take no memory.
+    /// The errors of each act, in order:
+    ///
+    /// - `Local`: `NoSuchDevice`, `OutOfMemory`, `Step` with the fault of the device.
+    /// - `Deliver`: `NoSuchDevice`, `NeverSent`. Takes no memory.
+    /// - `NextFrame`: `NoSuchStream`, `StreamEmpty`, `OutOfMemory`, `Step` with the fault of the device.
+    /// - `OpenStream`: `NoSuchDevice`, `NoSuchStream` after 65,536 streams, `OutOfMemory`.
+    /// - `CutStream`: `NoSuchStream`. Takes no memory.
+    ///
+    /// The world reserves memory for the largest answer before the device performs the event. So `OutOfMemory` may also
+    /// come at an event that the device would refuse.
     pub fn act(&mut self, act: &Act) -> Result<Option<Answer>, ActFault>
         ensures follows { ActFollows (happens self.old act.now) self.old result self.new }
         ensures no_memory { takes_no_memory act.now ≡ true → NeverOutOfMemory result }
@@ -120,7 +127,9 @@ impl<A: Device, S: Device> World<A, S> {
     }
 
     fn deliver(&mut self, index: usize, device: u32) -> Result<Option<Answer>, ActFault>
-        ensures follows { ActFollows (delivered device self.old (slice_get self.old.tables device) (slice_get self.old.sent index)) self.old result self.new }
+        ensures follows { ActFollows
+            (delivered device self.old (slice_get self.old.tables device) (slice_get self.old.sent index))
+            self.old result self.new }
         ensures no_memory { NeverOutOfMemory result }
     {
         if device as usize >= self.devices.len() {
@@ -133,10 +142,12 @@ impl<A: Device, S: Device> World<A, S> {
         Ok(Some(Answer::plain(self.alloc, Verdict::Delivered(delivery))))
     }
 
-    /// The event that the first is which waits in a direction, and whose it is.
+    /// Returns the event that the front of a direction of a stream makes, and the device that receives it.
     fn arrival(&self, stream: u16, direction: Direction) -> Result<Arrival, ActFault>
         ensures arrival { IfOk result (IsArrival self.now stream direction) }
-        ensures fault { IfErr result (λ fault. ActFollows (taken_at stream direction self.now (slice_get self.now.streams stream)) self.now (Err fault) self.now) }
+        ensures fault { IfErr result (λ fault. ActFollows
+            (taken_at stream direction self.now (slice_get self.now.streams stream))
+            self.now (Err fault) self.now) }
     {
         let Some(endpoints) = self.streams.endpoints(stream) else {
             return Err(ActFault::NoSuchStream);
@@ -148,7 +159,7 @@ impl<A: Device, S: Device> World<A, S> {
         let Some(node) = node_of(&self.nodes, device) else {
             return Err(ActFault::NoSuchDevice);
         };
-        let peer = known_node(&self.nodes, sender_of(endpoints, direction));
+        let peer = node_or_zero(&self.nodes, sender_of(endpoints, direction));
         match event_of_front(self.alloc, stream, peer, front) {
             Ok(event) => Ok(Arrival {
                 device,
@@ -187,7 +198,9 @@ impl<A: Device, S: Device> World<A, S> {
     }
 
     fn open_stream(&mut self, from: u32, to: u32) -> Result<Option<Answer>, ActFault>
-        ensures { ActFollows (opened_if from to self.old (are_two from to self.old) (nat_lt (length self.old.streams) most_stream_numbers)) self.old result self.new }
+        ensures { ActFollows
+            (opened_if from to self.old (are_two from to self.old) (nat_lt (length self.old.streams) most_stream_numbers))
+            self.old result self.new }
     {
         let count = self.devices.len();
         if from as usize >= count || to as usize >= count || from == to {
@@ -213,24 +226,24 @@ impl<A: Device, S: Device> World<A, S> {
     }
 }
 
-// WHAT A WORLD TELLS
+// LOOK-UPS
 
 impl<A: Device, S: Device> World<A, S> {
-    /// How many devices there are.
+    /// Returns the number of devices.
     pub fn len(&self) -> usize
         ensures { result ≡ length self.now.tables }
     {
         self.devices.len()
     }
 
-    /// The address of a device.
+    /// Returns the address of a device, if there is the device.
     pub fn node(&self, device: u32) -> Option<Node>
         ensures { result ≡ slice_get self.now.nodes device }
     {
         node_of(&self.nodes, device)
     }
 
-    /// The present table of a device, if there is the device. Want of memory is the only fault.
+    /// Copies the present table of a device, if there is the device. `OutOfMemory` is the only error.
     pub fn table(&self, device: u32) -> Option<Result<TableCopy, OutOfMemory>>
         ensures none { IfNone result (slice_get self.now.tables device ≡ None) }
         ensures table { IfSome result (λ copied. IfOk copied (λ copy. slice_get self.now.tables device ≡ Some copy)) }
@@ -241,35 +254,36 @@ impl<A: Device, S: Device> World<A, S> {
         Some(world_device.copy())
     }
 
-    /// How many datagrams were ever sent.
+    /// Returns how many datagrams were ever sent.
     pub fn sent_count(&self) -> usize
         ensures { result ≡ length self.now.sent }
     {
         self.log.len()
     }
 
-    /// The datagram of this place among all that were ever sent, with its sender's address.
+    /// Returns a datagram by its index among all that were ever sent, with its sender's address.
     pub fn sent(&self, index: usize) -> Option<(Node, &[u8])>
-        ensures { option_map (λ found. record { from = found.0; bytes = found.1.now }) result ≡ slice_get self.now.sent index }
+        ensures { option_map (λ found. record { from = found.0; bytes = found.1.now }) result
+            ≡ slice_get self.now.sent index }
     {
         self.log.get(index)
     }
 
-    /// How many streams were ever opened.
+    /// Returns how many streams were ever opened.
     pub fn stream_count(&self) -> usize
         ensures { result ≡ length self.now.streams }
     {
         self.streams.len()
     }
 
-    /// The ends of a stream.
+    /// Returns the ends of a stream, if there is the stream.
     pub fn endpoints(&self, stream: u16) -> Option<Endpoints>
         ensures { result ≡ option_map endpoints_of (slice_get self.now.streams stream) }
     {
         self.streams.endpoints(stream)
     }
 
-    /// What waits first in a direction of a stream.
+    /// Returns the front of a direction of a stream, if anything waits there.
     pub fn front(&self, stream: u16, direction: Direction) -> Option<QueueFront<'_>>
         ensures { option_map view_front result ≡ front_of direction (slice_get self.now.streams stream) }
     {

@@ -15,14 +15,14 @@ use cip_types::{Node, OutOfMemory};
 use std::alloc::Global;
 use std::marker::Model;
 
-/// An adapter or a scanner.
+/// An adapter of one type, or a scanner of another.
 #[derive(Drop)]
 pub enum Either<A, S> {
     Adapter(A),
     Scanner(S),
 }
 
-/// A device of either kind, which contracts see as its table.
+/// A device of either kind. Contracts see it as its table.
 #[derive(Drop)]
 pub struct WorldDevice<A: Device, S: Device> {
     device: Either<A, S>,
@@ -41,7 +41,8 @@ impl<A: Device, S: Device> Model for WorldDevice<A, S> {
 }
 
 impl<A: Device, S: Device> WorldDevice<A, S> {
-    /// A fresh device of a configuration without fault, of the kind that it is for.
+    /// Makes a fresh device of the kind that the configuration is of. The configuration has no fault. `OutOfMemory` is
+    /// the only error.
     pub fn new(alloc: Global, config: Config) -> Result<WorldDevice<A, S>, OutOfMemory>
         requires adapter { A.ADAPTER ≡ true }
         requires scanner { S.ADAPTER ≡ false }
@@ -64,7 +65,7 @@ impl<A: Device, S: Device> WorldDevice<A, S> {
         }
     }
 
-    /// Does nothing: its contract tells a caller that the table is whole. Takes no memory.
+    /// Does nothing. Its contract gives a caller the fact that the table is whole. Takes no memory.
     pub fn is_whole(&self)
         ensures { IsWholeDevice self.now }
     {
@@ -74,7 +75,7 @@ impl<A: Device, S: Device> WorldDevice<A, S> {
         }
     }
 
-    /// The present table. Want of memory is the only fault.
+    /// Copies the present table. `OutOfMemory` is the only error.
     pub fn copy(&self) -> Result<TableCopy, OutOfMemory>
         ensures { IfOk result (λ copy. copy ≡ self.now) }
     {
@@ -84,7 +85,7 @@ impl<A: Device, S: Device> WorldDevice<A, S> {
         }
     }
 
-    /// One event, as the device takes it.
+    /// Performs one event at the device.
     pub fn step(&mut self, event: &Event) -> Outcome
         ensures { Follows (step self.old event.now) self.old result self.new }
     {
@@ -94,7 +95,7 @@ impl<A: Device, S: Device> WorldDevice<A, S> {
         }
     }
 
-    /// A class 1 datagram of a peer. Takes no memory.
+    /// Delivers a class 1 datagram of a peer. Takes no memory.
     pub fn deliver(&mut self, peer: Node, bytes: &[u8]) -> Delivery
         ensures { step self.old (Event.Datagram peer bytes.now) ≡ Ok (plain_answer (Verdict.Delivered result), self.new) }
     {
@@ -104,7 +105,7 @@ impl<A: Device, S: Device> WorldDevice<A, S> {
         }
     }
 
-    /// Sets what a point holds.
+    /// Writes an input of an adapter, or the output of a scanner's slot.
     pub fn write_point(&mut self, point: u32, bytes: &[u8]) -> Outcome
         ensures { Follows (step self.old (Event.Write point bytes.now)) self.old result self.new }
     {
@@ -114,7 +115,7 @@ impl<A: Device, S: Device> WorldDevice<A, S> {
         }
     }
 
-    /// What the application does, or that time passes.
+    /// Performs a call of the application, or a tick.
     pub fn call(&mut self, call: &Call) -> Outcome
         ensures { Follows (step self.old (event_of_call call.now)) self.old result self.new }
     {

@@ -1,11 +1,11 @@
--- Frames that wait in a direction, after a change of those that wait.
+-- The frames of one direction, after a change of the list of queued frames.
 use Rattle.std.proofs.Common.{◌≡◌, ◌≢◌, ◌<◌, ◌≤◌, ℕ, zero, suc, ◌==◌, not, Bool, true, false, cond, List, [], ◌∷◌, ◌++◌, filter, length, get_or, refl, sym, ◌∙◌, ap, arith}
 use Rattle.std.specs.List.{remove}
 use Rattle.std.proofs.lemmas.Bool.Decides.{nat_tests}
 use Rattle.stream_queues.specs.declared.direction.Direction.{Direction}
 use Rattle.stream_queues.specs.declared.waiting.QueuedFrame.{QueuedFrame}
 use Rattle.stream_queues.specs.Streams.{QueueItem, Queued}
-use Rattle.stream_queues.specs.Queues.{is_in, is_elsewhere, frames_of, AreKnown}
+use Rattle.stream_queues.specs.Queues.{is_in, is_elsewhere, frames_of, AreNumbered}
 
 eq_false : (a b : ℕ) → a ≢ b → (a == b) ≡ false
 eq_false a b h = grind (arith, nat_tests)
@@ -13,7 +13,7 @@ eq_false a b h = grind (arith, nat_tests)
 eq_true : (a b : ℕ) → (a == b) ≡ true → a ≡ b
 eq_true a b h = grind (arith, nat_tests)
 
--- the frame, where it waits there
+-- the frame, if it waits there
 abbrev pub frame_if : Bool → QueuedFrame → List QueueItem
 frame_if b w = cond b (Queued w.bytes ∷ []) []
 
@@ -43,16 +43,16 @@ unfolding frames_of
 frames_elsewhere n j d [] ne = refl
 frames_elsewhere n j d (w ∷ ws) ne = drop_step (w.stream == n) n j d w ws refl ne (frames_elsewhere n j d ws ne)
 
--- KNOWN STREAMS
+-- STREAM NUMBERS
 
--- on a stream that is not known nothing waits
-pub frames_unknown : (count n : ℕ) (d : Direction) (ws : List QueuedFrame) → AreKnown count ws → count ≤ n → frames_of n d ws ≡ []
-unfolding AreKnown frames_of
-frames_unknown count n d [] known le = refl
-frames_unknown count n d (w ∷ ws) known le =
-    let lt : w.stream < count = known.0 in
+-- no frame waits on a stream whose number is not given yet
+pub frames_beyond : (count n : ℕ) (d : Direction) (ws : List QueuedFrame) → AreNumbered count ws → count ≤ n → frames_of n d ws ≡ []
+unfolding AreNumbered frames_of
+frames_beyond count n d [] numbered le = refl
+frames_beyond count n d (w ∷ ws) numbered le =
+    let lt : w.stream < count = numbered.0 in
     let there : (w.stream == n) ≡ false = eq_false w.stream n (λ e. absurd (omega (arith, e))) in
-    rw there (frames_unknown count n d ws known.1 le)
+    rw there (frames_beyond count n d ws numbered.1 le)
 
 -- THE FIRST FRAME
 
@@ -60,7 +60,7 @@ first_step : (b : Bool) (w : QueuedFrame) (rest more : List QueueItem) (item : Q
 first_step true w rest more item is same = absurd (let e = is in cc)
 first_step false w rest more item is same = same
 
--- what waits at this place is the first that passes the test
+-- the frame at this index is the first that passes the test
 pub record IsFirst (n : ℕ) (d : Direction) (ws : List QueuedFrame) (k : ℕ) (w : QueuedFrame) : Type 0 where
   pub within : k < length ws
   pub is : get_or ws k w ≡ w

@@ -1,4 +1,4 @@
--- Frames wait on streams that have not ended: after a change of a stream, or of what waits.
+-- Frames wait only on streams that have not ended: after a change of a stream, or of the queued frames.
 use Rattle.std.proofs.Common.{◌≡◌, ◌≢◌, ◌<◌, ℕ, zero, suc, ◌==◌, not, Bool, true, false, cond, List, [], ◌∷◌, ◌++◌, filter, set, length, slice_get, Some, refl, sym, ◌∙◌, ap, arith}
 use Rattle.std.specs.List.{remove}
 use Rattle.std.proofs.lemmas.Bool.Decides.{nat_tests}
@@ -9,7 +9,7 @@ use Rattle.stream_queues.specs.declared.links.StreamLink.{StreamLink}
 use Rattle.stream_queues.specs.declared.waiting.QueuedFrame.{QueuedFrame}
 use Rattle.stream_queues.specs.Streams.{way_between}
 use Rattle.stream_queues.specs.Links.{with_end}
-use Rattle.stream_queues.specs.Queues.{is_elsewhere, is_living, AreKnown, AreLive}
+use Rattle.stream_queues.specs.Queues.{is_elsewhere, is_living, AreNumbered, AreLive}
 
 -- A STREAM THAT IS LOOKED UP
 
@@ -18,10 +18,10 @@ living_within [] i living = absurd (let e = living in cc)
 living_within (link ∷ links) zero living = omega arith
 living_within (link ∷ links) (suc i) living = let lt = living_within links i living in omega arith
 
-pub live_known : (links : List StreamLink) (ws : List QueuedFrame) → AreLive links ws → AreKnown (length links) ws
-unfolding AreLive AreKnown
-live_known links [] live = tt
-live_known links (w ∷ ws) live = (living_within links w.stream live.0, live_known links ws live.1)
+pub live_numbered : (links : List StreamLink) (ws : List QueuedFrame) → AreLive links ws → AreNumbered (length links) ws
+unfolding AreLive AreNumbered
+live_numbered links [] live = tt
+live_numbered links (w ∷ ws) live = (living_within links w.stream live.0, live_numbered links ws live.1)
 
 way_open : (device from to : ℕ) (ended : Bool) (d : Direction) → way_between device ended from to ≡ Some d → ended ≡ false
 way_open device from to true d is = absurd (let e = is in cc)

@@ -1,4 +1,4 @@
--- Buffers that are kept, with one less or one more.
+-- Spare buffers, with one less or one more.
 use Rattle.std.proofs.Common.{◌≡◌, ◌≤◌, ℕ, List, [], ◌∷◌, ◌++◌}
 use Rattle.std.specs.Vec.{vec_capacity}
 use Rattle.std.specs.Global.{Vec}

@@ -1,4 +1,4 @@
--- The streams of links and of frames that wait, after a change of one stream.
+-- The streams that links and queued frames make, after a change of one stream.
 use Rattle.std.proofs.Common.{◌≡◌, ◌≢◌, ◌<◌, ◌≤◌, ℕ, zero, suc, ◌+◌, List, [], ◌∷◌, ◌++◌, set, length, slice_get, Option, Some, None, refl, sym, ◌∙◌, ap, arith}
 use Rattle.std.specs.Option.{option_map}
 use Rattle.stream_queues.specs.declared.direction.Direction.{Direction}
@@ -7,10 +7,10 @@ use Rattle.stream_queues.specs.declared.links.StreamLink.{StreamLink}
 use Rattle.stream_queues.specs.declared.waiting.QueuedFrame.{QueuedFrame}
 use Rattle.stream_queues.specs.Streams.{QueueItem, Stream, changed, with_stream, fresh_stream}
 use Rattle.stream_queues.specs.Links.{fresh_link}
-use Rattle.stream_queues.specs.Queues.{frames_of, side_in, stream_in, streams_in, AreKnown}
-use Rattle.stream_queues.proofs.Frames.{frames_unknown}
+use Rattle.stream_queues.specs.Queues.{frames_of, side_in, stream_in, streams_in, AreNumbered}
+use Rattle.stream_queues.proofs.Frames.{frames_beyond}
 
--- what waits elsewhere is the same
+-- the queues of other streams stay
 abbrev pub SameElsewhere : ℕ → List QueuedFrame → List QueuedFrame → Type 0
 SameElsewhere n ws ws' = (j : ℕ) (d : Direction) → j ≢ n → frames_of j d ws' ≡ frames_of j d ws
 
@@ -74,7 +74,7 @@ changed_in change ws ws' links k link link' is same so =
     ∙ ap (λ s. set (streams_in 0 ws links) k s) so
     ∙ sym (ap (changed change (streams_in 0 ws links) k) (get_some ws links k link is))
 
--- the link stays, what waits changes
+-- the link stays, and the queue changes
 pub waits_in : (change : Stream → Stream) (ws ws' : List QueuedFrame) (links : List StreamLink) (k : ℕ) (link : StreamLink) → slice_get links k ≡ Some link → SameElsewhere k ws ws' → stream_in k ws' link ≡ change (stream_in k ws link) → streams_in 0 ws' links ≡ with_stream change k (streams_in 0 ws links)
 waits_in change ws ws' links k link is same so =
     ap (streams_in 0 ws') (sym (set_same links k link is)) ∙ changed_in change ws ws' links k link link is same so
@@ -87,20 +87,20 @@ none_in change ws links k is = sym (ap (changed change (streams_in 0 ws links) k
 
 -- A STREAM IS OPENED
 
-fresh_in : (n : ℕ) (ws : List QueuedFrame) (count from to : ℕ) → AreKnown count ws → count ≤ n → stream_in n ws (fresh_link from to) ≡ fresh_stream from to
-fresh_in n ws count from to known le =
-    ap (λ f. built (fresh_link from to) f (frames_of n Back ws)) (frames_unknown count n Forth ws known le)
-    ∙ ap (λ b. built (fresh_link from to) [] b) (frames_unknown count n Back ws known le)
+fresh_in : (n : ℕ) (ws : List QueuedFrame) (count from to : ℕ) → AreNumbered count ws → count ≤ n → stream_in n ws (fresh_link from to) ≡ fresh_stream from to
+fresh_in n ws count from to numbered le =
+    ap (λ f. built (fresh_link from to) f (frames_of n Back ws)) (frames_beyond count n Forth ws numbered le)
+    ∙ ap (λ b. built (fresh_link from to) [] b) (frames_beyond count n Back ws numbered le)
 
-opened_at : (n : ℕ) (ws : List QueuedFrame) (links : List StreamLink) (from to count : ℕ) → AreKnown count ws → count ≤ n + length links → streams_in n ws (links ++ fresh_link from to ∷ []) ≡ streams_in n ws links ++ fresh_stream from to ∷ []
+opened_at : (n : ℕ) (ws : List QueuedFrame) (links : List StreamLink) (from to count : ℕ) → AreNumbered count ws → count ≤ n + length links → streams_in n ws (links ++ fresh_link from to ∷ []) ≡ streams_in n ws links ++ fresh_stream from to ∷ []
 unfolding streams_in
-opened_at n ws [] from to count known le = ap (λ s. s ∷ []) (fresh_in n ws count from to known (omega arith))
-opened_at n ws (link ∷ links) from to count known le = ap (λ ss. stream_in n ws link ∷ ss) (opened_at (suc n) ws links from to count known (omega arith))
+opened_at n ws [] from to count numbered le = ap (λ s. s ∷ []) (fresh_in n ws count from to numbered (omega arith))
+opened_at n ws (link ∷ links) from to count numbered le = ap (λ ss. stream_in n ws link ∷ ss) (opened_at (suc n) ws links from to count numbered (omega arith))
 
-pub opened_in : (ws : List QueuedFrame) (links : List StreamLink) (from to : ℕ) → AreKnown (length links) ws → streams_in 0 ws (links ++ fresh_link from to ∷ []) ≡ streams_in 0 ws links ++ fresh_stream from to ∷ []
-opened_in ws links from to known = opened_at 0 ws links from to (length links) known (omega arith)
+pub opened_in : (ws : List QueuedFrame) (links : List StreamLink) (from to : ℕ) → AreNumbered (length links) ws → streams_in 0 ws (links ++ fresh_link from to ∷ []) ≡ streams_in 0 ws links ++ fresh_stream from to ∷ []
+opened_in ws links from to numbered = opened_at 0 ws links from to (length links) numbered (omega arith)
 
--- THE SAME OF STREAMS THAT ARE SEEN SO
+-- THE SAME OF THE LIST OF STREAMS
 
 pub looked : (lent links : List StreamLink) (n : ℕ) (found o : Option StreamLink) → lent ≡ links → found ≡ slice_get lent n → found ≡ o → slice_get links n ≡ o
 looked lent links n found o same is found_is = ap (λ l. slice_get l n) (sym same) ∙ sym is ∙ found_is

@@ -1,4 +1,4 @@
--- What happens to one stream, told of its link and of what waits.
+-- Changes of one stream, by its link and its queued frames.
 use Rattle.std.proofs.Common.{◌≡◌, ◌≢◌, ◌≤◌, ℕ, ◌==◌, ◌&&◌, ◌||◌, nat_lt, Bool, true, false, cond, List, [], ◌∷◌, ◌++◌, length, get_or, slice_get, Some, None, refl, sym, ◌∙◌, ap, arith, append_assoc, append-nil}
 use Rattle.std.specs.List.{remove, position, position_or_len}
 use Rattle.std.proofs.lemmas.List.Sums.{fails_before_first}
@@ -102,7 +102,7 @@ cut_way n ws ws' link =
     ap (λ forth. sided link forth (side_in true (frames_of n Back ws') (ending_end link.back))) (side_ending link.ended (frames_of n Forth ws) (frames_of n Forth ws') link.forth)
     ∙ ap (sided link (ended_side (side_in link.ended (frames_of n Forth ws) link.forth))) (side_ending link.ended (frames_of n Back ws) (frames_of n Back ws') link.back)
 
--- WHAT IS TAKEN
+-- RECEIVING
 
 or_false : (b : Bool) → (b || false) ≡ b
 or_false true = refl
@@ -166,7 +166,7 @@ pub none_way : (n : ℕ) (ws : List QueuedFrame) (link : StreamLink) (d : Direct
 none_way n ws link Forth marked is = ap (λ (side : Side). record (stream_in n ws link) { forth = side }) (none_taken link.ended link.forth.taken link.forth.ending (frames_of n Forth ws) marked is)
 none_way n ws link Back marked is = ap (λ (side : Side). record (stream_in n ws link) { back = side }) (none_taken link.ended link.back.taken link.back.ending (frames_of n Back ws) marked is)
 
--- WHAT WAITS FIRST
+-- FRONTS
 
 front_in : (n : ℕ) (ws : List QueuedFrame) (link : StreamLink) (d : Direction) → front_of d (Some (stream_in n ws link)) ≡ slice_get (side_in link.ended (frames_of n d ws) (end_of d link)).queue 0
 front_in n ws link Forth = refl
@@ -204,7 +204,7 @@ front_frame n ws link d k w is old first = front_frames n ws link d is old ∙ a
 pub front_none : (n : ℕ) (ws : List QueuedFrame) (link : StreamLink) (d : Direction) → link.ended ≡ false → (end_of d link).taken ≡ true → frames_of n d ws ≡ [] → front_of d (Some (stream_in n ws link)) ≡ None
 front_none n ws link d is old none = front_frames n ws link d is old ∙ ap (λ frames. slice_get frames 0) none
 
--- THE PLACE THAT A SEARCH FINDS
+-- THE INDEX THAT A SEARCH FINDS
 
 pub found_first : (n : ℕ) (d : Direction) (ws lent : List QueuedFrame) (k : ℕ) (w : QueuedFrame) → lent ≡ ws → Some k ≡ position (is_in n d) lent → w ≡ get_or lent k w → IsFirst n d ws k w
 found_first n d ws lent k w same is at =

@@ -1,4 +1,4 @@
--- What is read of a stream: its ends, whether it has not ended, and what waits first.
+-- Views of a stream: its ends, whether it is open, and the front of each direction.
 use Rattle.std.specs.Prelude.{not, Bool, false, slice_get, Option, Some, None}
 use Rattle.stream_queues.specs.declared.direction.Direction.{Direction}
 use Rattle.stream_queues.specs.declared.front.QueueFront.{QueueFront}
@@ -20,7 +20,7 @@ view_front front.Opening = Opening
 view_front (front.Frame bytes) = Queued bytes.now
 view_front front.Ending = Ending
 
--- what waits first in a direction of a stream
+-- the front of a direction of a stream
 abbrev pub front_of : Direction → Option Stream → Option QueueItem
 front_of direction None = None
 front_of direction (Some s) = slice_get (side_of direction s).queue 0

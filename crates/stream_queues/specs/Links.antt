@@ -1,4 +1,4 @@
--- Changes of a link.
+-- Changes of a link: a stream without its frames.
 use Rattle.std.specs.Prelude.{ℕ, not, Bool, true, false}
 use Rattle.stream_queues.specs.declared.direction.Direction.{Direction}
 use Rattle.stream_queues.specs.declared.direction.Direction.TheVariants.{Forth, Back}
@@ -19,7 +19,7 @@ abbrev pub with_end : Direction → StreamLink → StreamEnd → StreamLink
 with_end Forth link end = record link { forth = end }
 with_end Back link end = record link { back = end }
 
--- the mark that the stream is cut waits for an end that has taken the one that it opens
+-- the mark that the stream was cut waits for an end that has received the mark that it has opened
 abbrev pub ending_end : StreamEnd → StreamEnd
 ending_end end = record { taken = end.taken; ending = end.taken }
 
@@ -33,12 +33,12 @@ abbrev pub closed_link : StreamLink → Direction → StreamLink
 closed_link link Forth = record link { ended = true; forth = ending_end link.forth; back = quiet_end link.back }
 closed_link link Back = record link { ended = true; forth = quiet_end link.forth; back = ending_end link.back }
 
--- the first that waits was taken: the mark that the stream is cut, or the one that it opens
+-- the end received the mark that waited: that the stream was cut, or that it has opened
 abbrev pub end_after : Bool → StreamEnd → StreamEnd
 end_after true end = quiet_end end
 end_after false end = record { taken = true; ending = end.ending }
 
--- what waits first, if something does, is a mark
+-- the front, if there is one, is a mark
 abbrev pub is_marked : Bool → Bool → Bool
 is_marked true taken = true
 is_marked false taken = not taken

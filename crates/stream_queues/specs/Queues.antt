@@ -1,4 +1,4 @@
--- Streams in memory: their ends in one list, and in another the frames that wait, whatever their streams.
+-- Streams in memory: one list of their ends, and one list of the queued frames of all streams.
 use Rattle.std.specs.Prelude.{◌≡◌, ◌<◌, ◌≤◌, ℕ, suc, ◌==◌, ◌&&◌, not, Bool, true, false, if◌then◌else◌, List, [], ◌∷◌, ◌++◌, length, slice_get, Option, Some, None}
 use Rattle.std.specs.List.{AllByRecursion}
 use Rattle.cip_events.specs.declared.event.Frame.{Frame}
@@ -9,7 +9,7 @@ use Rattle.stream_queues.specs.declared.links.StreamLink.{StreamLink}
 use Rattle.stream_queues.specs.declared.waiting.QueuedFrame.{QueuedFrame}
 use Rattle.stream_queues.specs.Streams.{QueueItem, Opening, Queued, Ending, Side, Stream}
 
--- the streams, and for how many more frames there is room
+-- the streams, and the number of frames that can be queued without memory
 pub record Queues : Type 0 where
   pub streams : List Stream
   pub space : ℕ
@@ -35,7 +35,7 @@ abbrev pub opening_of : Bool → List QueueItem
 opening_of true = []
 opening_of false = Opening ∷ []
 
--- a direction of a stream that has ended, or has not
+-- a direction of a stream, which has ended or has not
 abbrev pub side_in : Bool → List QueueItem → StreamEnd → Side
 side_in true frames end = record { taken = end.taken; queue = if end.ending then Ending ∷ [] else [] }
 side_in false frames end = record { taken = end.taken; queue = opening_of end.taken ++ frames }
@@ -55,9 +55,9 @@ streams_in n waiting [] = []
 streams_in n waiting (link ∷ links) = stream_in n waiting link ∷ streams_in (suc n) waiting links
 
 -- each frame waits on one of so many streams
-unfoldable pub AreKnown : ℕ → List QueuedFrame → Type 0
-AreKnown count [] = Unit {0}
-AreKnown count (first ∷ waiting) = (first.stream < count) × AreKnown count waiting
+unfoldable pub AreNumbered : ℕ → List QueuedFrame → Type 0
+AreNumbered count [] = Unit {0}
+AreNumbered count (first ∷ waiting) = (first.stream < count) × AreNumbered count waiting
 
 -- there is such a stream, and it has not ended
 abbrev pub is_living : Option StreamLink → Bool

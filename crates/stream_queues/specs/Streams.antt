@@ -1,4 +1,4 @@
--- Streams between the devices of a segment: what waits on them, and what a device's answer does to them.
+-- Streams between the devices of a simulated network: their queues, and what a device's answer does to them.
 use Rattle.std.specs.Prelude.{ℕ, ◌==◌, ◌||◌, Bool, true, false, if◌then◌else◌, List, [], ◌∷◌, ◌++◌, set, slice_get, Option, Some, None}
 use Rattle.cip_events.specs.declared.event.Answer.{Answer}
 use Rattle.cip_events.specs.declared.event.Frame.{Frame}
@@ -9,19 +9,19 @@ use Rattle.cip_events.specs.declared.event.Notice.TheVariants.{Opened, Closed, E
 use Rattle.stream_queues.specs.declared.direction.Direction.{Direction}
 use Rattle.stream_queues.specs.declared.direction.Direction.TheVariants.{Forth, Back}
 
--- what waits in one direction of a stream: the mark that it opens, a frame, or the mark that it is cut
+-- an item in the queue of one direction: the mark that the stream has opened, a frame, or the mark that it was cut
 pub data QueueItem : Type 0 where
   Opening : QueueItem
   Queued : List ℕ → QueueItem
   Ending : QueueItem
 
--- one direction: whether its end has taken the mark that the stream opens, and what waits for that end, in order
+-- one direction: whether its end has received the mark that the stream has opened, and the queue for that end, in order
 pub record Side : Type 0 where
   pub taken : Bool
   pub queue : List QueueItem
 
--- A stream from one device to another, both told by their places. `forth` runs to the device that accepted it,
--- `back` to the one that opened it.
+-- A stream from one device to another, both given by their indices. `forth` goes to the device that accepted it, `back` to
+-- the one that opened it.
 pub record Stream : Type 0 where
   pub from : ℕ
   pub to : ℕ
@@ -39,7 +39,7 @@ abbrev pub with_side : Direction → Stream → Side → Stream
 with_side Forth s side = record s { forth = side }
 with_side Back s side = record s { back = side }
 
--- the device that takes what runs in a direction, and the one that sends it
+-- the device that receives in a direction, and the one that sends
 abbrev pub receiver : Direction → Stream → ℕ
 receiver Forth s = s.to
 receiver Back s = s.from
@@ -48,8 +48,7 @@ abbrev pub sender : Direction → Stream → ℕ
 sender Forth s = s.from
 sender Back s = s.to
 
--- The direction in which a device sends over a stream: none where the stream has ended, or where it is no stream
--- of the device.
+-- The direction in which a device sends over a stream: none if the stream has ended, or is no stream of the device.
 abbrev pub way_between : ℕ → Bool → ℕ → ℕ → Option Direction
 way_between device ended from to = if ended then None else if from == device then Some Forth else if to == device then Some Back else None
 
@@ -58,7 +57,7 @@ way_from device s = way_between device s.ended s.from s.to
 
 -- ONE STREAM AMONG ALL
 
--- the stream of this number, if there is one, is changed so
+-- the streams after a change of the stream of this number, if there is one
 abbrev pub changed : (Stream → Stream) → List Stream → ℕ → Option Stream → List Stream
 changed change streams n None = streams
 changed change streams n (Some s) = set streams n (change s)
@@ -75,7 +74,7 @@ abbrev pub sent_so : List ℕ → Stream → Option Direction → Stream
 sent_so bytes s None = s
 sent_so bytes s (Some direction) = with_side direction s (queued (Queued bytes) (side_of direction s))
 
--- a frame of the device waits for the other end; what cannot be sent is lost
+-- a frame of the device waits for the other end; a frame that cannot be sent is lost
 abbrev pub sent_over : ℕ → List ℕ → Stream → Stream
 sent_over device bytes s = sent_so bytes s (way_from device s)
 
@@ -88,20 +87,20 @@ unfoldable pub frames_sent : ℕ → List Stream → List Frame → List Stream
 frames_sent device streams [] = streams
 frames_sent device streams (frame ∷ frames) = frames_sent device (frame_sent device streams frame.bytes frame.to) frames
 
--- HOW A STREAM ENDS
+-- STREAMS THAT END
 
 abbrev pub emptied : Side → Side
 emptied side = record side { queue = [] }
 
--- nothing waits but the mark that the stream is cut, for an end that has taken the one that it opens
+-- only the mark that the stream was cut waits, if the end has received the mark that it has opened
 abbrev pub ended_side : Side → Side
 ended_side side = record side { queue = if side.taken then Ending ∷ [] else [] }
 
--- both ends are to learn that the stream is cut
+-- the stream is cut: the mark waits for both ends
 abbrev pub cut_stream : Stream → Stream
 cut_stream s = record s { ended = true; forth = ended_side s.forth; back = ended_side s.back }
 
--- one end ends the stream, so that the other alone is to learn it
+-- one end closes the stream: the mark waits for the other end alone
 abbrev pub closed_so : Stream → Option Direction → Stream
 closed_so s None = s
 closed_so s (Some Forth) = record s { ended = true; forth = ended_side s.forth; back = emptied s.back }
@@ -110,7 +109,7 @@ closed_so s (Some Back) = record s { ended = true; forth = emptied s.forth; back
 abbrev pub closed_by : ℕ → Stream → Stream
 closed_by device s = closed_so s (way_from device s)
 
--- of what a device tells, the end of a stream alone changes streams
+-- of the notices, only the close of a stream changes streams
 abbrev pub notice_applied : ℕ → List Stream → Notice → List Stream
 notice_applied device streams (StreamClosed n) = with_stream (closed_by device) n streams
 notice_applied device streams (Opened triad id) = streams
@@ -126,18 +125,18 @@ unfoldable pub notices_applied : ℕ → List Stream → List Notice → List St
 notices_applied device streams [] = streams
 notices_applied device streams (notice ∷ notices) = notices_applied device (notice_applied device streams notice) notices
 
--- the streams after a device's answer: first its frames are sent, then what it tells ends streams
+-- the streams after a device's answer: first its frames are sent, then its notices close streams
 abbrev pub answered : ℕ → Answer → List Stream → List Stream
 answered device answer streams = notices_applied device (frames_sent device streams answer.frames) answer.notices
 
--- WHAT IS TAKEN
+-- RECEIVING
 
 abbrev pub is_opening : QueueItem → Bool
 is_opening Opening = true
 is_opening (Queued bytes) = false
 is_opening Ending = false
 
--- the first that waits is taken
+-- the end receives the front of its queue
 abbrev pub without_first : Side → List QueueItem → Side
 without_first side [] = side
 without_first side (item ∷ rest) = record side { taken = side.taken || is_opening item; queue = rest }
@@ -145,7 +144,7 @@ without_first side (item ∷ rest) = record side { taken = side.taken || is_open
 abbrev pub taken_from : Direction → Stream → Stream
 taken_from direction s = with_side direction s (without_first (side_of direction s) (side_of direction s).queue)
 
--- A STREAM THAT IS OPENED
+-- NEW STREAMS
 
 abbrev pub fresh_side : Side
 fresh_side = record { taken = false; queue = Opening ∷ [] }

@@ -1,17 +1,16 @@
-//! Buffers that are kept for frames to come.
+//! Spare buffers for frames that a device may send.
 
 ghost use Rattle.std.specs.Prelude.{◌≡◌, ◌≤◌, ◌<◌, ◌+◌, length, OnOk};
 
+use cip_types::limits::LONGEST_MESSAGE;
 use cip_types::{Items, OutOfMemory};
 use std::alloc::Global;
 use std::marker::Model;
 
-/// How many frames an answer has at most, and how many bytes a frame.
+/// The most frames of an answer.
 pub const MOST_FRAMES: usize = 64;
 
-pub const LONGEST_FRAME: usize = 2_048;
-
-/// Buffers that are kept, which contracts see as their number. Each has room for a frame.
+/// Spare buffers. Contracts see them as their number. Each has the capacity for the longest frame.
 #[derive(Drop)]
 pub struct Buffers {
     alloc: Global,
@@ -30,7 +29,7 @@ impl Model for Buffers {
 }
 
 impl Buffers {
-    /// No buffers. Takes no memory.
+    /// Makes an empty store of buffers. Takes no memory.
     pub fn new(alloc: Global) -> Buffers
         ensures { result ≡ 0 }
     {
@@ -40,19 +39,20 @@ impl Buffers {
         }
     }
 
-    /// Keeps as many buffers as an answer can need.
+    /// Adds buffers until there are as many as an answer can need. `OutOfMemory` is the only error; buffers that were
+    /// added stay.
     pub fn refill(&mut self) -> Result<(), OutOfMemory>
         ensures kept { OnOk result (64 ≤ self.new) }
         ensures more { self.old ≤ self.new }
     {
         while self.spares.len() < MOST_FRAMES {
-            let spare = Vec::with_capacity(self.alloc, LONGEST_FRAME)?;
+            let spare = Vec::with_capacity(self.alloc, LONGEST_MESSAGE)?;
             self.spares.push(spare)?;
         }
         Ok(())
     }
 
-    /// A buffer with these bytes. Takes no memory.
+    /// Takes one buffer and fills it with these bytes. Takes no memory.
     pub fn filled(&mut self, bytes: &[u8]) -> Items<u8>
         requires kept { 0 < self.old }
         requires size { length bytes.now ≤ 2048 }
@@ -60,6 +60,7 @@ impl Buffers {
         ensures left { self.new + 1 ≡ self.old }
     {
         let mut spare = self.spares.take_last();
+        // The buffer has the capacity for 2,048 bytes, so this never fails.
         let Ok(()) = spare.extend_from_slice(bytes) else {
             unreachable!()
         };

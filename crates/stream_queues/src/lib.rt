@@ -1,4 +1,4 @@
-//! Streams between the devices of a segment: frames wait on them, in order, until their end takes them.
+//! Streams between simulated devices. Each direction of a stream queues frames until its end receives them, in order.
 #![tactic(auto)]
 
 mod buffers;

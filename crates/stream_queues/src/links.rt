@@ -1,4 +1,4 @@
-//! The ends of streams.
+//! Streams without their frames: the devices at both ends, and the marks that wait for them.
 
 ghost use Rattle.std.specs.Prelude.{◌≡◌, ◌<◌, length, set, slice_get};
 ghost use Rattle.stream_queues.specs.Links.{closed_link, cut_link, end_after, end_of, ending_end, fresh_link, is_marked, quiet_end, with_end};
@@ -6,26 +6,32 @@ ghost use Rattle.stream_queues.specs.Streams.{way_between};
 
 use crate::direction::Direction;
 
-/// What is known of a direction's end: whether it has taken the mark that the stream opens, and whether the mark
-/// that the stream is cut waits for it.
+/// The receiving end of one direction.
 #[derive(Clone, Copy)]
 pub struct StreamEnd {
+    /// Whether the end has received the mark that the stream has opened.
     pub taken: bool,
+    /// Whether the mark that the stream was cut waits for the end.
     pub ending: bool,
 }
 
-/// A stream between two devices, told by their places.
+/// A stream between two devices.
 #[derive(Clone, Copy)]
 pub struct StreamLink {
+    /// The index of the device that opened the stream.
     pub from: u32,
+    /// The index of the device that accepted it.
     pub to: u32,
+    /// Whether the stream was cut or closed.
     pub ended: bool,
+    /// The end of the device that accepted the stream.
     pub forth: StreamEnd,
+    /// The end of the device that opened it.
     pub back: StreamEnd,
 }
 
 impl StreamEnd {
-    /// It is to learn that the stream is cut, if it has taken the mark that the stream opens.
+    /// Queues the mark that the stream was cut, if the end has received the mark that it has opened.
     pub fn ending(self) -> StreamEnd
         ensures { result ≡ ending_end self }
     {
@@ -35,7 +41,7 @@ impl StreamEnd {
         }
     }
 
-    /// It is to learn nothing.
+    /// Queues nothing.
     pub fn quiet(self) -> StreamEnd
         ensures { result ≡ quiet_end self }
     {
@@ -45,7 +51,7 @@ impl StreamEnd {
         }
     }
 
-    /// It took the mark that waits for it: that the stream is cut, or that it opens.
+    /// Receives the mark that waits: that the stream was cut if it has ended, else that it has opened.
     pub fn after(self, ended: bool) -> StreamEnd
         ensures { result ≡ end_after ended self }
     {
@@ -60,13 +66,14 @@ impl StreamEnd {
     }
 }
 
-/// The devices at the ends of a stream, told by their places, and whether the stream has ended.
+/// The two ends of a stream.
 #[derive(Clone, Copy, PartialEq, Eq)]
 pub struct Endpoints {
-    /// The device that opened the stream.
+    /// The index of the device that opened the stream.
     pub from: u32,
-    /// The device that accepted it.
+    /// The index of the device that accepted it.
     pub to: u32,
+    /// Whether the stream was cut or closed.
     pub ended: bool,
 }
 
@@ -76,7 +83,7 @@ const FRESH: StreamEnd = StreamEnd {
 };
 
 impl StreamLink {
-    /// A stream on which nothing waits but the marks that it opens.
+    /// Makes a stream on which only the mark that it has opened waits, for both ends.
     pub fn new(from: u32, to: u32) -> StreamLink
         ensures { result ≡ fresh_link from to }
     {
@@ -89,7 +96,7 @@ impl StreamLink {
         }
     }
 
-    /// The direction in which a device sends.
+    /// Returns the direction in which a device sends: none if the stream has ended, or is no stream of the device.
     pub fn way_from(&self, device: u32) -> Option<Direction>
         ensures { result ≡ way_between device self.now.ended self.now.from self.now.to }
     {
@@ -105,7 +112,7 @@ impl StreamLink {
         None
     }
 
-    /// The stream when it is cut: each end that has taken the mark that it opens is to learn it.
+    /// Cuts the stream: the mark waits for each end that has received the mark that the stream has opened.
     pub fn cut(self) -> StreamLink
         ensures { result ≡ cut_link self }
     {
@@ -117,8 +124,8 @@ impl StreamLink {
         }
     }
 
-    /// The stream when it is closed: the end of this direction is to learn it, if it has taken the mark that the
-    /// stream opens.
+    /// Closes the stream by the device that sends in this direction: the mark waits for the other end alone, if that
+    /// has received the mark that the stream has opened.
     pub fn closed(self, direction: Direction) -> StreamLink
         ensures { result ≡ closed_link self direction }
     {
@@ -138,7 +145,7 @@ impl StreamLink {
         }
     }
 
-    /// The end of a direction.
+    /// Returns the receiving end of a direction.
     pub fn end(&self, direction: Direction) -> StreamEnd
         ensures { result ≡ end_of direction self.now }
     {
@@ -148,14 +155,14 @@ impl StreamLink {
         }
     }
 
-    /// Whether what waits first in a direction, if something does, is a mark.
+    /// Returns whether the front of a direction, if there is one, is a mark.
     pub fn is_marked(&self, direction: Direction) -> bool
         ensures { result ≡ is_marked self.now.ended (end_of direction self.now).taken }
     {
         self.ended || !self.end(direction).taken
     }
 
-    /// The stream when the mark was taken that waits first in a direction.
+    /// Receives the mark at the front of a direction.
     pub fn after(self, direction: Direction) -> StreamLink
         ensures { result ≡ with_end direction self (end_after self.ended (end_of direction self)) }
     {
@@ -172,14 +179,14 @@ impl StreamLink {
     }
 }
 
-/// The link of this number.
+/// Returns the link of this number, if there is one.
 pub fn link_at(links: &[StreamLink], number: u16) -> Option<StreamLink>
     ensures { result ≡ slice_get links.now number }
 {
     links.get(usize::from(number)).copied()
 }
 
-/// Puts another link in the place of the one of this number. Takes no memory.
+/// Replaces the link of this number. Takes no memory.
 pub fn put_link(links: &mut Vec<StreamLink>, number: u16, link: StreamLink)
     requires { number < length links.old.items }
     ensures { links.new.items ≡ set links.old.items number link }

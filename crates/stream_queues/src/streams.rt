@@ -1,4 +1,4 @@
-//! Streams, and what waits on them.
+//! All streams between the devices, with their queues.
 
 ghost use Rattle.std.specs.Prelude.{◌≡◌, ◌≤◌, ◌<◌, ◌+◌, ◌∷◌, [], ◌++◌, true, false, length, slice_get, OnOk, OnErr};
 ghost use Rattle.std.specs.Option.{option_map};
@@ -16,8 +16,8 @@ use cip_types::OutOfMemory;
 use std::alloc::Global;
 use std::marker::Model;
 
-/// Streams between devices, numbered from 0 in the order in which they were opened, which contracts see as their
-/// list, with the number of frames for which there is room.
+/// The streams between devices, numbered from 0 in the order in which they were opened. Contracts see them as their
+/// list, with the number of frames that can be queued without memory (`space`).
 #[derive(Drop)]
 pub struct Streams {
     links: Vec<StreamLink>,
@@ -38,7 +38,7 @@ impl Model for Streams {
 }
 
 impl Streams {
-    /// No streams. Takes no memory.
+    /// Makes an empty list of streams. Takes no memory.
     #[tactic(auto, unfolding(crate::specs::Queues::streams_in, crate::specs::Queues::AreLive))]
     pub fn new(alloc: Global) -> Streams
         ensures { result.streams ≡ [] }
@@ -50,14 +50,14 @@ impl Streams {
         }
     }
 
-    /// How many streams were opened.
+    /// Returns how many streams were opened, ended ones among them.
     pub fn len(&self) -> usize
         ensures { result ≡ length self.now.streams }
     {
         self.links.len()
     }
 
-    /// The ends of the stream of this number.
+    /// Returns the ends of the stream of this number, if there is one.
     pub fn endpoints(&self, number: u16) -> Option<Endpoints>
         ensures { result ≡ option_map endpoints_of (slice_get self.now.streams number) }
     {
@@ -71,7 +71,8 @@ impl Streams {
         })
     }
 
-    /// Makes room for the frames of an answer. After want of memory the streams are as they were.
+    /// Reserves memory for the frames of any answer: 64 frames of 2,048 bytes. `OutOfMemory` is the only error, and
+    /// leaves the streams as they were.
     pub fn reserve_answer(&mut self) -> Result<(), OutOfMemory>
         ensures streams { self.new.streams ≡ self.old.streams }
         ensures space { OnOk result (64 ≤ self.new.space) }
@@ -80,8 +81,8 @@ impl Streams {
         self.buffers.refill()
     }
 
-    /// Opens a stream from a device to another, on which the marks that it opens wait for both. After want of
-    /// memory the streams are as they were.
+    /// Opens a stream from one device to another. The mark that it has opened waits for both ends. `OutOfMemory` is
+    /// the only error, and leaves the streams as they were.
     pub fn open(&mut self, from: u32, to: u32) -> Result<(), OutOfMemory>
         ensures opened { OnOk result (self.new.streams ≡ self.old.streams ++ fresh_stream from to ∷ []) }
         ensures kept { OnErr result (self.new.streams ≡ self.old.streams) }
@@ -90,7 +91,8 @@ impl Streams {
         Ok(())
     }
 
-    /// Queues a frame that a device sends over a stream.
+    /// Queues a frame that a device sends over a stream. A frame over a stream that has ended, or is none of the
+    /// device, is lost.
     fn send_over(&mut self, device: u32, number: u16, bytes: &[u8])
         requires space { 0 < self.old.space }
         requires size { length bytes.now ≤ 2048 }
@@ -123,8 +125,8 @@ impl Streams {
         }
     }
 
-    /// Queues the frames of a device's answer, for which there is room, and which have at most 2,048 bytes each.
-    /// Takes no memory.
+    /// Queues the frames of a device's answer. Takes no memory: the space must be reserved, and each frame has at most
+    /// 2,048 bytes.
     pub fn send_frames(&mut self, device: u32, frames: &[Frame])
         requires space { length frames.now ≤ self.old.space }
         requires size { AreShort frames.now }
@@ -135,7 +137,7 @@ impl Streams {
         }
     }
 
-    /// Ends a stream that is one of a device's.
+    /// Closes a stream by the device at one of its ends. The frames that wait on it are lost.
     fn close_by(&mut self, device: u32, number: u16)
         ensures { self.new.streams ≡ with_stream (closed_by device) number self.old.streams }
     {
@@ -157,7 +159,7 @@ impl Streams {
         }
     }
 
-    /// Ends the streams of which a device's answer tells that they end. Takes no memory.
+    /// Closes each stream that a notice of a device's answer reports closed. Takes no memory.
     pub fn apply_notices(&mut self, device: u32, notices: &[Notice])
         ensures { self.new.streams ≡ notices_applied device self.old.streams notices.now }
     {
@@ -166,8 +168,10 @@ impl Streams {
         }
     }
 
-    /// Cuts the stream of this number, so that both ends are to learn it, and tells whether there is one that had not
-    /// ended: else nothing changes. Takes no memory.
+    /// Cuts the stream of this number: the frames that wait on it are lost, and the mark waits for both ends. Takes no
+    /// memory.
+    ///
+    /// Returns whether there was such a stream that had not ended; otherwise nothing changes.
     pub fn cut(&mut self, number: u16) -> bool
         ensures open { result ≡ is_open (slice_get self.old.streams number) }
         ensures cut { result ≡ true → self.new.streams ≡ with_stream cut_stream number self.old.streams }
@@ -184,7 +188,7 @@ impl Streams {
         true
     }
 
-    /// What waits first in a direction of the stream of this number.
+    /// Returns the front of a direction of the stream of this number, if anything waits there.
     pub fn front(&self, number: u16, direction: Direction) -> Option<QueueFront<'_>>
         ensures { option_map view_front result ≡ front_of direction (slice_get self.now.streams number) }
     {
@@ -202,13 +206,13 @@ impl Streams {
         if !end.taken {
             return Some(QueueFront::Opening);
         }
-        let Some(place) = first(&self.waiting, number, direction) else {
+        let Some(index) = first(&self.waiting, number, direction) else {
             return None;
         };
-        Some(QueueFront::Frame(self.waiting[place].bytes.as_slice()))
+        Some(QueueFront::Frame(self.waiting[index].bytes.as_slice()))
     }
 
-    /// Takes what waits first in a direction, if something waits. Takes no memory.
+    /// Removes the front of a direction of the stream of this number, if anything waits there. Takes no memory.
     pub fn take_front(&mut self, number: u16, direction: Direction)
         ensures streams { self.new.streams ≡ with_stream (taken_from direction) number self.old.streams }
         ensures space { self.old.space ≤ self.new.space }

@@ -1,4 +1,4 @@
-//! Frames that wait.
+//! Queued frames.
 
 ghost use Rattle.std.specs.Prelude.{◌≡◌, filter};
 ghost use Rattle.std.specs.List.{position};
@@ -7,11 +7,14 @@ ghost use Rattle.stream_queues.specs.Queues.{is_same, is_in, is_elsewhere};
 use crate::direction::Direction;
 use cip_types::Items;
 
-/// A frame that waits in a direction of the stream of this number.
+/// A queued frame.
 #[derive(Drop)]
 pub struct QueuedFrame {
+    /// The number of the stream.
     pub stream: u16,
+    /// The direction in which the frame goes.
     pub direction: Direction,
+    /// The bytes of the frame.
     pub bytes: Items<u8>,
 }
 
@@ -32,7 +35,7 @@ fn is_in(waiting: &QueuedFrame, number: u16, direction: Direction) -> bool
     waiting.stream == number && is_same(waiting.direction, direction)
 }
 
-/// The place of the first frame that waits in a direction.
+/// Returns the index of the first frame that waits in a direction of a stream.
 pub fn first(waiting: &[QueuedFrame], number: u16, direction: Direction) -> Option<usize>
     ensures { result ≡ position (is_in number direction) waiting.now }
 {
@@ -41,7 +44,7 @@ pub fn first(waiting: &[QueuedFrame], number: u16, direction: Direction) -> Opti
         .position(|waiting| is_in(waiting, number, direction))
 }
 
-/// Drops the frames that wait on a stream. Takes no memory.
+/// Drops all frames that wait on a stream. Takes no memory.
 pub fn drop_frames(waiting: &mut Vec<QueuedFrame>, number: u16)
     ensures { waiting.new.items ≡ filter (is_elsewhere number) waiting.old.items }
 {

@@ -9,9 +9,9 @@ pub returns-in-Ok-clause-arrival : goal.returns-in-Ok-clause-arrival
 returns-in-Ok-clause-arrival g c =
     let mid : World = (record { nodes = c.self.inside.nodes.items; tables = c.self.inside.devices.items; sent = c.self.inside.log.sent; streams = c.self.inside.streams.streams }) in
     let at = stands c.self.inside.nodes.items c.self.inside.devices.items c.self.inside.log.sent c.self.inside.streams.streams c.args.self.now c.receiver_of-device.result c.in-Some-node_of.node c.self.view_is c.self.invariant (ap (λ l. slice_get l c.receiver_of-device.result) (sym c.deref.ensures.value) ∙ sym c.node_of.ensures ∙ c.in-Some-node_of.is) in
-    let peer : c.known_node-peer.result ≡ node_at mid c.sender_of.result = c.known_node-peer.ensures ∙ ap (λ (l : List Node). slice_index_or l c.sender_of.result (record { 0 = 0 })) c.deref-2.ensures.value in
+    let peer : c.node_or_zero-peer.result ≡ node_at mid c.sender_of.result = c.node_or_zero-peer.ensures ∙ ap (λ (l : List Node). slice_index_or l c.sender_of.result (record { 0 = 0 })) c.deref-2.ensures.value in
     record {
-      is = comes_over c.args.stream c.args.direction mid c.args.self.now c.in-Some.endpoints (view_front c.in-Some-front.front) c.receiver_of-device.result c.sender_of.result c.known_node-peer.result c.in-Ok.event c.self.view_is c.in-Some.ensures c.in-Some-front.ensures c.receiver_of-device.ensures c.sender_of.ensures peer c.in-Ok.ensures;
+      is = comes_over c.args.stream c.args.direction mid c.args.self.now c.in-Some.endpoints (view_front c.in-Some-front.front) c.receiver_of-device.result c.sender_of.result c.node_or_zero-peer.result c.in-Ok.event c.self.view_is c.in-Some.ensures c.in-Some-front.ensures c.receiver_of-device.ensures c.sender_of.ensures peer c.in-Ok.ensures;
       node = at.1;
     }
 

@@ -66,10 +66,10 @@ pub returns : goal.returns
 returns c =
     let link = c.in-Some.link in
     let w = c.index.result.now in
-    let first : IsFirst c.args.number c.args.direction c.self.inside.waiting.items c.in-Some-first.place w =
-    found_first c.args.number c.args.direction c.self.inside.waiting.items c.deref-2.result.now c.in-Some-first.place w c.deref-2.ensures.value (sym c.in-Some-first.is ∙ c.first.ensures) (rw c.deref-2.ensures.value c.index.ensures) in
+    let first : IsFirst c.args.number c.args.direction c.self.inside.waiting.items c.in-Some-first.index w =
+    found_first c.args.number c.args.direction c.self.inside.waiting.items c.deref-2.result.now c.in-Some-first.index w c.deref-2.ensures.value (sym c.in-Some-first.is ∙ c.first.ensures) (rw c.deref-2.ensures.value c.index.ensures) in
     ap (λ bytes. Some (Queued bytes)) c.as_slice.ensures
     ∙ seen_front c.args.direction c.self.inside.waiting.items c.self.inside.links.items c.args.number link c.args.self.now (Some (Queued w.bytes)) (looked _ _ _ _ (Some c.in-Some.link) c.deref.ensures.value c.link_at.ensures c.in-Some.is) (ap (λ (q : Queues). q.streams) c.self.view_is)
-    (front_frame c.args.number c.self.inside.waiting.items link c.args.direction c.in-Some-first.place w c.if-link.false
+    (front_frame c.args.number c.self.inside.waiting.items link c.args.direction c.in-Some-first.index w c.if-link.false
     (taken_so c.args.direction link c.end-end.result true c.end-end.ensures (not_false c.end-end.result.taken c.if-not-end.false))
     first)

@@ -2,7 +2,7 @@ use Rattle.std.proofs.Common.{◌≡◌, ◌++◌, ◌∷◌, [], ap, ◌∙◌}
 use Rattle.stream_queues.specs.Streams.{fresh_stream}
 use Rattle.stream_queues.specs.Links.{fresh_link}
 use Rattle.stream_queues.specs.Queues.{Queues, streams_in}
-use Rattle.stream_queues.proofs.Live.{live_more, live_known}
+use Rattle.stream_queues.proofs.Live.{live_more, live_numbered}
 use Rattle.stream_queues.proofs.Views.{opened_in}
 use Rattle.stream_queues.proofs.streams.Streams.open.Goals as goal
 
@@ -15,5 +15,5 @@ pub returns-clause-opened : goal.returns-clause-opened
 returns-clause-opened c =
     let items : c.push.new.self.items ≡ c.self.inside.links.items ++ fresh_link c.args.from c.args.to ∷ [] = c.in_ok-push.ensures.items ∙ ap (λ link. c.self.inside.links.items ++ link ∷ []) c.new.ensures in
     ap (streams_in 0 c.self.inside.waiting.items) items
-    ∙ opened_in c.self.inside.waiting.items c.self.inside.links.items c.args.from c.args.to (live_known c.self.inside.links.items c.self.inside.waiting.items c.self.invariant)
+    ∙ opened_in c.self.inside.waiting.items c.self.inside.links.items c.args.from c.args.to (live_numbered c.self.inside.links.items c.self.inside.waiting.items c.self.invariant)
     ∙ ap (λ (q : Queues). q.streams ++ fresh_stream c.args.from c.args.to ∷ []) c.self.view_is
