@@ -48,7 +48,7 @@ clock_kept = record {
 
 -- ---- an effect on each slot of which a test holds leaves none of which it holds
 
--- each place of which the test holds is among these, by its number
+-- each slot of which the test holds is among these, by its number
 abbrev Left : (SlotState → Bool) → List IndexedSlot → ScannerTable → Type 0
 Left test rest t = (indexed : IndexedSlot) → Stands t indexed → test indexed.slot.state ≡ true → list_any (is_numbered indexed.number) rest ≡ true
 
@@ -56,7 +56,7 @@ Left test rest t = (indexed : IndexedSlot) → Stands t indexed → test indexed
 abbrev pub NoneIs : (SlotState → Bool) → ScannerTable → Type 0
 NoneIs test t = (indexed : IndexedSlot) → Stands t indexed → test indexed.slot.state ≡ false
 
--- after the effect it does not hold of the place's slot, and other slots stay
+-- after the effect the test does not hold of the slot, and other slots stay
 record Clears (test : SlotState → Bool) (indexed : IndexedSlot) (t u : ScannerTable) : Type 0 where
   local : Local indexed.number t u
   clear : (slot : Slot) → slice_get u.slots indexed.number ≡ Some slot → test slot.state ≡ false
@@ -88,7 +88,7 @@ left_step false test indexed rest t u left clears other is stands holds =
       behind true not_so any = absurd cc
       behind false not_so any = any
 
--- an effect at a place that stands clears its slot
+-- an effect on a slot of the table clears it
 abbrev ClearsAt : (SlotState → Bool) → (IndexedSlot → Type 0) → (ScannerTable → IndexedSlot → Effect) → Type 0
 ClearsAt test Q effect = (t : ScannerTable) (indexed : IndexedSlot) → Stands t indexed → Q indexed → Clears test indexed t (effect t indexed).table
 
@@ -102,7 +102,7 @@ sweep test Q effect clears (indexed ∷ rest) t stand apart holds left =
     sweep test Q effect clears rest next (stand_on t next indexed.number rest first.local apart.0 stand.1) apart.1 holds.1
     (λ other stands is. left_step (indexed.number == other.number) test indexed rest t next left first other refl stands is)
 
--- ---- the places of which a test holds are all among those that are filtered
+-- ---- a filter selects all slots of which its test holds
 
 or_true : (b : Bool) → (b || true) ≡ true
 or_true true = refl
@@ -152,9 +152,9 @@ any_in_order q before (indexed ∷ rest) any =
 all_left : (test : SlotState → Bool) (t : ScannerTable) → Left test (filter (λ indexed. test indexed.slot.state) (indexed_slots t)) t
 all_left test t = λ indexed stands is. any_filter (λ p. test p.slot.state) (is_numbered indexed.number) indexed (indexed_slots t) (slot_stands t indexed stands) is
 
--- ---- connections that expired, and answers that did not come
+-- ---- expired connections, and late replies
 
--- the test that filters holds of the place
+-- the test of the filter holds of the slot
 abbrev Passes : (SlotState → Bool) → IndexedSlot → Type 0
 Passes test indexed = test indexed.slot.state ≡ true
 
@@ -207,7 +207,7 @@ none_overdue t =
 
 -- ---- none becomes late by what follows
 
--- from a time on, a test that holds not of a slot's state does not hold later
+-- from a time on, a test that does not hold of a slot's state does not hold later
 abbrev Clear : (SlotState → Bool) → Ms → Relation
 Clear test k t u number config was now = k.0 ≤ t.clock.0 → 1 ≤ t.profile.open_timeout → test was.state ≡ false → test now.state ≡ false
 
@@ -283,7 +283,7 @@ none_later k test t u goes from wait none = λ indexed stands.
 
 -- ---- a tick
 
--- what holds of the tables of a tick
+-- properties of the tables of a tick
 record Ticks (k : Ms) (u : ScannerTable) : Type 0 where
   clock : u.clock ≡ k
   wait : 1 ≤ u.profile.open_timeout

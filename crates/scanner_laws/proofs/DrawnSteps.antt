@@ -1,4 +1,4 @@
--- The numbers of openings are drawn when they begin, and stay.
+-- The numbers of an opening are allocated when it begins, and stay.
 use Rattle.std.proofs.Common.{◌≡◌, ◌≤◌, ◌⊎◌, inl, inr, ℕ, ◌+◌, Bool, true, false, cond, Option, Some, None, refl, sym, ◌∙◌, ap, subst, arith}
 use Rattle.cip_types.specs.declared.names.ConnId.{ConnId}
 use Rattle.cip_types.specs.declared.names.Ms.{Ms}
@@ -31,7 +31,7 @@ wants_later profile other f g n m false None same down up wants = absurd wants
 wants_later profile other f g n m false (Some id) same down up wants =
     record { counter = wants.counter; is = wants.is ∙ ap (λ (p : ScannerProfile). connection_id p wants.counter) (sym same); begins = omega (arith, wants.begins); ends = omega (arith, wants.ends) }
 
--- what a slot has that opens: the opening that it had before, or one that began since
+-- a slot that is opening has the opening that it had before, or one that began since
 abbrev Opens : Relation
 Opens t u number config was now = (opening : pending.PendingOpen) → now.state ≡ Opening opening → (was.state ≡ Opening opening) ⊎ Began t u config opening
 
@@ -70,7 +70,7 @@ not_opening (Established c) opening resting is = absurd cc
 not_opening (TimedOut link) opening resting is = absurd cc
 not_opening (Closing c) opening resting is = absurd cc
 
--- the same state, for what opens
+-- the same state, if it is opening
 written_opening : (state : SlotState) (opening : pending.PendingOpen) → written_state state ≡ Opening opening → state ≡ Opening opening
 written_opening Idle opening is = is
 written_opening (Opening o) opening is = is

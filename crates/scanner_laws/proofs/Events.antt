@@ -1,4 +1,4 @@
--- What each step does, events do.
+-- What each step does, each list of events does.
 use Rattle.std.proofs.Common.{◌≡◌, [], ◌∷◌, Result, Ok, Err, refl, subst}
 use Rattle.cip_events.specs.declared.event.StepFault.{StepFault}
 use Rattle.scanner_table.specs.declared.profile.ScannerProfile.{ScannerProfile}
@@ -33,7 +33,7 @@ events_keep P keep t [] holds = holds
 events_keep P keep t (event ∷ events) holds =
     events_keep P keep (left_by t (scanner_step t event)) events (left_keeps P t (scanner_step t event) holds (λ next is. keep t event next is holds))
 
--- what each step keeps, and holds of fresh scanners, is a law
+-- a property that each step keeps, and that holds of fresh scanners, is a law
 pub law_of : (P : ScannerTable → Type 0) → StepsKeep P → ((profile : ScannerProfile) → P (scanner_table profile)) → IsLaw P
 law_of P keep fresh = record {
   steps = keep;

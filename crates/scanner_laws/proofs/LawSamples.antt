@@ -1,4 +1,4 @@
--- What the definitions give at a small scanner's tables, worked out by hand.
+-- Samples of the definitions at a small scanner's tables, worked out by hand.
 use Rattle.std.proofs.Common.{◌≡◌, ◌⊎◌, inl, inr, ℕ, ◌+◌, true, false, List, [], ◌∷◌, Some, None, refl, ap, arith}
 use Rattle.cip_types.specs.declared.names.ConnId.{ConnId}
 use Rattle.cip_events.specs.declared.event.Event.TheVariants.{Request, Write, Tick, Start, Stop}
@@ -30,7 +30,7 @@ two_ticks : (table_after (table Idle) (Tick 1 ∷ Tick 60001 ∷ Tick 9 ∷ []))
 unfolding tick all_expired all_given_up ready_opened produced_table opened
 two_ticks = refl
 
--- ---- numbers that are drawn
+-- ---- allocated numbers
 
 sixth_is_drawn : IsDrawn profile 6 7 own_id
 sixth_is_drawn = record { counter = 6; is = refl; begins = omega arith; ends = omega arith }
@@ -126,7 +126,7 @@ last_outputs : last_output 0 open_table (Write 0 (two 5) ∷ Write 0 (two 6) ∷
 unfolding write
 last_outputs = refl
 
--- ---- what is accepted
+-- ---- accepted datagrams
 
 abbrev acceptance : ℕ → ℕ → Acceptance
 acceptance number count = record { datagram = record { number = number; count = count }; applied = true }

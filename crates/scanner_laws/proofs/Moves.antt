@@ -1,4 +1,4 @@
--- What each effect of an event does to one slot, and what an event does with them.
+-- The changes of one slot that the effects of an event make, and the events that make them.
 use Rattle.std.proofs.Common.{◌≡◌, ◌≢◌, ℕ, ◌+◌, Bool, true, false, cond, not, ◌&&◌, ◌==◌, nat_lt, List, [], ◌∷◌, filter, find, slice_get, Option, Some, None, Result, Ok, Err, IfOk, refl, sym, ◌∙◌}
 use Rattle.std.proofs.lemmas.Bool.{and_parts}
 use Rattle.cip_types.specs.Cases.{first_case}
@@ -53,7 +53,7 @@ use Rattle.scanner_table.specs.Ticks.{by_deadline, has_expired, expired_slots, e
 use Rattle.scanner_table.specs.Step.{scanner_step}
 use Rattle.scanner_laws.proofs.SlotLookups.{Stands, Each, EachTwo, Any, Apart, each_any, each_more, each_filter, two_filter, each_passes, each_in_order, two_in_order, each_found, each_stands, slots_apart, get_same, get_other}
 
--- ---- what may happen to one slot
+-- ---- changes of one slot
 
 -- the slot has no connection any more, or still none; its bytes stay
 pub record BecomesIdle (old new : Slot) : Type 0 where
@@ -88,7 +88,7 @@ Establishes R t =
 abbrev pub Writes : (ScannerTable → ScannerTable → Type 0) → ScannerTable → Type 0
 Writes R t = (indexed : IndexedSlot) (bytes : List ℕ) → Stands t indexed → R t (with_slot t indexed.number (output_slot bytes indexed.slot))
 
--- a datagram is accepted: its number is news, and its bytes stand in the image, or its count is the last one's
+-- a datagram is accepted: its number is newer, and the image is its data, or its count is that of the last one
 pub record IsAccepted (indexed : IndexedSlot) (d : DatagramFields) (c : Connection) (bytes : List ℕ) : Type 0 where
   pub established : indexed.slot.state ≡ Established c
   pub newer : accepts_sequence c.last d.sequence ≡ true
@@ -104,7 +104,7 @@ pub record KeptAlways (R : ScannerTable → ScannerTable → Type 0) : Type 0 wh
   pub writing : (t : ScannerTable) → Writes R t
   pub accepting : (t : ScannerTable) → Accepts R t
 
--- ---- effects on one place
+-- ---- effects on one slot
 
 -- only the slot of this number is another
 pub record Local (number : ℕ) (t u : ScannerTable) : Type 0 where
@@ -161,7 +161,7 @@ within_does : (R : ScannerTable → ScannerTable → Type 0) → Kept R → (t :
 within_does R kept t indexed None stands resting = does_nothing R kept t indexed
 within_does R kept t indexed (Some session) stands resting = open_step (can_open t indexed.config) R kept t indexed session stands resting
 
--- nothing is sent and nothing waited for
+-- the slot has no connection and waits for no reply
 abbrev pub IsResting : IndexedSlot → Type 0
 IsResting indexed = is_closed indexed.slot.state ≡ true
 
@@ -169,7 +169,7 @@ pub opened_does : (R : ScannerTable → ScannerTable → Type 0) → Kept R → 
 unfolding opened
 opened_does R kept t indexed stands resting = within_does R kept t indexed (session_with t indexed.config.target) stands resting
 
--- ---- effects on places, one after another
+-- ---- effects on slots, one after another
 
 abbrev pub DoesAt : (ScannerTable → ScannerTable → Type 0) → (IndexedSlot → Type 0) → (ScannerTable → IndexedSlot → Effect) → Type 0
 DoesAt R Q effect = (t : ScannerTable) (indexed : IndexedSlot) → Stands t indexed → Q indexed → Does R t indexed (effect t indexed)
@@ -253,7 +253,7 @@ advanced_leads R kept t =
 
 -- ---- answers
 
--- what is answered leads to a table that is so related
+-- an answer leads to a table that is so related
 abbrev pub Leads : (ScannerTable → ScannerTable → Type 0) → ScannerTable → Result Next StepFault → Type 0
 Leads R t said = IfOk said (λ next. R t next.1)
 

@@ -1,4 +1,4 @@
--- What a connection accepts comes after what it accepted before.
+-- A connection accepts only datagrams that are newer than the one that it accepted before.
 use Rattle.std.proofs.Common.{◌≡◌, ◌≢◌, ◌≤◌, ◌<◌, ℕ, zero, suc, ◌-◌, ◌^◌, Bool, true, false, cond, ◌&&◌, ◌==◌, nat_le, List, [], ◌∷◌, ◌++◌, find, slice_get, Option, Some, None, Result, Ok, Err, refl, sym, ◌∙◌, ap, subst, arith}
 use Rattle.std.proofs.lemmas.Bool.{and_parts}
 use Rattle.std.proofs.lemmas.Bool.Decides.{nat_tests}
@@ -127,9 +127,9 @@ slot_numbered next clock (suc k) (config ∷ configs) (first ∷ slots) slot fit
 pub whole_numbered : WholeTablesNumberOpenings
 whole_numbered t whole = λ number indexed is. slot_numbered t.next_request t.clock.0 indexed.number t.profile.slots t.slots indexed.slot whole.slots (slot_is t number indexed is).stands.slot
 
--- ---- what stays remembered
+-- ---- the last accepted datagram stays in the table
 
--- what a table knows of a slot's connection, and of openings to come
+-- the last accepted datagram of a slot's connection, and of openings to come
 record Knows (opening : ℕ) (last : Option Accepted) (next_request : ℕ) (state : SlotState) : Type 0 where
   numbered : StateIsNumbered next_request state
   unopened : next_request ≤ opening → last ≡ None
@@ -192,7 +192,7 @@ Knowing opening last t u = Goes (Stays (Remembers opening last)) t u
 known_widely : (opening : ℕ) (last : Option Accepted) → KeptWidely (Knowing opening last)
 known_widely opening last = goes_widely (Stays (Remembers opening last)) (remembers_widely opening last)
 
--- what is established has accepted nothing
+-- a new connection has accepted nothing
 known_established : (opening : ℕ) (last : Option Accepted) (t : ScannerTable) → OrEstablished (Knowing opening last) (Knowing opening last) t
 known_established opening last t = record {
   kept = known_widely opening last;
@@ -220,9 +220,9 @@ known_table number opening last t u all table goes = record {
   unopened = λ more. table.unopened (omega (arith, more, goes.later.requests));
 }
 
--- ---- what an accepted datagram is
+-- ---- accepted datagrams
 
--- it holds of a datagram whose number is news, and whose count is not the last one's where it is applied
+-- the relation holds of a datagram whose number is newer, and whose count differs from the last one if it is applied
 abbrev pub FitsNewer : (Option Accepted → Acceptance → Type 0) → Type 0
 FitsNewer R = (last : Option Accepted) (next : Acceptance) → accepts_sequence last next.datagram.number ≡ true → (next.applied ≡ true → is_duplicate last next.datagram.count ≡ false) → R last next
 
@@ -262,11 +262,11 @@ number_same a b is = grind (arith, nat_tests)
 number_differs : (a b : ℕ) → (a == b) ≡ false → a ≡ b → ⊥
 number_differs a b is same = absurd (grind (arith, nat_tests))
 
--- what is accepted comes after the last one, and is remembered
+-- an accepted datagram comes after the last one, and becomes the last one
 abbrev GoesOn : (Option Accepted → Acceptance → Type 0) → ℕ → ℕ → Option Accepted → List Acceptance → ScannerTable → Type 0
 GoesOn R number opening last more u = EachAfter R last more × TableRemembers number opening (last_accepted last more) u
 
--- the slot of the number remembers another one
+-- the slot of the number has another last one
 abbrev Renewed : ℕ → ℕ → Option Accepted → Option Accepted → Relation
 Renewed number opening last after t u k config was now = k ≡ number → StateRemembers opening last was.state → StateRemembers opening after now.state
 
@@ -281,7 +281,7 @@ renewed_table number opening last after t u table unopened goes = record {
   unopened = unopened;
 }
 
--- what stands before a datagram
+-- the table before a datagram
 record Before (number opening : ℕ) (last : Option Accepted) (t : ScannerTable) (indexed : IndexedSlot) (c : Connection) : Type 0 where
   stands : Stands t indexed
   established : indexed.slot.state ≡ Established c
@@ -304,7 +304,7 @@ own_goes number opening last t indexed d c bytes before same opened =
     renewed_table number opening last after t (accepted_table t indexed d c bytes) before.table (λ more. absurd (omega (arith, more, below, opened)))
     (apart_goes (Renewed number opening last after) t t indexed slot (λ k config was apart is. absurd (number_differs k indexed.number apart (is ∙ sym same))) (set_later t indexed.number slot) refl before.stands (λ is remembers other. refl))
 
--- what the connection had accepted last
+-- the datagram that the connection accepted last
 had_last : (number opening : ℕ) (last : Option Accepted) (t : ScannerTable) (indexed : IndexedSlot) (c : Connection) → Before number opening last t indexed c → indexed.number ≡ number → c.opening ≡ opening → c.last ≡ last
 had_last number opening last t indexed c before same opened =
     let at : slot_at t number ≡ Some indexed = subst (λ (n : ℕ). slot_at t n ≡ Some indexed) same (slot_stands t indexed before.stands) in
@@ -321,7 +321,7 @@ accepts_step true false R fits number opening last t indexed d c bytes applied n
 accepts_step false b R fits number opening last t indexed d c bytes applied numbered opened before newer fresh =
     (tt, other_goes number opening last t indexed d c bytes before (λ same from. number_differs indexed.number number numbered same))
 
--- what a datagram that is found does
+-- a datagram at the slot that the lookup found
 abbrev GoesBy : (Option Accepted → Acceptance → Type 0) → ℕ → ℕ → Option Accepted → Option IndexedSlot → DatagramFields → Next → Type 0
 GoesBy R number opening last found d next = GoesOn R number opening last (accepted_found number opening d next.0.verdict found) next.1
 
@@ -377,7 +377,7 @@ received_goes R fits number opening last t peer bytes all table = read_goes R fi
 
 -- ---- a step
 
--- what is answered accepts what comes after, and remembers it
+-- an answer accepts only later datagrams, and the next table has the last of them
 abbrev AnswerGoes : (Option Accepted → Acceptance → Type 0) → ℕ → ℕ → Option Accepted → ScannerTable → Event → Result Next StepFault → Type 0
 AnswerGoes R number opening last t event said = Leads (λ u v. GoesOn R number opening last (accepted_at number opening t event) v) t said
 
@@ -423,7 +423,7 @@ after_more : (R : Option Accepted → Acceptance → Type 0) (last : Option Acce
 after_more R last [] rest done more = more
 after_more R last (next ∷ first) rest done more = (done.0, after_more R (Some next.datagram) first rest done.1 more)
 
--- what a step leaves goes on
+-- the next table goes on
 record Left (R : Option Accepted → Acceptance → Type 0) (number opening : ℕ) (last : Option Accepted) (t : ScannerTable) (event : Event) (u : ScannerTable) : Type 0 where
   goes : GoesOn R number opening last (accepted_at number opening t event) u
   all : OpeningsAreNumbered u
@@ -440,7 +440,7 @@ events_go R fits number opening last t (event ∷ events) all table =
     let first = left_goes R fits number opening last t event (scanner_step t event) refl all table in
     after_more R last more (acceptances number opening next events) first.goes.0 (events_go R fits number opening (last_accepted last more) next events first.all first.goes.1)
 
--- a state remembers what it accepted last
+-- a state has the datagram that it accepted last
 state_knows : (opening : ℕ) (state : SlotState) → StateRemembers opening (state_last opening state) state
 state_knows opening Idle = tt
 state_knows opening (Opening o) = λ same. refl

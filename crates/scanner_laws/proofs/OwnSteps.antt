@@ -33,7 +33,7 @@ use Rattle.scanner_laws.proofs.Events.{steps_lead, law_of}
 use Rattle.scanner_laws.proofs.DrawnSteps.{events_begin}
 use Rattle.scanner_laws.proofs.Slotwise.{Later, set_later, counted_later, Relation, StaysSo, SlotwiseAlways, Goes, stays_goes, set_goes, moded_goes, produced_goes, goes_always, Property, Stays, was_of, of_each_slot}
 
--- ---- numbers are drawn
+-- ---- numbers are allocated
 
 abbrev Drawn : Property
 Drawn t number config slot = StateIsDrawn t.profile t.next_id t.next_request config.multicast slot.state
@@ -68,7 +68,7 @@ same_id a b is = let same : a.0 ≡ b.0 = grind (arith, nat_tests) in ap (λ (n 
 link_made : (profile : ScannerProfile) (n : ℕ) (multicast : Bool) (requested : Option ConnId) (id : ConnId) → is_requested_id requested id ≡ true → WantsDrawn profile 0 n multicast requested → cond multicast (Unit {0}) (IsDrawn profile 0 n id)
 link_made profile n true requested id is wants = tt
 link_made profile n false None id is wants = absurd wants
-link_made profile n false (Some asked) id is wants = subst (IsDrawn profile 0 n) (same_id asked id is) wants
+link_made profile n false (Some requested) id is wants = subst (IsDrawn profile 0 n) (same_id requested id is) wants
 
 link_is : (profile : ScannerProfile) (n : ℕ) (multicast : Bool) (link : Link) → cond multicast (Unit {0}) (IsDrawn profile 0 n link.t_o_id) → LinkIsDrawn profile n multicast link
 link_is profile n true link drawn = tt
@@ -150,7 +150,7 @@ own_ids t own = λ a b id apart first second. own a b id apart (slot_is t a.numb
 ids_own : (t : ScannerTable) → IdsAreOwn t → Own t
 ids_own t own = λ a b id apart first second. own a b id apart (slot_stands t a first) (slot_stands t b second)
 
--- a slot whose numbers are drawn has no id but the one that it had
+-- a slot that keeps its numbers has no id but the one that it had
 abbrev IdStays : Relation
 IdStays t u number config was now = Drawn t number config was → (id : ConnId) → slot_id config now.state ≡ Some id → slot_id config was.state ≡ Some id
 
@@ -183,7 +183,7 @@ owns_after t u v first next = record {
 
 -- ---- an opening has an id of its own
 
--- the place is another one than the place that opens, and stands as before
+-- the slot is another one than the slot that opens, and stays as it was
 others_stand : (t : ScannerTable) (indexed other : IndexedSlot) → other.number ≢ indexed.number → Stands (with_slot (counted (drawn t indexed.config)) indexed.number (opening_slot t indexed)) other → Stands t other
 others_stand t indexed other apart stands = record { config = stands.config; slot = sym (get_other indexed.number other.number t.slots (opening_slot t indexed) apart) ∙ stands.slot }
 
@@ -191,7 +191,7 @@ next_id_is : (t : ScannerTable) (multicast : Bool) (id : ConnId) → cond multic
 next_id_is t true id is = absurd cc
 next_id_is t false id is = sym (some_is (connection_id t.profile t.next_id) id is)
 
--- the id of the place that opens is the next one
+-- the id of the slot that opens is the next one
 opened_id : (t : ScannerTable) (indexed other : IndexedSlot) (id : ConnId) → Stands t indexed → other.number ≡ indexed.number → Stands (with_slot (counted (drawn t indexed.config)) indexed.number (opening_slot t indexed)) other → slot_id other.config other.slot.state ≡ Some id → id ≡ connection_id t.profile t.next_id
 opened_id t indexed other id there same stands is =
     let config : indexed.config ≡ other.config = some_is indexed.config other.config (sym there.config ∙ subst (λ (n : ℕ). slice_get t.profile.slots n ≡ Some other.config) same stands.config) in
@@ -238,7 +238,7 @@ opening_owns t indexed there all own a b id apart first second is other = step (
   step false false one two =
       own a b id apart (others_stand t indexed a (number_differs a.number indexed.number one) first) (others_stand t indexed b (number_differs b.number indexed.number two) second) is other
 
--- ---- what happens to the id of one slot
+-- ---- the id of one slot
 
 no_id : (multicast : Bool) (state : SlotState) (id : ConnId) → state ≡ Idle → cond multicast None (drawn_id state) ≡ Some id → ⊥
 no_id true state id idle is = absurd cc
@@ -277,9 +277,9 @@ moded_id false slot = refl
 success_id : (t : ScannerTable) (multicast : Bool) (requested : Option ConnId) (made_id id : ConnId) → is_requested_id requested made_id ≡ true → WantsDrawn t.profile 0 t.next_id multicast requested → cond multicast None (Some made_id) ≡ Some id → cond multicast None requested ≡ Some id
 success_id t true requested made_id id is wants same = absurd cc
 success_id t false None made_id id is wants same = absurd wants
-success_id t false (Some asked) made_id id is wants same = ap (λ (x : ConnId). Some x) (same_id asked made_id is) ∙ same
+success_id t false (Some requested) made_id id is wants same = ap (λ (x : ConnId). Some x) (same_id requested made_id is) ∙ same
 
--- the slot's id stays, and its numbers are drawn
+-- the slot's id stays, and its numbers were allocated
 set_owns : (t u : ScannerTable) (indexed : IndexedSlot) (slot : Slot) → Goes (Stays Drawn) t (with_slot u indexed.number slot) → Later t (with_slot u indexed.number slot) → u.slots ≡ t.slots → Stands t indexed → IdStays t (with_slot u indexed.number slot) indexed.number indexed.config indexed.slot slot → Owns t (with_slot u indexed.number slot)
 set_owns t u indexed slot goes later same stands stays = owns_by t (with_slot u indexed.number slot) goes (set_goes IdStays id_stays t u indexed slot later same stands stays)
 
@@ -365,7 +365,7 @@ pub requests_rise : RequestsRise
 requests_rise t events request less was now opening at later opens =
     rise_step t (table_after t events) now.config was.slot.state opening request less (events_begin t events was.number was now at later opening opens)
 
--- an id that is drawn from a number on is none that was drawn below it
+-- an id with a counter from a number on is none with a counter below it
 drawn_apart : (profile : ScannerProfile) (n m : ℕ) (multicast : Bool) (requested : Option ConnId) (id : ConnId) → WantsDrawn profile n m multicast requested → IsDrawn profile 0 n id → requested ≢ Some id
 drawn_apart profile n m true None id wants drawn same = absurd cc
 drawn_apart profile n m true (Some other) id wants drawn same = absurd wants

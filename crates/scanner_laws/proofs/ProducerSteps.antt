@@ -1,4 +1,4 @@
--- A slot's producer has the slot's number and target; what is asked is waited for in time.
+-- A slot's producer has the slot's number and target; a slot waits for a reply no longer than the open timeout.
 use Rattle.std.proofs.Common.{◌≡◌, ◌≤◌, ℕ, ◌+◌, Bool, true, false, cond, refl, sym, subst, arith}
 use Rattle.cip_types.specs.declared.names.Ms.{Ms}
 use Rattle.cip_types.specs.declared.names.Node.{Node}

@@ -1,4 +1,4 @@
--- A step leaves at each image and output what the event says.
+-- A step leaves at each image and output the bytes that the event says.
 use Rattle.std.proofs.Common.{◌≡◌, ℕ, zero, suc, Bool, true, false, cond, not, ◌&&◌, ◌==◌, List, [], ◌∷◌, map, find, replicate, unwrap_or, slice_get, Option, Some, None, Result, Ok, Err, refl, sym, ◌∙◌, ap, subst, arith}
 use Rattle.std.proofs.lemmas.Bool.Decides.{nat_tests}
 use Rattle.cip_types.specs.declared.names.Ms.{Ms}
@@ -39,7 +39,7 @@ use Rattle.scanner_laws.proofs.Slotwise.{set_later, Relation, StaysSo, Slotwise,
 
 -- ---- images that stay
 
--- the image stays, and what is established now was so before
+-- the image stays, and a slot that is established now was established before
 record Holds (was now : Slot) : Type 0 where
   image : now.image ≡ was.image
   begun : is_established now.state ≡ true → is_established was.state ≡ true
@@ -91,9 +91,9 @@ calm_slotwise = record {
 calm_widely : KeptWidely (Goes Calm)
 calm_widely = goes_widely Calm calm_slotwise
 
--- ---- what is left at images
+-- ---- the bytes left at images
 
--- the image holds what is left there, by data or because the slot opens, or what it held
+-- the image holds the bytes that are left there, by data or because the slot becomes established, or its bytes from before
 abbrev ImageIs : Option (List ℕ) → SlotConfig → Slot → Slot → Type 0
 ImageIs left config was now =
     now.image ≡ unwrap_or (or_else left (cond (is_established now.state && not (is_established was.state)) (Some (replicate config.in_len 0)) None)) was.image
@@ -143,7 +143,7 @@ calm_writes t indexed bytes stands =
 
 -- ---- data that are applied
 
--- by what is left at each slot's number
+-- by the bytes left at each slot's number
 abbrev Left : (ℕ → Option (List ℕ)) → Relation
 Left left t u number config was now = ImageIs (left number) config was now
 
@@ -159,7 +159,7 @@ left_nothing left t u none goes = record {
 stays_images : (t : ScannerTable) → Goes Images t t
 stays_images t = stays_goes Images images_stay t t (calm_widely.slots.same t).later refl
 
--- what a delivery leaves at the slots, where the datagram was for a place
+-- the bytes that a delivery leaves at the slots, if the datagram was for a slot
 abbrev delivery_left : Option IndexedSlot → DatagramFields → Delivery → ℕ → Option (List ℕ)
 delivery_left found d what number = cond (is_slots number found && is_applied what) (Some d.payload) None
 
@@ -189,7 +189,7 @@ applied_goes t indexed d c stands is =
     (λ number config other apart. rw (number_flip number indexed.number apart) (calm_image config other other (record { image = refl; begun = λ is. is })))
     (set_later t indexed.number slot) refl stands (rw (number_same indexed.number) refl)
 
--- what a datagram that is read does
+-- a datagram that was read
 abbrev GoesBy : ScannerTable → Option IndexedSlot → DatagramFields → Next → Type 0
 GoesBy t found d next = Goes (Left (λ number. cond (is_slots number found && reports_applied next.0.verdict) (Some d.payload) None)) t next.1
 
@@ -229,7 +229,7 @@ received_goes t peer bytes = read_goes t peer (datagram_reading bytes)
 
 -- ---- images after a step
 
--- what is answered leaves what the event says
+-- an answer leaves the bytes that the event says
 abbrev LeavesImages : ScannerTable → Event → Result Next StepFault → Type 0
 LeavesImages t event said = Leads (Goes (Left (λ number. data_left number t event))) t said
 
@@ -289,11 +289,11 @@ same_accepts t indexed d c bytes stands is =
     let slot : Slot = record indexed.slot { state = Established (accepted_connection t.clock indexed.config.mult d c); image = bytes } in
     set_goes Same same_slotwise.stays t t indexed slot (set_later t indexed.number slot) refl stands refl
 
--- the output holds what is left there, or what it held
+-- the output holds the bytes that are left there, or its bytes from before
 abbrev LeftOutput : (ℕ → Option (List ℕ)) → Relation
 LeftOutput left t u number config was now = now.output ≡ unwrap_or (left number) was.output
 
--- what a write that is answered so leaves
+-- the bytes that a write with this answer leaves
 abbrev write_left : ℕ → List ℕ → Result Next StepFault → ℕ → Option (List ℕ)
 write_left point bytes said number = cond (point == number) (written said bytes) None
 
@@ -325,7 +325,7 @@ write_writes : (t : ScannerTable) (point : ℕ) (bytes : List ℕ) → WritesSo 
 unfolding write
 write_writes t point bytes = at_writes t point bytes (slot_at t point) refl
 
--- what is answered leaves at outputs what the event says
+-- an answer leaves at outputs the bytes that the event says
 abbrev LeavesOutputs : ScannerTable → Event → Result Next StepFault → Type 0
 LeavesOutputs t event said = Leads (Goes (LeftOutput (λ number. output_left number t event))) t said
 

@@ -1,4 +1,4 @@
--- The places of a table: which slots stand in them, and what stands in them when one slot is another.
+-- The indexed slots of a table, and the slot of a number, before and after one slot changes.
 use Rattle.std.proofs.Common.{◌≡◌, ◌≢◌, ◌<◌, ℕ, zero, suc, ◌+◌, Bool, true, false, cond, ◌==◌, List, [], ◌∷◌, filter, find, slice_get, slice_set, Option, Some, refl, sym, ◌∙◌, ap, subst, arith}
 use Rattle.std.proofs.lemmas.Bool.Decides.{nat_tests}
 use Rattle.cip_types.specs.Order.{inserted, in_order}
@@ -24,14 +24,14 @@ get_other (suc k) (suc l) (y ∷ xs) x other = get_other k l xs x (λ same. othe
 pub some_is : {A : Type 0} → (a b : A) → Some a ≡ Some b → a ≡ b
 some_is a b is = cc
 
--- ---- each of some places
+-- ---- each of some slots
 
--- it holds of each place
+-- it holds of each slot
 abbrev pub Each : (IndexedSlot → Type 0) → List IndexedSlot → Type 0
 Each P [] = Unit {0}
 Each P (indexed ∷ rest) = P indexed × Each P rest
 
--- it holds of each place and each later one
+-- it holds of each slot and each later one
 abbrev pub EachTwo : (IndexedSlot → IndexedSlot → Type 0) → List IndexedSlot → Type 0
 EachTwo R [] = Unit {0}
 EachTwo R (indexed ∷ rest) = Each (R indexed) rest × EachTwo R rest
@@ -68,7 +68,7 @@ passes_step : (p : IndexedSlot → Bool) (b : Bool) (indexed : IndexedSlot) (res
 passes_step p true indexed rest is all = (is, all)
 passes_step p false indexed rest is all = all
 
--- a filter's places pass it
+-- the slots that a filter selects pass its test
 pub each_passes : (p : IndexedSlot → Bool) (all : List IndexedSlot) → Each (λ indexed. p indexed ≡ true) (filter p all)
 each_passes p [] = tt
 each_passes p (indexed ∷ rest) = passes_step p (p indexed) indexed (filter p rest) refl (each_passes p rest)
@@ -86,7 +86,7 @@ pub each_in_order : (P : IndexedSlot → Type 0) (before : IndexedSlot → Index
 each_in_order P before [] all = tt
 each_in_order P before (indexed ∷ rest) all = each_inserted P before indexed (in_order before rest) all.0 (each_in_order P before rest all.1)
 
--- two places have other numbers
+-- two slots have different numbers
 abbrev pub Apart : IndexedSlot → IndexedSlot → Type 0
 Apart a b = a.number ≢ b.number
 
@@ -124,14 +124,14 @@ pub found_passes : (p : IndexedSlot → Bool) (all : List IndexedSlot) (indexed 
 found_passes p [] indexed is = absurd cc
 found_passes p (first ∷ rest) indexed is = passing_step p (p first) first indexed (find p rest) refl is (λ later. found_passes p rest indexed later)
 
--- ---- the places of a table
+-- ---- the slots of a table
 
--- the place is one of the table's
+-- the indexed slot is one of the table's
 pub record Stands (t : ScannerTable) (indexed : IndexedSlot) : Type 0 where
   pub config : slice_get t.profile.slots indexed.number ≡ Some indexed.config
   pub slot : slice_get t.slots indexed.number ≡ Some indexed.slot
 
--- what stands in places from a number on stands so in all places
+-- the slots from a number on are slots of the whole table
 abbrev StandsFrom : {A : Type 0} → List A → ℕ → List A → Type 0
 StandsFrom {A} all number xs = (k : ℕ) (x : A) → slice_get xs k ≡ Some x → slice_get all (number + k) ≡ Some x
 
@@ -170,7 +170,7 @@ apart_from number (config ∷ configs) (slot ∷ slots) = (later_apart number (s
 pub slots_apart : (t : ScannerTable) → EachTwo Apart (indexed_slots t)
 slots_apart t = apart_from 0 t.profile.slots t.slots
 
--- ---- the place of a number
+-- ---- the slot of a number
 
 abbrev pub indexed_at : ℕ → SlotConfig → Slot → IndexedSlot
 indexed_at number config slot = record { number = number; config = config; slot = slot }
@@ -197,7 +197,7 @@ slot_stands t indexed stands =
     let same : 0 + indexed.number ≡ indexed.number = omega arith in
     subst (λ (m : ℕ). slot_at t m ≡ Some (indexed_at m indexed.config indexed.slot)) same (find_at 0 indexed.number t.profile.slots t.slots indexed.config indexed.slot stands.config stands.slot)
 
--- the place that is found is the table's, and has the number
+-- the slot that the lookup found is the table's, and has the number
 pub record IsIndexed (t : ScannerTable) (number : ℕ) (indexed : IndexedSlot) : Type 0 where
   pub number_is : indexed.number ≡ number
   pub stands : Stands t indexed
@@ -214,7 +214,7 @@ slot_is t number indexed is = record {
 same_parts : (n : ℕ) (c d : SlotConfig) (r s : Slot) → c ≡ d → r ≡ s → indexed_at n c r ≡ indexed_at n d s
 same_parts n c d r s config slot = cc
 
--- a table has one place of a number
+-- a table has one slot of a number
 pub same_slot : (t : ScannerTable) (a b : IndexedSlot) → a.number ≡ b.number → Stands t a → Stands t b → a ≡ b
 same_slot t a b same first second =
     let config : slice_get t.profile.slots a.number ≡ Some b.config = subst (λ (n : ℕ). slice_get t.profile.slots n ≡ Some b.config) (sym same) second.config in

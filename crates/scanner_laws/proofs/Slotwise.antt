@@ -1,4 +1,4 @@
--- What holds of each slot as it was and as it is now, from what holds where one slot changes.
+-- A relation of each slot as it was and as it is now, from the same relation where one slot changes.
 use Rattle.std.proofs.Common.{◌≡◌, ◌≤◌, ◌<◌, ℕ, zero, suc, ◌+◌, Bool, true, false, cond, ◌==◌, List, [], ◌∷◌, map, length, length-set, slice_get, slice_set, Some, refl, sym, ◌∙◌, ap, subst, arith}
 use Rattle.std.proofs.lemmas.Bool.Decides.{nat_tests}
 use Rattle.std.proofs.lemmas.List.{length-map}
@@ -75,7 +75,7 @@ ProducesSo S = (t : ScannerTable) (number : ℕ) (config : SlotConfig) (slot : S
 abbrev pub ModesSo : Relation → Type 0
 ModesSo S = (t : ScannerTable) (run : Bool) (indexed : IndexedSlot) → S t (moded_table t run) indexed.number indexed.config indexed.slot (moded_slot indexed)
 
--- what has to hold where one slot changes
+-- the premises where one slot changes
 pub record Slotwise (S : Relation) : Type 0 where
   pub stays : StaysSo S
   pub after : (t u v : ScannerTable) (number : ℕ) (config : SlotConfig) (a b c : Slot) → Later t u → Later u v → S t u number config a b → S u v number config b c → S t v number config a c
@@ -115,7 +115,7 @@ set_step false S t u indexed slot by number config was is same stands turns at t
   holds = by number config was is;
 }
 
--- the slot of a place is another, and it holds of all others that stay
+-- one slot changes, and it holds of all others, which stay
 pub apart_goes : (S : Relation) (t u : ScannerTable) (indexed : IndexedSlot) (slot : Slot) → StaysElsewhere S t (with_slot u indexed.number slot) indexed.number → Later t (with_slot u indexed.number slot) → u.slots ≡ t.slots → Stands t indexed → S t (with_slot u indexed.number slot) indexed.number indexed.config indexed.slot slot → Goes S t (with_slot u indexed.number slot)
 apart_goes S t u indexed slot by later same stands turns = record {
   later = later;
@@ -194,7 +194,7 @@ produced_goes S by t = record {
   };
 }
 
--- ---- what the effects of an event do
+-- ---- the effects of an event
 
 pub id_later : (multicast : Bool) (next : ℕ) → next ≤ cond multicast next (next + 1)
 id_later true next = omega arith
@@ -228,7 +228,7 @@ goes_widely S by = record {
   moding = moded_goes S by.moding;
 }
 
--- what has to hold too where a slot is established, written, or accepts a datagram
+-- the premises where a slot becomes established, is written, or accepts a datagram
 pub record SlotwiseAlways (S : Relation) : Type 0 where
   pub widely : Slotwise S
   pub establishing : (t : ScannerTable) (indexed : IndexedSlot) (o : opening.PendingOpen) (success : made.Opened) → indexed.slot.state ≡ Opening o → is_requested_id o.requested.t_o_id success.t_o_id ≡ true → S t (with_slot t indexed.number (established_slot indexed (new_connection t indexed o success))) indexed.number indexed.config indexed.slot (established_slot indexed (new_connection t indexed o success))
@@ -247,7 +247,7 @@ goes_always S by = record {
       set_goes S by.widely.stays t t indexed slot (set_later t indexed.number slot) refl stands (by.accepting t indexed d c bytes is);
 }
 
--- ---- what the laws say
+-- ---- the laws
 
 -- each change is so related
 abbrev pub InSlots : Relation → ScannerTable → ScannerTable → IndexedSlot → IndexedSlot → Type 0
@@ -267,7 +267,7 @@ change_holds S t u number was now goes before behind =
 pub of_each_change : (S : Relation) (t u : ScannerTable) → Goes S t u → OfEachChange (InSlots S t u) t u
 of_each_change S t u goes = λ number was now before behind. change_holds S t u number was now goes (slot_is t number was before) (slot_is u number now behind)
 
--- ---- what holds of each slot
+-- ---- properties of each slot
 
 -- a property of a slot in a table, by its number and configuration
 abbrev pub Property : Type 1

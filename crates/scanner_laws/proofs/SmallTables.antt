@@ -1,4 +1,4 @@
--- Tables of a small scanner: one slot is point to point and one listens to a group, at each point of the way.
+-- Tables of a small scanner, at each state of its slots: one slot is point to point, and one is multicast.
 use Rattle.std.proofs.Common.{ℕ, true, false, [], ◌∷◌, Some, None}
 use Rattle.cip_types.specs.declared.names.ConnId.{ConnId}
 use Rattle.cip_types.specs.declared.names.Node.{Node}
@@ -23,7 +23,7 @@ use Rattle.scanner_table.specs.Slots.{IndexedSlot}
 abbrev pub target : Node
 target = record { 0 = 0xC0A8010A }
 
--- the owner of an output of two bytes, which gathers two
+-- the exclusive owner of an output of two bytes, with an input of two bytes
 abbrev pub owner : SlotConfig
 owner = record {
   target = target;
@@ -43,7 +43,7 @@ owner = record {
   inhibit = 0;
 }
 
--- a group's input of two bytes
+-- a multicast input of two bytes
 abbrev pub gatherer : SlotConfig
 gatherer = record owner { kind = InputOnly; consumed = 152; out_len = 0; multicast = true }
 
@@ -65,7 +65,7 @@ triad = record { serial = 5; vendor = 0x1234; originator = 0x12345678 }
 abbrev pub own_id : ConnId
 own_id = record { 0 = 0x20000006 }
 
--- the opening of request number 7, which asks for the id
+-- the opening of request number 7, which requests the id
 abbrev pub opening : pending.PendingOpen
 opening = record { request = 7; requested = record { triad = triad; t_o_id = Some own_id }; deadline = record { 0 = 2500 } }
 

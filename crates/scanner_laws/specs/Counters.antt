@@ -7,7 +7,7 @@ use Rattle.scanner_table.specs.Whole.{IsWhole}
 abbrev pub IsFull : ScannerTable → Type 0
 IsFull t = length t.slots ≡ length t.profile.slots
 
--- the profile stays, and so does the number of slots where there is one for each of the profile's; neither counter falls
+-- the profile stays, and so does the number of slots, if there is one for each of the profile's; neither counter falls
 pub record CountsOn (old new : ScannerTable) : Type 0 where
   pub profile : new.profile ≡ old.profile
   pub slots : IsFull old → length new.slots ≡ length old.slots

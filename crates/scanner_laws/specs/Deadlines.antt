@@ -1,4 +1,4 @@
--- Until when a slot waits: for an answer no longer than a target has for it, and no deadline passes.
+-- Deadlines of slots: how long a slot waits for a reply, and that a tick leaves no deadline behind the clock.
 use Rattle.std.specs.Prelude.{ℕ, ◌≡◌, ◌+◌, ◌≤◌, ◌<◌, None, Ok}
 use Rattle.cip_events.specs.declared.event.Event.TheVariants.{Tick}
 use Rattle.scanner_table.specs.declared.slot.SlotState.{SlotState}
@@ -10,7 +10,7 @@ use Rattle.scanner_table.specs.Effects.{Next}
 use Rattle.scanner_table.specs.Step.{scanner_step}
 use Rattle.scanner_laws.specs.Runs.{OfEachSlot}
 
--- what is asked is waited for until this time at most
+-- the slot waits for a reply until this time at most
 abbrev pub StateWaitsTo : ℕ → SlotState → Type 0
 StateWaitsTo time Idle = Unit {0}
 StateWaitsTo time (Opening o) = o.deadline.0 ≤ time
@@ -21,11 +21,11 @@ StateWaitsTo time (Closing c) = c.deadline.0 ≤ time
 abbrev pub SlotWaits : ScannerTable → IndexedSlot → Type 0
 SlotWaits t indexed = StateWaitsTo (t.clock.0 + t.profile.open_timeout) indexed.slot.state
 
--- a slot that opens or closes has a deadline, no later than the time that a target has to answer from now on
+-- a slot that is opening or closing waits at most the open timeout from now on
 abbrev pub SlotsWaitInTime : ScannerTable → Type 0
 SlotsWaitInTime t = OfEachSlot (SlotWaits t) t
 
--- the deadline is still to come, where the state has one
+-- the deadline is still to come, if the state has one
 abbrev pub StateIsAhead : ℕ → SlotState → Type 0
 StateIsAhead time Idle = Unit {0}
 StateIsAhead time (Opening o) = time < o.deadline.0
@@ -40,7 +40,7 @@ SlotIsAhead t indexed = StateIsAhead t.clock.0 indexed.slot.state
 abbrev pub DeadlinesAreAhead : ScannerTable → Type 0
 DeadlinesAreAhead t = OfEachSlot (SlotIsAhead t) t
 
--- none has after a tick of a scanner whose profile has no fault
+-- no slot has one after a tick of a scanner whose profile has no fault
 abbrev pub TicksLeaveNoneLate : Type 0
 TicksLeaveNoneLate =
     (t : ScannerTable) (ms : ℕ) (next : Next) → profile_fault t.profile ≡ None → scanner_step t (Tick ms) ≡ Ok next → DeadlinesAreAhead next.1

@@ -1,4 +1,4 @@
--- What a scanner tells of a datagram, and which slot it is for.
+-- What the answer to a datagram reports, and which slot the datagram is for.
 use Rattle.std.specs.Prelude.{ℕ, Bool, true, false, Option, Some, None}
 use Rattle.cip_events.specs.declared.event.Delivery.{Delivery}
 use Rattle.cip_events.specs.declared.event.Delivery.TheVariants as delivery
@@ -17,7 +17,7 @@ is_applied delivery.UnknownId = false
 is_applied delivery.WrongSize = false
 is_applied delivery.Malformed = false
 
--- the answer tells that the data of a datagram were applied
+-- the answer reports that the data of a datagram were applied
 abbrev pub reports_applied : Verdict → Bool
 reports_applied Done = false
 reports_applied BadFrame = false
@@ -25,7 +25,7 @@ reports_applied Ignored = false
 reports_applied (Value bytes) = false
 reports_applied (Delivered delivery) = is_applied delivery
 
--- the answer tells that a datagram was accepted
+-- the answer reports that a datagram was accepted
 abbrev pub reports_accepted : Verdict → Bool
 reports_accepted Done = false
 reports_accepted BadFrame = false
@@ -33,7 +33,7 @@ reports_accepted Ignored = false
 reports_accepted (Value bytes) = false
 reports_accepted (Delivered delivery) = is_accepted delivery
 
--- the place that is found, if one is, is the slot of this number
+-- the slot that the lookup found, if any, has this number
 abbrev pub is_slots : ℕ → Option IndexedSlot → Bool
 is_slots number None = false
 is_slots number (Some indexed) = is_numbered number indexed

@@ -1,5 +1,5 @@
--- The numbers that openings draw: each request number and each T->O id of a point to point connection is given
--- once (Volume 1, chapter 3, Forward_Open service, network connection ids).
+-- The numbers that openings use: each request number and each T->O id of a point to point connection is allocated once
+-- (Volume 1, chapter 3, Forward_Open service, network connection ids).
 use Rattle.std.specs.Prelude.{ℕ, ◌≡◌, ◌≢◌, ◌≤◌, ◌<◌, ◌⊎◌, Bool, true, false, if◌then◌else◌, List, Option, Some, None}
 use Rattle.cip_types.specs.declared.names.ConnId.{ConnId}
 use Rattle.cip_events.specs.declared.event.Event.{Event}
@@ -16,14 +16,14 @@ use Rattle.scanner_laws.specs.Runs.{table_after, OfEachSlot, OfEachChange}
 
 -- IDS
 
--- the id is one of the scanner's, with a counter from the first number on and below the next one
+-- the id has the scanner's incarnation, and a counter from the first number on and below the next one
 pub record IsDrawn (profile : ScannerProfile) (first next : ℕ) (id : ConnId) : Type 0 where
   pub counter : ℕ
   pub is : id ≡ connection_id profile counter
   pub begins : first ≤ counter
   pub ends : counter < next
 
--- a multicast opening asks for no id, and a point to point one for an id that was drawn
+-- a multicast opening requests no id, and a point to point one requests an allocated id
 abbrev pub WantsDrawn : ScannerProfile → ℕ → ℕ → Bool → Option ConnId → Type 0
 WantsDrawn profile first next true None = Unit {0}
 WantsDrawn profile first next true (Some id) = ⊥
@@ -32,13 +32,13 @@ WantsDrawn profile first next false (Some id) = IsDrawn profile first next id
 
 -- OPENINGS THAT BEGIN
 
--- an opening that began between two tables: its request number and its id were drawn between them
+-- an opening that began between two tables: its request number and its id were allocated between them
 pub record Began (old new : ScannerTable) (config : SlotConfig) (opening : pending.PendingOpen) : Type 0 where
   pub begins : old.next_request ≤ opening.request
   pub ends : opening.request < new.next_request
   pub id : WantsDrawn old.profile old.next_id new.next_id config.multicast opening.requested.t_o_id
 
--- a slot that opens now waited for the same opening before, or the opening began since
+-- a slot that is opening now waited for the same reply before, or the opening began since
 abbrev pub OpensAnew : ScannerTable → ScannerTable → IndexedSlot → IndexedSlot → Type 0
 OpensAnew old new was now =
     (opening : pending.PendingOpen) → now.slot.state ≡ Opening opening → (was.slot.state ≡ Opening opening) ⊎ Began old new now.config opening
@@ -46,14 +46,14 @@ OpensAnew old new was now =
 abbrev pub OpeningsBegin : ScannerTable → ScannerTable → Type 0
 OpeningsBegin old new = OfEachChange (OpensAnew old new) old new
 
--- NUMBERS THAT WERE DRAWN
+-- ALLOCATED NUMBERS
 
--- the T->O id of a point to point connection was drawn
+-- the T->O id of a point to point connection was allocated
 abbrev pub LinkIsDrawn : ScannerProfile → ℕ → Bool → Link → Type 0
 LinkIsDrawn profile next_id true link = Unit {0}
 LinkIsDrawn profile next_id false link = IsDrawn profile 0 next_id link.t_o_id
 
--- a request that is waited for, and the opening that a connection came from, were numbered, and ids were drawn
+-- the request number and the id of a slot in this state were allocated
 abbrev pub StateIsDrawn : ScannerProfile → ℕ → ℕ → Bool → SlotState → Type 0
 StateIsDrawn profile next_id next_request multicast Idle = Unit {0}
 StateIsDrawn profile next_id next_request multicast (Opening o) = (o.request < next_request) × WantsDrawn profile 0 next_id multicast o.requested.t_o_id
@@ -70,8 +70,8 @@ NumbersAreDrawn t = OfEachSlot (SlotIsDrawn t) t
 
 -- NUMBERS THAT RISE
 
--- a slot that opens after events waited for the same opening before them, or its request number is above each that
--- was drawn by then
+-- a slot that is opening after events waited for the same reply before them, or its request number is above every number
+-- that was allocated by then
 abbrev pub RequestsRise : Type 0
 RequestsRise =
     (t : ScannerTable) (events : List Event) (request : ℕ) → request < t.next_request →
@@ -79,7 +79,7 @@ RequestsRise =
     slot_at t was.number ≡ Some was → slot_at (table_after t events) was.number ≡ Some now →
     now.slot.state ≡ Opening opening → (was.slot.state ≡ Opening opening) ⊎ (request < opening.request)
 
--- a slot that opens after events waited for the same opening before them, or asks for no id that was drawn by then
+-- a slot that is opening after events waited for the same reply before them, or requests no id that was allocated by then
 abbrev pub IdsAreGivenOnce : Type 0
 IdsAreGivenOnce =
     (t : ScannerTable) (events : List Event) (id : ConnId) → IsDrawn t.profile 0 t.next_id id →
@@ -87,7 +87,7 @@ IdsAreGivenOnce =
     slot_at t was.number ≡ Some was → slot_at (table_after t events) was.number ≡ Some now →
     now.slot.state ≡ Opening opening → (was.slot.state ≡ Opening opening) ⊎ (opening.requested.t_o_id ≢ Some id)
 
--- the T->O id of a point to point connection that is asked for, open, timed out or closing
+-- the T->O id of a point to point connection that is opening, established, timed out or closing
 abbrev pub drawn_id : SlotState → Option ConnId
 drawn_id Idle = None
 drawn_id (Opening o) = o.requested.t_o_id
@@ -98,7 +98,7 @@ drawn_id (Closing c) = Some c.link.t_o_id
 abbrev pub id_of : IndexedSlot → Option ConnId
 id_of indexed = if indexed.config.multicast then None else drawn_id indexed.slot.state
 
--- no two slots have one such id
+-- no two slots have the same such id
 abbrev pub IdsAreOwn : ScannerTable → Type 0
 IdsAreOwn t =
     (indexed other : IndexedSlot) (id : ConnId) → indexed.number ≢ other.number →

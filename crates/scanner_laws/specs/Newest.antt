@@ -1,6 +1,6 @@
--- What a slot's connection accepts, one datagram after another: each number is newer than the one before it, and
--- what is applied is new. A connection is named by the number of its slot and the request number of its opening
--- (Volume 1, chapter 3, class 1 transport; Volume 2, chapter 2, sequenced address item).
+-- The datagrams that a slot's connection accepts, one after another: each sequence number is newer than the one before it,
+-- and applied data are new. A connection is named by the number of its slot and the request number of its opening (Volume 1,
+-- chapter 3, class 1 transport; Volume 2, chapter 2, sequenced address item).
 use Rattle.std.specs.Prelude.{ℕ, ◌≡◌, ◌≢◌, ◌≤◌, ◌<◌, ◌==◌, ◌&&◌, Bool, true, false, if◌then◌else◌, List, [], ◌∷◌, ◌++◌, find, Option, Some, None, Result, Ok, Err}
 use Rattle.cip_types.specs.Circle.{IsNewer}
 use Rattle.cip_types.specs.declared.names.Node.{Node}
@@ -23,7 +23,7 @@ use Rattle.scanner_table.specs.Whole.{IsWhole}
 use Rattle.scanner_laws.specs.Runs.{left_by, OfEachSlot}
 use Rattle.scanner_laws.specs.Deliveries.{reports_applied, reports_accepted}
 
--- WHAT IS ACCEPTED
+-- ACCEPTED DATAGRAMS
 
 -- a datagram that a connection accepted: its number and count, and whether its data were applied
 pub record Acceptance : Type 0 where
@@ -45,7 +45,7 @@ came_from opening (Closing c) = false
 abbrev pub is_connection : ℕ → ℕ → IndexedSlot → Bool
 is_connection number opening indexed = is_numbered number indexed && came_from opening indexed.slot.state
 
--- what the connection accepts, where the datagram is for a slot
+-- the datagram, if it is for the connection and is accepted
 abbrev pub accepted_found : ℕ → ℕ → DatagramFields → Verdict → Option IndexedSlot → List Acceptance
 accepted_found number opening d verdict None = []
 accepted_found number opening d verdict (Some indexed) =
@@ -55,7 +55,7 @@ abbrev pub accepted_read : ℕ → ℕ → ScannerTable → Node → Verdict →
 accepted_read number opening t peer verdict (Err fault) = []
 accepted_read number opening t peer verdict (Ok d) = accepted_found number opening d verdict (find (is_for peer d.connection) (indexed_slots t))
 
--- what the connection of a slot's number and an opening accepts at an event
+-- the datagrams that the connection of this slot and this opening accepts at an event
 abbrev pub accepted_at : ℕ → ℕ → ScannerTable → Event → List Acceptance
 accepted_at number opening t (Request peer bytes) = []
 accepted_at number opening t (StreamOpened stream peer) = []
@@ -69,19 +69,19 @@ accepted_at number opening t (Mode run) = []
 accepted_at number opening t (Start slot) = []
 accepted_at number opening t (Stop slot) = []
 
--- what it accepts over the events, in order
+-- the datagrams that it accepts over the events, in order
 abbrev pub acceptances : ℕ → ℕ → ScannerTable → List Event → List Acceptance
 acceptances number opening t [] = []
 acceptances number opening t (event ∷ events) = accepted_at number opening t event ++ acceptances number opening (left_by t (scanner_step t event)) events
 
 -- ONE AFTER ANOTHER
 
--- it holds of each and the one accepted before it; of the first one and `last`, what was accepted before all of them
+-- the relation holds of each datagram and the one accepted before it, and of the first and `last`, the one before all of them
 abbrev pub EachAfter : (Option Accepted → Acceptance → Type 0) → Option Accepted → List Acceptance → Type 0
 EachAfter R last [] = Unit {0}
 EachAfter R last (next ∷ rest) = R last next × EachAfter R (Some next.datagram) rest
 
--- what was accepted last, after all of these
+-- the datagram that was accepted last, after all of these
 abbrev pub last_accepted : Option Accepted → List Acceptance → Option Accepted
 last_accepted last [] = last
 last_accepted last (next ∷ rest) = last_accepted (Some next.datagram) rest
@@ -96,19 +96,19 @@ abbrev pub HasOtherCount : Option Accepted → Acceptance → Type 0
 HasOtherCount None next = Unit {0}
 HasOtherCount (Some last) next = next.datagram.count ≢ last.count
 
--- where it is applied, its count is another than that of the datagram accepted before it
+-- if it is applied, its count is another than that of the datagram accepted before it
 abbrev pub IsAppliedNew : Option Accepted → Acceptance → Type 0
 IsAppliedNew last next = next.applied ≡ true → HasOtherCount last next
 
--- where it is applied, it is not the datagram accepted before it
+-- if it is applied, it is not the datagram accepted before it
 abbrev pub IsNotAgain : Option Accepted → Acceptance → Type 0
 IsNotAgain None next = Unit {0}
 IsNotAgain (Some last) next = next.applied ≡ true → next.datagram ≢ last
 
--- WHAT A TABLE REMEMBERS OF IT
+-- THE LAST ACCEPTED DATAGRAM IN THE TABLE
 
--- the connection, where it came from this opening, remembers this as the last that it accepted; and what is
--- still to be opened has accepted nothing
+-- the connection, if it came from this opening, has this datagram as its last accepted one; a connection that is still to be
+-- opened has accepted none
 abbrev pub StateRemembers : ℕ → Option Accepted → SlotState → Type 0
 StateRemembers opening last Idle = Unit {0}
 StateRemembers opening last (Opening o) = o.request ≡ opening → last ≡ None
@@ -132,7 +132,7 @@ abbrev pub last_of : ℕ → Option IndexedSlot → Option Accepted
 last_of opening None = None
 last_of opening (Some indexed) = state_last opening indexed.slot.state
 
--- what a connection accepted last, as the table knows
+-- the datagram that a connection accepted last, by the table
 abbrev pub last_in : ℕ → ℕ → ScannerTable → Option Accepted
 last_in number opening t = last_of opening (slot_at t number)
 
@@ -150,13 +150,14 @@ SlotIsNumbered t indexed = StateIsNumbered t.next_request indexed.slot.state
 abbrev pub OpeningsAreNumbered : ScannerTable → Type 0
 OpeningsAreNumbered t = OfEachSlot (SlotIsNumbered t) t
 
--- as they are in a whole table
+-- the openings of a whole table are numbered
 abbrev pub WholeTablesNumberOpenings : Type 0
 WholeTablesNumberOpenings = (t : ScannerTable) → IsWhole t → OpeningsAreNumbered t
 
 -- LAWS
 
--- what a step accepts on a connection comes, so related, after what the table remembers, and the next table remembers it
+-- the datagrams that a step accepts on a connection are so related to the last one of the table, and the next table has the
+-- last of them
 abbrev pub StepsAcceptAfter : (Option Accepted → Acceptance → Type 0) → Type 0
 StepsAcceptAfter R =
     (number opening : ℕ) (last : Option Accepted) (t : ScannerTable) (event : Event) (next : Next) →
@@ -167,7 +168,7 @@ StepsAcceptAfter R =
 abbrev pub RefusalsAcceptNothing : Type 0
 RefusalsAcceptNothing = (number opening : ℕ) (t : ScannerTable) (event : Event) (fault : StepFault) → scanner_step t event ≡ Err fault → accepted_at number opening t event ≡ []
 
--- so related are each two datagrams that a connection accepts one after the other, over every list of events
+-- each two datagrams that a connection accepts one after the other are so related, over every list of events
 abbrev pub EventsAcceptAfter : (Option Accepted → Acceptance → Type 0) → Type 0
 EventsAcceptAfter R =
     (number opening : ℕ) (t : ScannerTable) (events : List Event) → OpeningsAreNumbered t →

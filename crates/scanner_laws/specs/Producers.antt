@@ -1,4 +1,4 @@
--- Whose producer a slot's is.
+-- The producers of slots.
 use Rattle.std.specs.Prelude.{ℕ, ◌≡◌}
 use Rattle.cip_types.specs.declared.names.Node.{Node}
 use Rattle.scanner_table.specs.declared.slot.SlotState.{SlotState}

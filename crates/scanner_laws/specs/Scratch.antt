@@ -1,4 +1,4 @@
--- The image and the output of a slot from scratch: what the last event that touched them left there
+-- The image and the output of a slot, computed from the events alone: the bytes that the last event which touched them left
 -- (Volume 1, chapter 3, class 1 transport).
 use Rattle.std.specs.Prelude.{ℕ, ◌≡◌, ◌==◌, ◌&&◌, not, Bool, true, false, if◌then◌else◌, List, [], ◌∷◌, find, replicate, unwrap_or, Option, Some, None, Result, Ok, Err}
 use Rattle.cip_types.specs.declared.names.Node.{Node}
@@ -21,20 +21,20 @@ use Rattle.scanner_table.specs.Step.{scanner_step, scanner_table}
 use Rattle.scanner_laws.specs.Runs.{left_by, table_after}
 use Rattle.scanner_laws.specs.Deliveries.{reports_applied, is_slots}
 
--- the first of two, where it is there, and otherwise the second
+-- the first of two if it is there, otherwise the second
 abbrev pub or_else : {A : Type 0} → Option A → Option A → Option A
 or_else None second = second
 or_else (Some first) second = Some first
 
 -- IMAGES
 
--- what a datagram leaves at the image of a slot: its data, where they were applied for the slot
+-- the bytes that a datagram leaves at the image of a slot: its data, if they were applied for the slot
 abbrev pub datagram_left : ℕ → ScannerTable → Node → Verdict → Result DatagramFields DatagramFault → Option (List ℕ)
 datagram_left number t peer verdict (Err fault) = None
 datagram_left number t peer verdict (Ok d) =
     if is_slots number (find (is_for peer d.connection) (indexed_slots t)) && reports_applied verdict then Some d.payload else None
 
--- what the data of an event leave there
+-- the bytes that the data of an event leave there
 abbrev pub data_left : ℕ → ScannerTable → Event → Option (List ℕ)
 data_left number t (Request peer bytes) = None
 data_left number t (StreamOpened stream peer) = None
@@ -55,7 +55,7 @@ is_established (Established c) = true
 is_established (TimedOut link) = false
 is_established (Closing c) = false
 
--- zeros, where the slot becomes established
+-- zeros, if the slot becomes established
 abbrev pub zeros_left : IndexedSlot → IndexedSlot → Option (List ℕ)
 zeros_left was now =
     if is_established now.slot.state && not (is_established was.slot.state) then Some (replicate now.config.in_len 0) else None
@@ -65,7 +65,7 @@ opening_left None now = None
 opening_left (Some was) None = None
 opening_left (Some was) (Some now) = zeros_left was now
 
--- what an event that leads from one table to another leaves at the image of a slot, where it touches it
+-- the bytes that an event from one table to another leaves at the image of a slot, if it touches the image
 abbrev pub image_left : ℕ → ScannerTable → Event → ScannerTable → Option (List ℕ)
 image_left number old event new = or_else (data_left number old event) (opening_left (slot_at old number) (slot_at new number))
 
@@ -76,7 +76,7 @@ abbrev pub written : Result Next StepFault → List ℕ → Option (List ℕ)
 written (Err fault) bytes = None
 written (Ok next) bytes = Some bytes
 
--- what an event leaves at the output of a slot: the bytes that are written there
+-- the bytes that an event leaves at the output of a slot: those that it writes there
 abbrev pub output_left : ℕ → ScannerTable → Event → Option (List ℕ)
 output_left number t (Request peer bytes) = None
 output_left number t (StreamOpened stream peer) = None
@@ -92,7 +92,7 @@ output_left number t (Stop slot) = None
 
 -- ONE EVENT
 
--- a step leaves at each image and output what the event says where it touches them, and otherwise what they held
+-- a step leaves the bytes of the event at each image and output that it touches; the others stay
 abbrev pub StepsLeaveBytes : Type 0
 StepsLeaveBytes =
     (t : ScannerTable) (event : Event) (next : Next) (number : ℕ) (was now : IndexedSlot) →
@@ -108,19 +108,19 @@ RefusalsTouchNothing =
 
 -- EVENTS
 
--- what the last of the events that touches a slot's image leaves there; none where no event touches it
+-- the bytes that the last event which touches a slot's image leaves there, if any event touches it
 abbrev pub last_image : ℕ → ScannerTable → List Event → Option (List ℕ)
 last_image number t [] = None
 last_image number t (event ∷ events) =
     let next = left_by t (scanner_step t event) in
     or_else (last_image number next events) (image_left number t event next)
 
--- the same of its output
+-- the same of the output
 abbrev pub last_output : ℕ → ScannerTable → List Event → Option (List ℕ)
 last_output number t [] = None
 last_output number t (event ∷ events) = or_else (last_output number (left_by t (scanner_step t event)) events) (output_left number t event)
 
--- after events each image and output holds what the last event that touched it left, or else what it held before
+-- after events each image and output holds the bytes that the last event which touched it left, or else those from before
 abbrev pub BytesAreFromScratch : Type 0
 BytesAreFromScratch =
     (t : ScannerTable) (events : List Event) (number : ℕ) (was now : IndexedSlot) →
@@ -128,7 +128,7 @@ BytesAreFromScratch =
     (now.slot.image ≡ unwrap_or (last_image number t events) was.slot.image)
     × (now.slot.output ≡ unwrap_or (last_output number t events) was.slot.output)
 
--- and at a scanner that was fresh before them, or else zeros
+-- at a scanner that was fresh before the events, or else zeros
 abbrev pub FreshBytesAreFromScratch : Type 0
 FreshBytesAreFromScratch =
     (profile : ScannerProfile) (events : List Event) (number : ℕ) (now : IndexedSlot) →

@@ -1,39 +1,43 @@
-//! The numbers that a scanner draws.
+//! Laws of the request numbers and connection ids that a scanner allocates.
 
 ghost use Rattle.scanner_laws.specs.Counters.{CountsOn, WholeTablesAreFull};
 ghost use Rattle.scanner_laws.specs.Drawn.{OpeningsBegin, NumbersAreOwn, RequestsRise, IdsAreGivenOnce};
 ghost use Rattle.scanner_laws.specs.Runs.{StepsLead, EventsLead, IsLaw};
 
-/// The counters of connection ids and of requests never fall, in a step or over events; the profile stays, and
-/// so does the number of slots where there is one for each of the profile's, as there is in a whole table.
+/// The counters of connection ids and of requests never fall, and the profile stays, in each step (`step`) and over each
+/// list of events (`events`), from any table. The number of slots stays too, if the table has one for each of the
+/// profile's, as a whole table has (`whole`).
 pub fn counters_never_fall()
     ensures step { StepsLead CountsOn }
     ensures events { EventsLead CountsOn }
     ensures whole { WholeTablesAreFull }
 {}
 
-/// A slot that opens waited for the same opening before a step, or before events, or the opening began since:
-/// its request number, and its T->O id where it is point to point, were drawn between.
+/// A slot that is opening after a step, or after events, waited for the same reply before, or the opening began between:
+/// then the request number and, for a point to point slot, the T->O id were allocated between. The laws hold from any
+/// table.
 pub fn openings_draw_the_next_numbers()
     ensures step { StepsLead OpeningsBegin }
     ensures events { EventsLead OpeningsBegin }
 {}
 
-/// Every request that a slot waits for, and every opening that a connection came from, is below the next
-/// request number. Every T->O id of a point to point connection that is asked for, open, timed out or closing
-/// is the scanner's, with a counter below the next one, and no two slots have one such id.
+/// The number of a pending request, and that of the request that opened an established connection, are below the next
+/// request number. The T->O id of a point to point slot that is opening, established, timed out or closing has the
+/// scanner's incarnation and a counter below the next one, and no two such slots have the same id.
+///
+/// A fresh table has the property, and each step and each list of events keeps it.
 pub fn numbers_are_below_the_next()
     ensures { IsLaw NumbersAreOwn }
 {}
 
-/// Request numbers rise: the opening of a slot after events either was its opening before them, or has a
-/// number above each that was drawn by then.
+/// Request numbers rise: a slot that is opening after events, from any table, waited for the same reply before them, or its
+/// request number is above every number that was allocated by then.
 pub fn request_numbers_rise()
     ensures { RequestsRise }
 {}
 
-/// No connection id is given twice: an opening that begins after events asks for none that was drawn by then,
-/// whether a slot still has it or not.
+/// No connection id is allocated twice: a slot that is opening after events, from any table, waited for the same reply
+/// before them, or it requests no id that was allocated by then, whether a slot still has that id or not.
 pub fn ids_are_given_once()
     ensures { IdsAreGivenOnce }
 {}

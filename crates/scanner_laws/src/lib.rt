@@ -1,5 +1,5 @@
-//! What holds of a scanner at each step and over every list of events. Each call does nothing: its contract is
-//! the law.
+//! Laws of a scanner's table: in each step, and over every list of events. A law call does nothing; its contract states
+//! the law. `cip_tables::laws::scanners` carries them over to runs of a device.
 #![tactic(auto)]
 
 mod accepted;

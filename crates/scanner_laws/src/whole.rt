@@ -1,4 +1,4 @@
-//! Whole tables of scanners.
+//! Laws of whole tables of scanners.
 
 ghost use Rattle.std.specs.Prelude.{ℕ, ◌≡◌, ◌≤◌, None, IfOk};
 ghost use Rattle.cip_events.specs.declared.event.Event.{Event};
@@ -11,27 +11,32 @@ ghost use Rattle.scanner_laws.specs.Whole.{IsWholeScanner};
 use crate::counters::numbers_are_below_the_next;
 use crate::slots::{answers_are_waited_for_in_time, slots_produce_as_themselves};
 
-/// A fresh scanner of a faultless profile has a whole table.
+/// The table of a fresh scanner is whole, if its profile has no fault.
 pub fn fresh_tables_are_whole()
     ensures { (profile : ScannerProfile) → profile_fault profile ≡ None → IsWholeScanner (scanner_table profile) }
 {
+    // The four parts of a whole table.
     scanner_table::fresh_tables_are_whole();
     numbers_are_below_the_next();
     slots_produce_as_themselves();
     answers_are_waited_for_in_time();
 }
 
-/// Each step keeps a table whole.
+/// A step from a whole table that gives an answer leads to a whole table. An event that is refused leaves the table as it
+/// is.
 pub fn steps_keep_tables_whole()
-    ensures { (t : ScannerTable) (event : Event) → IsWholeScanner t → IfOk (scanner_step t event) (λ next. IsWholeScanner next.1) }
+    ensures { (t : ScannerTable) (event : Event) →
+        IsWholeScanner t → IfOk (scanner_step t event) (λ next. IsWholeScanner next.1) }
 {
+    // The four parts of a whole table.
     scanner_table::steps_keep_tables_whole();
     numbers_are_below_the_next();
     slots_produce_as_themselves();
     answers_are_waited_for_in_time();
 }
 
-/// A table stays whole with a later counter for the next connection id, up to 16,777,216, where no id is left.
+/// A whole table stays whole with a later counter for the next connection id, up to 16,777,216, at which no id is left.
 pub fn later_counters_keep_tables_whole()
-    ensures { (t : ScannerTable) (counter : ℕ) → t.next_id ≤ counter → counter ≤ 16777216 → IsWholeScanner t → IsWholeScanner (record t { next_id = counter }) }
+    ensures { (t : ScannerTable) (counter : ℕ) → t.next_id ≤ counter → counter ≤ 16777216 →
+        IsWholeScanner t → IsWholeScanner (record t { next_id = counter }) }
 {}

@@ -1,4 +1,4 @@
--- What holds of ids holds of more: the ids of tables, frames and datagrams, where more pass the test.
+-- If each id that passes one test passes another, then the ids of tables, frames and datagrams do.
 use Rattle.std.proofs.Common.{ℕ, Bool, List, Option, Some, None, Result, Ok, Err}
 use Rattle.cip_types.specs.declared.names.ConnId.{ConnId}
 use Rattle.cip_datagram.specs.declared.datagram.DatagramFault.{DatagramFault}

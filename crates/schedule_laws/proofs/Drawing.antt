@@ -1,5 +1,5 @@
--- Every schedule keeps that no id stands anywhere that a device has still to draw; with it goes what is known of the opening
--- numbers of each adapter's connections.
+-- Every schedule keeps that no id which a device may still allocate is anywhere in the world; with it goes a test of the
+-- opening numbers of each adapter's connections.
 use Rattle.std.proofs.Common.{◌≡◌, ◌≤◌, inl, inr, ℕ, Bool, true, List, [], ◌∷◌, map, set, slice_get, Option, Some, None, Result, Ok, Err, IfOk, refl, sym, ◌∙◌, ap, subst, arith}
 use Rattle.std.specs.List.{AllByRecursion}
 use Rattle.cip_types.specs.declared.names.Node.{Node}
@@ -35,7 +35,7 @@ use Rattle.schedule_laws.proofs.Moves.{answered_holds, Came, Rests, Moves, act_m
 use Rattle.schedule_laws.proofs.Carrying.{More, frame_more, datagram_more, table_more, streams_more, event_more}
 use Rattle.schedule_laws.proofs.Tests.{any_set, drawn_parts, parts_drawn, set_cases, now_drawn, zero_drawn}
 
--- what is known of the steps of devices
+-- the laws of the steps of devices
 pub record StepLaws : Type 0 where
   pub carry : StepsCarryIds
   pub whole : RunsKeepWhole
@@ -43,7 +43,7 @@ pub record StepLaws : Type 0 where
   pub adapters : (profile : Profile) → StepsKeep (λ t. t.profile ≡ profile)
   pub scanners : StepsLead CountsOn
 
--- what is known of the opening numbers of each device
+-- a test of the opening numbers of each device
 abbrev pub Openings : Type 0
 Openings = ℕ → ℕ → Bool
 

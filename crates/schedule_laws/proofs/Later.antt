@@ -1,4 +1,4 @@
--- What begins after a moment accepts nothing that was sent by then.
+-- A connection that begins after a moment accepts nothing that was sent by then.
 use Rattle.std.proofs.Common.{◌≡◌, ◌≢◌, ◌≤◌, ◌<◌, inl, inr, ℕ, zero, suc, ◌+◌, ◌*◌, ◌^◌, ◌==◌, ◌&&◌, ◌||◌, nat_le, Bool, true, false, cond, List, [], ◌∷◌, length, set, slice_get, slice_index_or, find, Option, Some, None, Result, Ok, Err, IfOk, refl, sym, ◌∙◌, ap, subst, arith}
 use Rattle.std.specs.List.{AllByRecursion, Contains, list_any}
 use Rattle.std.proofs.lemmas.Bool.{and_parts}
@@ -52,13 +52,13 @@ each_contains P (y ∷ xs) x all there = contains_step P y xs x there.0 there.1 
 
 -- ---- what was sent
 
--- the id of a datagram that was sent is none that a device has still to draw
+-- the id of a datagram that was sent is none that a device may still allocate
 pub sent_id : (w : World) (s : Sent) (d : DatagramFields) → AllByRecursion (SentHolds (Passes (is_drawn w.tables))) w.sent → Contains w.sent s → datagram_reading s.bytes ≡ Ok d → Passes (is_drawn w.tables) d.connection
 sent_id w s d all there reads =
     let id = all_contains (SentHolds (Passes (is_drawn w.tables))) w.sent s all there in
     subst (ReadId (Passes (is_drawn w.tables))) reads id
 
--- so it is no id of this device with a counter from the next one on
+-- it is no id of this device with a counter from the next one on
 pub unsent : (w : World) (device : ℕ) (t : DeviceTable) (counter : ℕ) (s : Sent) (d : DatagramFields) → AllByRecursion (SentHolds (Passes (is_drawn w.tables))) w.sent → slice_get w.tables device ≡ Some t → next_id_of t ≤ counter → counter < 16777216 → Contains w.sent s → datagram_reading s.bytes ≡ Ok d → d.connection ≢ incarnation_of t * 16777216 + counter
 unsent w device t counter s d all at from below there reads is =
     let none = none_at d.connection w.tables device t (drawn_parts w.tables d.connection (sent_id w s d all there reads)).1 at in
@@ -74,7 +74,7 @@ abbrev opened_or_later : AdapterTable → ℕ → Bool → Bool
 opened_or_later t opening true = nat_le t.next_id opening || list_any (was_opened_as opening) t.rows
 opened_or_later t opening false = true
 
--- what is known of opening numbers from a moment on: they stood then, or are drawn later
+-- an opening number that was in the table at a moment, or was given later
 abbrev opened_from : ℕ → AdapterTable → Openings
 opened_from device t e opening = opened_or_later t opening (e == device)
 
@@ -125,7 +125,7 @@ found_passes p (first ∷ rows) row is = passes_step (p first) p first row (find
 
 -- ---- one device from a moment on
 
--- what each of its steps keeps
+-- a property that each of its steps keeps
 abbrev pub StepsKeepIt : (DeviceTable → Type 0) → Type 0
 StepsKeepIt R = (t : DeviceTable) (happens : Event) (a : Answer) (u : DeviceTable) → step t happens ≡ Ok (a, u) → IsWholeDevice t → IsWholeDevice u → R t → R u
 
@@ -158,7 +158,7 @@ runs_kept laws R keep q device was now acts ran kept =
     subst (λ (r : Result Story ActFault). IfOk r (Kept R q device)) ran
     (runs_keep (Kept R q device) (λ story act is. act_kept laws R keep q device story (happens story.world act) is (act_moves (FrameIds (Passes (is_drawn story.world.tables))) story.world act is.drawn.streams)) acts (Ok was) kept)
 
--- the byte of its ids stays
+-- its incarnation stays
 abbrev HasByte : ℕ → DeviceTable → Type 0
 HasByte byte t = incarnation_of t ≡ byte
 
@@ -169,7 +169,7 @@ byte_kept laws q device t u was now acts ran drawn at_was at_now =
 
 -- ---- the moment
 
--- as an earlier moment it has what the start has
+-- the earlier moment has the properties that the start has
 pub at_moment : StepLaws → (start : World) (was now : Story) → IdsAreDrawn start → Moments start was now → Drawn (λ device opening. true) was.world
 at_moment laws start was now ids moments = runs_drawn laws (λ device opening. true) (record { world = start; reported = [] }) was moments.early moments.first (all_drawn start ids)
 
@@ -209,7 +209,7 @@ mark_step true device e n t a x tables is at there table stands =
     or_right (nat_le t.next_id n) (list_any (was_opened_as n) t.rows) (subst (λ (y : AdapterTable). list_any (was_opened_as n) y.rows ≡ true) own stands)
 mark_step false device e n t a x tables is at there table stands = refl
 
--- from the moment on it is known of each connection whether it stood then
+-- from the moment on each connection was in the table then, or has a later number
 marked_moment : (device : ℕ) (t : AdapterTable) (w : World) → slice_get w.tables device ≡ Some (Adapter t) → Drawn (λ e opening. true) w → Drawn (opened_from device t) w
 marked_moment device t w at drawn = record {
   whole = drawn.whole;

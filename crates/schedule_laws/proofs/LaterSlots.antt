@@ -1,5 +1,5 @@
--- A point to point slot that is opened after a moment takes nothing that was sent by then; and a slot is established by
--- the reply to its own request alone.
+-- A point to point slot that opens after a moment receives nothing that was sent by then; and only the reply to its own
+-- request establishes a slot.
 use Rattle.std.proofs.Common.{◌≡◌, ◌≢◌, ◌≤◌, ℕ, suc, ◌+◌, ◌*◌, ◌^◌, ◌==◌, Bool, true, false, List, [], ◌∷◌, ◌++◌, Result, Ok, Err, refl, sym, ◌∙◌, ap, subst, arith}
 use Rattle.std.specs.List.{AllByRecursion}
 use Rattle.std.proofs.lemmas.Bool.{and_parts}
@@ -54,7 +54,7 @@ scanner_inside x y e = ap (λ (t : DeviceTable). scanner_or t) e where
   scanner_or (Scanner t) = t
   scanner_or (Adapter t) = x
 
--- where a scanner's device answers, its table's step is this
+-- if a scanner's device gives an answer, so does the step of its table
 stepped_so : (a : Answer) (v : ScannerTable) (said : Result ScannerNext StepFault) → as_scanner said ≡ Ok (a, Scanner v) → said ≡ Ok (a, v)
 stepped_so a v (Err fault) is = absurd (let e = is in cc)
 stepped_so a v (Ok n) is =
@@ -82,7 +82,7 @@ fits_from profile request first clock n (config ∷ configs) (slot ∷ slots) fi
     state_from profile request first clock desired_up (TimedOut link) is = tt
     state_from profile request first clock desired_up (Closing c) is = tt
 
--- what a scanner keeps from the moment on
+-- a property that a scanner keeps from the moment on
 abbrev GoesOn : ScannerProfile → ℕ → ℕ → DeviceTable → Type 0
 GoesOn profile request first (Scanner u) = (u.profile ≡ profile) × (first ≤ u.next_id) × SlotsFrom profile request first u
 GoesOn profile request first (Adapter a) = Unit {0}

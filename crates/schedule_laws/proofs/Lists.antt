@@ -1,4 +1,4 @@
--- Lists by their places, and what holds of each element.
+-- Lists by their indices, and properties of each element.
 use Rattle.std.proofs.Common.{◌≡◌, ◌≢◌, ℕ, zero, suc, List, [], ◌∷◌, ◌++◌, set, slice_get, Some, None, refl, ap, subst}
 use Rattle.std.specs.List.{AllByRecursion}
 

@@ -1,5 +1,5 @@
--- What one act does: nothing but to streams, or it is one event of one device, which the device answers. Of what waits
--- on streams the same holds after it.
+-- One act changes streams alone, or makes one event of one device, which the device answers. A property of all queued frames
+-- holds after it as before.
 use Rattle.std.proofs.Common.{◌≡◌, ℕ, Bool, true, false, cond, List, [], ◌∷◌, set, slice_get, Option, Some, None, Result, Ok, Err, IfOk, refl}
 use Rattle.std.specs.List.{AllByRecursion}
 use Rattle.cip_events.specs.declared.event.Answer.{Answer}
@@ -28,7 +28,7 @@ use Rattle.segment_world.specs.Story.{Story, goes_on, reports, runs}
 use Rattle.schedule_laws.specs.Ids.{ItemHolds, SideHolds, StreamHolds, StreamsHold}
 use Rattle.schedule_laws.proofs.Lists.{all_both, all_set, all_get}
 
--- WHAT WAITS
+-- QUEUED FRAMES
 
 changed_holds : (Q : List ℕ → Type 0) (change : Stream → Stream) → ((s : Stream) → StreamHolds Q s → StreamHolds Q (change s)) → (streams : List Stream) (n : ℕ) (found : Option Stream) → slice_get streams n ≡ found → StreamsHold Q streams → StreamsHold Q (changed change streams n found)
 changed_holds Q change keeps streams n None is all = all
@@ -59,7 +59,7 @@ side_holds : (Q : List ℕ → Type 0) (d : Direction) (s : Stream) → StreamHo
 side_holds Q Forth s all = all.forth
 side_holds Q Back s all = all.back
 
--- WHAT A DEVICE ANSWERS
+-- ANSWERS
 
 queued_holds : (Q : List ℕ → Type 0) (bytes : List ℕ) (side : Side) → Q bytes → SideHolds Q side → SideHolds Q (queued (Queued bytes) side)
 queued_holds Q bytes side holds all = all_both (ItemHolds Q) side.queue (Queued bytes ∷ []) all (holds, tt)
@@ -103,13 +103,13 @@ unfolding notices_applied
 notices_hold Q device streams [] all = all
 notices_hold Q device streams (reported ∷ notices) all = notices_hold Q device (notice_applied device streams reported) notices (notice_holds Q device streams reported all)
 
--- it holds of what waits after an answer, where it holds of the answer's frames
+-- the property holds of the queued frames after an answer, if it holds of the answer's frames
 pub answered_holds : (Q : List ℕ → Type 0) (device : ℕ) (answer : Answer) (streams : List Stream) → AllByRecursion (BytesHold Q) answer.frames → StreamsHold Q streams → StreamsHold Q (answered device answer streams)
 answered_holds Q device answer streams frames all = notices_hold Q device (frames_sent device streams answer.frames) answer.notices (frames_sent_hold Q device streams answer.frames frames all)
 
 -- AN ACT
 
--- an event in a world: a frame of which it holds, and no request but over a stream
+-- an event in a world: a frame of which the property holds, and no `Request`, which comes without a stream
 abbrev pub EventHolds : (List ℕ → Type 0) → Event → Type 0
 EventHolds Q (Request peer bytes) = ⊥
 EventHolds Q (StreamOpened stream peer) = Unit {0}
@@ -123,7 +123,7 @@ EventHolds Q (Mode run) = Unit {0}
 EventHolds Q (Start slot) = Unit {0}
 EventHolds Q (Stop slot) = Unit {0}
 
--- an event of a device, which answers it; the streams are those that the event leaves as it is taken
+-- an event of a device, which answers it; the streams are those without the received front
 pub record Came (Q : List ℕ → Type 0) (w : World) (reported : ReportedEvent) (new : World) : Type 0 where
   pub streams : List Stream
   pub before : DeviceTable
@@ -134,7 +134,7 @@ pub record Came (Q : List ℕ → Type 0) (w : World) (reported : ReportedEvent)
   pub queued : StreamsHold Q streams
   pub event : EventHolds Q reported.event
 
--- no event: streams alone are others
+-- no event: only streams change
 pub record Rests (Q : List ℕ → Type 0) (w : World) (new : World) : Type 0 where
   pub tables : new.tables ≡ w.tables
   pub sent : new.sent ≡ w.sent
@@ -208,7 +208,7 @@ act_moves Q w (CutStream stream) queued = cut_at_moves Q stream w (slice_get w.s
 
 -- A SCHEDULE
 
--- what each act keeps of a story
+-- a property of a story that each act keeps
 abbrev pub ActsKeep : (Story → Type 0) → Type 0
 ActsKeep I = (story : Story) (act : Act) → I story → IfOk (goes_on story.reported (happens story.world act)) I
 

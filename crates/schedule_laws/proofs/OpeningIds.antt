@@ -1,4 +1,4 @@
--- A world that begins from configurations with nothing wrong has no ids anywhere.
+-- A world that begins from configurations without a fault has no ids anywhere.
 use Rattle.std.proofs.Common.{◌≡◌, ◌≢◌, ◌≤◌, ℕ, zero, suc, ◌==◌, Bool, false, List, [], ◌∷◌, map, slice_get, Some, None, refl, sym, ◌∙◌, ap, subst, arith}
 use Rattle.std.specs.List.{AllByRecursion, list_any}
 use Rattle.std.proofs.lemmas.Bool.{or_parts}
@@ -46,7 +46,7 @@ ends_all (made ∷ configs) (suc device) t bytes at = ends_all configs device t 
 other_key : (n m : ℕ) → (n == m) ≡ false → n ≢ m
 other_key n m is = grind (arith, nat_tests)
 
--- no later configuration has the byte of this one
+-- no later configuration has the incarnation of this one
 none_later : (made : Config) (configs : List Config) (device : ℕ) (t : DeviceTable) → list_any (λ other. key_in Incarnation other == key_in Incarnation made) configs ≡ false → slice_get (map opening_table configs) device ≡ Some t → incarnation_of t ≢ incarnation_of (opening_table made)
 none_later made [] device t none at = absurd (let e = at in cc)
 none_later made (other ∷ configs) zero t none at =

@@ -1,4 +1,4 @@
--- A world that begins from configurations with nothing wrong has whole tables.
+-- A world that begins from configurations without a fault has whole tables.
 use Rattle.std.proofs.Common.{◌≡◌, ℕ, zero, suc, Bool, true, false, cond, List, [], ◌∷◌, map, slice_get, Option, Some, None, refl, subst}
 use Rattle.cip_events.specs.declared.profile_fault.ProfileFault.{ProfileFault}
 use Rattle.cip_tables.specs.declared.table.Config.{Config}
@@ -15,7 +15,7 @@ no_fault : (wrong : Option ProfileFault) → profile_fault_of wrong ≡ None →
 no_fault None is = refl
 no_fault (Some fault) is = absurd (let e = is in cc)
 
--- nothing is wrong with keys and profiles
+-- keys are distinct, and profiles have no fault
 pub record Faultless (configs : List Config) : Type 0 where
   pub incarnations : any_twice Incarnation configs ≡ false
   pub profiles : first_fault configs ≡ None

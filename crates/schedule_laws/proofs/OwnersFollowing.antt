@@ -32,9 +32,9 @@ use Rattle.schedule_laws.specs.Owners.{Brings, Ends, EndsWithin, EndsBetween, Ow
 use Rattle.schedule_laws.proofs.Reporting.{Answers, AnswersIf, Reports, led_both, reports_rest, reports_first, is_run, is_performed, outcomes_of, same_slot, story_leads}
 use Rattle.schedule_laws.proofs.Openings.{faultless, opens_whole}
 
--- TURNS OF WHAT WAS TOLD
+-- TURNS OF REPORTED EVENTS
 
--- what an event tells of the output, where it is the device's
+-- the turns of an event, if it is the device's
 abbrev turns_if : Bool → ℕ → DeviceTable → ReportedEvent → List Turn
 turns_if true point t x = turns_at point t x.event
 turns_if false point t x = []
@@ -63,7 +63,7 @@ turns_both point t device (x ∷ first) rest =
     ap (λ (l : List Turn). turns_if (is_of device x) point t x ++ l) (turns_both point (led_by (is_of device x) t x) device first rest)
     ∙ sym (append_assoc (turns_if (is_of device x) point t x) (turns_reported point (led_by (is_of device x) t x) device first) (turns_reported point (led_to (led_by (is_of device x) t x) device first) device rest))
 
--- A DATAGRAM TELLS NO END
+-- A DATAGRAM ENDS NO CONNECTION
 
 quiet_found : (t : AdapterTable) (peer : Node) (d : DatagramFields) (found : Option Row) → (found_datagram t peer d found).0.notices ≡ []
 quiet_found t peer d None = refl
@@ -89,7 +89,7 @@ ok_inside x y e = cc
 answer_same : (a b : Answer) (x y : DeviceTable) → ok_is (a, x) ≡ ok_is (b, y) → a ≡ b
 answer_same a b x y is = ap (λ (p : DeviceNext). p.0) (ok_inside (a, x) (b, y) is)
 
--- so data that it brings are all that it tells
+-- so its data are its only turn
 alone : (point : ℕ) (t : AdapterTable) (event : Event) (opening : ℕ) → brought_at point t event ≡ brought opening ∷ [] → turns_at point (Adapter t) event ≡ brought opening ∷ []
 unfolding received
 alone point t (Datagram peer bytes) opening is =
@@ -107,7 +107,7 @@ brings_turn point t device opening x adapter own there brings =
     ∙ ap (λ (y : DeviceTable). turns_at point y x.event) there
     ∙ alone point adapter x.event opening brings
 
--- WHERE AN END IS TOLD
+-- REPORTED ENDS
 
 nothing_there : {X Y : Type 0} (x : X) → Contains [] x → Y
 nothing_there x there = absurd (omega (arith, there.1))
@@ -133,7 +133,7 @@ brought_no_end : (point : ℕ) (t : AdapterTable) (event : Event) (opening : ℕ
 brought_no_end point t (Datagram peer bytes) opening there = read_no_end point t peer opening (datagram_reading bytes) there
 brought_no_end point t event opening there = nothing_there (ended opening) there
 
--- an end that is told is the answer's
+-- a reported end is one of the answer
 reported_end : (point : ℕ) (t : AdapterTable) (x : ReportedEvent) (opening : ℕ) (next : DeviceTable) (said : Result Next StepFault) → as_adapter said ≡ Ok (x.answer, next) → Contains (reported point t x.event said) (ended opening) → Contains (ended_at point t.rows x.answer.notices) (ended opening)
 reported_end point t x opening next (Err fault) is there = nothing_there (ended opening) there
 reported_end point t x opening next (Ok n) is there =
@@ -149,7 +149,7 @@ device_end point (Adapter adapter) x device opening own answers there =
     record { own = own; adapter = adapter; there = refl; ends = reported_end point adapter x opening answers.next (adapter_step adapter x.event) answers.is there }
 device_end point (Scanner scanner) x device opening own answers there = nothing_there (ended opening) there
 
--- where it stands among what was told
+-- its index among the reported events
 record Located (t : DeviceTable) (device point opening : ℕ) (xs : List ReportedEvent) : Type 0 where
   front : List ReportedEvent
   last : ReportedEvent
@@ -183,7 +183,7 @@ locate point opening t device (x ∷ rest) reports there =
 
 -- THE LAW
 
--- the turns of a story between whose parts two datagrams stand
+-- the turns of a story with two datagrams between its parts
 parted : (point : ℕ) (t : DeviceTable) (device a b : ℕ) (before middle after : List ReportedEvent) (first second : ReportedEvent) → Brings t device point a before first → Brings t device point b (before ++ first ∷ middle) second → turns_reported point t device (before ++ first ∷ (middle ++ second ∷ after)) ≡ turns_reported point t device before ++ brought a ∷ (turns_reported point (led_to t device (before ++ first ∷ [])) device middle ++ brought b ∷ turns_reported point (led_to t device (before ++ first ∷ (middle ++ second ∷ []))) device after)
 parted point t device a b before middle after first second one other =
     let t1 = led_to t device before in

@@ -1,4 +1,4 @@
--- What a schedule tells of a device is a run of that device.
+-- The events that a schedule reports of a device make a run of that device.
 use Rattle.std.proofs.Common.{◌≡◌, ◌≢◌, ℕ, ◌==◌, Bool, true, false, cond, List, [], ◌∷◌, ◌++◌, map, filter, set, slice_get, Option, Some, None, Result, Ok, Err, IfOk, refl, sym, ◌∙◌, ap, subst, arith}
 use Rattle.std.specs.List.{AllByRecursion}
 use Rattle.std.proofs.lemmas.Bool.Decides.{nat_tests}
@@ -18,7 +18,7 @@ use Rattle.schedule_laws.proofs.Lists.{set_own, set_other}
 use Rattle.schedule_laws.specs.Ids.{ItemHolds, StreamsHold}
 use Rattle.schedule_laws.proofs.Moves.{Came, Moves, act_moves, runs_keep}
 
--- the event, where it is the device's, was answered as its step says
+-- the event, if it is the device's, was answered as its step says
 pub record Answers (t : DeviceTable) (reported : ReportedEvent) : Type 0 where
   pub next : DeviceTable
   pub is : step t reported.event ≡ Ok (reported.answer, next)
@@ -88,7 +88,7 @@ is_performed device (first ∷ rest) =
 
 -- STORIES
 
--- what was told of the device is such a run, and led to its table
+-- the reported events of the device make such a run, which leads to its table
 pub record Leads (t : DeviceTable) (device : ℕ) (story : Story) : Type 0 where
   pub reports : Reports t device story.reported
   pub now : slice_get story.world.tables device ≡ Some (led_to t device story.reported)

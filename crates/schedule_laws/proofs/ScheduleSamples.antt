@@ -1,4 +1,4 @@
--- Ids that are still to come, and what a schedule tells of one device: samples, by hand.
+-- Samples of ids that are still to come, and of one device in a story, written by hand.
 use Rattle.std.proofs.Common.{◌≡◌, ℕ, true, false, List, [], ◌∷◌, refl, arith}
 use Rattle.cip_datagram.specs.Reading.{datagram_reading}
 use Rattle.cip_epath.specs.Reading as paths
@@ -31,7 +31,7 @@ use Rattle.schedule_laws.specs.Owners.{Brings, Ends}
 
 -- ---- ids
 
--- of an adapter with the byte 0x10 whose next counter is 1
+-- ids of an adapter with incarnation 0x10 whose next counter is 1
 some_are_to_come :
     is_to_come 0x10000001 (fresh common) ∷ is_to_come 0x10FFFFFF (fresh common) ∷ is_to_come 0x10000000 (fresh common) ∷ is_to_come 0x11000000 (fresh common)
     ∷ is_to_come 0x0FFFFFFF (fresh common) ∷ []
@@ -43,7 +43,7 @@ others_are_drawn :
     ≡ true ∷ true ∷ false ∷ false ∷ []
 others_are_drawn = refl
 
--- ---- what is told
+-- ---- reported events
 
 abbrev happened : ℕ → Event → ReportedEvent
 happened device event = record { device = device; event = event; answer = plain_answer Done }

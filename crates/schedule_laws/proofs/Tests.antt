@@ -1,4 +1,4 @@
--- Which ids a device has still to draw, and which none has.
+-- The tests of ids: which ids a device may still allocate, and which no device may.
 use Rattle.std.proofs.Common.{◌≡◌, ◌≢◌, ◌≤◌, ◌<◌, ◌⊎◌, inl, inr, ℕ, zero, suc, ◌+◌, ◌*◌, ◌^◌, ◌==◌, ◌&&◌, not, nat_le, nat_lt, Bool, true, false, List, [], ◌∷◌, set, slice_get, Some, refl, sym, ◌∙◌, ap, subst, arith}
 use Rattle.std.specs.List.{list_any}
 use Rattle.std.proofs.lemmas.Bool.{and_parts, or_parts}
@@ -48,7 +48,7 @@ comes_so id t is =
 pub so_comes : (id : ℕ) (t : DeviceTable) → Comes id (incarnation_of t) (next_id_of t) → is_to_come id t ≡ true
 so_comes id t c = and_true _ _ (is_le (incarnation_of t * 2 ^ 24 + next_id_of t) id c.from) (is_lt id ((incarnation_of t + 1) * 2 ^ 24) c.below)
 
--- the next table of a device has no more to come
+-- the next table of a device has no more ids to come
 pub comes_less : (id : ℕ) (t u : DeviceTable) → incarnation_of u ≡ incarnation_of t → next_id_of t ≤ next_id_of u → is_to_come id t ≡ false → is_to_come id u ≡ false
 comes_less id t u same counts none =
     false_unless (is_to_come id u) (λ is.
@@ -114,7 +114,7 @@ set_step false tables device e t u x is at there =
 pub set_cases : (tables : List DeviceTable) (device e : ℕ) (t u x : DeviceTable) → slice_get tables device ≡ Some t → slice_get (set tables device u) e ≡ Some x → ((e ≡ device) × (x ≡ u)) ⊎ ((e ≢ device) × (slice_get tables e ≡ Some x))
 set_cases tables device e t u x at there = set_step (e == device) tables device e t u x refl at there
 
--- ---- ids that are drawn now
+-- ---- ids allocated now
 
 not_own : (id : ℕ) (u : DeviceTable) (counter : ℕ) → id ≡ incarnation_of u * 16777216 + counter → counter < next_id_of u → is_to_come id u ≡ false
 not_own id u counter is below = false_unless (is_to_come id u) (λ come. let c = comes_so id u come in omega (arith, is, below, c.from))

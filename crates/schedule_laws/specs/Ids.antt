@@ -1,6 +1,5 @@
--- Connection ids in every schedule of many devices: none stands anywhere that a device has still to draw. So an id names
--- what it was drawn for, and a connection accepts nothing that was sent before its id was drawn (Volume 1, chapter 3,
--- network connection ids).
+-- Connection ids in every schedule of many devices: no id that a device may still allocate is anywhere in the world. So a
+-- connection accepts nothing that was sent before its id was allocated (Volume 1, chapter 3, network connection ids).
 use Rattle.std.specs.Prelude.{ℕ, ◌≡◌, ◌≢◌, ◌+◌, ◌*◌, ◌^◌, ◌<◌, ◌≤◌, ◌&&◌, not, nat_lt, nat_le, Bool, true, false, List, [], ◌∷◌, ◌++◌, slice_get, Some, None, Ok}
 use Rattle.std.specs.List.{AllByRecursion, Contains, list_any}
 use Rattle.cip_datagram.specs.Datagram.{DatagramFields}
@@ -33,23 +32,23 @@ use Rattle.schedule_laws.specs.Stories.{led_to}
 
 -- IDS TO COME
 
--- the device has still to draw the id: it begins with the device's byte, and its counter is the next one or a later one
+-- the device may still allocate the id: the id has the device's incarnation, and the next counter or a later one
 abbrev pub is_to_come : ℕ → DeviceTable → Bool
 is_to_come id t = nat_le (incarnation_of t * 2 ^ 24 + next_id_of t) id && nat_lt id ((incarnation_of t + 1) * 2 ^ 24)
 
--- an id of 32 bits that no device has still to draw
+-- the id has 32 bits, and no device may still allocate it
 abbrev pub is_drawn : List DeviceTable → ℕ → Bool
 is_drawn tables id = nat_lt id (2 ^ 32) && not (list_any (is_to_come id) tables)
 
--- the devices' ids begin with bytes that are not 0 and differ
+-- the incarnations of the devices are bytes that are not 0 and differ
 pub record AreApart (tables : List DeviceTable) : Type 0 where
   pub begins : (device : ℕ) (t : DeviceTable) → slice_get tables device ≡ Some t → 1 ≤ incarnation_of t
   pub ends : (device : ℕ) (t : DeviceTable) → slice_get tables device ≡ Some t → incarnation_of t ≤ 255
   pub differ : (a b : ℕ) (t u : DeviceTable) → slice_get tables a ≡ Some t → slice_get tables b ≡ Some u → incarnation_of t ≡ incarnation_of u → a ≡ b
 
--- WHERE IDS STAND
+-- FRAMES AND DATAGRAMS
 
--- it holds of each frame that waits
+-- the property holds of the frame, if the item is one
 abbrev pub ItemHolds : (List ℕ → Type 0) → QueueItem → Type 0
 ItemHolds Q Opening = Unit {0}
 ItemHolds Q (Queued bytes) = Q bytes
@@ -71,7 +70,7 @@ SentHolds P sent = DatagramId P sent.bytes
 abbrev pub any_opening : ℕ → Bool
 any_opening opening = true
 
--- In the world of whole devices no id stands anywhere that a device has still to draw: in no table, in no datagram that was
+-- All devices have whole tables, and no id that a device may still allocate is anywhere: in no table, in no datagram that was
 -- ever sent, and in no frame that waits on a stream, whether it is read as a request or as a reply.
 pub record IdsAreDrawn (w : World) : Type 0 where
   pub whole : (device : ℕ) (t : DeviceTable) → slice_get w.tables device ≡ Some t → IsWholeDevice t
@@ -80,20 +79,20 @@ pub record IdsAreDrawn (w : World) : Type 0 where
   pub sent : AllByRecursion (SentHolds (Passes (is_drawn w.tables))) w.sent
   pub streams : StreamsHold (FrameIds (Passes (is_drawn w.tables))) w.streams
 
--- every schedule keeps that
+-- every schedule keeps it
 abbrev pub SchedulesKeepIdsDrawn : Type 0
 SchedulesKeepIdsDrawn =
     (start : World) (acts : List Act) (story : Story) → runs (begins start) acts ≡ Ok story → IdsAreDrawn start → IdsAreDrawn story.world
 
--- in the program an incarnation is a byte
+-- each incarnation is a byte, as it is in the program
 abbrev pub AreBytes : List Config → Type 0
 AreBytes configs = AllByRecursion (λ config. incarnation_of (opening_table config) ≤ 255) configs
 
--- and a world has it that begins from configurations with nothing wrong
+-- it holds of a world that begins from configurations without a fault
 abbrev pub OpeningWorldsHaveIdsDrawn : Type 0
 OpeningWorldsHaveIdsDrawn = (configs : List Config) → world_fault configs ≡ None → AreBytes configs → IdsAreDrawn (opening_world configs)
 
--- WHAT WAS SENT BEFORE
+-- LATER CONNECTIONS
 
 -- Two moments of one schedule: the acts of the first part lead from the start to the earlier one, those of the rest to the
 -- later one.
@@ -103,15 +102,15 @@ pub record Moments (start : World) (was now : Story) : Type 0 where
   pub first : runs (begins start) early ≡ Ok was
   pub rest : runs (Ok was) late ≡ Ok now
 
--- the ids that a device has still to draw at a moment are on no datagram that was sent by then
+-- an id that a device may still allocate is on no datagram that was ever sent
 abbrev pub IdsToComeAreUnsent : Type 0
 IdsToComeAreUnsent =
     (w : World) (device : ℕ) (t : DeviceTable) (counter : ℕ) (s : Sent) (d : DatagramFields) →
     IdsAreDrawn w → slice_get w.tables device ≡ Some t → next_id_of t ≤ counter → counter < 2 ^ 24 →
     Contains w.sent s → datagram_reading s.bytes ≡ Ok d → d.connection ≢ incarnation_of t * 2 ^ 24 + counter
 
--- A connection that an adapter took after a moment, that is, which did not stand there then, accepts no datagram that was
--- sent by then, from whomever and however late it is delivered.
+-- A connection of an adapter that was not in its table at the earlier moment accepts no datagram that was sent by then,
+-- from whichever sender and however late it is delivered.
 abbrev pub LaterConnectionsAcceptNoneOfIt : Type 0
 LaterConnectionsAcceptNoneOfIt =
     (start : World) (was now : Story) (device opening : ℕ) (t u : AdapterTable) (s : Sent) →
@@ -120,8 +119,8 @@ LaterConnectionsAcceptNoneOfIt =
     list_any (was_opened_as opening) t.rows ≡ false → Contains was.world.sent s →
     accepted_at opening u (Datagram s.from s.bytes) ≡ []
 
--- The same of a slot of a scanner whose point to point connection it asked for after the moment: no datagram that was sent
--- by then is for it.
+-- No datagram that was sent by the earlier moment is for an established point to point slot of a scanner whose request was
+-- numbered after it.
 abbrev pub LaterSlotsTakeNoneOfIt : Type 0
 LaterSlotsTakeNoneOfIt =
     (start : World) (was now : Story) (device : ℕ) (t u : ScannerTable) (indexed : IndexedSlot) (c : Connection) (s : Sent) (d : DatagramFields) →
@@ -131,8 +130,8 @@ LaterSlotsTakeNoneOfIt =
     Contains was.world.sent s → datagram_reading s.bytes ≡ Ok d →
     is_for s.from d.connection indexed ≡ false
 
--- A group of multicast connections that began after the moment, by the number of its producer, has a T->O id that is on no
--- datagram sent by then: who joins it accepts what the group sent before, and nothing of a producer before it.
+-- The T->O id of a multicast connection whose producer was numbered after the earlier moment is on no datagram sent by then.
+-- A connection that joins an older group accepts what the group sent before, and nothing of an earlier producer.
 abbrev pub LaterGroupsSentNoneOfIt : Type 0
 LaterGroupsSentNoneOfIt =
     (start : World) (was now : Story) (device : ℕ) (t u : AdapterTable) (row : Row) (s : Sent) (d : DatagramFields) →
@@ -144,9 +143,9 @@ LaterGroupsSentNoneOfIt =
 
 -- REPLIES
 
--- In the story of every schedule a slot of a scanner that is established after an event was so by the same opening before it,
--- or waited for the answer to it, and the event is the success that answers the request of its number. So a reply that is
--- taken late belongs to the earlier opening.
+-- In the story of every schedule, a slot of a scanner that is established after an event was established by the same opening
+-- before it, or waited for that opening, and the event is its successful reply. So a late reply never establishes a later
+-- opening.
 abbrev pub RepliesEstablishTheirOwn : Type 0
 RepliesEstablishTheirOwn =
     (start : World) (acts : List Act) (story : Story) (device : ℕ) (t : DeviceTable) (u v : ScannerTable) (before after : List ReportedEvent) (reported : ReportedEvent) →

@@ -16,7 +16,7 @@ use Rattle.segment_world.specs.Story.{Story, runs, begins}
 use Rattle.segment_world.specs.Configs.{opening_world, world_fault}
 use Rattle.schedule_laws.specs.Stories.{led_to}
 
--- what was told is an event of the device, after the events before it: a datagram whose data were applied to the output
+-- the reported event is one of the device, after the events before it: a datagram whose data were applied to the output
 -- through the connection of this opening number
 pub record Brings (t : DeviceTable) (device point opening : ℕ) (before : List ReportedEvent) (reported : ReportedEvent) : Type 0 where
   pub own : reported.device ≡ device
@@ -24,15 +24,15 @@ pub record Brings (t : DeviceTable) (device point opening : ℕ) (before : List 
   pub there : led_to t device before ≡ Adapter adapter
   pub brings : brought_at point adapter reported.event ≡ brought opening ∷ []
 
--- what was told is an event of the device, after the events before it, whose answer tells that the connection of this
--- opening number, the owner of the output, was closed or timed out
+-- the reported event is one of the device, after the events before it; a notice of its answer reports that the connection of
+-- this opening number, the owner of the output, was closed or timed out
 pub record Ends (t : DeviceTable) (device point opening : ℕ) (before : List ReportedEvent) (reported : ReportedEvent) : Type 0 where
   pub own : reported.device ≡ device
   pub adapter : AdapterTable
   pub there : led_to t device before ≡ Adapter adapter
   pub ends : Contains (ended_at point adapter.rows reported.answer.notices) (ended opening)
 
--- such an end stands among what was told in the middle
+-- such an end is among the events reported in the middle
 pub record EndsWithin (t : DeviceTable) (device point opening : ℕ) (before middle : List ReportedEvent) : Type 0 where
   pub front : List ReportedEvent
   pub last : ReportedEvent
@@ -40,7 +40,7 @@ pub record EndsWithin (t : DeviceTable) (device point opening : ℕ) (before mid
   pub parts : middle ≡ front ++ last ∷ back
   pub ends : Ends t device point opening (before ++ front) last
 
--- between data of two connections stands the end of the first, in what was told from this table of the device on
+-- between data of two connections the first one ends, in the events reported from this table of the device on
 abbrev pub EndsBetween : DeviceTable → ℕ → List ReportedEvent → Type 0
 EndsBetween t device reported =
     (point a b : ℕ) (before middle after : List ReportedEvent) (first second : ReportedEvent) →
@@ -48,14 +48,14 @@ EndsBetween t device reported =
     Brings t device point a before first → Brings t device point b (before ++ first ∷ middle) second → a ≢ b →
     EndsWithin t device point a (before ++ first ∷ []) middle
 
--- so it is in the story of every schedule, of each device whose table is whole as the schedule begins
+-- it holds in the story of every schedule, of each device whose table is whole when the schedule begins
 abbrev pub OwnersFollow : Type 0
 OwnersFollow =
     (start : World) (acts : List Act) (story : Story) (device : ℕ) (t : DeviceTable) →
     runs (begins start) acts ≡ Ok story → slice_get start.tables device ≡ Some t → IsWholeDevice t →
     EndsBetween t device story.reported
 
--- and so of each device of a world that begins from configurations with nothing wrong
+-- it holds of each device of a world that begins from configurations without a fault
 abbrev pub OpenedOwnersFollow : Type 0
 OpenedOwnersFollow =
     (configs : List Config) (acts : List Act) (story : Story) (device : ℕ) (t : DeviceTable) →

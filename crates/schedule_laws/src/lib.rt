@@ -1,5 +1,5 @@
-//! What holds of every schedule of many devices, whatever the order in which the network delivers, over the definitions
-//! alone. Each call does nothing: its contract is the law.
+//! Laws of every schedule of acts on a simulated network of many devices, in whatever order the acts deliver datagrams
+//! and frames. A law call does nothing; its contract states the law, over the definitions of `segment_world` alone.
 #![tactic(auto)]
 
 ghost use Rattle.schedule_laws.specs.Owners.{OwnersFollow, OpenedOwnersFollow};
@@ -14,27 +14,35 @@ use device_laws::{
 use scanner_laws::counters_never_fall;
 
 /// Between data of two connections that were applied to one output of an adapter, the first connection was closed or
-/// timed out at that adapter. So it is in every schedule from a world in which the adapter's table is whole, as it is in
-/// one that begins from configurations with nothing wrong.
+/// timed out at that adapter.
+///
+/// - `follow`: in every schedule, for each device whose table is whole when the schedule begins.
+/// - `opened`: in every schedule of a world that begins from configurations without a fault, for each of its devices.
 ///
 /// Volume 1, chapter 3, application connection types.
 pub fn owners_follow_one_another()
     ensures follow { OwnersFollow }
     ensures opened { OpenedOwnersFollow }
 {
+    // The events of one device make a run of it, so the law of runs applies; fresh devices have whole tables.
     owners_of_runs();
     tables::tables_are_whole();
 }
 
-/// In every schedule no connection id stands anywhere that a device has still to draw: in no table, in no datagram that was
-/// ever sent, and in no frame that waits on a stream. So it is from the beginning in a world of configurations with nothing
-/// wrong, whose incarnations are bytes.
+/// No connection id that a device may still allocate is anywhere in the world: in no table, in no datagram that was ever
+/// sent, and in no frame that waits on a stream. The tables are whole, and the incarnations are bytes that are not 0 and
+/// differ.
+///
+/// - `schedule`: if it holds of a world, it holds after every schedule from that world.
+/// - `opened`: it holds of a world that begins from configurations without a fault, whose incarnations are bytes.
 ///
 /// Volume 1, chapter 3, network connection ids.
 pub fn ids_are_drawn()
     ensures schedule { SchedulesKeepIdsDrawn }
     ensures opened { OpeningWorldsHaveIdsDrawn }
 {
+    // A step carries ids or allocates the next ones, keeps tables whole, and moves the counter only forward; the
+    // profile, and with it the incarnation, stays.
     ids_are_carried();
     tables::tables_are_whole();
     tables::next_id_never_falls();
@@ -42,9 +50,18 @@ pub fn ids_are_drawn()
     counters_never_fall();
 }
 
-/// An id names one producer for good: what begins after a moment accepts no datagram that was sent by then. So it is of
-/// connections that an adapter takes, of point to point connections that a scanner asks for, and of groups of multicast
-/// connections; who joins a group accepts what the group sent before.
+/// A connection that begins after a moment accepts no datagram that was sent by then, however late the network delivers
+/// it. The laws hold of two moments of one schedule from a world of which `ids_are_drawn` holds.
+///
+/// - `unsent`: an id that a device may still allocate is on no datagram that was ever sent.
+/// - `connections`: a connection of an adapter that was not in the table at the earlier moment accepts no datagram that
+///   was sent by then.
+/// - `slots`: no datagram that was sent by then is for an established point to point slot of a scanner whose opening
+///   began after the earlier moment.
+/// - `groups`: the T->O id of a multicast connection whose producer began after the earlier moment is on no datagram
+///   that was sent by then.
+///
+/// A connection that joins an older group accepts what the group sent before.
 ///
 /// Volume 1, chapter 3, network connection ids; Volume 2, chapter 3, multicast connections.
 pub fn later_connections_accept_nothing_sent_before()
@@ -53,6 +70,7 @@ pub fn later_connections_accept_nothing_sent_before()
     ensures slots { LaterSlotsTakeNoneOfIt }
     ensures groups { LaterGroupsSentNoneOfIt }
 {
+    // The same laws of steps as for `ids_are_drawn`; later openings of a scanner have later ids.
     ids_are_carried();
     ids_are_drawn_with_openings();
     tables::tables_are_whole();
@@ -61,13 +79,16 @@ pub fn later_connections_accept_nothing_sent_before()
     counters_never_fall();
 }
 
-/// A reply that is taken late belongs to the earlier opening: in every schedule a slot of a scanner becomes established only
-/// by the success that comes from its target and answers the request of its own present opening.
+/// A late reply never establishes a later opening. In every schedule, a slot of a scanner becomes established only by the
+/// successful reply that comes from its target and answers the request that the slot waits for.
+///
+/// The law holds of each scanner whose table is whole when the schedule begins.
 ///
 /// Volume 1, chapter 3, Forward_Open service; Volume 2, chapter 2, sender context.
 pub fn replies_establish_their_own_slot()
     ensures { RepliesEstablishTheirOwn }
 {
+    // The law of steps applies to each event of the device, since a run keeps its table whole.
     replies_of_steps();
     tables::tables_are_whole();
 }
