@@ -15,6 +15,7 @@ use Rattle.cip_epath.specs.Path.{PathFields}
 use Rattle.cip_epath.specs.Written.{path_text, target_text}
 use Rattle.cip_fwdopen.specs.Open.{OpenFields, open_text}
 use Rattle.cip_fwdopen.specs.Close.{CloseFields, close_text}
+use Rattle.cip_fwdopen.specs.Services.{forward_close, forward_open, large_forward_open}
 use Rattle.cip_encap.specs.Message.{MessageFields, message_text}
 use Rattle.cip_encap.specs.Packet.{packet_text}
 use Rattle.cip_events.specs.declared.event.Frame.{Frame}
@@ -134,9 +135,9 @@ abbrev pub manager_text : ℕ → List ℕ → List ℕ
 manager_text service body = service ∷ length (target_text manager) / 2 ∷ target_text manager ++ body
 
 abbrev pub open_service : Bool → ℕ
-open_service large = if large then 0x5B else 0x54
+open_service large = if large then large_forward_open else forward_open
 
--- the command of a request's message
+-- the command of a request's message: RegisterSession, or SendRRData
 abbrev pub request_command : Request → ℕ
 request_command registering = 0x0065
 request_command (opening large fields) = 0x006F
@@ -146,7 +147,7 @@ request_command (closing fields) = 0x006F
 abbrev pub request_data : Request → List ℕ
 request_data registering = protocol_text
 request_data (opening large fields) = packet_text (manager_text (open_service large) (open_text large fields)) None
-request_data (closing fields) = packet_text (manager_text 0x4E (close_text fields)) None
+request_data (closing fields) = packet_text (manager_text forward_close (close_text fields)) None
 
 -- the number of the request is its sender context, which the reply repeats
 abbrev pub sent_message : Sent → MessageFields

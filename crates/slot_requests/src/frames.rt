@@ -13,24 +13,16 @@ ghost use Rattle.slot_requests.specs.Requests.{manager_frame};
 
 use crate::paths::write_slot_path;
 use crate::sizes::{is_large, o_t_params, t_o_params};
+use cip_encap::command::{REGISTER_SESSION, SEND_RR_DATA};
 use cip_encap::{MessageView, write_items, write_message};
 use cip_events::{Frame, Recipient};
+use cip_fwdopen::service::{FORWARD_CLOSE, FORWARD_OPEN, LARGE_FORWARD_OPEN};
 use cip_fwdopen::{CloseRequest, OpenRequest, write_close, write_open};
 use cip_types::fields::put_bytes;
 use cip_types::{ConnId, Items, OutOfMemory, Triad};
 use conn_state::Requested;
 use scanner_table::{Session, SlotConfig};
 use std::alloc::Global;
-
-/// The command that registers a session.
-///
-/// Volume 2, chapter 2, RegisterSession.
-pub const REGISTER_SESSION: u16 = 0x0065;
-
-/// The command that carries a request outside connections, and its reply.
-///
-/// Volume 2, chapter 2, SendRRData.
-pub const SEND_RR_DATA: u16 = 0x006F;
 
 /// Protocol version 1, without option flags.
 const PROTOCOL: [u8; 4] = [1, 0, 0, 0];
@@ -39,9 +31,6 @@ const PROTOCOL: [u8; 4] = [1, 0, 0, 0];
 const PRIORITY_TICK: u8 = 0x0A;
 
 const TICKS: u8 = 0x0E;
-
-/// The service of a Forward_Close.
-const CLOSE: u8 = 0x4E;
 
 /// The frame with a message on a stream.
 fn message_frame(
@@ -112,7 +101,11 @@ fn manager_frame(
 fn open_service(large: bool) -> u8
     ensures { result ≡ open_service large }
 {
-    if large { 0x5B } else { 0x54 }
+    if large {
+        LARGE_FORWARD_OPEN
+    } else {
+        FORWARD_OPEN
+    }
 }
 
 fn id_or_zero(id: Option<ConnId>) -> ConnId
@@ -207,5 +200,5 @@ pub fn close_frame(
     ensures { IfOk result (λ frame. frame ≡ sent_frame (numbered session number (closing (close_fields config.now triad)))) }
 {
     let body = close_body(alloc, config, triad)?;
-    manager_frame(alloc, session, number, CLOSE, &body)
+    manager_frame(alloc, session, number, FORWARD_CLOSE, &body)
 }

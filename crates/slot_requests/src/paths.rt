@@ -7,13 +7,11 @@ ghost use Rattle.cip_epath.specs.Written.{path_text};
 ghost use Rattle.scanner_table.specs.Requests.{inhibit_of, segment_of, slot_path};
 ghost use Rattle.scanner_table.specs.Profiles.{has_lengths};
 
+use cip_epath::class::ASSEMBLY;
 use cip_epath::{ConnPath, write_path};
 use cip_types::OutOfMemory;
 use scanner_table::SlotConfig;
 use std::alloc::Global;
-
-/// Assembly, the class of a slot's points.
-const ASSEMBLY: u32 = 4;
 
 fn inhibit_of(inhibit: u8) -> Option<u8>
     ensures { result ≡ inhibit_of inhibit }

@@ -6,16 +6,21 @@ ghost use Rattle.cip_fwdopen.specs.Reply.{opened_service};
 ghost use Rattle.scanner_table.specs.Encapsulation.{is_registered};
 ghost use Rattle.scanner_table.specs.Replies.{open_answer};
 
-use crate::frames::{REGISTER_SESSION, SEND_RR_DATA};
+use cip_encap::command::{REGISTER_SESSION, SEND_RR_DATA};
 use cip_encap::{MessageView, read_items};
 use cip_events::Reason;
+use cip_fwdopen::service::{FORWARD_OPEN, LARGE_FORWARD_OPEN, REPLY};
 use cip_fwdopen::{OpenAnswer, read_open_reply};
 
 /// The service byte of a success.
 fn opened_service(large: bool) -> u8
     ensures { result ≡ opened_service large }
 {
-    if large { 0xDB } else { 0xD4 }
+    if large {
+        LARGE_FORWARD_OPEN | REPLY
+    } else {
+        FORWARD_OPEN | REPLY
+    }
 }
 
 /// What a message answers to a Forward_Open, or to a Large_Forward_Open.

@@ -12,6 +12,7 @@ ghost use Rattle.slot_transactions.specs.Transactions.{view_transaction, after_a
 use crate::transaction::{SlotChange, Transaction, report};
 use crate::waits::later;
 use cip_events::{Notice, Reason};
+use cip_fwdopen::service::{FORWARD_OPEN, REPLY};
 use cip_fwdopen::{OpenAnswer, OpenReply, Opened};
 use cip_netparams::{Trigger, timeout_of};
 use cip_productions::Production;
@@ -22,15 +23,12 @@ use scanner_table::{Connection, PendingOpen, ScannerProfile, Slot, SlotConfig, S
 use slot_places::{SlotTest, any_passes, slot_at};
 use std::alloc::Global;
 
-/// The service of a reply to a Forward_Open.
-const OPENED: u8 = 0xD4;
-
 /// What names the connection that a success opens, or what is amiss with the success.
 fn linked(requested: Requested, opened: &Opened, id_free: bool) -> Result<Link, Mismatch>
     ensures { result ≡ link_or_why requested opened.now (first_case (answer_tests requested opened.now id_free)) }
 {
     let reply = OpenReply {
-        service: OPENED,
+        service: FORWARD_OPEN | REPLY,
         answer: OpenAnswer::Opened(*opened),
     };
     match Idle
