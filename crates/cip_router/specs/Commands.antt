@@ -7,7 +7,7 @@ use Rattle.cip_router.specs.declared.command.Command.TheVariants as command
 use Rattle.cip_router.specs.declared.command.EncapStatus.{EncapStatus}
 use Rattle.cip_router.specs.declared.command.EncapStatus.TheVariants as status
 
--- what a message asks by its command
+-- the command of a number
 abbrev pub command_of : ℕ → Command
 command_of code = first_case_or command.Other (
     (code == 0x0000, command.Nop)

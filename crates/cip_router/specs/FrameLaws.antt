@@ -1,4 +1,4 @@
--- What a frame says, by what the readers of its bytes give.
+-- The reading of a frame, by the readings of its parts.
 use Rattle.std.proofs.Common.{◌≡◌, ℕ, List, Some, None, Ok, Err, refl, ap}
 use Rattle.cip_types.specs.Fields.{fields_at}
 use Rattle.cip_encap.specs.declared.header.MessageHeader.{MessageHeader}

@@ -1,4 +1,4 @@
--- What the frames of an encapsulation stream say, and the messages of their replies (Volume 2, chapter 2,
+-- The frames of an encapsulation stream, and the messages of their replies (Volume 2, chapter 2,
 -- encapsulation messages, commands and common packet format).
 use Rattle.std.specs.Prelude.{ℕ, List, [], ◌∷◌, ◌++◌, get_or, replicate, codes, Option, Some, None, Result, Ok, Err}
 use Rattle.std.specs.Int.{w16}
@@ -16,44 +16,43 @@ use Rattle.cip_router.specs.declared.command.EncapStatus.TheVariants as status
 use Rattle.cip_router.specs.Replies.{ReplyFields, reply_text}
 use Rattle.cip_router.specs.Commands.{encap_code}
 
--- what a reply sends back of its request: the command, the session handle and the sender context
+-- the fields that a reply repeats: the command, the session handle and the sender context
 pub record ReplyHeader : Type 0 where
   pub command : ℕ
   pub session : ℕ
   pub context : ℕ
 
--- a frame: too short for a header, with a header whose length field is not that of the bytes behind it, or a
--- whole message with its data; status and options of a request are not looked at
+-- a frame: too short for a header, with a header whose length field does not fit the bytes after it, or a whole
+-- message with its data; status and options of a request are not judged
 pub data FrameFields : Type 0 where
   headless : FrameFields
   misfit : ReplyHeader → FrameFields
   whole : ReplyHeader → List ℕ → FrameFields
 
--- what goes back to a whole message
+-- the repeated fields of a whole message
 abbrev pub reply_header_of : MessageFields → ReplyHeader
 reply_header_of m = record { command = m.command; session = m.session; context = m.context }
 
--- and to a header: its numbers are command, length, session handle, status, sender context and options
+-- and of a header: its numbers are command, length, session handle, status, sender context and options
 abbrev pub reply_header_in : List ℕ → ReplyHeader
 reply_header_in numbers = record { command = get_or numbers 0 0; session = get_or numbers 2 0; context = get_or numbers 4 0 }
 
--- bytes that are no message, by the header in front of them
+-- bytes that are no message, by their header
 abbrev pub misfit_of : Option Tailed → FrameFields
 misfit_of None = headless
 misfit_of (Some header) = misfit (reply_header_in header.0)
 
--- a frame by the header in front of it, and by its reading as a message
+-- a frame, by its header and its reading as a message
 abbrev pub frame_fields : Option Tailed → Result MessageFields EncapFault → FrameFields
 frame_fields header (Ok m) = whole (reply_header_of m) m.payload
 frame_fields header (Err fault) = misfit_of header
 
--- what the bytes of a frame say
+-- the reading of the bytes of a frame
 unfoldable pub frame_reading : List ℕ → FrameFields
 frame_reading bytes = frame_fields (fields_at header_widths bytes) (message_reading bytes)
 
--- the reply to a frame: the services of the device, a session with its handle, the protocol version that is
--- served in place of another, the message router's reply with the multicast address of a connection that was
--- opened, or a refusal
+-- the reply to a frame: the services of the device, a session with its handle, the served protocol version in
+-- place of another, the message router's reply with the multicast address of an opened connection, or a refusal
 pub data FrameReply : Type 0 where
   services : FrameReply
   registered : ℕ → FrameReply
@@ -61,7 +60,7 @@ pub data FrameReply : Type 0 where
   router_reply : ReplyFields → Option Node → FrameReply
   refused : EncapStatus → FrameReply
 
--- One service item: how many there are, its type, the length of the rest, its version, the flags for
+-- One service item: the number of items, its type, the length of the rest, its version, the flags for
 -- encapsulation over TCP and for class 1 datagrams over UDP, and its name, padded to 16 bytes.
 abbrev pub services_text : List ℕ
 services_text = fields_text (w16 ∷ w16 ∷ w16 ∷ w16 ∷ w16 ∷ []) (1 ∷ 0x0100 ∷ 20 ∷ 1 ∷ 0x0120 ∷ []) ++ (codes "Communications" ++ replicate 2 0)
@@ -70,15 +69,15 @@ services_text = fields_text (w16 ∷ w16 ∷ w16 ∷ w16 ∷ w16 ∷ []) (1 ∷ 
 abbrev pub protocol_text : List ℕ
 protocol_text = fields_text (w16 ∷ w16 ∷ []) (1 ∷ 0 ∷ [])
 
--- class 1 datagrams go to this UDP port
+-- the UDP port of class 1 datagrams
 abbrev pub datagram_port : ℕ
 datagram_port = 2222
 
--- the socket that the datagrams of a multicast address go to
+-- the socket of the datagrams of a multicast address
 abbrev pub socket_of : Node → SocketAddress
 socket_of address = record { port = datagram_port; address = address }
 
--- a message that sends back the command and the sender context of its request
+-- a message that repeats the command and the sender context of its request
 abbrev pub headed_reply : ReplyHeader → ℕ → ℕ → List ℕ → MessageFields
 headed_reply reply_header session status payload = record {
   command = reply_header.command;
@@ -89,8 +88,8 @@ headed_reply reply_header session status payload = record {
   payload = payload;
 }
 
--- The message of a reply. A refusal has no data, but that of another version, which has no session handle
--- either; a session that begins has its own handle; all others have that of the request.
+-- The message of a reply. A refusal has no data, except for another protocol version, which has data and session
+-- handle 0. A new session has its own handle. All others have the request's.
 abbrev pub reply_message : ReplyHeader → FrameReply → MessageFields
 reply_message reply_header services = headed_reply reply_header reply_header.session 0 services_text
 reply_message reply_header (registered session) = headed_reply reply_header session 0 protocol_text

@@ -1,4 +1,4 @@
--- Why a request is refused, and the status that says so (Volume 1, appendix B, general status codes, and
+-- The reasons of refusals, and their statuses (Volume 1, appendix B, general status codes, and
 -- chapter 3, Connection Manager extended status codes).
 use Rattle.std.specs.Prelude.{ℕ, Some, None}
 use Rattle.cip_types.specs.declared.names.Fault.{Fault}
@@ -43,6 +43,6 @@ refusal_code refusal.ConsumedPath = 0x012A
 refusal_code refusal.ProducedPath = 0x012B
 refusal_code refusal.Segment = 0x0315
 
--- the Connection Manager's refusal: general status 1, connection failure, with an additional status
+-- the Connection Manager's refusal: general status 1, connection failure, with an extended status
 abbrev pub refusal_fault : Refusal → Fault
 refusal_fault why = record { general = 1; extended = Some (refusal_code why) }

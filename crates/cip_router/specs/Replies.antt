@@ -1,4 +1,4 @@
--- What is replied to a request, and its bytes (Volume 1, chapter 2, message router reply format, and
+-- Replies to requests, and their bytes (Volume 1, chapter 2, message router reply format, and
 -- chapter 3, Connection Manager; appendix A, Get_Attribute_Single).
 use Rattle.std.specs.Prelude.{ℕ, ◌≢◌, ◌≤◌, Bool, Option, List, length}
 use Rattle.cip_types.specs.declared.names.Triad.{Triad}
@@ -10,7 +10,7 @@ use Rattle.cip_fwdopen.specs.Get.{got_text}
 use Rattle.cip_router.specs.declared.reply.Reply.{Reply}
 use Rattle.cip_router.specs.declared.reply.Reply.TheVariants as reply
 
--- a reply, wherever its value lies in memory
+-- the contents of a reply
 pub data ReplyFields : Type 0 where
   opened : Bool → Opened → ReplyFields
   closed : Triad → ReplyFields
@@ -29,14 +29,14 @@ reply_text (closed triad) = closed_text triad
 reply_text (got value) = got_text value
 reply_text (refused service fault triad) = refused_text service fault triad
 
--- a refusal has a status that says so
+-- a refusal has a general status that is not 0
 abbrev pub HasStatus : ReplyFields → Type 0
 HasStatus (opened large o) = Unit {0}
 HasStatus (closed triad) = Unit {0}
 HasStatus (got value) = Unit {0}
 HasStatus (refused service fault triad) = fault.general ≢ 0
 
--- a value that is replied has at most 1,400 bytes, the most that a point holds
+-- a replied value has at most 1,400 bytes, the limit of a point
 abbrev pub GetsFew : ReplyFields → Type 0
 GetsFew (opened large o) = Unit {0}
 GetsFew (closed triad) = Unit {0}

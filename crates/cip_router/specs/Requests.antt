@@ -1,5 +1,5 @@
--- What a request to the message router asks (Volume 1, chapter 2, message router request, and chapter 3,
--- Connection Manager services).
+-- Requests to the message router (Volume 1, chapter 2, message router request, and chapter 3, Connection Manager
+-- services).
 use Rattle.std.specs.Prelude.{ℕ, ◌==◌, ◌&&◌, Bool, true, false, List, [], ◌∷◌, Option, Result, Ok, Err}
 use Rattle.cip_types.specs.Cases.{first_case_or}
 use Rattle.cip_fwdopen.specs.declared.fault.ReadFault.{ReadFault}
@@ -8,13 +8,14 @@ use Rattle.cip_epath.specs.declared.path.Target.{Target}
 use Rattle.cip_fwdopen.specs.Open.{OpenFields, view_open, open_reading}
 use Rattle.cip_fwdopen.specs.Close.{CloseFields, view_close, close_reading}
 use Rattle.cip_fwdopen.specs.Request.{RequestFields, request_reading}
+use Rattle.cip_fwdopen.specs.Services.{forward_close, forward_open, large_forward_open}
 use Rattle.cip_router.specs.declared.refusal.Status.{Status}
 use Rattle.cip_router.specs.declared.refusal.Status.TheVariants as status
 use Rattle.cip_router.specs.declared.router_request.RouterRequest.{RouterRequest}
 use Rattle.cip_router.specs.declared.router_request.RouterRequest.TheVariants as router_request
 
--- a request by what it asks: nothing where there is no service, what the router refuses by itself, the close
--- of a connection, a service of an assembly instance with an attribute and data, or a connection
+-- a request: nothing where there is no service, a service that the router refuses, the close of a connection, a
+-- service of an assembly instance with an attribute and data, or the opening of a connection
 pub data RouterRequestFields : Type 0 where
   nothing : RouterRequestFields
   refused : ℕ → Status → RouterRequestFields
@@ -22,7 +23,7 @@ pub data RouterRequestFields : Type 0 where
   assembly : ℕ → ℕ → Option ℕ → List ℕ → RouterRequestFields
   opening : Bool → OpenFields → RouterRequestFields
 
--- the same of a request of the program
+-- the contents of a request of the program
 abbrev pub view_router_request : RouterRequest → RouterRequestFields
 view_router_request router_request.Nothing = nothing
 view_router_request (router_request.Refused service why) = refused service why
@@ -30,7 +31,7 @@ view_router_request (router_request.Closing request) = closing (view_close reque
 view_router_request (router_request.Assembly service instance attribute lent) = assembly service instance attribute lent.now
 view_router_request (router_request.Opening large request) = opening large (view_open request)
 
--- the status for data of a service that do not read
+-- the status for unreadable data of a service
 abbrev pub data_status : ReadFault → Status
 data_status NotEnough = status.NotEnoughData
 data_status TooMuch = status.TooMuchData
@@ -47,16 +48,16 @@ request_to_close service (Err fault) = refused service (data_status fault)
 -- a service of the Connection Manager
 abbrev pub request_to_manager : ℕ → List ℕ → RouterRequestFields
 request_to_manager service body = first_case_or (refused service status.Service) (
-    (service == 0x54, request_to_open service false (open_reading false body))
-    ∷ (service == 0x5B, request_to_open service true (open_reading true body))
-    ∷ (service == 0x4E, request_to_close service (close_reading body))
+    (service == forward_open, request_to_open service false (open_reading false body))
+    ∷ (service == large_forward_open, request_to_open service true (open_reading true body))
+    ∷ (service == forward_close, request_to_close service (close_reading body))
     ∷ [])
 
 -- the Connection Manager is class 6, instance 1
 abbrev pub is_manager : Target → Bool
 is_manager target = target.class == 6 && target.instance == 1
 
--- and the assemblies are class 4; nothing else is served
+-- the assemblies are class 4; nothing else is served
 abbrev pub request_to_object : RequestFields → RouterRequestFields
 request_to_object request = first_case_or (refused request.service status.PathDestination) (
     (is_manager request.target, request_to_manager request.service request.body)

@@ -1,38 +1,40 @@
-//! The commands of encapsulation messages, and why a message is refused.
+//! The commands of encapsulation messages, and the statuses of refused messages.
 
 ghost use Rattle.std.specs.Prelude.{◌≡◌, ◌≢◌};
 ghost use Rattle.cip_router.specs.Commands.{command_of, is_silent, encap_code};
 
-/// What an encapsulation message asks, by its command.
+use cip_encap::command;
+
+/// The command of an encapsulation message.
 ///
 /// Volume 2, chapter 2, encapsulation commands.
 #[derive(Clone, Copy, PartialEq, Eq)]
 pub enum Command {
-    /// Nothing.
+    /// No operation.
     Nop,
-    /// What the device serves.
+    /// Lists the services of the device.
     ListServices,
-    /// The beginning of a session on the stream.
+    /// Opens a session on the stream.
     RegisterSession,
-    /// The end of the session, and of its stream.
+    /// Closes the session and its stream.
     UnregisterSession,
-    /// A request to the message router, outside connections.
+    /// Carries a request to the message router.
     SendRrData,
-    /// What is not served.
+    /// Any command that is not served.
     Other,
 }
 
 impl Command {
-    /// The command of a message by its number.
+    /// The command of a number.
     pub fn of(code: u16) -> Command
         ensures { result ≡ command_of code }
     {
         match code {
-            0x0000 => Command::Nop,
-            0x0004 => Command::ListServices,
-            0x0065 => Command::RegisterSession,
-            0x0066 => Command::UnregisterSession,
-            0x006F => Command::SendRrData,
+            command::NOP => Command::Nop,
+            command::LIST_SERVICES => Command::ListServices,
+            command::REGISTER_SESSION => Command::RegisterSession,
+            command::UNREGISTER_SESSION => Command::UnregisterSession,
+            command::SEND_RR_DATA => Command::SendRrData,
             _ => Command::Other,
         }
     }
@@ -51,25 +53,25 @@ impl Command {
     }
 }
 
-/// Why an encapsulation message is refused.
+/// The reason of a refused encapsulation message.
 ///
 /// Volume 2, chapter 2, encapsulation status codes.
 #[derive(Clone, Copy, PartialEq, Eq)]
 pub enum EncapStatus {
     /// The command is not served, or not on this stream.
     InvalidCommand,
-    /// The data are not those of the command.
+    /// The data does not fit the command.
     IncorrectData,
-    /// The session is not that of the stream.
+    /// The session is not the stream's.
     InvalidSession,
-    /// The length of the message is not that of the command, or its length field is wrong.
+    /// The length of the message does not fit the command, or its length field is wrong.
     InvalidLength,
     /// The protocol version is not served.
     UnsupportedVersion,
 }
 
 impl EncapStatus {
-    /// The status of the reply.
+    /// The status of the reply, never 0.
     pub fn code(self) -> u32
         ensures value { result ≡ encap_code self }
         ensures some { result ≢ 0 }

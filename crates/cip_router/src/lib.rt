@@ -1,5 +1,5 @@
-//! What a message router does with bytes, on both sides of a request: requests, replies, the
-//! statuses of refusals, and the commands of encapsulation messages.
+//! The message router's requests and replies, the statuses of refusals, and the commands of encapsulation
+//! messages, as both sides of a request use them.
 #![tactic(auto)]
 
 mod command;

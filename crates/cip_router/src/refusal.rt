@@ -1,17 +1,16 @@
-//! Why the message router refuses a request, and why the Connection Manager refuses a connection.
+//! The refusals of the message router and of the Connection Manager, and their statuses.
 
 ghost use Rattle.std.specs.Prelude.{◌≡◌, ◌≢◌};
 ghost use Rattle.cip_router.specs.Refusals.{status_code, status_fault, refusal_code, refusal_fault};
 
 use cip_types::Fault;
 
-/// Why a connection is refused. Which check has which code is this profile's choice among the
-/// standard's.
+/// The reason of a refused connection. The profile chooses the code of each check among the standard's.
 ///
 /// Volume 1, chapter 3, Connection Manager extended status codes.
 #[derive(Clone, Copy, PartialEq, Eq)]
 pub enum Refusal {
-    /// A connection of this triad is established.
+    /// A connection of the same triad is established.
     InUse,
     /// The transport class or the trigger is not served.
     Trigger,
@@ -19,17 +18,17 @@ pub enum Refusal {
     Ownership,
     /// No connection has this triad.
     NotFound,
-    /// The multiplier is none, or a redundant owner is requested.
+    /// The multiplier is reserved, or a redundant owner is requested.
     Parameter,
     /// A requested packet interval is out of range.
     PacketInterval,
-    /// No connection id or no place is left.
+    /// No connection id or no free connection is left.
     OutOfConnections,
-    /// The key's vendor or product code is another's.
+    /// The key has another vendor or product code.
     VendorOrProduct,
-    /// The key's device type is another's.
+    /// The key has another device type.
     DeviceType,
-    /// The key's revision is not the device's.
+    /// The key does not accept the device's revision.
     Revision,
     /// The path names no application points.
     Path,
@@ -43,9 +42,9 @@ pub enum Refusal {
     ProducedType,
     /// The data segment is not as long as the configuration.
     ConfigurationSize,
-    /// The O->T size is not that of the consumed point.
+    /// The O->T size does not fit the consumed point.
     ConsumedSize,
-    /// The T->O size is not that of the produced point.
+    /// The T->O size does not fit the produced point.
     ProducedSize,
     /// No configuration has this instance.
     ConfigurationPath,
@@ -53,12 +52,12 @@ pub enum Refusal {
     ConsumedPath,
     /// No produced point has this instance.
     ProducedPath,
-    /// A segment of the path does not read.
+    /// A segment of the path is unreadable.
     Segment,
 }
 
 impl Refusal {
-    /// The additional status of the refusal.
+    /// The extended status of the refusal.
     pub fn code(self) -> u16
         ensures { result ≡ refusal_code self }
     {
@@ -88,7 +87,7 @@ impl Refusal {
         }
     }
 
-    /// General status 1, connection failure, with the additional status of the refusal.
+    /// General status 1, connection failure, with the extended status of the refusal.
     pub fn fault(self) -> Fault
         ensures value { result ≡ refusal_fault self }
         ensures some { result.general ≢ 0 }
@@ -100,12 +99,12 @@ impl Refusal {
     }
 }
 
-/// Why the message router refuses a request by itself.
+/// The reason of a request that the message router refuses.
 ///
 /// Volume 1, appendix B, general status codes.
 #[derive(Clone, Copy, PartialEq, Eq)]
 pub enum Status {
-    /// The request path does not read.
+    /// The request path is unreadable.
     PathSegment,
     /// No such object is served.
     PathDestination,
@@ -134,7 +133,7 @@ impl Status {
         }
     }
 
-    /// The general status of the refusal, with no additional one.
+    /// The general status of the refusal, without an extended status.
     pub fn fault(self) -> Fault
         ensures value { result ≡ status_fault self }
         ensures some { result.general ≢ 0 }

@@ -1,4 +1,4 @@
-//! What is replied to a request.
+//! Replies to requests.
 
 ghost use Rattle.std.specs.Prelude.{◌≡◌, IfOk};
 ghost use Rattle.cip_router.specs.Replies.{view_reply, reply_text, HasStatus};
@@ -16,14 +16,14 @@ pub enum Reply<'a> {
     Opened(bool, Opened),
     /// A connection was closed.
     Closed(Triad),
-    /// The value of a point, to a Get_Attribute_Single.
+    /// The value of a point, for a Get_Attribute_Single.
     Got(&'a [u8]),
-    /// A request of this service was refused; a refused connection is named.
+    /// A request of this service was refused. A refused connection has its triad.
     Refused(u8, Fault, Option<Triad>),
 }
 
 impl Reply<'_> {
-    /// The bytes of the reply.
+    /// Writes the reply. OutOfMemory is the only fault.
     pub fn write(&self, alloc: Global) -> Result<Vec<u8>, OutOfMemory>
         requires { HasStatus (view_reply self.now) }
         ensures { IfOk result (λ bytes. bytes.items ≡ reply_text (view_reply self.now)) }

@@ -1,4 +1,4 @@
-//! What a request to the message router asks.
+//! Requests to the message router.
 
 ghost use Rattle.std.specs.Prelude.{◌≡◌};
 ghost use Rattle.cip_fwdopen.specs.Open.{open_reading};
@@ -7,18 +7,20 @@ ghost use Rattle.cip_fwdopen.specs.Request.{view_request};
 ghost use Rattle.cip_router.specs.Requests.{router_request_reading, request_to_manager, request_to_open, request_to_close, request_to_object, data_status, view_router_request};
 
 use crate::refusal::Status;
+use cip_epath::class::{ASSEMBLY, CONNECTION_MANAGER};
+use cip_fwdopen::service::{FORWARD_CLOSE, FORWARD_OPEN, LARGE_FORWARD_OPEN};
 use cip_fwdopen::{
     CloseRequest, OpenRequest, ReadFault, Request, read_close, read_open, read_request,
 };
 
-/// A request by what it asks.
+/// A request to the message router, by its object and service.
 ///
 /// Volume 1, chapter 2, message router request, and chapter 3, Connection Manager services.
 #[derive(Clone, Copy)]
 pub enum RouterRequest<'a> {
-    /// There is not even a service.
+    /// The request has no byte, so no service.
     Nothing,
-    /// The router refuses this service by itself.
+    /// The router refuses the request of this service.
     Refused(u8, Status),
     /// The close of a connection.
     Closing(CloseRequest<'a>),
@@ -28,7 +30,7 @@ pub enum RouterRequest<'a> {
     Opening(bool, OpenRequest<'a>),
 }
 
-/// The status for data of a service that do not read.
+/// The status for unreadable data of a service.
 fn data_status(fault: ReadFault) -> Status
     ensures { result ≡ data_status fault }
 {
@@ -61,9 +63,9 @@ fn request_to_manager(service: u8, body: &[u8]) -> RouterRequest<'_>
     ensures { view_router_request result ≡ request_to_manager service body.now }
 {
     match service {
-        0x54 => request_to_open(service, false, body),
-        0x5B => request_to_open(service, true, body),
-        0x4E => request_to_close(service, body),
+        FORWARD_OPEN => request_to_open(service, false, body),
+        LARGE_FORWARD_OPEN => request_to_open(service, true, body),
+        FORWARD_CLOSE => request_to_close(service, body),
         _ => RouterRequest::Refused(service, Status::Service),
     }
 }
@@ -72,10 +74,10 @@ fn request_to_object<'a>(request: Request<'a>) -> RouterRequest<'a>
     ensures { view_router_request result ≡ request_to_object (view_request request.entry) }
 {
     let target = request.target;
-    if target.class == 6 && target.instance == 1 {
+    if target.class == CONNECTION_MANAGER && target.instance == 1 {
         return request_to_manager(request.service, request.body);
     }
-    if target.class == 4 {
+    if target.class == ASSEMBLY {
         return RouterRequest::Assembly(
             request.service,
             target.instance,
@@ -86,7 +88,7 @@ fn request_to_object<'a>(request: Request<'a>) -> RouterRequest<'a>
     RouterRequest::Refused(request.service, Status::PathDestination)
 }
 
-/// What the bytes of a request ask. Takes no memory.
+/// Reads a request. Takes no memory.
 ///
 /// The router refuses, in this order: bytes that end within the request path (status 0x13), a path that
 /// is no class and instance (0x04), another object than the Connection Manager and the assemblies (0x05),
