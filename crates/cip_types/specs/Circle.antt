@@ -1,7 +1,7 @@
--- The order of sequence numbers of 32 bits, which go round (Volume 2, chapter 2, sequenced address item).
+-- The order of sequence numbers of 32 bits, which wrap round (Volume 2, chapter 2, sequenced address item).
 use Rattle.std.specs.Prelude.{ℕ, ◌+◌, ◌-◌, ◌%◌, ◌^◌, ◌≤◌, ◌&&◌, nat_le, Bool}
 
--- how far a is ahead of b, counted up from b round the circle
+-- the distance from b up to a round the circle
 abbrev pub distance : ℕ → ℕ → ℕ
 distance a b = (a + 2 ^ 32 - b) % 2 ^ 32
 

@@ -1,5 +1,5 @@
--- Texts in general: what is wrong with bytes that are no text of a format, and formats that are
--- fixed fields followed by as many bytes as the fields say (Volume 1, appendix C).
+-- Texts in general: the faults of bytes that are no text of a format, and formats of fixed fields with as many
+-- bytes after them as the fields state (Volume 1, appendix C).
 use Rattle.std.specs.Prelude.{◌≡◌, ℕ, ◌<◌, nat_lt, if◌then◌else◌, List, ◌++◌, length, Option, Some, None}
 use Rattle.std.specs.Int.{Width}
 use Rattle.cip_types.specs.Fields.{fields_text, AreFields, fields_at}
@@ -12,11 +12,11 @@ Lacks {P} IsText bytes = (more : List ℕ) × (0 < length more) × ((p : P) × I
 abbrev pub Exceeds : {P : Type 0} → (List ℕ → P → Type 0) → List ℕ → Type 0
 Exceeds {P} IsText bytes = (front extra : List ℕ) × (0 < length extra) × (bytes ≡ front ++ extra) × ((p : P) × IsText front p)
 
--- no text begins another, and each says one thing
+-- no text begins another, and each has one meaning
 pub record IsPrefixFree {P : Type 0} (IsText : List ℕ → P → Type 0) : Type 0 where
   pub apart : (t t' u u' : List ℕ) (p p' : P) → IsText t p → IsText t' p' → t ++ u ≡ t' ++ u' → (t ≡ t') × (p ≡ p')
 
--- how bytes stand to the texts of a format: one of them, too few bytes, or too many
+-- bytes against the texts of a format: one of them, too few bytes, or too many
 pub data Found (P : Type 0) : Type 0 where
   whole : P → Found P
   short : Found P
@@ -27,7 +27,7 @@ IsFound IsText bytes (whole p) = IsText bytes p
 IsFound IsText bytes short = Lacks IsText bytes
 IsFound IsText bytes long = Exceeds IsText bytes
 
--- the texts of a format, by what is made of what they say
+-- the texts of a format, by a function of their contents
 abbrev pub IsImage : {P Q : Type 0} → (P → Q) → (List ℕ → P → Type 0) → List ℕ → Q → Type 0
 IsImage {P} made IsText bytes q = (p : P) × IsText bytes p × (made p ≡ q)
 
@@ -36,15 +36,15 @@ found_image made (whole p) = whole (made p)
 found_image made short = short
 found_image made long = long
 
--- the numbers of a fixed part, and the bytes behind it
+-- the numbers of a fixed part, and the bytes after it
 abbrev pub Tailed : Type 0
 Tailed = List ℕ × List ℕ
 
--- a fixed part, and behind it as many bytes as its numbers say
+-- a fixed part, and as many bytes after it as its numbers state
 abbrev pub IsTailedText : List Width → (List ℕ → ℕ) → List ℕ → Tailed → Type 0
 IsTailedText ws tail_len text p = AreFields ws p.0 × (length p.1 ≡ tail_len p.0) × (text ≡ fields_text ws p.0 ++ p.1)
 
--- what stands behind the fixed part is as long as it should be, or is not
+-- the bytes after the fixed part against their stated length
 abbrev pub tail_found : ℕ → Tailed → Found Tailed
 tail_found len p = if nat_lt (length p.1) len then short else (if nat_lt len (length p.1) then long else whole p)
 

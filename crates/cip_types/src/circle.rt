@@ -3,8 +3,8 @@
 ghost use Rattle.std.specs.Prelude.{◌≡◌, ◌↔◌, IsTrue};
 ghost use Rattle.cip_types.specs.Circle.{IsNewer, is_newer};
 
-/// Whether sequence number `a` of a sequenced address item is newer than `b`: ahead of it on the
-/// circle of 32-bit numbers, by less than half of the circle.
+/// Whether sequence number `a` of a sequenced address item is newer than `b`: ahead of it on the circle of
+/// 32-bit numbers, by less than half of the circle.
 ///
 /// Volume 2, chapter 2, sequenced address item.
 pub fn newer32(a: u32, b: u32) -> bool
@@ -15,8 +15,7 @@ pub fn newer32(a: u32, b: u32) -> bool
     a.wrapping_sub(b).cast_signed() > 0
 }
 
-/// Whether two sequence counts of class 1 data are the same, so that the later datagram brings no new
-/// data.
+/// Whether two sequence counts of class 1 data are the same. The later datagram then has no new data.
 ///
 /// Volume 1, chapter 3, class 1 transports.
 pub fn same16(a: u16, b: u16) -> bool

@@ -1,4 +1,4 @@
-//! Little-endian numbers at the front of some bytes, and behind some bytes.
+//! Reading little-endian numbers from bytes, and appending them.
 
 ghost use Rattle.std.specs.Prelude.{◌≡◌, ◌+◌, ◌≤◌, ◌++◌, ◌∷◌, [], OnOk, OnErr, length};
 ghost use Rattle.std.specs.Int.{w8, w16, w32, to_le_bytes};
@@ -7,7 +7,7 @@ ghost use Rattle.cip_types.specs.Parts.{number_in};
 
 use crate::memory::OutOfMemory;
 
-/// A number of one byte, and the bytes after it. None where there is no byte.
+/// The number of one byte at the front, and the bytes after it. None where there is no byte.
 pub fn u8_at(bytes: &[u8]) -> Option<(u8, &[u8])>
     ensures { Finds (λ x. (x.0, x.1.now)) result (field_at w8 bytes.now) }
 {
@@ -17,7 +17,7 @@ pub fn u8_at(bytes: &[u8]) -> Option<(u8, &[u8])>
     }
 }
 
-/// A number of two bytes, and the bytes after it. None where there are fewer bytes.
+/// The number of two bytes at the front, and the bytes after it. None where there are fewer bytes.
 pub fn u16_at(bytes: &[u8]) -> Option<(u16, &[u8])>
     ensures { Finds (λ x. (x.0, x.1.now)) result (field_at w16 bytes.now) }
 {
@@ -28,7 +28,7 @@ pub fn u16_at(bytes: &[u8]) -> Option<(u16, &[u8])>
     Some((u16::from_le_bytes([front[0], front[1]]), rest))
 }
 
-/// A number of four bytes, and the bytes after it. None where there are fewer bytes.
+/// The number of four bytes at the front, and the bytes after it. None where there are fewer bytes.
 pub fn u32_at(bytes: &[u8]) -> Option<(u32, &[u8])>
     ensures { Finds (λ x. (x.0, x.1.now)) result (field_at w32 bytes.now) }
 {
@@ -40,7 +40,7 @@ pub fn u32_at(bytes: &[u8]) -> Option<(u32, &[u8])>
     Some((number, rest))
 }
 
-/// The number of two bytes at a place.
+/// The number of two bytes at a position.
 pub fn u16_in(bytes: &[u8], at: usize) -> u16
     requires { at + 2 ≤ length bytes.now }
     ensures { result ≡ number_in w16 bytes.now at }
@@ -49,7 +49,7 @@ pub fn u16_in(bytes: &[u8], at: usize) -> u16
     u16::from_le_bytes([number[0], number[1]])
 }
 
-/// The number of four bytes at a place.
+/// The number of four bytes at a position.
 pub fn u32_in(bytes: &[u8], at: usize) -> u32
     requires { at + 4 ≤ length bytes.now }
     ensures { result ≡ number_in w32 bytes.now at }

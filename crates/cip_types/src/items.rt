@@ -1,4 +1,4 @@
-//! Values in order.
+//! Lists of values.
 
 ghost use Rattle.std.specs.Prelude.{◌≡◌, [], ◌∷◌, IfOk, length, replicate};
 
@@ -6,7 +6,7 @@ use crate::memory::OutOfMemory;
 use std::alloc::Global;
 use std::marker::Model;
 
-/// Values in order, which contracts and definitions see as a list.
+/// Values in order. Contracts and definitions see them as a list.
 #[derive(Drop)]
 pub struct Items<T> {
     vec: Vec<T>,
@@ -54,7 +54,7 @@ impl<T> Items<T> {
 }
 
 impl<T: Drop> Items<T> {
-    /// One value.
+    /// One value. OutOfMemory is the only fault.
     pub fn one(alloc: Global, value: T) -> Result<Self, OutOfMemory>
         ensures { IfOk result (λ items. items ≡ value ∷ []) }
     {
@@ -65,7 +65,7 @@ impl<T: Drop> Items<T> {
 }
 
 impl<T: Copy> Items<T> {
-    /// A copy of some values.
+    /// A copy of some values. OutOfMemory is the only fault.
     pub fn copy_of(alloc: Global, values: &[T]) -> Result<Self, OutOfMemory>
         ensures { IfOk result (λ items. items ≡ values.now) }
     {
@@ -76,7 +76,7 @@ impl<T: Copy> Items<T> {
 }
 
 impl Items<u8> {
-    /// As many zero bytes.
+    /// Zero bytes of this number. OutOfMemory is the only fault.
     pub fn zeros(alloc: Global, len: usize) -> Result<Self, OutOfMemory>
         ensures { IfOk result (λ bytes. bytes ≡ replicate len 0) }
     {
@@ -85,7 +85,7 @@ impl Items<u8> {
         })
     }
 
-    /// Copies as many other bytes over these. Takes no memory.
+    /// Overwrites the bytes with others of the same number. Takes no memory.
     pub fn overwrite(&mut self, bytes: &[u8])
         requires { length self.old ≡ length bytes.now }
         ensures { self.new ≡ bytes.now }

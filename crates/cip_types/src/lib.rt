@@ -1,5 +1,5 @@
-//! The numbers and identities that the crates of the line share, and the little-endian fields of
-//! their formats.
+//! The numbers, identities and limits that the crates of the line share, and the little-endian fields of their
+//! formats.
 #![tactic(auto)]
 
 pub mod circle;
