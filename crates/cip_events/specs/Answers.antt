@@ -1,4 +1,4 @@
--- Answers without bytes to send, and the deliveries that are acceptances.
+-- Answers without bytes to send, and accepted deliveries.
 use Rattle.std.specs.Prelude.{ℕ, Bool, true, false, List, []}
 use Rattle.cip_events.specs.declared.event.Delivery.{Delivery}
 use Rattle.cip_events.specs.declared.event.Delivery.TheVariants.{Applied, Idle, Heartbeat, Duplicate, Old, UnknownId, WrongSize, Malformed}
@@ -17,7 +17,7 @@ is_accepted UnknownId = false
 is_accepted WrongSize = false
 is_accepted Malformed = false
 
--- an answer with no bytes
+-- an answer of a verdict alone
 abbrev pub plain_answer : Verdict → Answer
 plain_answer verdict = record { frames = []; datagrams = []; verdict = verdict; notices = [] }
 

@@ -1,12 +1,11 @@
--- Why a device is not made, and the numbers of what can be wrong with a profile.
+-- The faults of a device that is not created, and the numbers of a profile's faults.
 use Rattle.std.specs.Prelude.{◌≡◌, Bool, true, false, Option, Some, None, ℕ}
 use Rattle.cip_events.specs.declared.event.NewFault.{NewFault}
 use Rattle.cip_events.specs.declared.event.NewFault.TheVariants as fault
 use Rattle.cip_events.specs.declared.profile_fault.ProfileFault.{ProfileFault}
 use Rattle.cip_events.specs.declared.profile_fault.ProfileFault.TheVariants.{Incarnation, Address, Points, SameInstance, Length, Timing, Identity as IdentityFault}
 
--- what is wrong with the configuration goes first, and then that it is for a device of the other kind; memory is
--- wanted only where neither is so
+-- a fault of the configuration precedes one of its kind; out of memory comes only where neither is so
 abbrev pub IsRefusedAs : Option ProfileFault → Bool → NewFault → Type 0
 IsRefusedAs wrong same_kind (fault.Profile first) = wrong ≡ Some first
 IsRefusedAs wrong same_kind fault.WrongKind = (wrong ≡ None) × (same_kind ≡ false)

@@ -1,4 +1,4 @@
--- Nodes and bytes of what is sent, of which few stand in the value itself. No public clause cites this module.
+-- Nodes and bytes of a datagram, of which a few are stored inline. No public clause cites this module.
 use Rattle.std.specs.Prelude.{ℕ, ◌≡◌, ◌≤◌, List, length, take}
 use Rattle.cip_types.specs.declared.names.Node.{Node}
 use Rattle.cip_events.specs.declared.consumers.KeptConsumers.{KeptConsumers}

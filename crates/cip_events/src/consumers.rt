@@ -1,4 +1,4 @@
-//! The nodes that consume what is sent.
+//! The nodes that consume a datagram.
 
 ghost use Rattle.std.specs.Prelude.{◌≡◌, ◌∷◌, [], IfOk};
 
@@ -6,10 +6,10 @@ use cip_types::{Node, OutOfMemory};
 use std::alloc::Global;
 use std::marker::Model;
 
-/// How many nodes stand in the value itself.
+/// The number of nodes that the value stores inline.
 const FEW: usize = 8;
 
-/// Nodes in order, which contracts see as a list. Up to eight of them stand in the value itself and take no memory.
+/// Nodes in order. Contracts see them as a list. Up to eight nodes are stored inline and take no memory.
 #[derive(Drop)]
 pub struct Consumers {
     kept: KeptConsumers,
@@ -17,7 +17,7 @@ pub struct Consumers {
 
 #[derive(Drop)]
 pub(crate) enum KeptConsumers {
-    /// So many of these.
+    /// The first of these, of this number.
     Few(usize, [Node; FEW]),
     Many(Vec<Node>),
 }
@@ -54,7 +54,7 @@ impl Consumers {
         }
     }
 
-    /// A copy of some nodes. Want of memory is the only fault, and none is wanted for up to eight.
+    /// A copy of some nodes. Up to eight take no memory. OutOfMemory is the only fault.
     #[inline(always)]
     pub fn copy_of(alloc: Global, nodes: &[Node]) -> Result<Self, OutOfMemory>
         ensures { IfOk result (λ copy. copy ≡ nodes.now) }

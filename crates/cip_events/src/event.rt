@@ -1,4 +1,4 @@
-//! What happens at a device, and what it answers.
+//! The events of a device, and its answers.
 
 ghost use Rattle.std.specs.Prelude.{◌≡◌};
 
@@ -8,50 +8,50 @@ use crate::small_bytes::SmallBytes;
 use cip_types::{ConnId, Fault, Items, Mismatch, Node, OutOfMemory, Triad};
 use thiserror::Error;
 
-/// One thing that happens at a device.
+/// An event of a device.
 #[derive(PartialEq, Drop)]
 pub enum Event {
     /// A peer sends a request to the message router.
     Request { peer: Node, bytes: Items<u8> },
-    /// A peer opens a stream, which is to have this number.
+    /// A peer opens a stream. The event gives it this number.
     StreamOpened { stream: u16, peer: Node },
-    /// The bytes of one encapsulation message come over a stream.
+    /// A stream brings the bytes of one encapsulation message.
     Frame { stream: u16, bytes: Items<u8> },
-    /// A stream breaks, or its peer ends it.
+    /// A stream breaks, or its peer closes it.
     StreamCut { stream: u16 },
     /// A peer sends a class 1 datagram.
     Datagram { peer: Node, bytes: Items<u8> },
-    /// The application sets what an input holds.
+    /// The application sets the value of an input.
     Write { point: u32, bytes: Items<u8> },
-    /// The application asks what a point holds.
+    /// The application reads the value of a point.
     Read { point: u32 },
     /// Milliseconds pass, at most 60,000.
     Tick { ms: u32 },
-    /// The application of a scanner runs, or is idle.
+    /// The application of a scanner starts to run or becomes idle.
     Mode { run: bool },
-    /// A scanner is to open the connection of a slot, and to keep it open.
+    /// The application has a scanner open the connection of a slot, and keep it open.
     Start { slot: u32 },
-    /// A scanner is to close the connection of a slot.
+    /// The application has a scanner close the connection of a slot.
     Stop { slot: u32 },
 }
 
-/// Whom a frame goes to.
+/// The recipient of a frame.
 #[derive(Clone, Copy, PartialEq, Eq)]
 pub enum Recipient {
     /// The other end of a stream.
     Stream(u16),
-    /// The peer whose request it answers.
+    /// The peer of the answered request.
     Peer(Node),
 }
 
-/// Bytes that go to one recipient.
+/// Bytes for one recipient.
 #[derive(PartialEq, Drop)]
 pub struct Frame {
     pub to: Recipient,
     pub bytes: Items<u8>,
 }
 
-/// A datagram that goes out: the address that it is sent to, the nodes that consume it, and its bytes.
+/// An outgoing datagram: its destination address, the nodes that consume it, and its bytes.
 #[derive(PartialEq, Drop)]
 pub struct OutgoingDatagram {
     pub address: Node,
@@ -59,42 +59,42 @@ pub struct OutgoingDatagram {
     pub bytes: SmallBytes,
 }
 
-/// What became of a datagram. The first that holds, from the last of these to the first: it is
-/// `Malformed`, then of an `UnknownId`, then of a `WrongSize`, then `Old`; otherwise it is accepted.
+/// The result of a received datagram, tested in this order: `Malformed`, `UnknownId`, `WrongSize`, `Old`;
+/// otherwise it is accepted.
 ///
 /// Volume 1, chapter 3, class 1 transport and run/idle; Volume 2, chapter 2, sequenced address item.
 #[derive(Clone, Copy, Debug, PartialEq, Eq)]
 pub enum Delivery {
-    /// It was accepted, and its run-mode data stand at the output.
+    /// Accepted: its run-mode data is applied to the output.
     Applied,
-    /// It was accepted, and the idle action of the output was done.
+    /// Accepted: it is in idle mode, and the output takes its idle action.
     Idle,
-    /// It was accepted on a connection without O->T data.
+    /// Accepted: its connection has no O->T data.
     Heartbeat,
-    /// It was accepted, and its data are those of the last accepted one.
+    /// Accepted: its sequence count repeats that of the last accepted datagram, so its data is not new.
     Duplicate,
-    /// Its number is not newer than the last accepted one.
+    /// Its sequence number is not newer than the last accepted one.
     Old,
     /// No established connection of the peer has its connection id.
     UnknownId,
-    /// It has not the connection's size.
+    /// Its size is not the connection's.
     WrongSize,
     /// Its bytes are no datagram.
     Malformed,
 }
 
-/// What became of an event.
+/// The result of an event.
 #[derive(PartialEq, Drop)]
 pub enum Verdict {
-    /// It was dealt with.
+    /// The device processed it.
     Done,
-    /// Its bytes are too few to be answered, or it is a message without a reply whose length field is wrong.
+    /// It has too few bytes to be answered, or it is a message without a reply whose length field is wrong.
     BadFrame,
-    /// It is a message that a scanner does not wait for.
+    /// It is a message that the scanner does not expect.
     Ignored,
-    /// The bytes that a point holds.
+    /// The value of a point.
     Value(Items<u8>),
-    /// What became of a datagram.
+    /// The result of a datagram.
     Delivered(Delivery),
 }
 
@@ -115,31 +115,30 @@ pub enum Reason {
     Mismatch(Mismatch),
 }
 
-/// What happened to a connection, a stream or a slot.
+/// A change of a connection, a stream or a slot.
 #[derive(Clone, Copy, PartialEq, Eq)]
 pub enum Notice {
     /// A connection was opened, with this O->T id.
     Opened(Triad, ConnId),
     /// A connection was closed by its originator, or by another peer.
     Closed(Triad),
-    /// No datagram of the originator came before the deadline of the connection.
+    /// A connection expired: no datagram of its originator arrived before its deadline.
     Expired(Triad),
-    /// A listen-only connection lost its last support.
+    /// A listen-only connection was dropped, because no other connection supports it any more.
     Dropped(Triad),
-    /// A timed-out connection made room for a new one.
+    /// A timed-out connection was removed to free its place for a new one.
     Replaced(Triad),
-    /// The stream of this number ended with its session.
+    /// The stream of this number was closed with its session.
     StreamClosed(u16),
-    /// The slot of this number has come into the state of this number.
+    /// The slot of this number changed to the state of this number.
     Slot(u32, u8),
     /// A reply did not open the connection of this slot.
     Refused(u32, Reason),
-    /// This slot needed a connection id or a request number, and none is left.
+    /// This slot needs a connection id or a request number, and none is left.
     NoIds(u32),
 }
 
-/// What a device answers to an event: frames, datagrams, what became of the event, and what happened to
-/// connections and streams, each in order.
+/// The answer of a device to an event: frames, datagrams and notices, each in order, and the verdict.
 #[derive(PartialEq, Drop)]
 pub struct Answer {
     pub frames: Items<Frame>,
@@ -148,10 +147,10 @@ pub struct Answer {
     pub notices: Items<Notice>,
 }
 
-/// Why a step was refused. The device is then as it was.
+/// The fault of a refused event. The device is unchanged.
 #[derive(Clone, Copy, Debug, PartialEq, Eq, Error)]
 pub enum StepFault {
-    /// A growth of memory was refused.
+    /// An allocation was refused.
     #[error("no memory")]
     OutOfMemory,
     /// A tick of more than 60,000 ms.
@@ -163,13 +162,13 @@ pub enum StepFault {
     /// No point of this number can be read or written.
     #[error("no such point")]
     NoSuchPoint,
-    /// The bytes are not as many as the point has.
+    /// The number of bytes is not the point's.
     #[error("not the point's length")]
     WrongLength,
     /// No slot has this number.
     #[error("no such slot")]
     NoSuchSlot,
-    /// This kind of device, or this state of it, does not take the event.
+    /// The event does not fit this kind of device, or its present state.
     #[error("not allowed now")]
     NotAllowedNow,
 }
@@ -184,19 +183,19 @@ impl From<OutOfMemory> for StepFault {
     }
 }
 
-/// What a device makes of an event.
+/// The outcome of an event: an answer or a fault.
 pub type Outcome = Result<Answer, StepFault>;
 
-/// Why a device was not made.
+/// The fault of a device that was not created.
 #[derive(Clone, Copy, Debug, PartialEq, Eq, Error)]
 pub enum NewFault {
-    /// The profile is wrong, and this is first of what is wrong with it.
+    /// The profile is wrong. This is its first fault.
     #[error("bad profile: {0}")]
     Profile(ProfileFault),
-    /// What the device was to be made of is for a device of another kind.
+    /// The configuration is for a device of another kind.
     #[error("wrong kind of device")]
     WrongKind,
-    /// A growth of memory was refused.
+    /// An allocation was refused.
     #[error("no memory")]
     OutOfMemory,
 }

@@ -1,5 +1,4 @@
-//! What happens at a device and what it answers: events, answers, outcomes, notices and faults. Ports,
-//! inboxes, books and printers speak of these, whatever the device is.
+//! The events, answers, outcomes, notices and faults of every kind of device. Ports, books and printers use these.
 #![tactic(auto)]
 
 mod answer;

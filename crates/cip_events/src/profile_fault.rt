@@ -1,11 +1,11 @@
-//! What can be wrong with the profile of a device.
+//! The faults of a device's profile.
 
 ghost use Rattle.std.specs.Prelude.{◌≡◌};
 ghost use Rattle.cip_events.specs.Faults.{fault_number};
 
 use thiserror::Error;
 
-/// The first thing that is wrong with a profile.
+/// The first fault of a profile.
 #[derive(Clone, Copy, Debug, PartialEq, Eq, Error)]
 pub enum ProfileFault {
     /// The incarnation is 0.
@@ -32,7 +32,7 @@ pub enum ProfileFault {
 }
 
 impl ProfileFault {
-    /// The fault's number, from 1, as a program tells it.
+    /// The fault's number, from 1, as programs print it.
     pub fn number(self) -> u8
         ensures { result ≡ fault_number self }
     {

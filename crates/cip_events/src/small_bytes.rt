@@ -1,4 +1,4 @@
-//! The bytes of what is sent.
+//! The bytes of a datagram.
 
 ghost use Rattle.std.specs.Prelude.{◌≡◌, ◌≤◌, ◌+◌, ◌++◌, IfOk, length, take};
 
@@ -6,10 +6,10 @@ use cip_types::OutOfMemory;
 use std::alloc::Global;
 use std::marker::Model;
 
-/// How many bytes stand in the value itself.
+/// The number of bytes that the value stores inline.
 const FEW: usize = 56;
 
-/// Bytes in order, which contracts see as a list. Up to 56 of them stand in the value itself and take no memory.
+/// Bytes in order. Contracts see them as a list. Up to 56 bytes are stored inline and take no memory.
 #[derive(Drop)]
 pub struct SmallBytes {
     kept: KeptBytes,
@@ -17,7 +17,7 @@ pub struct SmallBytes {
 
 #[derive(Drop)]
 pub(crate) enum KeptBytes {
-    /// So many of these.
+    /// The first of these, of this number.
     Few(usize, [u8; FEW]),
     Many(Vec<u8>),
 }
@@ -33,7 +33,7 @@ impl Model for SmallBytes {
     ghost invariant = { λ o. FitBytes o.kept };
 }
 
-/// Copies bytes behind those in front of a place.
+/// Copies bytes to a position, over the bytes there.
 #[inline(always)]
 fn copy_in(places: &mut [u8], start: usize, source: &[u8])
     requires { start + length source.now ≤ length places.old }
@@ -53,7 +53,7 @@ impl SmallBytes {
         }
     }
 
-    /// These bytes, and then those. Want of memory is the only fault, and none is wanted for up to 56 bytes.
+    /// The bytes of `front` and then those of `back`. Up to 56 take no memory. OutOfMemory is the only fault.
     #[inline(always)]
     pub fn joined(alloc: Global, front: &[u8], back: &[u8]) -> Result<Self, OutOfMemory>
         ensures { IfOk result (λ joined. joined ≡ front.now ++ back.now) }
