@@ -46,7 +46,8 @@ pub fn read_datagram(bytes: &[u8]) -> Result<Datagram<'_>, DatagramFault>
     // The result is a reading of the bytes.
     ensures reading { IsDatagramReading bytes.now (seen view_datagram result) }
     // The bytes have no other reading.
-    ensures only { (other : Result DatagramFields DatagramFault) → IsDatagramReading bytes.now other → seen view_datagram result ≡ other }
+    ensures only { (other : Result DatagramFields DatagramFault) → IsDatagramReading bytes.now other
+        → seen view_datagram result ≡ other }
     // The same as a function of the bytes.
     ensures value { seen view_datagram result ≡ datagram_reading bytes.now }
 {

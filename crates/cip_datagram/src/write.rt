@@ -48,7 +48,8 @@ pub fn write_datagram(datagram: &Datagram<'_>, out: &mut Vec<u8>)
     requires short { length datagram.now.«data».now ≤ 65533 }
     ensures text { out.new.items ≡ out.old.items ++ datagram_text (view_datagram datagram.now) }
     ensures is_text { IsDatagramText (datagram_text (view_datagram datagram.now)) (view_datagram datagram.now) }
-    ensures read_back { datagram_reading (datagram_text (view_datagram datagram.now)) ≡ Ok (view_datagram datagram.now) }
+    ensures read_back { datagram_reading (datagram_text (view_datagram datagram.now))
+        ≡ Ok (view_datagram datagram.now) }
     ensures capacity { vec_capacity out.new ≡ vec_capacity out.old }
 {
     put(out, &fixed_part(datagram));

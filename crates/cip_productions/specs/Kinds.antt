@@ -1,4 +1,4 @@
--- What a connection is for (Volume 1, chapter 3, application connection types).
+-- The kinds of connections (Volume 1, chapter 3, application connection types).
 use Rattle.std.specs.Prelude.{Bool, true, false}
 use Rattle.cip_productions.specs.declared.kind.Kind.{Kind}
 use Rattle.cip_productions.specs.declared.kind.Kind.TheVariants.{ExclusiveOwner, InputOnly, ListenOnly}

@@ -1,4 +1,4 @@
--- What one producer does: its numbers and counts, when it is due again, and what it sends
+-- The production of one producer: its sequence numbers and counts, its due times and its datagrams
 -- (Volume 1, chapter 3, class 1 transport, production triggers and production inhibit time; Volume 2,
 -- chapter 2, sequenced address item).
 use Rattle.std.specs.Prelude.{ℕ, ◌+◌, ◌%◌, ◌^◌, ◌==◌, ◌&&◌, ◌||◌, nat_lt, nat_le, min, Bool, true, false, if◌then◌else◌, List, Option, Some, None}
@@ -12,13 +12,13 @@ use Rattle.cip_events.specs.declared.event.OutgoingDatagram.{OutgoingDatagram}
 use Rattle.cip_productions.specs.declared.production.Production.{Production}
 use Rattle.cip_productions.specs.declared.production.Producer.{Producer}
 
--- HOW A PRODUCER GOES ON
+-- THE NEXT STATE OF A PRODUCER
 
 -- the count of the next datagram, which rises with new data
 abbrev pub next_count : Production → ℕ
 next_count production = if production.written then (production.count + 1) % 2 ^ 16 else production.count
 
--- when a producer is due again: a cyclic one keeps its pace, unless it is late by a whole interval
+-- the next due time: a cyclic producer keeps its pace, unless it is late by a whole interval
 abbrev pub due_again : Trigger → ℕ → ℕ → ℕ → ℕ
 due_again Cyclic clock due api = if nat_lt clock (due + api) then due + api else clock + api
 due_again ChangeOfState clock due api = clock + api
@@ -44,7 +44,7 @@ abbrev pub is_over : Option Ms → ℕ → Ms → Bool
 is_over None inhibit clock = true
 is_over (Some last) inhibit clock = nat_le (last.0 + inhibit) clock.0
 
--- the producer may produce: its production inhibit time is over
+-- the producer's production inhibit time is over, so that it may produce
 abbrev pub is_free : Ms → Production → Bool
 is_free clock production = is_over production.last production.inhibit clock
 
@@ -53,33 +53,33 @@ abbrev pub is_on_change : Trigger → Bool
 is_on_change Cyclic = false
 is_on_change ChangeOfState = true
 
--- due when the production inhibit time is over, and no later than before
+-- due at the end of the production inhibit time, and no later than before
 abbrev pub sooner_due : Option Ms → ℕ → Ms → Ms
 sooner_due None inhibit due = due
 sooner_due (Some last) inhibit due = record { 0 = min due.0 (last.0 + inhibit) }
 
--- a producer that may not produce yet is due when it may
+-- a producer within its production inhibit time is due at the end of it
 abbrev pub deferred : Production → Production
 deferred production = record production { due = sooner_due production.last production.inhibit production.due }
 
--- a change of state makes the producer produce at once
+-- the producer produces at once at a change of state
 abbrev pub is_produced_on_change : Ms → Production → Bool
 is_produced_on_change clock production = is_on_change production.trigger && is_free clock production
 
--- what a change of state makes of a change-of-state producer: it produces, or is due when it may
+-- a change-of-state producer after a change: it produces, or is due at the end of its production inhibit time
 abbrev pub produced_or_deferred : Ms → ℕ → Production → Production
 produced_or_deferred clock api production = if is_free clock production then produced clock api production else deferred production
 
--- the same by its trigger: a cyclic producer goes on as before
+-- the same by its trigger: a cyclic producer is unchanged
 abbrev pub changed_by : Trigger → Ms → ℕ → Production → Production
 changed_by Cyclic clock api production = production
 changed_by ChangeOfState clock api production = produced_or_deferred clock api production
 
--- the producer after a change of state, which a write of its point is
+-- the producer after a change of its data, as by a write of its point
 abbrev pub changed : Ms → ℕ → Production → Production
 changed clock api production = changed_by production.trigger clock api production
 
--- WHAT IS PRODUCED
+-- DATAGRAMS
 
 -- the datagram of a producer
 abbrev pub production_datagram : ConnId → Production → List ℕ → DatagramFields
@@ -90,8 +90,8 @@ production_datagram id production input = record {
   payload = input;
 }
 
--- one production: the number of the producer, the point whose bytes it sends, the address that they are sent
--- to, the nodes that consume them, and the datagram
+-- one production: the number of the producer, the point that it sends, the destination address, the nodes that
+-- consume it, and the datagram
 pub record Produced : Type 0 where
   pub producer : ℕ
   pub point : ℕ
@@ -99,7 +99,7 @@ pub record Produced : Type 0 where
   pub nodes : List Node
   pub datagram : DatagramFields
 
--- what a producer produces next for these nodes, where its point holds these bytes
+-- the next production of a producer for these nodes, with the value of its point
 abbrev pub produced_by : List Node → List ℕ → Producer → Produced
 produced_by nodes input producer = record {
   producer = producer.production.producer;
@@ -115,7 +115,7 @@ sent production = record { address = production.address; nodes = production.node
 
 -- SEVERAL PRODUCERS
 
--- two are one producer
+-- two producers are the same
 abbrev pub same_producer : Producer → Producer → Bool
 same_producer producer other = producer.production.producer == other.production.producer
 
@@ -123,7 +123,7 @@ same_producer producer other = producer.production.producer == other.production.
 abbrev pub by_number : Producer → Producer → Bool
 by_number producer other = nat_lt producer.production.producer other.production.producer
 
--- producers by when they are due, and then by their numbers
+-- producers by their due times, and then by their numbers
 abbrev pub by_due : Producer → Producer → Bool
 by_due producer other =
     nat_lt producer.production.due.0 other.production.due.0

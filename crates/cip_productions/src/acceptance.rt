@@ -1,19 +1,19 @@
-//! What a connection remembers of the datagrams that it accepted, and which it accepts.
+//! The acceptance of datagrams by their sequence numbers and counts.
 
 ghost use Rattle.std.specs.Prelude.{◌≡◌};
 ghost use Rattle.cip_productions.specs.Acceptance.{accepts_sequence, is_duplicate};
 
 use cip_types::{newer32, same16};
 
-/// The sequence number and the sequence count of the datagram that was last accepted.
+/// The sequence number and the sequence count of the last accepted datagram.
 #[derive(Clone, Copy, PartialEq, Eq)]
 pub struct Accepted {
     pub number: u32,
     pub count: u16,
 }
 
-/// Whether a datagram of this number is accepted: the first is, and a later one where its number is newer than
-/// the last accepted one. Takes no memory.
+/// Whether a datagram of this sequence number is accepted: the first one is, and a later one if its number is
+/// newer than the last accepted one. Takes no memory.
 ///
 /// Volume 2, chapter 2, sequenced address item.
 pub fn accepts_sequence(last: Option<Accepted>, sequence: u32) -> bool

@@ -1,14 +1,14 @@
-//! What connections are for.
+//! The kinds of connections.
 
-/// What a connection is for.
+/// The kind of a connection, by its use of the application's points.
 ///
 /// Volume 1, chapter 3, application connection types.
 #[derive(Clone, Copy, PartialEq, Eq)]
 pub enum Kind {
-    /// It drives an output, alone.
+    /// It drives an output, and no other connection does.
     ExclusiveOwner,
-    /// It gathers an input, and its consumed point carries no data.
+    /// It consumes an input, and its O->T direction has no data.
     InputOnly,
-    /// It listens to an input that another multicast connection supports.
+    /// It consumes an input together with another multicast connection, which supports it.
     ListenOnly,
 }

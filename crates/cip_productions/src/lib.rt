@@ -1,5 +1,5 @@
-//! What one connection sends and accepts, at an adapter and at a scanner: productions with their numbers,
-//! counts and due times, and the order of the datagrams that are accepted.
+//! Production and acceptance of one connection's datagrams, at an adapter and at a scanner: sequence numbers,
+//! counts and due times.
 #![tactic(auto)]
 
 mod acceptance;

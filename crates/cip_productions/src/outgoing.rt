@@ -1,4 +1,4 @@
-//! What producers send.
+//! The datagrams of producers.
 
 ghost use Rattle.std.specs.Prelude.{◌≡◌, ◌≤◌, length, IfOk};
 ghost use Rattle.cip_datagram.specs.Datagram.{datagram_text};
@@ -19,7 +19,8 @@ fn written_datagram(
     input: &[u8],
 ) -> Result<SmallBytes, OutOfMemory>
     requires { length input.now ≤ 65533 }
-    ensures { IfOk result (λ bytes. bytes ≡ datagram_text (production_datagram producer.now.id producer.now.production input.now)) }
+    ensures { IfOk result (λ bytes. bytes
+        ≡ datagram_text (production_datagram producer.now.id producer.now.production input.now)) }
 {
     let datagram = Datagram {
         connection: producer.id,
@@ -30,8 +31,7 @@ fn written_datagram(
     SmallBytes::joined(alloc, &fixed_part(&datagram), input)
 }
 
-/// What a producer sends next to these nodes, where its point holds these bytes. Want of memory is the only
-/// fault.
+/// The next datagram of a producer to these nodes, with the value of its point. OutOfMemory is the only fault.
 ///
 /// Volume 1, chapter 3, class 1 transport; Volume 2, chapter 2, sequenced address item.
 #[inline(always)]
@@ -52,7 +52,7 @@ pub fn sent_by(
     })
 }
 
-/// Whether two are one producer.
+/// Whether two producers are the same.
 pub fn same_producer(producer: &Producer, other: &Producer) -> bool
     ensures { result ≡ same_producer producer.now other.now }
 {
@@ -66,7 +66,7 @@ pub fn by_number(producer: &Producer, other: &Producer) -> bool
     producer.production.producer < other.production.producer
 }
 
-/// Whether a producer is due before another, or with it and has the lower number.
+/// Whether a producer is due before another, or at the same time and has the lower number.
 pub fn by_due(producer: &Producer, other: &Producer) -> bool
     ensures { result ≡ by_due producer.now other.now }
 {

@@ -1,4 +1,4 @@
-//! How a producer goes on.
+//! The next state of a producer.
 
 ghost use Rattle.std.specs.Prelude.{◌≡◌, ◌≤◌, ◌+◌, ◌^◌};
 ghost use Rattle.cip_productions.specs.Productions.{next_count, due_again, produced, is_production_due, is_over, is_free, is_on_change, is_produced_on_change, sooner_due, deferred, produced_or_deferred, changed};
@@ -20,8 +20,8 @@ pub fn next_count(production: &Production) -> u16
     }
 }
 
-/// When a producer that produces now is due again: a cyclic one keeps its pace, unless it is late by a whole
-/// interval.
+/// The next due time of a producer that produces now, in milliseconds. A cyclic one keeps its pace, unless it is
+/// late by a whole interval.
 ///
 /// Volume 1, chapter 3, production triggers.
 pub fn due_again(trigger: Trigger, clock: u64, due: u64, api: u32) -> u64
@@ -61,7 +61,7 @@ pub fn produced(production: Production, clock: Ms, api: u32) -> Production
     }
 }
 
-/// Whether a producer may produce: its production inhibit time is over.
+/// Whether the production inhibit time of a producer is over, so that it may produce.
 ///
 /// Volume 1, chapter 3, production inhibit time.
 pub fn is_free(production: &Production, clock: Ms) -> bool
@@ -103,7 +103,7 @@ fn sooner_due(last: Option<Ms>, inhibit: u8, due: Ms) -> Ms
     }
 }
 
-/// A producer that may not produce yet is due when it may, and no later than before.
+/// A producer within its production inhibit time: it is due at the end of that time, and no later than before.
 ///
 /// Volume 1, chapter 3, production inhibit time.
 pub fn deferred(production: Production) -> Production
@@ -116,7 +116,7 @@ pub fn deferred(production: Production) -> Production
     }
 }
 
-/// What a change of state makes of a change-of-state producer: it produces, or is due when it may.
+/// A change-of-state producer after a change: it produces, or is due at the end of its production inhibit time.
 fn produced_or_deferred(production: Production, clock: Ms, api: u32) -> Production
     requires time { clock.0 ≤ 2 ^ 48 }
     requires due { production.due.0 ≤ 2 ^ 48 + 10000 }
@@ -129,8 +129,8 @@ fn produced_or_deferred(production: Production, clock: Ms, api: u32) -> Producti
     }
 }
 
-/// A producer after a change of state, which a write of its point is: a cyclic one goes on as before, and a
-/// change-of-state one produces, or is due when it may.
+/// A producer after a change of its data. A cyclic one is unchanged. A change-of-state one produces, or is due at
+/// the end of its production inhibit time.
 ///
 /// Volume 1, chapter 3, production triggers and production inhibit time.
 pub fn changed(production: Production, clock: Ms, api: u32) -> Production

@@ -3,32 +3,32 @@
 use cip_netparams::Trigger;
 use cip_types::{ConnId, Ms, Node};
 
-/// The production of a connection's data.
+/// The production state of a connection's data.
 ///
 /// Volume 1, chapter 3, transport class 1 and production triggers.
 #[derive(Clone, Copy, PartialEq, Eq)]
 pub struct Production {
-    /// Which producer it is: the opening number of the connection that began it.
+    /// The producer's number: the opening number of the connection that created it.
     pub producer: u32,
-    /// The sequence number of its next datagram.
+    /// The sequence number of the next datagram.
     pub sequence: u32,
-    /// Its sequence count, which rises with new data.
+    /// The sequence count, which rises with new data.
     pub count: u16,
     /// Whether the input was written since the last production.
     pub written: bool,
-    /// When the next production is due.
+    /// The due time of the next production.
     pub due: Ms,
-    /// Where its datagrams go: a multicast address, or the one consumer.
+    /// The destination of its datagrams: a multicast address, or the one consumer.
     pub address: Node,
-    /// When it produces.
+    /// The production trigger.
     pub trigger: Trigger,
-    /// The least number of milliseconds between two productions of a change-of-state producer.
+    /// The production inhibit time of a change-of-state producer, in milliseconds.
     pub inhibit: u8,
-    /// When it last produced.
+    /// The time of the last production.
     pub last: Option<Ms>,
 }
 
-/// A producer: the point whose bytes it sends, the connection id of its datagrams, and its production.
+/// A producer: the point that it sends, the connection id of its datagrams, and its production state.
 ///
 /// Volume 1, chapter 3, transport class 1.
 #[derive(Clone, Copy)]
