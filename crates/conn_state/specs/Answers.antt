@@ -1,5 +1,5 @@
--- Whether the reply to a Forward_Open opens the connection that waits for it, and what names the connection
--- then (Volume 1, chapter 3, Forward_Open service, successful and unsuccessful response).
+-- Whether the reply to a Forward_Open opens the requested connection, and the triad and ids of the open connection
+-- (Volume 1, chapter 3, Forward_Open service, successful and unsuccessful response).
 use Rattle.std.specs.Prelude.{◌==◌, ◌&&◌, not, Bool, true, List, [], ◌∷◌, Option, Some, None, Result, Ok, Err}
 use Rattle.cip_types.specs.Cases.{Case, first_case}
 use Rattle.cip_types.specs.declared.names.ConnId.{ConnId}
@@ -17,17 +17,17 @@ use Rattle.conn_state.specs.declared.names.Requested.{Requested}
 abbrev pub same_triad : Triad → Triad → Bool
 same_triad a b = a.serial == b.serial && (a.vendor == b.vendor && a.originator == b.originator)
 
--- the id is the one that was asked for, where one was
+-- the id is the requested one, if one was requested
 abbrev pub is_requested_id : Option ConnId → ConnId → Bool
 is_requested_id None id = true
 is_requested_id (Some asked) id = asked.0 == id.0
 
--- both actual packet intervals are ones that an originator may ask for
+-- both actual packet intervals are in the range of requested ones
 abbrev pub has_intervals : made.Opened → Bool
 has_intervals opened = is_interval opened.o_t_api_us && is_interval opened.t_o_api_us
 
--- what may be amiss in a success: that it is of another connection than the one that waits, that its id may not
--- be used, and that it has no packet intervals; the first that holds is told
+-- the mismatches of a success, in order: it is for another connection, its id may not be used, its packet intervals
+-- are out of range
 abbrev pub answer_tests : Requested → made.Opened → Bool → List (Case Mismatch)
 answer_tests requested opened id_free =
     (not (same_triad opened.triad requested.triad), mismatch.Triad)
@@ -35,16 +35,16 @@ answer_tests requested opened id_free =
     ∷ (not (has_intervals opened), mismatch.Api)
     ∷ []
 
--- the triad of what was asked for, and the ids of the reply
+-- the requested triad, and the ids of the reply
 abbrev pub link_of : Requested → made.Opened → Link
 link_of requested opened = record { triad = requested.triad; o_t_id = opened.o_t_id; t_o_id = opened.t_o_id }
 
--- a success opens the connection where nothing is amiss; else what was asked for comes back
+-- a success without a mismatch opens the connection; otherwise the opening is returned
 abbrev pub linked : Requested → made.Opened → Option Mismatch → Result Link (Requested × Mismatch)
 linked requested opened None = Ok (link_of requested opened)
 linked requested opened (Some why) = Err (requested, why)
 
--- what an answer makes of the opening that waits for it
+-- the result of an answer for an opening
 abbrev pub accepted : Requested → OpenAnswer → Bool → Result Link (Requested × Mismatch)
 accepted requested (Refused refused) id_free = Err (requested, mismatch.Refused refused.fault)
 accepted requested (Opened opened) id_free = linked requested opened (first_case (answer_tests requested opened id_free))

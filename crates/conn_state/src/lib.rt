@@ -1,5 +1,5 @@
-//! The states of one class 1 connection, as types: a move takes the value of a state, and gives that of the
-//! next one, so that no state is left twice. Volume 1, chapter 3, connection object state.
+//! The states of one class 1 connection, as types. A transition consumes the value of one state and returns that of
+//! the next, so no state is left twice. Volume 1, chapter 3, connection object state.
 #![tactic(auto)]
 
 mod names;

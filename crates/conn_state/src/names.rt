@@ -1,9 +1,8 @@
-//! What names a connection, before and after its target answered.
+//! The identity of a connection, before and after its target answers.
 
 use cip_types::{ConnId, Triad};
 
-/// What an originator asked for: the connection's triad, and its T->O id, which a multicast connection
-/// leaves to the target.
+/// A requested connection: its triad, and its T->O id. For a multicast connection the target chooses that id.
 ///
 /// Volume 1, chapter 3, Forward_Open service.
 #[derive(Clone, Copy, PartialEq, Eq)]
@@ -12,7 +11,7 @@ pub struct Requested {
     pub t_o_id: Option<ConnId>,
 }
 
-/// What names an open connection: its triad, and the id that the datagrams of each direction carry.
+/// An open connection: its triad, and the id of the datagrams of each direction.
 ///
 /// Volume 1, chapter 3, connection triad and network connection ids.
 #[derive(Clone, Copy, PartialEq, Eq)]

@@ -1,4 +1,4 @@
-//! The five states, and the moves between them.
+//! The five states, and the transitions between them.
 
 ghost use Rattle.std.specs.Prelude.{◌≡◌};
 ghost use Rattle.cip_types.specs.Cases.{first_case};
@@ -10,11 +10,11 @@ use cip_netparams::api_of;
 use cip_types::{ConnId, Mismatch, Triad};
 use std::marker::Model;
 
-/// No connection: it has neither triad nor ids.
+/// No connection, so no triad and no ids.
 #[derive(Drop)]
 pub struct Idle;
 
-/// A Forward_Open was sent, and is not answered.
+/// A Forward_Open was sent, and its reply is awaited.
 #[derive(Drop)]
 pub struct Opening {
     requested: Requested,
@@ -26,19 +26,19 @@ pub struct Established {
     link: Link,
 }
 
-/// No datagram came before the connection's deadline.
+/// No datagram arrived before the connection's deadline.
 #[derive(Drop)]
 pub struct TimedOut {
     link: Link,
 }
 
-/// A Forward_Close was sent, and is not answered.
+/// A Forward_Close was sent, and its reply is awaited.
 #[derive(Drop)]
 pub struct Closing {
     link: Link,
 }
 
-/// An opening is what was asked for.
+/// Contracts see an opening as the requested connection.
 impl Model for Opening {
     ghost use Rattle.conn_state.specs.declared.names.Requested.{Requested};
 
@@ -47,7 +47,7 @@ impl Model for Opening {
     ghost view = { λ s. s.requested };
 }
 
-/// An open connection is what names it.
+/// Contracts see an open connection as its link.
 impl Model for Established {
     ghost use Rattle.conn_state.specs.declared.names.Link.{Link};
 
@@ -56,7 +56,7 @@ impl Model for Established {
     ghost view = { λ s. s.link };
 }
 
-/// A timed-out connection is what named it.
+/// Contracts see a timed-out connection as its former link.
 impl Model for TimedOut {
     ghost use Rattle.conn_state.specs.declared.names.Link.{Link};
 
@@ -65,7 +65,7 @@ impl Model for TimedOut {
     ghost view = { λ s. s.link };
 }
 
-/// A connection that closes is what names it.
+/// Contracts see a closing connection as its link.
 impl Model for Closing {
     ghost use Rattle.conn_state.specs.declared.names.Link.{Link};
 
@@ -75,7 +75,7 @@ impl Model for Closing {
 }
 
 impl Idle {
-    /// A Forward_Open of this triad is sent; with no T->O id the target chooses it, as for multicast.
+    /// Sends a Forward_Open of this triad. Without a T->O id the target chooses it, as for multicast.
     pub fn open(self, triad: Triad, t_o_id: Option<ConnId>) -> Opening
         ensures { result ≡ record { triad = triad; t_o_id = t_o_id } }
     {
@@ -84,7 +84,7 @@ impl Idle {
         }
     }
 
-    /// A target opens the connection that it was asked for, with the O->T id and the T->O id.
+    /// Opens the requested connection at its target, with the O->T id and the T->O id.
     pub fn admit(self, triad: Triad, o_t_id: ConnId, t_o_id: ConnId) -> Established
         ensures { result ≡ record { triad = triad; o_t_id = o_t_id; t_o_id = t_o_id } }
     {
@@ -105,17 +105,17 @@ impl Idle {
     }
 }
 
-/// Whether the id is the one that was asked for, where one was.
+/// Whether the id is the requested one, if one was requested.
 fn is_requested_id(requested: Option<ConnId>, id: ConnId) -> bool
     ensures { result ≡ is_requested_id requested id }
 {
     match requested {
-        Some(asked) => asked == id,
+        Some(requested) => requested == id,
         None => true,
     }
 }
 
-/// What is amiss with a success first.
+/// The first mismatch of a success.
 fn mismatch_of(requested: &Requested, opened: &Opened, id_free: bool) -> Option<Mismatch>
     ensures { result ≡ first_case (answer_tests requested.now opened.now id_free) }
 {
@@ -132,13 +132,11 @@ fn mismatch_of(requested: &Requested, opened: &Opened, id_free: bool) -> Option<
 }
 
 impl Opening {
-    /// The target's reply opens the connection, with the ids of the reply. `id_free` says that no other
-    /// established connection with the target has the reply's T->O id. The service of the reply is not
-    /// looked at.
+    /// Opens the connection by the target's reply, with the ids of the reply. `id_free` says that no other
+    /// established connection with the target has the reply's T->O id. The service of the reply is not judged.
     ///
-    /// Refused with the first that holds: the target's refusal; the reply names another connection; its
-    /// T->O id is not the one that was asked for, or is not free; an actual packet interval is out of range.
-    /// The opening then comes back.
+    /// The faults, in this order, each with the opening: the target's refusal; a reply for another connection;
+    /// a T->O id that is not the requested one, or not free; an actual packet interval out of range.
     pub fn accept(
         self,
         reply: &OpenReply,
@@ -164,12 +162,12 @@ impl Opening {
         }
     }
 
-    /// No reply opens the connection any more.
+    /// Stops waiting for the reply.
     pub fn give_up(self) -> Idle {
         Idle
     }
 
-    /// What was asked for.
+    /// The requested connection.
     pub fn requested(&self) -> Requested
         ensures { result ≡ self.now }
     {
@@ -185,21 +183,21 @@ impl Opening {
 }
 
 impl Established {
-    /// The connection's deadline came.
+    /// The connection's deadline passed.
     pub fn expire(self) -> TimedOut
         ensures { result ≡ self }
     {
         TimedOut { link: self.link }
     }
 
-    /// A Forward_Close is sent.
+    /// Sends a Forward_Close.
     pub fn close(self) -> Closing
         ensures { result ≡ self }
     {
         Closing { link: self.link }
     }
 
-    /// What names the connection.
+    /// The connection's triad and ids.
     pub fn link(&self) -> Link
         ensures { result ≡ self.now }
     {
@@ -215,12 +213,12 @@ impl Established {
 }
 
 impl TimedOut {
-    /// The connection is left.
+    /// Removes the connection.
     pub fn clear(self) -> Idle {
         Idle
     }
 
-    /// What named the connection.
+    /// The connection's former triad and ids.
     pub fn link(&self) -> Link
         ensures { result ≡ self.now }
     {
@@ -236,12 +234,12 @@ impl TimedOut {
 }
 
 impl Closing {
-    /// The target answered, or will not.
+    /// The target answered, or no answer is awaited any more.
     pub fn done(self) -> Idle {
         Idle
     }
 
-    /// What names the connection.
+    /// The connection's triad and ids.
     pub fn link(&self) -> Link
         ensures { result ≡ self.now }
     {
