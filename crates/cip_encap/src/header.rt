@@ -61,7 +61,8 @@ pub fn read_message_header(bytes: &[u8]) -> Option<(MessageHeader, &[u8])>
     // The result is a reading of the bytes.
     ensures reading { IsHeaderReading bytes.now (option_map (λ x. headed x.0 x.1.now) result) }
     // The bytes have no other reading.
-    ensures only { (other : Option Tailed) → IsHeaderReading bytes.now other → option_map (λ x. headed x.0 x.1.now) result ≡ other }
+    ensures only { (other : Option Tailed) → IsHeaderReading bytes.now other
+        → option_map (λ x. headed x.0 x.1.now) result ≡ other }
     // The same as a function of the bytes.
     ensures value { Finds (λ x. headed x.0 x.1.now) result (fields_at header_widths bytes.now) }
 {

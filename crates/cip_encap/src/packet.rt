@@ -101,7 +101,8 @@ pub fn read_items(bytes: &[u8]) -> Result<CommonPacket<'_>, ItemFault>
     // The result is a reading of the bytes.
     ensures reading { IsPacketReading bytes.now (seen view_packet result) }
     // The bytes have no other reading.
-    ensures only { (other : Result PacketFields ItemFault) → IsPacketReading bytes.now other → seen view_packet result ≡ other }
+    ensures only { (other : Result PacketFields ItemFault) → IsPacketReading bytes.now other
+        → seen view_packet result ≡ other }
     // The same as a function of the bytes.
     ensures value { seen view_packet result ≡ packet_reading bytes.now }
 {

@@ -43,7 +43,8 @@ pub fn read_message(bytes: &[u8]) -> Result<MessageView<'_>, EncapFault>
     // The result is a reading of the bytes.
     ensures reading { IsMessageReading bytes.now (seen view_message result) }
     // The bytes have no other reading.
-    ensures only { (other : Result MessageFields EncapFault) → IsMessageReading bytes.now other → seen view_message result ≡ other }
+    ensures only { (other : Result MessageFields EncapFault) → IsMessageReading bytes.now other
+        → seen view_message result ≡ other }
     // The same as a function of the bytes.
     ensures value { seen view_message result ≡ message_reading bytes.now }
 {

@@ -1,4 +1,4 @@
--- The electronic key of a path, and the devices that it wants (Volume 1, appendix C, electronic key
+-- The electronic key of a path, and the devices that match it (Volume 1, appendix C, electronic key
 -- segment). A device has its vendor, device type, product code and revision from its Identity object.
 use Rattle.std.specs.Prelude.{ℕ, Bool, ◌==◌, nat_le, ◌||◌, ◌&&◌, not, if◌then◌else◌, List, [], ◌∷◌, Option}
 use Rattle.cip_types.specs.Cases.{Case, first_case}
@@ -16,11 +16,11 @@ pub record KeyFields : Type 0 where
   pub major : ℕ
   pub minor : ℕ
 
--- the fields of a key of the program
+-- the contents of a key of the program
 abbrev pub view_key : ElectronicKey → KeyFields
 view_key k = record { vendor = k.vendor; device_type = k.device_type; product = k.product; compatible = k.compatible; major = k.major; minor = k.minor }
 
--- a field matches the device's own if it is zero or equal to it
+-- a field matches the device's value if it is zero or equal to it
 abbrev pub is_match : ℕ → ℕ → Bool
 is_match field own = (field == 0) || (field == own)
 
@@ -32,11 +32,11 @@ is_product_match k d = is_match k.vendor d.vendor && is_match k.product d.produc
 abbrev pub is_type_match : KeyFields → Identity → Bool
 is_type_match k d = is_match k.device_type d.device_type
 
--- the major revision matches, and the minor one does; a compatible device's minor revision is at least the key's
+-- the major and the minor revision match; with the compatible bit the key's minor revision is at most the device's
 abbrev pub is_revision_match : KeyFields → Identity → Bool
 is_revision_match k d = is_match k.major d.major && (if k.compatible then nat_le k.minor d.minor else is_match k.minor d.minor)
 
--- the three tests of a key, in order: each tells the fault where it fails
+-- the three tests of a key in order, each with its fault
 abbrev pub key_tests : KeyFields → Identity → List (Case KeyFault)
 key_tests k d =
     (not (is_product_match k d), fault.VendorOrProduct)
@@ -44,6 +44,6 @@ key_tests k d =
     ∷ (not (is_revision_match k d), fault.Revision)
     ∷ []
 
--- the first of the three that fails, if one does
+-- the fault of the first test that fails, if one does
 abbrev pub key_fault : KeyFields → Identity → Option KeyFault
 key_fault k d = first_case (key_tests k d)

@@ -1,5 +1,5 @@
--- What follows from the definitions, for the crates above: a text has one reading, which is the relations' own, and
--- what is written is read as it was.
+-- Consequences of the definitions, for the crates above: a text has one reading, which is that of the relations, and
+-- a written value is read back.
 pub mod Numbers
 pub mod Segments
 pub mod Taken

@@ -1,4 +1,4 @@
--- Paths: which lists of segments are one, which texts, and the fault of every other text (Volume 1,
+-- Paths: their lists of segments, their texts, and the fault of every other text (Volume 1,
 -- chapter 3, connection path, and chapter 2, request path).
 use Rattle.std.specs.Prelude.{◌≡◌, ◌≢◌, ℕ, ◌⊎◌, List, [], ◌∷◌, ◌++◌, map, Option, Some, None, Result, Ok, Err, option_to_list}
 use Rattle.std.specs.Option.{option_map}
@@ -10,7 +10,7 @@ use Rattle.cip_epath.specs.declared.segment.LogicalType.TheVariants.{Class, Inst
 use Rattle.cip_epath.specs.ElectronicKey.{KeyFields, view_key}
 use Rattle.cip_epath.specs.Segment.{SegmentValue, logical, key, bytes, inhibit, IsSegmentText}
 
--- a connection path, wherever its data segment lies in memory
+-- the contents of a connection path
 pub record PathFields : Type 0 where
   pub key : Option KeyFields
   pub inhibit : Option ℕ
@@ -20,7 +20,7 @@ pub record PathFields : Type 0 where
   pub produced : ℕ
   pub segment : Option (List ℕ)
 
--- the fields of a path of the program
+-- the contents of a path of the program
 abbrev pub view_path : ConnPath → PathFields
 view_path p = record {
   key = option_map view_key p.key;
@@ -34,7 +34,7 @@ view_path p = record {
 
 -- ---- lists of segments
 
--- what a segment is in a connection path: an instance and a connection point both are a point
+-- the role of a segment in a connection path: an instance and a connection point both are a point
 pub data Role : Type 0 where
   key_role : KeyFields → Role
   class_role : ℕ → Role
@@ -42,7 +42,7 @@ pub data Role : Type 0 where
   data_role : List ℕ → Role
   no_role : Role
 
--- the role of a segment; an inhibit segment is left aside
+-- the role of a segment; an inhibit segment has none
 abbrev pub role_of : SegmentValue → Option Role
 role_of (logical Class value) = Some (class_role value)
 role_of (logical Instance value) = Some (point_role value)
@@ -78,7 +78,7 @@ arrangement p =
     ++ class_role p.class ∷ map point_role (option_to_list p.config)
     ++ point_role p.consumed ∷ point_role p.produced ∷ map data_role (option_to_list p.segment)
 
--- the segments are arranged as those of the path, with its inhibit segment anywhere
+-- the segments have the arrangement of the path, with its inhibit segment anywhere
 abbrev pub IsPath : List SegmentValue → PathFields → Type 0
 IsPath segments p = (inhibits segments ≡ option_to_list p.inhibit) × (roles segments ≡ arrangement p)
 
@@ -93,7 +93,7 @@ abbrev pub AreSegmentTexts : List SegmentValue → List ℕ → Type 0
 AreSegmentTexts [] text = text ≡ []
 AreSegmentTexts (s ∷ segments) text = (front rest : List ℕ) × IsSegmentText s front × AreSegmentTexts segments rest × (text ≡ front ++ rest)
 
--- text is a text of p, whose segments are arranged so
+-- text is a text of p, whose segments have the arrangement
 abbrev pub IsTextOf : {P : Type 0} → (List SegmentValue → P → Type 0) → List ℕ → P → Type 0
 IsTextOf Arranged text p = (segments : List SegmentValue) × AreSegmentTexts segments text × Arranged segments p
 
@@ -107,7 +107,7 @@ SegmentBegins text = (s : SegmentValue) × ((front rest : List ℕ) × IsSegment
 abbrev pub BeginsNone : ℕ → Type 0
 BeginsNone first = (s : SegmentValue) (rest : List ℕ) → IsSegmentText s (first ∷ rest) → ⊥
 
--- behind the first byte of a key stands another format than 4
+-- after the first byte of a key another format than 4 follows
 abbrev pub IsOtherKey : ℕ → List ℕ → Type 0
 IsOtherKey first [] = ⊥
 IsOtherKey first (format ∷ rest) = (first ≡ 0x34) × (format ≢ 4)
@@ -120,21 +120,21 @@ IsFaultOf (first ∷ rest) fault.KeyFormat = IsOtherKey first rest
 IsFaultOf (first ∷ rest) fault.Truncated = ¬ BeginsNone first × ¬ IsOtherKey first rest
 IsFaultOf (first ∷ rest) fault.Shape = ⊥
 
--- up to a rest the text is segments, no whole segment begins there, and its fault is f
+-- the text is segments up to a rest, no whole segment begins there, and its fault is f
 abbrev pub StopsWith : List ℕ → PathFault → Type 0
 StopsWith text f =
     (segments : List SegmentValue)
     × ((front rest : List ℕ) × AreSegmentTexts segments front × (text ≡ front ++ rest) × ¬ SegmentBegins rest × IsFaultOf rest f)
 
--- the text is segments, which are arranged as those of nothing
+-- the text is segments, whose arrangement is none of a path's
 abbrev pub IsMisarranged : {P : Type 0} → (List SegmentValue → P → Type 0) → List ℕ → Type 0
 IsMisarranged {P} Arranged text = (segments : List SegmentValue) × AreSegmentTexts segments text × ((p : P) → Arranged segments p → ⊥)
 
--- the fault of a text that is no text of anything
+-- the fault of a text that is no path
 abbrev pub HasFault : {P : Type 0} → (List SegmentValue → P → Type 0) → List ℕ → PathFault → Type 0
 HasFault Arranged text f = StopsWith text f ⊎ ((f ≡ fault.Shape) × IsMisarranged Arranged text)
 
--- what reading the text gives
+-- the result is a reading of the text
 abbrev pub IsReading : {P : Type 0} → (List SegmentValue → P → Type 0) → List ℕ → Result P PathFault → Type 0
 IsReading Arranged text (Ok p) = IsTextOf Arranged text p
 IsReading Arranged text (Err f) = HasFault Arranged text f

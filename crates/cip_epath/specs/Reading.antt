@@ -1,5 +1,5 @@
--- What bytes say when they are read as a path, as a function: the segments from the front on, and what
--- their arrangement gives. `Path` says the same as a relation (Volume 1, appendix C, segment types).
+-- The reading of bytes as a path, as a function: the segments from the front on, and their arrangement. `Path` has
+-- it as a relation (Volume 1, appendix C, segment types).
 use Rattle.std.specs.Prelude.{◌≡◌, ℕ, zero, suc, ◌*◌, ◌/◌, ◌%◌, List, [], ◌∷◌, length, take, drop, Option, Some, None, Result, Ok, Err, nat_lt, nat_le, ◌==◌, if◌then◌else◌}
 use Rattle.std.specs.Option.{ok_or}
 use Rattle.std.specs.Int.{Width, w8, w16, w32}
@@ -14,34 +14,34 @@ use Rattle.cip_epath.specs.Segment.{SegmentValue, logical, key, bytes, inhibit}
 use Rattle.cip_epath.specs.Path.{PathFields, Role, key_role, class_role, point_role, data_role, roles, inhibits}
 
 infixl 10 ◌>>=◌
--- what follows an answer, unless that is a fault
+-- the next result after a value; a fault stays
 abbrev pub ◌>>=◌ : {A B : Type 0} → Result A PathFault → (A → Result B PathFault) → Result B PathFault
 (Ok x) >>= f = f x
 (Err e) >>= f = Err e
 
--- an answer with its value seen by view
+-- a result, with its value seen by view
 abbrev pub seen : {X Y : Type 0} → (X → Y) → Result X PathFault → Result Y PathFault
 seen view (Ok x) = Ok (view x)
 seen view (Err f) = Err f
 
--- What a function returned, seen by view, is what the reading gives.
+-- The result of a function, seen by view, is the reading.
 abbrev pub Gives : {X Y : Type 0} → (X → Y) → Result X PathFault → Result Y PathFault → Type 0
 Gives view (Ok x) reading = reading ≡ Ok (view x)
 Gives view (Err e) reading = reading ≡ Err e
 
--- ---- one segment: what is read at the front, and the bytes after it
+-- ---- one segment: the reading at the front, and the bytes after it
 
 -- a number
 abbrev pub number_at : Width → List ℕ → Result (ℕ × List ℕ) PathFault
 number_at w bs = ok_or (field_at w bs) fault.Truncated
 
--- words, behind their number
+-- words, after their number
 unfoldable pub data_at : List ℕ → Result (List ℕ × List ℕ) PathFault
 data_at bs = do
   words ← number_at w8 bs
   if nat_lt (length words.1) (2 * words.0) then Err fault.Truncated else Ok (take (2 * words.0) words.1, drop (2 * words.0) words.1)
 
--- the fields of a key, behind its format
+-- the fields of a key, after its format
 unfoldable pub key_fields_at : List ℕ → Result (KeyFields × List ℕ) PathFault
 key_fields_at bs = do
   vendor ← number_at w16 bs
@@ -51,7 +51,7 @@ key_fields_at bs = do
   minor ← number_at w8 revision.1
   Ok (record { vendor = vendor.0; device_type = device_type.0; product = product.0; compatible = nat_le 128 revision.0; major = revision.0 % 128; minor = minor.0 }, minor.1)
 
--- a key, behind its first byte
+-- a key, after its first byte
 unfoldable pub key_at : List ℕ → Result (KeyFields × List ℕ) PathFault
 key_at bs = do
   format ← number_at w8 bs
@@ -67,7 +67,7 @@ type_of high =
     else if high == 12 then Some Attribute
     else None
 
--- the value of a logical segment in its format, behind the pad byte of the wide ones
+-- the value of a logical segment in its format, after the pad byte of the wide ones
 unfoldable pub value_at : LogicalType → ℕ → List ℕ → Result (SegmentValue × List ℕ) PathFault
 value_at kind format bs =
     if format == 0 then (number_at w8 bs >>= λ value. Ok (logical kind value.0, value.1))
@@ -80,7 +80,7 @@ abbrev pub typed_at : Option LogicalType → ℕ → List ℕ → Result (Segmen
 typed_at None format bs = Err fault.Segment
 typed_at (Some kind) format bs = value_at kind format bs
 
--- a logical segment, behind its first byte
+-- a logical segment, after its first byte
 unfoldable pub logical_at : ℕ → List ℕ → Result (SegmentValue × List ℕ) PathFault
 logical_at first bs = typed_at (type_of (first / 4)) (first % 4) bs
 
@@ -95,7 +95,7 @@ segment_at bs = do
 
 -- ---- all segments
 
--- the segments up to the end of the bytes, where there are at most so many
+-- the segments up to the end of the bytes, at most this number of them
 unfoldable pub segments_at : ℕ → List ℕ → Result (List SegmentValue) PathFault
 segments_at most [] = Ok []
 segments_at zero (b ∷ bs) = Err fault.Truncated
@@ -104,13 +104,13 @@ segments_at (suc most) (b ∷ bs) = do
   others ← segments_at most first.1
   Ok (first.0 ∷ others)
 
--- what the arrangement of all segments gives; each takes a byte at least, so there are no more than bytes
+-- the result of arranging all segments; each has at least one byte, so there are no more segments than bytes
 abbrev pub reading_by : {P : Type 0} → (List SegmentValue → Result P PathFault) → List ℕ → Result P PathFault
 reading_by arranged bs = segments_at (length bs) bs >>= arranged
 
 -- ---- a connection path
 
--- behind the class stand two points or three, and then data or none
+-- two or three points and optional data follow the class
 abbrev pub with_points : Option ℕ → Option KeyFields → ℕ → List Role → Result PathFields PathFault
 with_points ms k class (point_role consumed ∷ point_role produced ∷ []) =
     Ok (record { key = k; inhibit = ms; class = class; config = None; consumed = consumed; produced = produced; segment = None })
@@ -122,17 +122,17 @@ with_points ms k class (point_role config ∷ point_role consumed ∷ point_role
     Ok (record { key = k; inhibit = ms; class = class; config = Some config; consumed = consumed; produced = produced; segment = Some content })
 with_points _ _ _ _ = Err fault.Shape
 
--- the class stands in front of the points
+-- the class precedes the points
 abbrev pub with_class : Option ℕ → Option KeyFields → List Role → Result PathFields PathFault
 with_class ms k (class_role class ∷ rest) = with_points ms k class rest
 with_class _ _ _ = Err fault.Shape
 
--- a key may stand in front of the class
+-- an optional key precedes the class
 abbrev pub with_key : Option ℕ → List Role → Result PathFields PathFault
 with_key ms (key_role k ∷ rest) = with_class ms (Some k) rest
 with_key ms rest = with_class ms None rest
 
--- there is at most one inhibit segment, beside the other segments
+-- there is at most one inhibit segment among the others
 abbrev pub with_inhibits : List ℕ → List Role → Result PathFields PathFault
 with_inhibits [] rest = with_key None rest
 with_inhibits (ms ∷ []) rest = with_key (Some ms) rest

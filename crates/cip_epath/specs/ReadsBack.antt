@@ -1,4 +1,4 @@
--- What is written is read as the same value: laws of the definitions alone, which `reads_back` promises
+-- A written value is read back: laws of the definitions alone, which `reads_back` promises
 -- (Volume 1, chapter 3, connection path, and chapter 2, request path).
 use Rattle.std.specs.Prelude.{◌≡◌, Ok}
 use Rattle.cip_epath.specs.declared.path.Target.{Target}

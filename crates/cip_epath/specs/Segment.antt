@@ -1,7 +1,7 @@
 -- The segments of a path, and the byte texts of each (Volume 1, appendix C, segment types).
 --
 --   logical          001 type format   type: 0 class, 1 instance, 2 member, 3 connection point, 4 attribute;
---                                      format: 0, 1, 2 for a value of 8, 16, 32 bits; a pad byte stands before
+--                                      format: 0, 1, 2 for a value of 8, 16, 32 bits; a pad byte precedes
 --                                      a value of 16 or 32 bits
 --   electronic key   0x34 0x04         vendor u16, device type u16, product code u16, major revision u8 with
 --                                      the compatibility bit 7, minor revision u8
@@ -15,14 +15,14 @@ use Rattle.cip_epath.specs.declared.segment.Segment.{Segment}
 use Rattle.cip_epath.specs.declared.segment.Segment.TheVariants as read
 use Rattle.cip_epath.specs.ElectronicKey.{KeyFields, view_key}
 
--- a segment, whichever way it is written and wherever it lies in memory
+-- the contents of a segment, in any of its formats
 pub data SegmentValue : Type 0 where
   logical : LogicalType → ℕ → SegmentValue
   key : KeyFields → SegmentValue
   bytes : List ℕ → SegmentValue
   inhibit : ℕ → SegmentValue
 
--- the value of a segment of the program
+-- the contents of a segment of the program
 abbrev pub view_segment : Segment → SegmentValue
 view_segment (read.Logical kind value) = logical kind value
 view_segment (read.ElectronicKey k) = key (view_key k)
@@ -41,7 +41,7 @@ type_code Attribute = 4
 abbrev pub logical_byte : LogicalType → ℕ → ℕ
 logical_byte kind format = 0x20 + 4 * type_code kind + format
 
--- the value stands in one byte, or behind a pad byte in two or four
+-- the value has one byte, or two or four after a pad byte
 abbrev pub IsLogicalText : LogicalType → ℕ → List ℕ → Type 0
 IsLogicalText kind value text =
     ((value < 2 ^ 8) × (text ≡ logical_byte kind 0 ∷ value ∷ []))
@@ -56,7 +56,7 @@ pub record KeyFits (k : KeyFields) : Type 0 where
   pub major : k.major < 2 ^ 7
   pub minor : k.minor < 2 ^ 8
 
--- the major revision, with bit 7 where a compatible device will do
+-- the major revision, with bit 7 if a compatible revision is accepted
 abbrev pub revision_byte : KeyFields → ℕ
 revision_byte k = k.major + (if k.compatible then 128 else 0)
 

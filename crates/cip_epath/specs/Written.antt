@@ -1,4 +1,4 @@
--- The texts that are written: the writer's order of segments, and the least form of each (Volume 1,
+-- The written texts: the writer's order of segments, and the shortest form of each (Volume 1,
 -- appendix C, segment types).
 use Rattle.std.specs.Prelude.{◌≡◌, ℕ, ◌*◌, ◌/◌, ◌<◌, ◌^◌, nat_lt, if◌then◌else◌, List, [], ◌∷◌, ◌++◌, length, map, option_to_list, IfSome}
 use Rattle.std.specs.List.{flat_map}
@@ -9,14 +9,14 @@ use Rattle.cip_epath.specs.declared.segment.LogicalType.TheVariants.{Class, Inst
 use Rattle.cip_epath.specs.Segment.{SegmentValue, logical, key, bytes, inhibit, logical_byte, key_text, KeyFits}
 use Rattle.cip_epath.specs.Path.{PathFields}
 
--- the value in as few bytes as it takes, a pad byte being zero
+-- the value in the fewest bytes; a pad byte is zero
 abbrev pub logical_text : LogicalType → ℕ → List ℕ
 logical_text kind value =
     if nat_lt value 256 then logical_byte kind 0 ∷ value ∷ []
     else if nat_lt value 65536 then logical_byte kind 1 ∷ 0 ∷ to_le_bytes w16 value
     else logical_byte kind 2 ∷ 0 ∷ to_le_bytes w32 value
 
--- the least text of a segment
+-- the shortest text of a segment
 abbrev pub segment_text : SegmentValue → List ℕ
 segment_text (logical kind value) = logical_text kind value
 segment_text (key k) = key_text k

@@ -53,7 +53,8 @@ impl<'a> PathBuilder<'a> {
 
     /// The state after one more segment.
     pub fn then(self, segment: Segment<'a>) -> PathBuilder<'a>
-        ensures { view_path_builder result ≡ next_if (role_of (view_segment segment.entry)) (view_path_builder self.entry) }
+        ensures { view_path_builder result
+            ≡ next_if (role_of (view_segment segment.entry)) (view_path_builder self.entry) }
     {
         match segment {
             Segment::Inhibit(_) => self,

@@ -69,7 +69,8 @@ pub fn read_path(bytes: &[u8]) -> Result<ConnPath<'_>, PathFault>
     // The result is a reading of the bytes.
     ensures reading { IsReading IsPath bytes.now (seen view_path result) }
     // The bytes have no other reading.
-    ensures only { (other : Result PathFields PathFault) → IsReading IsPath bytes.now other → seen view_path result ≡ other }
+    ensures only { (other : Result PathFields PathFault) → IsReading IsPath bytes.now other
+        → seen view_path result ≡ other }
     // The same as a function of the bytes.
     ensures value { seen view_path result ≡ path_reading bytes.now }
 {

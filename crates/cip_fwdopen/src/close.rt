@@ -81,7 +81,8 @@ pub fn read_close(bytes: &[u8]) -> Result<CloseRequest<'_>, ReadFault>
     // The result is a reading of the bytes.
     ensures reading { IsCloseReading bytes.now (seen view_close result) }
     // The bytes have no other reading.
-    ensures only { (other : Result CloseFields ReadFault) → IsCloseReading bytes.now other → seen view_close result ≡ other }
+    ensures only { (other : Result CloseFields ReadFault) → IsCloseReading bytes.now other
+        → seen view_close result ≡ other }
 {
     whole_close(bytes)
 }

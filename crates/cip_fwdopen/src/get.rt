@@ -70,7 +70,8 @@ pub fn read_get_reply(bytes: &[u8]) -> Result<GetReply<'_>, ReadFault>
     // The result is a reading of the bytes.
     ensures reading { IsGetReplyReading bytes.now (seen view_get result) }
     // The bytes have no other reading.
-    ensures only { (other : Result GetFields ReadFault) → IsGetReplyReading bytes.now other → seen view_get result ≡ other }
+    ensures only { (other : Result GetFields ReadFault) → IsGetReplyReading bytes.now other
+        → seen view_get result ≡ other }
 {
     whole_reply(bytes)
 }

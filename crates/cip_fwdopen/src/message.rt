@@ -54,7 +54,8 @@ pub fn read_request(bytes: &[u8]) -> Result<Request<'_>, ReadFault>
     // The result is a reading of the bytes.
     ensures reading { IsRequestReading bytes.now (seen view_request result) }
     // The bytes have no other reading.
-    ensures only { (other : Result RequestFields ReadFault) → IsRequestReading bytes.now other → seen view_request result ≡ other }
+    ensures only { (other : Result RequestFields ReadFault) → IsRequestReading bytes.now other
+        → seen view_request result ≡ other }
 {
     whole_request(bytes)
 }

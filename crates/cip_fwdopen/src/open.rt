@@ -96,7 +96,8 @@ pub fn read_open(large: bool, bytes: &[u8]) -> Result<OpenRequest<'_>, ReadFault
     // The result is a reading of the bytes.
     ensures reading { IsOpenReading large bytes.now (seen view_open result) }
     // The bytes have no other reading.
-    ensures only { (other : Result OpenFields ReadFault) → IsOpenReading large bytes.now other → seen view_open result ≡ other }
+    ensures only { (other : Result OpenFields ReadFault) → IsOpenReading large bytes.now other
+        → seen view_open result ≡ other }
 {
     whole_open(large, bytes)
 }

@@ -19,7 +19,8 @@ const OPENED_LEN: usize = 30;
 
 fn put_params(out: &mut Vec<u8>, large: bool, params: &NetParams) -> Result<(), OutOfMemory>
     requires { params.now.size ≤ greatest_size large }
-    ensures { OnOk result (out.new.items ≡ out.old.items ++ to_le_bytes (params_width large) (params_word large params.now)) }
+    ensures { OnOk result (out.new.items
+        ≡ out.old.items ++ to_le_bytes (params_width large) (params_word large params.now)) }
 {
     if large {
         return put_u32(out, write32(params));
@@ -58,7 +59,8 @@ fn put_open(out: &mut Vec<u8>, large: bool, request: &OpenRequest<'_>) -> Result
     requires short { length request.now.path.now ≤ 510 }
     requires o_t_size { request.now.o_t_params.size ≤ greatest_size large }
     requires t_o_size { request.now.t_o_params.size ≤ greatest_size large }
-    ensures { OnOk result (OpenFits large (view_open request.now) × (out.new.items ≡ out.old.items ++ open_text large (view_open request.now))) }
+    ensures { OnOk result (OpenFits large (view_open request.now)
+        × (out.new.items ≡ out.old.items ++ open_text large (view_open request.now))) }
 {
     put_bytes(out, &[request.priority_tick, request.ticks])?;
     put_u32(out, request.o_t_id.0)?;
@@ -108,7 +110,8 @@ fn service_of(large: bool) -> u8
 
 /// Appends the whole reply to a successful open.
 fn put_opened(out: &mut Vec<u8>, large: bool, opened: &Opened) -> Result<(), OutOfMemory>
-    ensures { OnOk result (OpenedFits opened.now × (out.new.items ≡ out.old.items ++ opened_text large opened.now)) }
+    ensures { OnOk result (OpenedFits opened.now
+        × (out.new.items ≡ out.old.items ++ opened_text large opened.now)) }
 {
     put_bytes(out, &[service_of(large), 0, 0, 0])?;
     put_u32(out, opened.o_t_id.0)?;
