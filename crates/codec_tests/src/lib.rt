@@ -1,5 +1,5 @@
-//! Tests of the codecs that no device runs: a call once on its way, and what no clause says. What worked bytes
-//! mean stands in the codecs' own samples; what devices call, the scenarios run.
+//! Tests of the codec functions that no device calls: each call once, and behaviour that no clause states. The
+//! codecs' own samples have the meaning of worked bytes, and the scenarios run the functions that devices call.
 #![tactic(auto)]
 
 #[cfg(test)]

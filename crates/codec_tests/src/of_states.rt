@@ -39,7 +39,7 @@ fn numbers() -> Option<[u8; 4]> {
     Some([waiting, open, leaving, closing.done().number()])
 }
 
-/// A target's connection times out and is left.
+/// A target's connection times out and is removed.
 fn target_numbers() -> [u8; 2] {
     let timed_out = Idle
         .admit(triad(), ConnId(0x1000_0001), ConnId(0x2000_0001))
