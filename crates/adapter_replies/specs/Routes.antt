@@ -79,7 +79,7 @@ framed_answer number reply_header answer notices = record {
   notices = notices;
 }
 
--- what is answered where a route brings no request
+-- the answer to bytes that are no request
 abbrev pub unserved_answer : Route → Answer
 unserved_answer (route.Peer peer) = plain_answer BadFrame
 unserved_answer (route.Stream number peer reply_header) = framed_answer number (view_reply_header reply_header) (frames.refused status.IncorrectData) []
@@ -93,7 +93,7 @@ routed_answer way answer address notices = record {
   notices = notices;
 }
 
--- the answer to what was served of a request, and the table after it
+-- the answer with the reply to a request, and the table after it
 abbrev pub routed : AdapterTable → Route → Option Served → Next
 routed t way None = (unserved_answer way, t)
 routed t way (Some s) = (routed_answer way s.reply s.address s.notices, s.table)

@@ -138,7 +138,7 @@ frame_does R does t number bytes next is = frame_by R does t bytes (find (is_str
 
 -- ---- streams
 
--- a stream that is opened has a number of its own, and there is room for it
+-- a stream that is opened has a number of its own, and fewer than 16 are open
 pub record IsStreamed (t : AdapterTable) (number : ℕ) (peer : Node) (next : Next) : Type 0 where
   pub free : is_taken t.streams number ≡ false
   pub said : (plain_answer Done, with_stream t number peer) ≡ next

@@ -38,7 +38,7 @@ use Rattle.adapter_table.proofs.EffectLemmas.{IsWrite, write_is, IsTick, tick_is
 use Rattle.adapter_table.proofs.ServedLemmas.{LosesOnly, unlost, loses_nothing, loses_with, requests_lose}
 use Rattle.adapter_table.proofs.ExpiryLemmas.{one_expired, owner_expired, expired_value}
 
--- what an event leaves at each output, told of the bytes that it held
+-- what an event leaves at each output, from the bytes that it held
 abbrev LeavesHeld : AdapterTable → Event → AdapterTable → Type 0
 LeavesHeld t event next = (point : ℕ) (output : OutputPoint) (held : List ℕ) → find (is_output_at point) t.profile.outputs ≡ Some output → bytes_at t.values point ≡ Some held → bytes_at next.values point ≡ Some (unwrap_or (left_at point t event next) held)
 
@@ -151,7 +151,7 @@ leaves_held t (Mode run) next is whole = absurd cc
 leaves_held t (Start slot) next is whole = absurd cc
 leaves_held t (Stop slot) next is whole = absurd cc
 
--- ---- told of what each output held, which it does
+-- ---- from what each output held, which it does
 
 some_bytes : (found : Option (List ℕ)) (len : ℕ) → option_map (λ (bytes : List ℕ). length bytes) found ≡ Some len → (held : List ℕ) × (found ≡ Some held)
 some_bytes None len is = absurd cc

@@ -121,7 +121,7 @@ drawn_append profile next_id next (row ∷ rows) new more is drawn =
     let below : row.opening < next_id = drawn.1 in
     (drawn.0, omega arith, drawn_append profile next_id next rows new more is drawn.2)
 
--- ---- room
+-- ---- capacity
 
 not_false : (b : Bool) → not b ≡ false → b ≡ true
 not_false true h = refl

@@ -244,7 +244,7 @@ pub sound_with : (t : AdapterTable) (number : ℕ) (peer : Node) → is_taken t.
 unfolding with_stream
 sound_with t number peer free sound =
     let has = has_capacity t.streams number free in
-    sound_streams t (t.streams ++ new_stream number peer ∷ []) (few_with t.streams (new_stream number peer) has.room) (differ_with t.streams (new_stream number peer) sound.streams_differ has.free) sound
+    sound_streams t (t.streams ++ new_stream number peer ∷ []) (few_with t.streams (new_stream number peer) has.capacity) (differ_with t.streams (new_stream number peer) sound.streams_differ has.free) sound
 
 pub sound_without : (t : AdapterTable) (number : ℕ) → IsSound t → IsSound (without_stream t number)
 unfolding without_stream

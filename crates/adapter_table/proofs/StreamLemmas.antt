@@ -11,18 +11,18 @@ use Rattle.adapter_table.specs.Sound.{StreamsDiffer}
 
 -- ---- a stream opens
 
--- there is room for a stream of this number
+-- a stream of this number can be opened
 pub record HasCapacity (streams : List Stream) (number : ℕ) : Type 0 where
   pub free : list_any (is_stream number) streams ≡ false
-  pub room : length streams + 1 ≤ 16
+  pub capacity : length streams + 1 ≤ 16
 
 pub has_capacity : (streams : List Stream) (number : ℕ) → is_taken streams number ≡ false → HasCapacity streams number
 has_capacity streams number free =
     let parts = or_parts (list_any (is_stream number) streams) (nat_le 16 (length streams)) free in
-    record { free = parts.0; room = grind (arith, nat_tests, parts.1) }
+    record { free = parts.0; capacity = grind (arith, nat_tests, parts.1) }
 
 pub few_with : (streams : List Stream) (stream : Stream) → length streams + 1 ≤ 16 → length (streams ++ stream ∷ []) ≤ 16
-few_with streams stream room = simp length-append (omega arith)
+few_with streams stream capacity = simp length-append (omega arith)
 
 other_number : (a b : ℕ) → (a == b) ≡ false → (b == a) ≡ false
 other_number a b h = grind (arith, nat_tests)

@@ -1,4 +1,4 @@
--- No listener is left without support, whatever makes room, is appended or closed.
+-- No listener is left without support, whichever connection is replaced, appended or closed.
 use Rattle.std.proofs.Common.{◌≡◌, ◌<◌, ◌==◌, ℕ, Bool, true, false, cond, not, ◌||◌, ◌&&◌, List, [], ◌∷◌, ◌++◌, filter, find, Option, Some, None, arith, refl, ◌∙◌, ap, inl, inr}
 use Rattle.std.specs.List.{list_any}
 use Rattle.std.proofs.lemmas.Bool.{cases_Bool}
@@ -32,7 +32,7 @@ not_false : (b : Bool) → not b ≡ false → b ≡ true
 not_false true h = refl
 not_false false h = absurd cc
 
--- ---- one that does not live makes room
+-- ---- a timed-out one is replaced
 
 -- what passes the test does not live
 abbrev pub AreRemoved : (Row → Bool) → List Row → Type 0

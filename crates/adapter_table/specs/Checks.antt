@@ -1,4 +1,4 @@
--- The checks of a Forward_Open: one list over what is looked up, read from the top; the first that fails
+-- The checks of a Forward_Open: one list over the state that they read, from the top; the first that fails
 -- answers (Volume 1, chapter 3, Forward_Open and the Connection Manager's extended status codes).
 use Rattle.std.specs.Prelude.{ℕ, ◌+◌, ◌==◌, ◌&&◌, ◌||◌, ◌≡◌, not, nat_lt, nat_le, Bool, true, false, if◌then◌else◌, List, [], ◌∷◌, length, find, Option, Some, None, Result, Ok, Err, is_none, unwrap_or}
 use Rattle.std.specs.List.{list_any}
@@ -43,7 +43,7 @@ use Rattle.adapter_table.specs.Rows.{most_rows, is_established, is_timed_out, ho
 
 -- A CHECK
 
--- what a check answers, if it fails
+-- the refusal of a check, if it fails
 abbrev pub Check : Type 0
 Check = Option Refusal
 
@@ -56,7 +56,7 @@ first_of [] = None
 first_of (None ∷ rest) = first_of rest
 first_of (Some why ∷ rest) = Some why
 
--- WHAT IS LOOKED UP
+-- THE STATE THAT THE CHECKS READ
 
 -- the first connection of the group that a multicast connection on the input joins
 abbrev pub group_of : List Row → ℕ → Option Row
@@ -65,7 +65,7 @@ group_of rows point = find (is_member point) rows
 -- the state of an adapter that the checks of a request read
 pub record View : Type 0 where
   pub profile : Profile
-  -- what the configuration holds
+  -- the bytes of the configuration
   pub config : Option (List ℕ)
   -- an established connection has the triad of the request
   pub in_use : Bool
@@ -99,7 +99,7 @@ view_at profile config rows next_id triad = record {
   supported = is_supported rows ListenOnly;
 }
 
--- what the configuration holds
+-- the bytes of the configuration
 abbrev pub config_bytes : List PointValue → Option InputPoint → Option (List ℕ)
 config_bytes values None = None
 config_bytes values (Some config) = bytes_at values config.instance
@@ -180,7 +180,7 @@ is_known_config config None = true
 is_known_config None (Some named) = false
 is_known_config (Some config) (Some named) = config.instance == named
 
--- what a connection is for by the heartbeat that it consumes
+-- the application type of a connection by the heartbeat that it consumes
 abbrev pub heartbeat_kind : (consumes_input_only consumes_listen_only : Bool) → Option Kind
 heartbeat_kind true listen_only = Some InputOnly
 heartbeat_kind false true = Some ListenOnly
@@ -194,14 +194,14 @@ abbrev pub consumed_point_at : Profile → ℕ → Option OutputPoint → Option
 consumed_point_at profile point (Some output) = Some (record { kind = ExclusiveOwner; len = output.len })
 consumed_point_at profile point None = option_map heartbeat_point (heartbeat_kind (profile.input_only == point) (profile.listen_only == point))
 
--- what a connection that consumes the point is for
+-- the application type of a connection that consumes the point, and the length of its data
 abbrev pub consumed_point_of : Profile → ℕ → Option ConsumedPoint
 consumed_point_of profile point = consumed_point_at profile point (find (is_output_at point) profile.outputs)
 
 abbrev pub input_of : Profile → ℕ → Option InputPoint
 input_of profile point = find (is_at point) profile.inputs
 
--- the group that a connection joins, where it is multicast
+-- the group that a multicast connection joins
 abbrev pub joined : Bool → Option Row → Option Row
 joined multicast group = if multicast then group else None
 
@@ -246,13 +246,13 @@ fails_at (Err why) test = false
 
 -- DATA SEGMENT
 
--- the length of the configuration that the path names, 0 where it names none
+-- the length of the configuration that the path names, 0 if it names none
 abbrev pub named_len : Option InputPoint → Option ℕ → ℕ
 named_len config None = 0
 named_len None (Some named) = 0
 named_len (Some config) (Some named) = config.len
 
--- the segment is of another length than what it configures
+-- the segment has another length than the configuration
 abbrev pub has_other_length : ℕ → Option (List ℕ) → Bool
 has_other_length len None = false
 has_other_length len (Some segment) = not (length segment == len)

@@ -26,7 +26,7 @@ stays rows row = not (is_unsupported rows row)
 abbrev pub staying : List Row → List Row
 staying rows = filter (stays rows) rows
 
--- the fault action, where the connection drove an output
+-- the fault action, if the connection drove an output
 abbrev pub closed_values : Profile → Row → List PointValue → List PointValue
 closed_values profile row values = if drives row.consumed row then lost_values profile row.consumed values else values
 

@@ -68,7 +68,7 @@ session_ended t stream = record { reply = None; notices = StreamClosed stream.nu
 abbrev pub unregister_session : AdapterTable → Stream → ℕ → Handled
 unregister_session t stream session = if has_session stream session then session_ended t stream else unanswered t
 
--- what was served of the request; data without one are bad
+-- the reply to the request; data without a request are refused
 abbrev pub request_replied : AdapterTable → Option Served → Handled
 request_replied t None = refusal t status.IncorrectData
 request_replied t (Some s) = record { reply = Some (router_reply s.reply s.address); notices = s.notices; table = s.table }
@@ -99,7 +99,7 @@ abbrev pub reply_frames : ℕ → ReplyHeader → Option FrameReply → List Fra
 reply_frames number reply_header None = []
 reply_frames number reply_header (Some reply) = record { to = recipient.Stream number; bytes = message_text (reply_message reply_header reply) } ∷ []
 
--- what became of a message of the stream of this number, and the table after it
+-- the answer to a message of the stream of this number, and the table after it
 abbrev pub framed : ℕ → ReplyHeader → Handled → Next
 framed number reply_header done = (
   record {
@@ -111,13 +111,13 @@ framed number reply_header done = (
   done.table,
 )
 
--- a wrong length field goes before everything else; where no reply is due, the frame is a bad one
+-- a wrong length field is checked first; if no reply is due, the verdict is a bad frame
 abbrev pub misfit_answer : AdapterTable → ℕ → ReplyHeader → Next
 misfit_answer t number reply_header = first_case_or (framed number reply_header (refusal t status.InvalidLength)) (
     (is_silent (command_of reply_header.command), (plain_answer BadFrame, t))
     ∷ [])
 
--- what becomes of a frame of an open stream
+-- the answer to a frame of an open stream, and the table after it
 abbrev pub frame_answer : AdapterTable → Stream → FrameFields → Next
 frame_answer t stream headless = (plain_answer BadFrame, t)
 frame_answer t stream (misfit reply_header) = misfit_answer t stream.number reply_header

@@ -50,7 +50,8 @@ FreshOutputsAreZeros =
     (profile : Profile) (point : ℕ) (output : OutputPoint) → find (is_output_at point) profile.outputs ≡ Some output →
     bytes_at (adapter_table profile).values point ≡ Some (replicate output.len 0)
 
--- what a step accepts on a connection comes, so related, after what the table remembers, and the next table remembers it
+-- a datagram that a step accepts on a connection is so related to the last one that the table remembers, and the next
+-- table remembers it
 abbrev pub StepsAcceptAfter : (Option Accepted → Acceptance → Type 0) → Type 0
 StepsAcceptAfter R =
     (opening : ℕ) (last : Option Accepted) (t : AdapterTable) (event : Event) (next : Next) →
@@ -73,7 +74,7 @@ pub record EffectsKeep (P : AdapterTable → Type 0) : Type 0 where
   pub unstreamed : (t : AdapterTable) (number : ℕ) → P t → P (without_stream t number)
   pub registered : (t : AdapterTable) (number : ℕ) → P t → P (registered_table t number)
 
--- what the times and the id of an admitted request are
+-- the times and the id of an admitted request
 pub record IsTimed (t : AdapterTable) (request : OpenFields) (admitted : Admitted) : Type 0 where
   pub multiplier : request.multiplier ≤ 7
   pub o_t_api_ms : admitted.o_t_api_ms ≤ 10000

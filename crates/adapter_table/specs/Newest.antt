@@ -50,12 +50,12 @@ acceptance_of d delivery = record {
 abbrev pub was_opened_as : ℕ → Row → Bool
 was_opened_as opening row = row.opening == opening
 
--- what the connection of an opening number accepts, of a datagram for a connection
+-- the datagram that the connection of an opening number accepts, of one for a connection
 abbrev pub accepted_by : ℕ → Profile → DatagramFields → Row → List Acceptance
 accepted_by opening profile d row =
     if was_opened_as opening row && is_accepted (row_delivery profile row d) then acceptance_of d (row_delivery profile row d) ∷ [] else []
 
--- the same, where the datagram is for a connection
+-- the same, if the datagram is for a connection
 abbrev pub accepted_found : ℕ → Profile → DatagramFields → Option Row → List Acceptance
 accepted_found opening profile d None = []
 accepted_found opening profile d (Some row) = accepted_by opening profile d row
@@ -64,7 +64,7 @@ abbrev pub accepted_read : ℕ → AdapterTable → Node → Result DatagramFiel
 accepted_read opening t peer (Err fault) = []
 accepted_read opening t peer (Ok d) = accepted_found opening t.profile d (find (is_for peer d.connection) t.rows)
 
--- what the connection of an opening number accepts at an event
+-- the datagram that the connection of an opening number accepts at an event
 abbrev pub accepted_at : ℕ → AdapterTable → Event → List Acceptance
 accepted_at opening t (Request peer bytes) = []
 accepted_at opening t (StreamOpened stream peer) = []
@@ -80,12 +80,12 @@ accepted_at opening t (Stop slot) = []
 
 -- ---- one after another
 
--- it holds of each and the one accepted before it; of the first one and `last`, what was accepted before all of them
+-- it holds of each and the one accepted before it, and of the first one and `last`, the one accepted before all
 abbrev pub EachAfter : (Option Accepted → Acceptance → Type 0) → Option Accepted → List Acceptance → Type 0
 EachAfter R last [] = Unit {0}
 EachAfter R last (next ∷ rest) = R last next × EachAfter R (Some next.datagram) rest
 
--- what was accepted last, after all of these
+-- the last that was accepted, after all of these
 abbrev pub last_accepted : Option Accepted → List Acceptance → Option Accepted
 last_accepted last [] = last
 last_accepted last (next ∷ rest) = last_accepted (Some next.datagram) rest
@@ -100,22 +100,22 @@ abbrev pub HasOtherCount : Option Accepted → Acceptance → Type 0
 HasOtherCount None next = Unit {0}
 HasOtherCount (Some last) next = next.datagram.count ≢ last.count
 
--- where it is applied, its header says run, and its count is another than that of the datagram accepted before it
+-- if it is applied, its header says run, and its count is not that of the datagram accepted before it
 abbrev pub IsAppliedNew : Option Accepted → Acceptance → Type 0
 IsAppliedNew last next = next.applied ≡ true → (next.says_run ≡ true) × HasOtherCount last next
 
--- where it is applied, it is not the datagram accepted before it
+-- if it is applied, it is not the datagram accepted before it
 abbrev pub IsNotAgain : Option Accepted → Acceptance → Type 0
 IsNotAgain None next = Unit {0}
 IsNotAgain (Some last) next = next.applied ≡ true → next.datagram ≢ last
 
--- ---- what a table remembers of it
+-- ---- the last accepted datagram that a table remembers
 
--- the connection, where it was opened with this number, remembers this as the last that it accepted
+-- the connection, if it was opened with this number, remembers this as the last that it accepted
 abbrev pub RemembersLast : ℕ → Option Accepted → Row → Type 0
 RemembersLast opening last row = row.opening ≡ opening → row.last ≡ last
 
--- the same of each connection of a table; and what is still to be opened has accepted nothing
+-- the same of each connection of a table; a connection still to be opened has accepted nothing
 pub record TableRemembers (opening : ℕ) (last : Option Accepted) (t : AdapterTable) : Type 0 where
   pub there : Each (RemembersLast opening last) t.rows
   pub unopened : t.next_id ≤ opening → last ≡ None

@@ -17,14 +17,14 @@ data_points profile = map as_point profile.outputs ++ (profile.inputs ++ option_
 abbrev pub zeros : InputPoint → PointValue
 zeros point = record { point = point.instance; bytes = replicate point.len 0 }
 
--- what all points begin with
+-- the values of all points at the start
 abbrev pub opening_values : Profile → List PointValue
 opening_values profile = map zeros (data_points profile)
 
 abbrev pub is_value_of : ℕ → PointValue → Bool
 is_value_of point value = value.point == point
 
--- other bytes, where the value is the point's
+-- other bytes, if the value is the point's
 abbrev pub changed_value : ℕ → List ℕ → PointValue → PointValue
 changed_value point bytes value = if is_value_of point value then record value { bytes = bytes } else value
 
@@ -35,17 +35,17 @@ put_value point bytes values = map (changed_value point bytes) values
 abbrev pub bytes_of : PointValue → List ℕ
 bytes_of value = value.bytes
 
--- what a point holds
+-- the bytes of a point
 abbrev pub bytes_at : List PointValue → ℕ → Option (List ℕ)
 bytes_at values point = option_map bytes_of (find (is_value_of point) values)
 
 -- ---- an output whose owner is lost
 
--- zeros, where the value is the point's
+-- zeros, if the value is the point's
 abbrev pub zeroed_value : ℕ → PointValue → PointValue
 zeroed_value point value = if is_value_of point value then record value { bytes = replicate (length value.bytes) 0 } else value
 
--- an action on what a point holds
+-- an action on the bytes of a point
 abbrev pub acted_values : Action → ℕ → List PointValue → List PointValue
 acted_values Hold point values = values
 acted_values Zero point values = map (zeroed_value point) values

@@ -1,4 +1,4 @@
--- Producers: which are due, what each sends and to which consumers, and its state afterwards
+-- Producers: which are due, the datagram of each and its consumers, and its state afterwards
 -- (Volume 1, chapter 3, class 1 transport, production triggers and production inhibit time; Volume 2,
 -- chapter 2, sequenced address item, and chapter 3, multicast connections).
 use Rattle.std.specs.Prelude.{ℕ, ◌==◌, ◌&&◌, Bool, false, if◌then◌else◌, List, [], map, filter, Option, Some, None, unwrap_or}
@@ -55,7 +55,7 @@ peer_of row = row.peer
 abbrev pub consumers : ℕ → List Row → List Node
 consumers number rows = first_of_each same_node (map peer_of (group number rows))
 
--- what a producer produces next, if its input holds these bytes: one datagram for all its consumers
+-- the next production of a producer, if its input holds these bytes: one datagram for all its consumers
 abbrev pub production_of : List Row → List ℕ → Producer → Produced
 production_of rows input producer = produced_by (consumers producer.production.producer rows) input producer
 
@@ -82,14 +82,14 @@ is_due clock row = state_is_due clock row.state
 abbrev pub due_producers : Ms → List Row → List Producer
 due_producers clock rows = in_order by_due (producers (filter (is_due clock) rows))
 
--- what the input of a producer holds
+-- the bytes of the input of a producer
 abbrev pub input_of : List PointValue → Producer → List ℕ
 input_of values producer = unwrap_or (bytes_at values producer.point) []
 
 abbrev pub due_production : List Row → List PointValue → Producer → Produced
 due_production rows values producer = production_of rows (input_of values producer) producer
 
--- what the producers that are due produce
+-- the productions of the producers that are due
 abbrev pub due_productions : Ms → List Row → List PointValue → List Produced
 due_productions clock rows values = map (due_production rows values) (due_producers clock rows)
 
@@ -116,7 +116,7 @@ produces_on_change clock point row = row.produced == point && state_produces_on_
 abbrev pub producers_on_change : Ms → ℕ → List Row → List Producer
 producers_on_change clock point rows = in_order by_number (producers (filter (produces_on_change clock point) rows))
 
--- what they produce, if the input holds these bytes
+-- their productions, if the input holds these bytes
 abbrev pub productions_on_change : Ms → ℕ → List ℕ → List Row → List Produced
 productions_on_change clock point input rows = map (production_of rows input) (producers_on_change clock point rows)
 

@@ -119,7 +119,7 @@ assembly_of t service attribute body (Some value) = get_of t service attribute b
 unfoldable pub served_assembly : AdapterTable → ℕ → ℕ → Option ℕ → List ℕ → Served
 served_assembly t service instance attribute body = assembly_of t service attribute body (bytes_at t.values instance)
 
--- what is served of a request, where there is one
+-- the reply to a request, if there is one
 abbrev pub served : AdapterTable → Node → RouterRequestFields → Option Served
 served t peer nothing = None
 served t peer (refused service why) = Some (router_refusal t service why)

@@ -61,7 +61,7 @@ is_unsupported rows row = is_established row && (is_listener row.kind && not (is
 abbrev pub others : (Row → Bool) → List Row → List Row
 others test rows = filter (λ row. not (test row)) rows
 
--- ---- what holds of each connection, and of each two
+-- ---- facts of each connection, and of each two
 
 -- it holds of each
 abbrev pub Each : (Row → Type 0) → List Row → Type 0
@@ -73,7 +73,7 @@ abbrev pub EachTwo : (Row → Row → Type 0) → List Row → Type 0
 EachTwo R [] = Unit {0}
 EachTwo R (row ∷ rows) = Each (R row) rows × EachTwo R rows
 
--- ---- what a write changes
+-- ---- writes
 
 -- an established connection's producer has new data
 abbrev pub written_state : State → State

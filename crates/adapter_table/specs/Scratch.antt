@@ -22,12 +22,12 @@ use Rattle.adapter_table.specs.Points.{bytes_at}
 use Rattle.adapter_table.specs.Rows.{drives}
 use Rattle.adapter_table.specs.Datagrams.{is_for, row_delivery, run_data}
 
--- the first of two, where it is there, and otherwise the second
+-- the first of two, if it is there, else the second
 abbrev pub or_else : {A : Type 0} → Option A → Option A → Option A
 or_else None second = second
 or_else (Some first) second = Some first
 
--- what an action leaves at an output of so many bytes; nothing where it holds what it has
+-- the bytes that an action leaves at an output of this length; none if the output is held
 abbrev pub left_by : Action → ℕ → Option (List ℕ)
 left_by Hold len = None
 left_by Zero len = Some (replicate len 0)
@@ -42,7 +42,7 @@ left_lost (Some output) = left_by output.fault output.len
 
 -- ---- data
 
--- what a datagram for an output leaves there: its data in run mode, the idle action in idle mode
+-- the bytes that a datagram for an output leaves there: its data in run mode, those of the idle action in idle mode
 abbrev pub left_accepted : Option OutputPoint → DatagramFields → Delivery → Option (List ℕ)
 left_accepted output d Applied = Some (run_data (header_at d.payload))
 left_accepted output d Idle = left_idle output
@@ -66,7 +66,7 @@ abbrev pub read_accepted : ℕ → AdapterTable → Node → Result DatagramFiel
 read_accepted point t peer (Err fault) = None
 read_accepted point t peer (Ok d) = accepted_by point t.profile d (find (is_for peer d.connection) t.rows)
 
--- what the data of an event leave at an output
+-- the bytes that the datagram of an event leaves at an output
 abbrev pub data_left : ℕ → AdapterTable → Event → Option (List ℕ)
 data_left point t (Request peer bytes) = None
 data_left point t (StreamOpened stream peer) = None
@@ -91,11 +91,11 @@ lost point old new = if is_lost point old.rows new.rows then left_lost (find (is
 
 -- ---- an event
 
--- what an event that leads from one table to another leaves at an output, where it touches it
+-- the bytes that an event from one table to another leaves at an output, if it changes the output
 abbrev pub left_at : ℕ → AdapterTable → Event → AdapterTable → Option (List ℕ)
 left_at point old event new = or_else (data_left point old event) (lost point old new)
 
--- it leaves at each output what it says where it touches it, and otherwise what the output held
+-- each output has the bytes that the event leaves there, else those that it had
 abbrev pub Leaves : AdapterTable → Event → AdapterTable → Type 0
 Leaves t event next =
     (point : ℕ) (output : OutputPoint) → find (is_output_at point) t.profile.outputs ≡ Some output →

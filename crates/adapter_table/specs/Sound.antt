@@ -44,7 +44,7 @@ pub record SharesProducer (a b : Row) : Type 0 where
   pub api : a.t_o_api_ms ≡ b.t_o_api_ms
   pub state : a.state ≡ b.state
 
--- where both are established multicast connections of the first one's input
+-- if both are established multicast connections of the first one's input
 abbrev pub Agree : Row → Row → Type 0
 Agree a b = is_member a.produced a ≡ true → is_member a.produced b ≡ true → SharesProducer a b
 
@@ -105,7 +105,7 @@ ShareInGroup a b = is_established a ≡ true → is_established b ≡ true → p
 abbrev pub GroupsAloneShare : List Row → Type 0
 GroupsAloneShare rows = EachTwo ShareInGroup rows
 
--- what holds of openings, of producers and of their numbers
+-- the laws of openings, of producers and of their numbers
 pub record ProducersAreSound (profile : Profile) (next_id : ℕ) (rows : List Row) : Type 0 where
   pub openings_rise : OpeningsRise rows
   pub are_drawn : ProducersAreDrawn next_id rows

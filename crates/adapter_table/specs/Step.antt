@@ -25,7 +25,7 @@ abbrev pub read_of : AdapterTable → Option (List ℕ) → Result Next StepFaul
 read_of t None = Err fault.NoSuchPoint
 read_of t (Some bytes) = Ok (value_answer bytes, t)
 
--- what an output, an input or the configuration holds
+-- the bytes of an output, an input or the configuration
 unfoldable pub read : AdapterTable → ℕ → Result Next StepFault
 read t point = read_of t (bytes_at t.values point)
 
@@ -40,7 +40,7 @@ written_table t point bytes = record t {
 unfoldable pub changed_table : AdapterTable → ℕ → AdapterTable
 changed_table t point = record t { rows = map (changed_row t.clock point) t.rows }
 
--- what the change-of-state producers of the input send at once
+-- the datagrams that the change-of-state producers of the input send at once
 abbrev pub write_answer : AdapterTable → ℕ → List ℕ → Answer
 write_answer written point bytes = record (plain_answer Done) { datagrams = map sent (productions_on_change written.clock point bytes written.rows) }
 

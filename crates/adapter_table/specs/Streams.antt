@@ -51,7 +51,7 @@ session_of stream = stream.number + 1
 abbrev pub has_session : Stream → ℕ → Bool
 has_session stream session = stream.registered && session == session_of stream
 
--- a session is registered on the stream, where it has this number
+-- a session is registered on the stream, if it has this number
 abbrev pub registered_stream : ℕ → Stream → Stream
 registered_stream number stream = if is_stream number stream then record stream { registered = true } else stream
 

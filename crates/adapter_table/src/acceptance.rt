@@ -1,4 +1,4 @@
-//! Whether one connection accepts a datagram, and what it then keeps.
+//! The delivery of a datagram to one connection, and the connection that has accepted it.
 
 ghost use Rattle.std.specs.Prelude.{◌≡◌, ◌≤◌, ◌+◌, ◌==◌, ◌^◌};
 ghost use Rattle.cip_datagram.specs.Datagram.{view_datagram};

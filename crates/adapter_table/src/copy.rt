@@ -39,7 +39,7 @@ impl AdapterTable {
 
     /// The table with a later counter for the next connection id. Takes no memory.
     ///
-    /// The counter is no less than the present one, and at most 16,777,216, where no id is left.
+    /// The counter is no less than the present one, and at most 16,777,216, at which no id is left.
     pub fn with_next_id(self, counter: u32) -> AdapterTable
         requires whole { IsWhole self }
         requires later { self.next_id ≤ counter }

@@ -16,8 +16,8 @@ pub fn tables_are_sound()
     ensures steps { StepsKeep IsSound }
 {}
 
-/// The table of a fresh adapter is whole, where nothing is wrong with its profile; each effect, and so each
-/// step, leads from a whole table to a whole one.
+/// The table of a fresh adapter is whole, if its profile has no fault; each effect, and so each step, leads from a
+/// whole table to a whole one.
 pub fn tables_are_whole()
     ensures fresh { (profile : Profile) → profile_fault profile ≡ None → IsWhole (adapter_table profile) }
     ensures effects { EffectsKeep IsWhole }
@@ -47,16 +47,16 @@ pub fn counters_never_fall()
     ensures { (counter : ℕ) → StepsKeep (λ t. counter ≤ t.next_id) }
 {}
 
-/// An output of a fresh adapter holds zeros; after each event it holds what the event left there, or else what
-/// it held.
+/// An output of a fresh adapter holds zeros; after each event it has the bytes that the event left there, else those
+/// that it had.
 pub fn outputs_hold_what_is_left()
     ensures fresh { FreshOutputsAreZeros }
     ensures steps { StepsLeave }
     ensures refusals { RefusalsTouchNothing }
 {}
 
-/// What a connection accepts has a newer number than what it accepted before; where it is applied, it is
-/// run-mode data, with another count than what it accepted before, and so not that datagram again.
+/// A datagram that a connection accepts has a newer number than the one it accepted before. If it is applied, it is
+/// run-mode data with another count than the one accepted before, and so not that datagram again.
 pub fn accepted_datagrams_are_newer()
     ensures numbers { StepsAcceptAfter HasNewerNumber }
     ensures applied { StepsAcceptAfter IsAppliedNew }

@@ -1,5 +1,5 @@
 //! The table of an adapter: its profile and the check of it, its connections, its points, its streams, one
-//! definition for each effect of an event, the step, and what a whole table is.
+//! definition for each effect of an event, the step, and the invariant of a whole table.
 #![tactic(auto)]
 
 mod acceptance;

@@ -12,7 +12,7 @@ use Rattle.adapter_table.specs.Datagrams.{is_for}
 use Rattle.adapter_table.specs.Sound.{TriadsDiffer, IdsDiffer, GroupsAgree, GroupsAloneShare}
 use Rattle.adapter_table.specs.Whole.{RowsFit}
 
--- the connections without that of the triad, where one is named
+-- the connections without that of the triad, if one is named
 abbrev pub without : Option Triad → List Row → List Row
 without None rows = rows
 without (Some triad) rows = without_triad triad rows
@@ -39,7 +39,7 @@ timed_out_if triad row = if holds_triad triad row then timed_out row else row
 abbrev pub accepting : ℕ → ℕ → Ms → Row → Row
 accepting number count deadline row = record row { last = Some (record { number = number; count = count }); deadline = deadline }
 
--- the same, where it is an established one of the peer, with this O->T id
+-- the same, if it is an established one of the peer, with this O->T id
 abbrev pub accepting_if : Node → ℕ → ℕ → ℕ → Ms → Row → Row
 accepting_if peer id number count deadline row = if is_for peer id row then accepting number count deadline row else row
 

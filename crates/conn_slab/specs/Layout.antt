@@ -101,7 +101,7 @@ abbrev pub running_in : ℕ → Option Record → Option (ℕ × ℕ)
 running_in key None = None
 running_in key (Some r) = running_of key r.producer
 
--- the key, where the record under it is established, and the number of its producer
+-- the key, if the record under it is established, and the number of its producer
 abbrev pub running_key : Slab Record → Option ℕ → Option (ℕ × ℕ)
 running_key records None = None
 running_key records (Some key) = running_in key (get records key)

@@ -8,7 +8,7 @@ use Rattle.adapter_table.specs.declared.row.Row.{Row}
 use Rattle.adapter_table.specs.Productions.{producer_number, is_produced_by, same_node, consumers}
 use Rattle.due_datagrams.specs.declared.consumer_table.Entry.{Entry}
 
--- the number of a producer, and the nodes that consume what it sends
+-- the number of a producer, and the nodes that consume its datagrams
 pub record ProducerConsumers : Type 0 where
   pub number : ℕ
   pub nodes : List Node
@@ -31,7 +31,7 @@ consumers_of rows number = record { number = number; nodes = consumers number ro
 abbrev pub consumers_by_producer : List Row → List ProducerConsumers
 consumers_by_producer rows = map (consumers_of rows) (numbers rows)
 
--- ---- entries. No public clause cites what follows.
+-- ---- entries. No public clause cites these definitions.
 
 abbrev pub nodes_in : List Node → Entry → List Node
 nodes_in nodes entry = take entry.count (drop entry.first nodes)
@@ -50,11 +50,11 @@ has_number number serving = serving.number == number
 abbrev pub is_of : ℕ → Entry → Bool
 is_of number entry = entry.number == number
 
--- what one more connection adds to the nodes of a producer that are known
+-- the node that one more connection adds to the known ones of a producer
 abbrev pub one_consumer : ℕ → Row → List Node → List Node
 one_consumer number row known = if is_produced_by number row then unless (list_any (λ other. same_node other row.peer) known) row.peer else []
 
--- what one more producer adds, unless it is there
+-- the entry that one more producer adds, unless it is there
 abbrev pub more_by : List Row → List ProducerConsumers → Option ℕ → List ProducerConsumers
 more_by rows known None = []
 more_by rows known (Some number) = unless (list_any (has_number number) known) (consumers_of rows number)

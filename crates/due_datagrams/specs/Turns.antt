@@ -9,7 +9,7 @@ use Rattle.adapter_table.specs.declared.row.Row.{Row}
 use Rattle.adapter_table.specs.declared.table.PointValue.{PointValue}
 use Rattle.adapter_table.specs.Productions.{producers, consumers, input_of}
 
--- a producer, and the nodes that consume what it sends
+-- a producer, and the nodes that consume its datagrams
 pub record Turn : Type 0 where
   pub producer : Producer
   pub nodes : List Node
@@ -28,7 +28,7 @@ is_due clock producer = is_production_due clock producer.production
 abbrev pub has_turn : Ms → Turn → Bool
 has_turn clock turn = is_due clock turn.producer
 
--- what a producer sends in its turn
+-- the datagram of a producer in its turn
 abbrev pub sent_turn : List PointValue → Turn → OutgoingDatagram
 sent_turn values turn = sent (produced_by turn.nodes (input_of values turn.producer) turn.producer)
 

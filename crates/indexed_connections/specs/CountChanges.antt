@@ -5,17 +5,17 @@ use Rattle.adapter_table.specs.declared.row.Row.{Row}
 use Rattle.adapter_table.specs.Rows.{has_triad}
 use Rattle.owner_counts.specs.Counts.{Counts, AreCounted, HasJoined}
 
--- the connection of the triad, where one is named
+-- the connection of the triad, if one is named
 abbrev pub named : Option Triad → List Row → Option Row
 named None rows = None
 named (Some triad) rows = find (has_triad triad) rows
 
--- a connection, where there is one, is among those that are counted
+-- the connection, if there is one, is counted
 abbrev pub HaveJoined : Option Row → Counts → Type 0
 HaveJoined None counts = Unit {0}
 HaveJoined (Some row) counts = HasJoined row counts
 
--- counts without a connection, where there is one
+-- the counts without a connection, if there is one
 abbrev pub AreLess : Option Row → Counts → Counts → Type 0
 AreLess None old new = new ≡ old
 AreLess (Some row) old new = (front back : List Row) → AreCounted old (front ++ row ∷ back) → AreCounted new (front ++ back)

@@ -12,8 +12,8 @@ pub record IsBounded (rows : List Row) (next_watchdog next_production : ℕ) : T
   pub last : next_watchdog ≤ first_end rows
   pub rest : AllNotDueBefore next_production rows
 
--- connections with their counts and bounds, whether there may be listen-only ones among them, and whom their producers
--- serve, where it is known
+-- connections with their counts and bounds, whether there may be listen-only ones among them, and the consumers of
+-- their producers, if they are valid
 pub record AreConsistent (rows : List Row) (counts : Counts) (listening : Bool) (next_watchdog next_production : ℕ) (consumers_valid : Bool) (consumer_table : List ProducerConsumers) : Type 0 where
   pub bounded : IsBounded rows next_watchdog next_production
   pub counted : AreCounted counts rows

@@ -55,11 +55,11 @@ written production = record production { written = true }
 abbrev pub waits : Ms → Production → Bool
 waits clock production = is_on_change production.trigger && not (is_free clock production)
 
--- it has new data; where it may not produce at the change yet, it is due when it may
+-- it has new data; if its inhibit time runs, it is due at the end of that time
 abbrev pub touched_production : Ms → Production → Production
 touched_production clock production = if waits clock production then deferred (written production) else written production
 
--- the same, where the point is its own
+-- the same, if it produces the point
 abbrev pub touched : Ms → ℕ → Group → Group
 touched clock point group =
     if group.producer.point == point then with_production group (touched_production clock group.producer.production) else group
@@ -68,7 +68,7 @@ touched clock point group =
 abbrev pub produced_group : Ms → Group → Group
 produced_group clock group = with_production group (produced clock group.api group.producer.production)
 
--- it has produced, where it was due
+-- it has produced, if it was due
 abbrev pub produced_if_due : Ms → Group → Group
 produced_if_due clock group = if is_due clock group then produced_group clock group else group
 
@@ -100,7 +100,7 @@ abbrev pub subscribers : List Group → ℕ
 subscribers [] = 0
 subscribers (group ∷ groups) = group.subscribers + subscribers groups
 
--- the group that a connection of the point joins, where it shares its producer
+-- the group that a connection of the point joins, if it shares its producer
 abbrev pub joined_group : Bool → ℕ → List Group → Option Group
 joined_group false point groups = None
 joined_group true point groups = find (serves point) groups
@@ -140,7 +140,7 @@ left number (group ∷ groups) = if has_number number group then rest_of group g
 abbrev pub is_last : Group → Bool
 is_last group = group.subscribers == 1
 
--- the lower of two numbers, where there are two
+-- the lower of two numbers, if there are two
 abbrev pub lower : ℕ → Option ℕ → ℕ
 lower number None = number
 lower number (Some other) = min number other
