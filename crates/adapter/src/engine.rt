@@ -197,7 +197,8 @@ impl<T: ConnectionTable> Adapter<T> {
         admitted: &Admission<'_>,
     ) -> Outcome
         requires { admission self.old (view_open request.now) ≡ Ok (view_admission admitted.now) }
-        ensures { Follows (Ok (routed self.old route (Some (admitted_open self.old (peer_of route) large (view_open request.now) (view_admission admitted.now))))) self.old result self.new }
+        ensures { Follows (Ok (routed self.old route (Some (admitted_open self.old (peer_of route) large
+            (view_open request.now) (view_admission admitted.now))))) self.old result self.new }
     {
         // The table stays whole, and what was admitted is within the limits.
         tables_are_whole();
@@ -215,7 +216,8 @@ impl<T: ConnectionTable> Adapter<T> {
     /// A Forward_Open of either size.
     #[tactic(auto, unfolding(adapter_table::specs::Requests::served_open))]
     fn forward_open(&mut self, route: Route, large: bool, request: &OpenRequest<'_>) -> Outcome
-        ensures { Follows (Ok (routed self.old route (Some (served_open self.old (peer_of route) large (view_open request.now))))) self.old result self.new }
+        ensures { Follows (Ok (routed self.old route
+            (Some (served_open self.old (peer_of route) large (view_open request.now))))) self.old result self.new }
     {
         match self.judge(request) {
             Ok(admitted) => self.open(route, large, request, &admitted),
@@ -244,7 +246,8 @@ impl<T: ConnectionTable> Adapter<T> {
 
     /// A request that the message router refuses.
     fn refuse(&mut self, route: Route, service: u8, why: Status) -> Outcome
-        ensures { Follows (Ok (routed self.old route (Some (router_refusal self.old service why)))) self.old result self.new }
+        ensures { Follows (Ok (routed self.old route (Some (router_refusal self.old service why))))
+            self.old result self.new }
     {
         Ok(self.reply(route, Reply::Refused(service, why.fault(), None))?)
     }
@@ -267,7 +270,8 @@ impl<T: ConnectionTable> Adapter<T> {
     /// A Forward_Close.
     #[tactic(auto, unfolding(adapter_table::specs::Requests::served_close))]
     fn forward_close(&mut self, route: Route, request: &CloseRequest<'_>) -> Outcome
-        ensures { Follows (Ok (routed self.old route (Some (served_close self.old (view_close request.now))))) self.old result self.new }
+        ensures { Follows (Ok (routed self.old route (Some (served_close self.old (view_close request.now)))))
+            self.old result self.new }
     {
         match self.table.find(request.triad) {
             Some(row) => self.close(route, &row),
@@ -289,7 +293,8 @@ impl<T: ConnectionTable> Adapter<T> {
         attribute: Option<u32>,
         body: &[u8],
     ) -> Outcome
-        ensures { Follows (Ok (routed self.old route (Some (served_assembly self.old service instance attribute body.now)))) self.old result self.new }
+        ensures { Follows (Ok (routed self.old route
+            (Some (served_assembly self.old service instance attribute body.now)))) self.old result self.new }
     {
         let Ok(value) = self.assemblies.read(instance) else {
             return self.refuse(route, service, Status::PathDestination);
@@ -308,7 +313,8 @@ impl<T: ConnectionTable> Adapter<T> {
 
     /// The bytes of a request on a route.
     fn serve(&mut self, route: Route, bytes: &[u8]) -> Outcome
-        ensures { Follows (Ok (routed self.old route (served self.old (peer_of route) (router_request_reading bytes.now)))) self.old result self.new }
+        ensures { Follows (Ok (routed self.old route
+            (served self.old (peer_of route) (router_request_reading bytes.now)))) self.old result self.new }
     {
         match read_router_request(bytes) {
             RouterRequest::Nothing => Ok(unserved_answer(self.alloc, route)?),
@@ -337,7 +343,9 @@ impl<T: ConnectionTable> Adapter<T> {
     /// the idle action is done.
     #[tactic(auto, unfolding(adapter_table::specs::Datagrams::accepted_table))]
     fn receive_datagram(&mut self, peer: Node, datagram: &Datagram<'_>) -> Delivery
-        ensures { found_datagram self.old peer (view_datagram datagram.now) (find (is_for peer datagram.now.connection.0) self.old.rows) ≡ delivered result self.new }
+        ensures { found_datagram self.old peer (view_datagram datagram.now)
+            (find (is_for peer datagram.now.connection.0) self.old.rows)
+            ≡ delivered result self.new }
     {
         // The table stays whole, and applied data have the length of their output.
         tables_are_whole();
@@ -381,8 +389,14 @@ fn accept_values(
     delivery: Delivery,
 )
     requires output { delivery ≡ Delivery.Applied → IsTrue (is_output assemblies.old.profile point) }
-    requires right_length { delivery ≡ Delivery.Applied → len_of assemblies.old.profile point ≡ Some (length (run_data (header_at (view_datagram datagram.now).payload))) }
-    ensures { assemblies.new ≡ record assemblies.old { values = accepted_values assemblies.old.profile point (view_datagram datagram.now) delivery assemblies.old.values } }
+    requires right_length { delivery ≡ Delivery.Applied
+        → len_of assemblies.old.profile point
+        ≡ Some (length (run_data (header_at (view_datagram datagram.now).payload))) }
+    ensures { assemblies.new
+        ≡ record assemblies.old {
+          values = accepted_values assemblies.old.profile point
+              (view_datagram datagram.now) delivery assemblies.old.values;
+        } }
 {
     match delivery {
         Delivery::Applied => assemblies.apply(point, run_data(datagram)),
@@ -397,9 +411,18 @@ fn accept_values(
 impl<T: ConnectionTable> Adapter<T> {
     /// Time advances to the clock, and these connections time out.
     fn pass(&mut self, clock: Ms, timed_out: &[Row])
-        requires whole { IsWhole (record self.old { rows = advanced_rows clock self.old.rows; values = expired_values self.old.profile timed_out.now self.old.values; clock = clock }) }
+        requires whole { IsWhole (record self.old {
+          rows = advanced_rows clock self.old.rows;
+          values = expired_values self.old.profile timed_out.now self.old.values;
+          clock = clock;
+        }) }
         requires time { clock.0 ≤ 2 ^ 48 }
-        ensures { self.new ≡ record self.old { rows = advanced_rows clock self.old.rows; values = expired_values self.old.profile timed_out.now self.old.values; clock = clock } }
+        ensures { self.new
+            ≡ record self.old {
+              rows = advanced_rows clock self.old.rows;
+              values = expired_values self.old.profile timed_out.now self.old.values;
+              clock = clock;
+            } }
     {
         lose_owners(&mut self.assemblies, timed_out);
         self.clock = clock;
@@ -499,7 +522,8 @@ impl<T: ConnectionTable> Adapter<T> {
 
 /// Does the fault action of each output that one of the connections drives. Takes no memory.
 fn lose_owners(assemblies: &mut AssemblySet, timed_out: &[Row])
-    ensures { assemblies.new ≡ record assemblies.old { values = expired_values assemblies.old.profile timed_out.now assemblies.old.values } }
+    ensures { assemblies.new
+        ≡ record assemblies.old { values = expired_values assemblies.old.profile timed_out.now assemblies.old.values } }
 {
     for row in timed_out {
         lose_owner(assemblies, row);
@@ -538,7 +562,8 @@ impl<T: ConnectionTable> Adapter<T> {
     fn write_on_change(&mut self, point: u32, bytes: &[u8]) -> Outcome
         requires input { write_fault self.old.profile point (length bytes.now) ≡ None }
         requires short { length bytes.now ≤ 1400 }
-        ensures { Follows (Ok (written (written_table self.old point bytes.now) point bytes.now)) self.old result self.new }
+        ensures { Follows (Ok (written (written_table self.old point bytes.now) point bytes.now))
+            self.old result self.new }
     {
         let datagrams = self
             .table
@@ -551,7 +576,8 @@ impl<T: ConnectionTable> Adapter<T> {
     #[tactic(auto, unfolding(adapter_table::specs::Step::write))]
     fn write(&mut self, point: u32, bytes: &[u8]) -> Outcome
         ensures step { Follows (write self.old point bytes.now) self.old result self.new }
-        ensures no_memory { list_any (produces_on_change self.old.clock point) self.old.rows ≡ false → result ≢ Err StepFault.OutOfMemory }
+        ensures no_memory { list_any (produces_on_change self.old.clock point) self.old.rows ≡ false
+            → result ≢ Err StepFault.OutOfMemory }
     {
         let Some(input) = self.assemblies.input(point) else {
             return Err(StepFault::NoSuchPoint);
@@ -587,8 +613,13 @@ fn is_value_attribute(attribute: Option<u32>) -> bool
 /// Stores a data segment at the configuration, if there is one to store. Takes no memory.
 #[tactic(auto, using(crate::proofs::Admitted::configured_none))]
 fn configure(assemblies: &mut AssemblySet, segment: Option<&[u8]>)
-    requires { ForSome (option_map (λ lent. lent.now) segment) (λ bytes. config_len assemblies.old.profile ≡ Some (length bytes)) }
-    ensures { assemblies.new ≡ record assemblies.old { values = configured assemblies.old.profile.config (option_map (λ lent. lent.now) segment.entry) assemblies.old.values } }
+    requires { ForSome (option_map (λ lent. lent.now) segment)
+        (λ bytes. config_len assemblies.old.profile ≡ Some (length bytes)) }
+    ensures { assemblies.new
+        ≡ record assemblies.old {
+          values = configured assemblies.old.profile.config
+              (option_map (λ lent. lent.now) segment.entry) assemblies.old.values;
+        } }
 {
     if let Some(segment) = segment {
         assemblies.configure(segment);
@@ -597,7 +628,8 @@ fn configure(assemblies: &mut AssemblySet, segment: Option<&[u8]>)
 
 /// Does the fault action of the output that a connection drives, if it drives one. Takes no memory.
 fn lose_owner(assemblies: &mut AssemblySet, row: &Row)
-    ensures { assemblies.new ≡ record assemblies.old { values = closed_values assemblies.old.profile row.now assemblies.old.values } }
+    ensures { assemblies.new
+        ≡ record assemblies.old { values = closed_values assemblies.old.profile row.now assemblies.old.values } }
 {
     if drives(row, row.consumed) {
         assemblies.lose(row.consumed);

@@ -20,7 +20,8 @@ pub fn notices_answer(
     datagrams: Vec<OutgoingDatagram>,
     notices: Vec<Notice>,
 ) -> Answer
-    ensures { result ≡ record { frames = []; datagrams = datagrams.items; verdict = Verdict.Done; notices = notices.items } }
+    ensures { result
+        ≡ record { frames = []; datagrams = datagrams.items; verdict = Verdict.Done; notices = notices.items } }
 {
     Answer {
         frames: Items::new(alloc),
@@ -32,7 +33,8 @@ pub fn notices_answer(
 
 /// An answer with one frame.
 fn answer_of(alloc: Global, frame: Frame, notices: Vec<Notice>) -> Result<Answer, OutOfMemory>
-    ensures { IfOk result (λ answer. answer ≡ record { frames = frame ∷ []; datagrams = []; verdict = Verdict.Done; notices = notices.items }) }
+    ensures { IfOk result (λ answer. answer
+        ≡ record { frames = frame ∷ []; datagrams = []; verdict = Verdict.Done; notices = notices.items }) }
 {
     Ok(Answer {
         frames: Items::one(alloc, frame)?,
@@ -92,7 +94,8 @@ pub fn frame_answer(
     notices: Vec<Notice>,
 ) -> Result<Answer, OutOfMemory>
     requires { IsWritableFrame (view_frame_reply reply.now) }
-    ensures { IfOk result (λ answer. answer ≡ framed_answer number (view_reply_header reply_header) (view_frame_reply reply.now) notices.items) }
+    ensures { IfOk result (λ answer. answer
+        ≡ framed_answer number (view_reply_header reply_header) (view_frame_reply reply.now) notices.items) }
 {
     let frame = Frame {
         to: Recipient::Stream(number),
@@ -116,7 +119,8 @@ pub fn unserved_answer(alloc: Global, route: Route) -> Result<Answer, OutOfMemor
 
 /// The answer when a session ends, and its stream with it. Out of memory is the only fault.
 pub fn ended_answer(alloc: Global, number: u16) -> Result<Answer, OutOfMemory>
-    ensures { IfOk result (λ answer. answer ≡ record { frames = []; datagrams = []; verdict = Verdict.Done; notices = Notice.StreamClosed number ∷ [] }) }
+    ensures { IfOk result (λ answer. answer
+        ≡ record { frames = []; datagrams = []; verdict = Verdict.Done; notices = Notice.StreamClosed number ∷ [] }) }
 {
     let mut notices = Vec::new(alloc);
     notices.push(Notice::StreamClosed(number))?;
@@ -129,7 +133,8 @@ pub fn opening_notices(
     replaced: Option<Triad>,
     row: &Row,
 ) -> Result<Vec<Notice>, OutOfMemory>
-    ensures { IfOk result (λ notices. notices.items ≡ replaced_notices replaced ++ Notice.Opened row.now.triad row.now.o_t_id ∷ []) }
+    ensures { IfOk result (λ notices. notices.items
+        ≡ replaced_notices replaced ++ Notice.Opened row.now.triad row.now.o_t_id ∷ []) }
 {
     let mut notices = Vec::new(alloc);
     if let Some(replaced) = replaced {

@@ -58,7 +58,8 @@ fn write_headed_reply(
     body: &[u8],
 ) -> Result<Vec<u8>, OutOfMemory>
     requires { length body.now ≤ 65535 }
-    ensures { IfOk result (λ v. v.items ≡ message_text (headed_reply (view_reply_header reply_header) session status body.now)) }
+    ensures { IfOk result (λ v. v.items
+        ≡ message_text (headed_reply (view_reply_header reply_header) session status body.now)) }
 {
     let message = MessageView {
         command: reply_header.command,
@@ -79,7 +80,8 @@ fn write_router(
     address: Option<Node>,
 ) -> Result<Vec<u8>, OutOfMemory>
     requires { IsWritable (view_reply reply.now) }
-    ensures { IfOk result (λ v. v.items ≡ message_text (reply_message (view_reply_header reply_header) (router_reply (view_reply reply.now) address))) }
+    ensures { IfOk result (λ v. v.items
+        ≡ message_text (reply_message (view_reply_header reply_header) (router_reply (view_reply reply.now) address))) }
 {
     let data = reply.write(alloc)?;
     let items = write_items(alloc, &data, address.map(socket_of))?;
@@ -96,7 +98,8 @@ pub fn write_frame_reply(
 ) -> Result<Vec<u8>, OutOfMemory>
     // A value that is replied has at most 1,400 bytes, and a refusal a status that says so.
     requires { IsWritableFrame (view_frame_reply reply.now) }
-    ensures { IfOk result (λ v. v.items ≡ message_text (reply_message (view_reply_header reply_header) (view_frame_reply reply.now))) }
+    ensures { IfOk result (λ v. v.items
+        ≡ message_text (reply_message (view_reply_header reply_header) (view_frame_reply reply.now))) }
 {
     match reply {
         FrameReply::Services => write_headed_reply(

@@ -87,7 +87,8 @@ pub fn points_of<'a, C: ConnectionsView>(
     request: &OpenRequest<'a>,
     path: Option<ConnPath<'a>>,
 ) -> Result<Points<'a>, Refusal>
-    ensures { Gives view_points result (points_of (seen C.rows view.now request.now.triad) (view_open request.now) (option_map view_path path.entry)) }
+    ensures { Gives view_points result
+        (points_of (seen C.rows view.now request.now.triad) (view_open request.now) (option_map view_path path.entry)) }
 {
     // 9
     let Some(path) = path else {

@@ -131,7 +131,8 @@ pub fn timing_of<C: ConnectionsView>(
     request: &OpenRequest<'_>,
     path: &Option<ConnPath<'_>>,
 ) -> Result<Timing, Refusal>
-    ensures { IsJudged (request_check (seen C.rows view.now request.now.triad) (view_open request.now) (option_map view_path path.now)) (timing_of (view_open request.now)) result }
+    ensures { IsJudged (request_check (seen C.rows view.now request.now.triad) (view_open request.now)
+        (option_map view_path path.now)) (timing_of (view_open request.now)) result }
 {
     // 3
     if view.connections.is_open(request.triad) {

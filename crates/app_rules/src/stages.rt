@@ -52,7 +52,8 @@ pub fn stored<'a>(path: &ConnPath<'a>) -> Option<&'a [u8]>
 
 /// Whether a data segment differs from the present bytes.
 fn has_other_bytes(segment: Option<&[u8]>, present: Option<&[u8]>) -> bool
-    ensures { result ≡ has_other_bytes (option_map (λ lent. lent.now) segment.entry) (option_map (λ lent. lent.now) present.entry) }
+    ensures { result
+        ≡ has_other_bytes (option_map (λ lent. lent.now) segment.entry) (option_map (λ lent. lent.now) present.entry) }
 {
     match (segment, present) {
         (Some(segment), Some(present)) => segment != present,
@@ -80,7 +81,8 @@ fn has_t_o_size(size: u16, input: &InputPoint) -> bool
 
 /// Whether the data segment has another length than the configuration that the path names.
 fn misfits_config(profile: &Profile, path: &ConnPath<'_>) -> bool
-    ensures { result ≡ has_other_length (named_len profile.now.config (view_path path.now).config) (view_path path.now).segment }
+    ensures { result
+        ≡ has_other_length (named_len profile.now.config (view_path path.now).config) (view_path path.now).segment }
 {
     has_other_length(named_len(profile.config, path.config), path.segment)
 }
@@ -92,7 +94,8 @@ pub fn points_check<C: ConnectionsView>(
     request: &OpenRequest<'_>,
     points: &Points<'_>,
 ) -> Option<Refusal>
-    ensures { result ≡ points_check (seen C.rows view.now request.now.triad) (view_open request.now) (view_points points.now) }
+    ensures { result
+        ≡ points_check (seen C.rows view.now request.now.triad) (view_open request.now) (view_points points.now) }
 {
     let path = &points.path;
     // 10
@@ -193,7 +196,8 @@ pub fn capacity_check<C: ConnectionsView>(
 ) -> Option<Refusal>
     requires timing { timing.now ≡ timing_of (view_open request.now) }
     requires inhibit { inhibit ≡ served_inhibit timing.now.trigger points.now.path.inhibit }
-    ensures { result ≡ capacity_check (seen C.rows view.now request.now.triad) (view_open request.now) (view_points points.now) }
+    ensures { result
+        ≡ capacity_check (seen C.rows view.now request.now.triad) (view_open request.now) (view_points points.now) }
 {
     // 14
     if let Some(why) = group_check(timing, inhibit, points.group) {

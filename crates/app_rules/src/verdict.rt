@@ -45,7 +45,8 @@ fn staged<'a, C: ConnectionsView>(
     view: &View<'_, C>,
     request: &OpenRequest<'a>,
 ) -> Result<Admission<'a>, Refusal>
-    ensures { Gives view_admission result (staged (seen C.rows view.now request.now.triad) (view_open request.now) (path_reading request.now.path.now)) }
+    ensures { Gives view_admission result
+        (staged (seen C.rows view.now request.now.triad) (view_open request.now) (path_reading request.now.path.now)) }
 {
     let path = readable(request.path)?;
     let timing = timing_of(view, request, &path)?;

@@ -183,7 +183,8 @@ impl AssemblySet {
     #[tactic(auto, using(crate::proofs::Shaping::sound_written, crate::proofs::Shaping::config_fits_lent, crate::proofs::Shaping::differ_lent))]
     pub fn configure(&mut self, segment: &[u8])
         requires { config_len self.old.profile ≡ Some (length segment.now) }
-        ensures { self.new ≡ record self.old { values = configured self.old.profile.config (Some segment.now) self.old.values } }
+        ensures { self.new
+            ≡ record self.old { values = configured self.old.profile.config (Some segment.now) self.old.values } }
     {
         if let Some(config) = self.profile.config {
             put_value(&mut self.values, config.instance, segment);

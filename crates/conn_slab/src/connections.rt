@@ -78,8 +78,10 @@ fn take_out(
 ) -> Option<Row>
     requires { IsConsistent records.old by_triad.old.entries by_source.old.entries pool.old }
     ensures consistent { IsConsistent records.new by_triad.new.entries by_source.new.entries pool.new }
-    ensures taken { result ≡ find (has_triad triad) (map (row_of pool.old) (items_of records.old by_triad.old.entries)) }
-    ensures rest { map (row_of pool.new) (items_of records.new by_triad.new.entries) ≡ without_triad triad (map (row_of pool.old) (items_of records.old by_triad.old.entries)) }
+    ensures taken { result
+        ≡ find (has_triad triad) (map (row_of pool.old) (items_of records.old by_triad.old.entries)) }
+    ensures rest { map (row_of pool.new) (items_of records.new by_triad.new.entries)
+        ≡ without_triad triad (map (row_of pool.old) (items_of records.old by_triad.old.entries)) }
     ensures records_space { HasRoomFor records.old 1 → HasRoomFor records.new 1 }
     ensures triad_space { spare by_triad.old ≤ spare by_triad.new }
     ensures source_space { spare by_source.old ≤ spare by_source.new }
@@ -107,7 +109,8 @@ fn append(
     requires triad_space { 0 < spare by_triad.old }
     requires source_space { 0 < spare by_source.old }
     ensures consistent { IsConsistent records.new by_triad.new.entries by_source.new.entries pool.new }
-    ensures rows { map (row_of pool.new) (items_of records.new by_triad.new.entries) ≡ map (row_of pool.old) (items_of records.old by_triad.old.entries) ++ row.now ∷ [] }
+    ensures rows { map (row_of pool.new) (items_of records.new by_triad.new.entries)
+        ≡ map (row_of pool.old) (items_of records.old by_triad.old.entries) ++ row.now ∷ [] }
 {
     // Gives the prover the invariant of the pool.
     let _groups = pool.len();
@@ -316,8 +319,12 @@ impl Connections {
     ) -> Option<Received>
         requires fit { RowsFit self.old }
         requires time { clock.0 ≤ 2 ^ 48 }
-        ensures received { result ≡ option_map (received_of profile.now clock (view_datagram datagram.now)) (find (is_for peer datagram.now.connection.0) self.old) }
-        ensures rows { self.new ≡ reception profile.now clock peer (view_datagram datagram.now) (find (is_for peer datagram.now.connection.0) self.old) self.old }
+        ensures received { result
+            ≡ option_map (received_of profile.now clock (view_datagram datagram.now))
+            (find (is_for peer datagram.now.connection.0) self.old) }
+        ensures rows { self.new
+            ≡ reception profile.now clock peer (view_datagram datagram.now)
+            (find (is_for peer datagram.now.connection.0) self.old) self.old }
     {
         let source = Source {
             peer: peer.0,

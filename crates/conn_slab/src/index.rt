@@ -54,7 +54,8 @@ pub(crate) fn take_record(
     requires { AreFiled records.old by_triad.old.entries by_source.old.entries }
     ensures filed { AreFiled records.new by_triad.new.entries by_source.new.entries }
     ensures taken { result ≡ find (is_of name) (items_of records.old by_triad.old.entries) }
-    ensures rest { items_of records.new by_triad.new.entries ≡ filter (λ r. not (is_of name r)) (items_of records.old by_triad.old.entries) }
+    ensures rest { items_of records.new by_triad.new.entries
+        ≡ filter (λ r. not (is_of name r)) (items_of records.old by_triad.old.entries) }
     ensures records_space { HasRoomFor records.old 1 → HasRoomFor records.new 1 }
     ensures triad_space { spare by_triad.old ≤ spare by_triad.new }
     ensures source_space { spare by_source.old ≤ spare by_source.new }
@@ -79,7 +80,8 @@ pub(crate) fn put_last(
     requires triad_space { 0 < spare by_triad.old }
     requires source_space { 0 < spare by_source.old }
     ensures filed { AreFiled records.new by_triad.new.entries by_source.new.entries }
-    ensures items { items_of records.new by_triad.new.entries ≡ items_of records.old by_triad.old.entries ++ opened ∷ [] }
+    ensures items { items_of records.new by_triad.new.entries
+        ≡ items_of records.old by_triad.old.entries ++ opened ∷ [] }
 {
     let name = key_for(opened.triad);
     let source = source_of(&opened);

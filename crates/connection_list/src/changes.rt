@@ -67,7 +67,8 @@ fn datagrams(
     changing: &[Producer],
 ) -> Result<Vec<OutgoingDatagram>, OutOfMemory>
     requires { length input.now ≤ 65533 }
-    ensures { IfOk result (λ datagrams. datagrams.items ≡ map sent (map (production_of rows.now input.now) changing.now)) }
+    ensures { IfOk result (λ datagrams. datagrams.items
+        ≡ map sent (map (production_of rows.now input.now) changing.now)) }
 {
     let mut datagrams = Vec::new(alloc);
     for producer in changing {
@@ -88,7 +89,8 @@ pub fn sent_on_change(
 ) -> Result<Vec<OutgoingDatagram>, OutOfMemory>
     requires time { clock.0 ≤ 2 ^ 48 }
     requires short { length input.now ≤ 65533 }
-    ensures { IfOk result (λ datagrams. datagrams.items ≡ map sent (productions_on_change clock point input.now rows.now)) }
+    ensures { IfOk result (λ datagrams. datagrams.items
+        ≡ map sent (productions_on_change clock point input.now rows.now)) }
 {
     let changing = producers_on_change(alloc, rows, clock, point)?;
     datagrams(alloc, rows, input, &changing)

@@ -62,7 +62,8 @@ pub fn expiry_notices(
     timed_out: &[Row],
     left: &[Row],
 ) -> Result<Vec<Notice>, OutOfMemory>
-    ensures { IfOk result (λ notices. notices.items ≡ map expired_notice timed_out.now ++ map dropped_notice (unsupported left.now)) }
+    ensures { IfOk result (λ notices. notices.items
+        ≡ map expired_notice timed_out.now ++ map dropped_notice (unsupported left.now)) }
 {
     let mut notices = expired_notices(alloc, timed_out)?;
     for row in left {

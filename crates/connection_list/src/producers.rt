@@ -20,7 +20,8 @@ fn has_producer(producers: &[Producer], producer: &Producer) -> bool
 
 /// Adds a producer that is not there yet.
 fn add_producer(producers: &mut Vec<Producer>, producer: Producer) -> Result<(), OutOfMemory>
-    ensures { OnOk result (producers.new.items ≡ producers.old.items ++ unless (list_any (λ other. same_producer other producer) producers.old.items) producer) }
+    ensures { OnOk result (producers.new.items ≡ producers.old.items
+        ++ unless (list_any (λ other. same_producer other producer) producers.old.items) producer) }
 {
     if !has_producer(producers, &producer) {
         producers.push(producer)?;
@@ -58,7 +59,8 @@ pub fn producers(alloc: Global, rows: &[Row]) -> Result<Vec<Producer>, OutOfMemo
 
 /// Adds a node that is not there yet.
 fn add_node(nodes: &mut Vec<Node>, node: Node) -> Result<(), OutOfMemory>
-    ensures { OnOk result (nodes.new.items ≡ nodes.old.items ++ unless (list_any (λ other. same_node other node) nodes.old.items) node) }
+    ensures { OnOk result (nodes.new.items
+        ≡ nodes.old.items ++ unless (list_any (λ other. same_node other node) nodes.old.items) node) }
 {
     if !has_node(nodes, node) {
         nodes.push(node)?;

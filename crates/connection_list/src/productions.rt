@@ -54,7 +54,8 @@ fn datagrams(
     assemblies: &AssemblySet,
     due: &[Producer],
 ) -> Result<Vec<OutgoingDatagram>, OutOfMemory>
-    ensures { IfOk result (λ datagrams. datagrams.items ≡ map sent (map (due_production rows.now assemblies.now.values) due.now)) }
+    ensures { IfOk result (λ datagrams. datagrams.items
+        ≡ map sent (map (due_production rows.now assemblies.now.values) due.now)) }
 {
     let mut datagrams = Vec::new(alloc);
     for producer in due {
@@ -72,7 +73,8 @@ pub fn sent_when_due(
     assemblies: &AssemblySet,
     clock: Ms,
 ) -> Result<Vec<OutgoingDatagram>, OutOfMemory>
-    ensures { IfOk result (λ datagrams. datagrams.items ≡ map sent (due_productions clock rows.now assemblies.now.values)) }
+    ensures { IfOk result (λ datagrams. datagrams.items
+        ≡ map sent (due_productions clock rows.now assemblies.now.values)) }
 {
     let due = due_producers(alloc, rows, clock)?;
     datagrams(alloc, rows, assemblies, &due)

@@ -74,7 +74,8 @@ fn is_replaced(replacement: Replacement, row: &Row) -> bool
 
 /// The connection that the new one replaces.
 fn replaced_row(rows: &[Row], replacement: Replacement) -> Option<Row>
-    ensures { result ≡ find (is_replaced_by replacement.known replacement.full replacement.first replacement.triad) rows.now }
+    ensures { result
+        ≡ find (is_replaced_by replacement.known replacement.full replacement.first replacement.triad) rows.now }
 {
     rows.iter()
         .copied()
@@ -93,7 +94,8 @@ pub fn replaced(rows: &[Row], triad: Triad) -> Option<Triad>
 
 /// Removes the connection that the new one replaces.
 fn remove_replaced(rows: &mut Vec<Row>, replacement: Replacement)
-    ensures items { rows.new.items ≡ others (is_replaced_by replacement.known replacement.full replacement.first replacement.triad) rows.old.items }
+    ensures items { rows.new.items
+        ≡ others (is_replaced_by replacement.known replacement.full replacement.first replacement.triad) rows.old.items }
     ensures len { vec_len rows.new ≤ vec_len rows.old }
     ensures capacity { vec_capacity rows.new ≡ vec_capacity rows.old }
 {
@@ -172,7 +174,8 @@ pub fn staying(alloc: Global, rows: &[Row]) -> Result<Vec<Row>, OutOfMemory>
 /// their support with it are dropped. Out of memory is the only fault.
 #[tactic(auto, using(crate::proofs::Without::left_alone))]
 pub fn closed_notices(alloc: Global, rows: &[Row], triad: Triad) -> Result<Vec<Notice>, OutOfMemory>
-    ensures { IfOk result (λ notices. notices.items ≡ Notice.Closed triad ∷ map dropped_notice (unsupported (without_triad triad rows.now))) }
+    ensures { IfOk result (λ notices. notices.items
+        ≡ Notice.Closed triad ∷ map dropped_notice (unsupported (without_triad triad rows.now))) }
 {
     let mut notices = Vec::new(alloc);
     notices.push(Notice::Closed(triad))?;

@@ -62,14 +62,17 @@ pub trait ConnectionTable: ConnectionsView + Drop {
     /// Appends a connection, and removes the one that it replaces. Out of memory is the only fault.
     fn open(&mut self, row: Row) -> Result<(), OutOfMemory>
         requires whole { AreWhole (Self.rows self.old) }
-        requires next { AreWhole (others (is_replaced (Self.rows self.old) row.triad) (Self.rows self.old) ++ row ∷ []) }
-        ensures ok { OnOk result (Self.rows self.new ≡ others (is_replaced (Self.rows self.old) row.triad) (Self.rows self.old) ++ row ∷ []) }
+        requires next { AreWhole (others (is_replaced (Self.rows self.old) row.triad) (Self.rows self.old)
+            ++ row ∷ []) }
+        ensures ok { OnOk result (Self.rows self.new
+            ≡ others (is_replaced (Self.rows self.old) row.triad) (Self.rows self.old) ++ row ∷ []) }
         ensures err { OnErr result (Self.rows self.new ≡ Self.rows self.old) };
 
     /// The notices of a close of the connection of a triad: it is closed, and then the listen-only connections that
     /// lose their support with it are dropped. Out of memory is the only fault.
     fn closed_notices(&self, alloc: Global, triad: Triad) -> Result<Vec<Notice>, OutOfMemory>
-        ensures { IfOk result (λ notices. notices.items ≡ Notice.Closed triad ∷ map dropped_notice (unsupported (without_triad triad (Self.rows self.now)))) };
+        ensures { IfOk result (λ notices. notices.items
+            ≡ Notice.Closed triad ∷ map dropped_notice (unsupported (without_triad triad (Self.rows self.now)))) };
 
     /// Removes the connection of a triad, and then the listen-only ones without support. Takes no memory.
     fn close(&mut self, triad: Triad)
@@ -92,8 +95,12 @@ pub trait ConnectionTable: ConnectionsView + Drop {
     ) -> Option<ReceivedDatagram>
         requires whole { AreWhole (Self.rows self.old) }
         requires time { clock.0 ≤ 2 ^ 48 }
-        ensures received { result ≡ option_map (received_by profile.now (view_datagram datagram.now)) (find (is_for peer datagram.now.connection.0) (Self.rows self.old)) }
-        ensures rows { Self.rows self.new ≡ receiving profile.now clock peer (view_datagram datagram.now) (find (is_for peer datagram.now.connection.0) (Self.rows self.old)) (Self.rows self.old) };
+        ensures received { result
+            ≡ option_map (received_by profile.now (view_datagram datagram.now))
+            (find (is_for peer datagram.now.connection.0) (Self.rows self.old)) }
+        ensures rows { Self.rows self.new
+            ≡ receiving profile.now clock peer (view_datagram datagram.now)
+            (find (is_for peer datagram.now.connection.0) (Self.rows self.old)) (Self.rows self.old) };
 
     // TIME
 
@@ -118,7 +125,8 @@ pub trait ConnectionTable: ConnectionsView + Drop {
         clock: Ms,
     ) -> Result<Vec<OutgoingDatagram>, OutOfMemory>
         requires { AreWhole (Self.rows self.now) }
-        ensures { IfOk result (λ datagrams. datagrams.items ≡ map sent (due_productions clock (Self.rows self.now) assemblies.now.values)) };
+        ensures { IfOk result (λ datagrams. datagrams.items
+            ≡ map sent (due_productions clock (Self.rows self.now) assemblies.now.values)) };
 
     /// The producers that are due have produced. Takes no memory.
     ///
@@ -157,7 +165,8 @@ pub trait ConnectionTable: ConnectionsView + Drop {
         requires whole { AreWhole (Self.rows self.now) }
         requires time { clock.0 ≤ 2 ^ 48 }
         requires short { length input.now ≤ 65533 }
-        ensures { IfOk result (λ datagrams. datagrams.items ≡ map sent (productions_on_change clock point input.now (map (written_row point) (Self.rows self.now)))) };
+        ensures { IfOk result (λ datagrams. datagrams.items
+            ≡ map sent (productions_on_change clock point input.now (map (written_row point) (Self.rows self.now)))) };
 
     /// The producers of an input have new data, and its change-of-state producers have acted on the write. Takes no
     /// memory.

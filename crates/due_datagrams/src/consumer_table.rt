@@ -44,7 +44,8 @@ impl Model for ConsumerTable {
 /// Adds a node that is not among those from an index on. False without spare capacity.
 fn add_node(nodes: &mut Vec<Node>, first: usize, peer: Node) -> bool
     requires { first ≤ vec_len nodes.old }
-    ensures { result ≡ true → nodes.new.items ≡ nodes.old.items ++ unless (list_any (λ other. same_node other peer) (drop first nodes.old.items)) peer }
+    ensures { result ≡ true → nodes.new.items
+        ≡ nodes.old.items ++ unless (list_any (λ other. same_node other peer) (drop first nodes.old.items)) peer }
 {
     if has_node(&nodes[first..], peer) {
         return true;
@@ -60,7 +61,8 @@ fn add_node(nodes: &mut Vec<Node>, first: usize, peer: Node) -> bool
 /// False without spare capacity.
 fn add_consumer(nodes: &mut Vec<Node>, first: usize, row: &Row, number: u32) -> bool
     requires { first ≤ vec_len nodes.old }
-    ensures { result ≡ true → nodes.new.items ≡ nodes.old.items ++ one_consumer number row.now (drop first nodes.old.items) }
+    ensures { result ≡ true
+        → nodes.new.items ≡ nodes.old.items ++ one_consumer number row.now (drop first nodes.old.items) }
 {
     if !is_produced_by(row, number) {
         return true;
@@ -96,7 +98,8 @@ fn add_entry(
 ) -> bool
     requires { AreWithin (length nodes.old.items) entries.old.items }
     ensures within { result ≡ true → AreWithin (length nodes.new.items) entries.new.items }
-    ensures added { result ≡ true → map (consumers_in nodes.new.items) entries.new.items ≡ map (consumers_in nodes.old.items) entries.old.items ++ consumers_of connections.now number ∷ [] }
+    ensures added { result ≡ true → map (consumers_in nodes.new.items) entries.new.items
+        ≡ map (consumers_in nodes.old.items) entries.old.items ++ consumers_of connections.now number ∷ [] }
 {
     let first = nodes.len();
     if entries.len() >= entries.capacity() || !add_consumers(nodes, connections, number) {
@@ -120,7 +123,9 @@ fn add_producer(
 ) -> bool
     requires { AreWithin (length nodes.old.items) entries.old.items }
     ensures within { result ≡ true → AreWithin (length nodes.new.items) entries.new.items }
-    ensures added { result ≡ true → map (consumers_in nodes.new.items) entries.new.items ≡ map (consumers_in nodes.old.items) entries.old.items ++ more_by connections.now (map (consumers_in nodes.old.items) entries.old.items) (number_in row.now) }
+    ensures added { result ≡ true
+        → map (consumers_in nodes.new.items) entries.new.items ≡ map (consumers_in nodes.old.items) entries.old.items
+        ++ more_by connections.now (map (consumers_in nodes.old.items) entries.old.items) (number_in row.now) }
 {
     let State::Established(production) = &row.state else {
         return true;
@@ -135,7 +140,8 @@ fn add_producer(
 fn add_producers(entries: &mut Vec<Entry>, nodes: &mut Vec<Node>, connections: &Connections) -> bool
     requires { entries.old.items ≡ [] }
     ensures within { result ≡ true → AreWithin (length nodes.new.items) entries.new.items }
-    ensures consumer_table { result ≡ true → map (consumers_in nodes.new.items) entries.new.items ≡ consumers_by_producer connections.now }
+    ensures consumer_table { result ≡ true
+        → map (consumers_in nodes.new.items) entries.new.items ≡ consumers_by_producer connections.now }
 {
     for row in connections.rows() {
         if !add_producer(entries, nodes, connections, &row) {

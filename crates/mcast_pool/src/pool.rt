@@ -69,7 +69,8 @@ fn join_result(producer: &Producer, fresh: bool) -> Joined
 fn append_datagram(producer: &Producer, input: &[u8], out: &mut Vec<u8>)
     requires short { length input.now ≤ 65533 }
     requires space { vec_len out.old + (20 + length input.now) ≤ vec_capacity out.old }
-    ensures { out.new.items ≡ out.old.items ++ datagram_text (production_datagram producer.now.id producer.now.production input.now) }
+    ensures { out.new.items
+        ≡ out.old.items ++ datagram_text (production_datagram producer.now.id producer.now.production input.now) }
 {
     let datagram = Datagram {
         connection: producer.id,
@@ -121,7 +122,8 @@ impl Pool {
     pub fn join(&mut self, producer: Producer, shared: bool, api: u32) -> Joined
         requires few { subscribers self.old < 64 }
         requires fits { FitsGroup (begun producer shared api) }
-        requires unused { joined_group shared producer.point self.old ≡ None → numbered producer.production.producer self.old ≡ None }
+        requires unused { joined_group shared producer.point self.old ≡ None
+            → numbered producer.production.producer self.old ≡ None }
         ensures joined { result ≡ joined_by producer (joined_group shared producer.point self.old) }
         ensures groups { self.new ≡ joined (begun producer shared api) self.old }
     {
@@ -196,7 +198,10 @@ impl Pool {
         requires may { MayProduce clock (numbered number self.old) }
         requires short { length input.now ≤ 65533 }
         requires space { vec_len out.old + (20 + length input.now) ≤ vec_capacity out.old }
-        ensures datagram { Some out.new.items ≡ option_map (λ group. out.old.items ++ datagram_text (production_datagram group.producer.id group.producer.production input.now)) (numbered number self.old) }
+        ensures datagram { Some out.new.items
+            ≡ option_map (λ group. out.old.items
+            ++ datagram_text (production_datagram group.producer.id group.producer.production input.now))
+            (numbered number self.old) }
         ensures groups { self.new ≡ change_first (has_number number) (produced_group clock) self.old }
     {
         // The producer may produce, so its group is in the list.

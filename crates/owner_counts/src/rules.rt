@@ -87,7 +87,8 @@ impl Rules {
     /// No longer counts a connection that had joined and left. Takes no memory.
     pub fn left(&mut self, row: &Row)
         requires { HasJoined row.now self.old }
-        ensures { (front back : List Row) → AreCounted self.old (front ++ row.now ∷ back) → AreCounted self.new (front ++ back) }
+        ensures { (front back : List Row) → AreCounted self.old (front ++ row.now ∷ back)
+            → AreCounted self.new (front ++ back) }
     {
         count_out_if(&mut self.owners, is_driver(row), row.consumed);
         count_out_if(&mut self.supporters, is_supporter(row), row.produced);

@@ -87,7 +87,8 @@ impl<T: ConnectionTable> Adapter<T> {
         reply: &FrameReply<'_>,
     ) -> Result<Answer, OutOfMemory>
         requires { IsWritableFrame (view_frame_reply reply.now) }
-        ensures { IfOk result (λ answer. answer ≡ framed_answer number (view_reply_header reply_header) (view_frame_reply reply.now) []) }
+        ensures { IfOk result (λ answer. answer
+            ≡ framed_answer number (view_reply_header reply_header) (view_frame_reply reply.now) []) }
     {
         frame_answer(
             self.alloc,
@@ -100,14 +101,16 @@ impl<T: ConnectionTable> Adapter<T> {
 
     /// A message that is refused.
     fn refuse_frame(&mut self, number: u16, reply_header: ReplyHeader, why: EncapStatus) -> Outcome
-        ensures { Follows (Ok (framed number (view_reply_header reply_header) (refusal self.old why))) self.old result self.new }
+        ensures { Follows (Ok (framed number (view_reply_header reply_header) (refusal self.old why)))
+            self.old result self.new }
     {
         Ok(self.answer_frame(number, reply_header, &FrameReply::Refused(why))?)
     }
 
     /// A session begins.
     fn begin_session(&mut self, stream: &Stream, reply_header: ReplyHeader) -> Outcome
-        ensures { Follows (Ok (framed stream.now.number (view_reply_header reply_header) (session_begun self.old stream.now))) self.old result self.new }
+        ensures { Follows (Ok (framed stream.now.number (view_reply_header reply_header)
+            (session_begun self.old stream.now))) self.old result self.new }
     {
         let reply = FrameReply::Registered(session_of(stream));
         let answer = self.answer_frame(stream.number, reply_header, &reply)?;
@@ -122,7 +125,8 @@ impl<T: ConnectionTable> Adapter<T> {
         reply_header: ReplyHeader,
         body: &[u8],
     ) -> Outcome
-        ensures { Follows (Ok (framed stream.now.number (view_reply_header reply_header) (register_session self.old stream.now body.now))) self.old result self.new }
+        ensures { Follows (Ok (framed stream.now.number (view_reply_header reply_header)
+            (register_session self.old stream.now body.now))) self.old result self.new }
     {
         if body.len() != 4 {
             return self.refuse_frame(stream.number, reply_header, EncapStatus::InvalidLength);
@@ -138,7 +142,12 @@ impl<T: ConnectionTable> Adapter<T> {
 
     /// A session ends, and its stream with it.
     fn end_session(&mut self, number: u16) -> Outcome
-        ensures { Follows (Ok (record { frames = []; datagrams = []; verdict = Done; notices = StreamClosed number ∷ [] }, without_stream self.old number)) self.old result self.new }
+        ensures { Follows
+            (Ok (
+              record { frames = []; datagrams = []; verdict = Done; notices = StreamClosed number ∷ [] },
+              without_stream self.old number,
+            ))
+            self.old result self.new }
     {
         let answer = ended_answer(self.alloc, number)?;
         self.drop_stream(number);
@@ -147,7 +156,8 @@ impl<T: ConnectionTable> Adapter<T> {
 
     /// UnRegisterSession.
     fn unregister_session(&mut self, stream: &Stream, reply_header: ReplyHeader) -> Outcome
-        ensures { Follows (Ok (framed stream.now.number (view_reply_header reply_header) (unregister_session self.old stream.now reply_header.session))) self.old result self.new }
+        ensures { Follows (Ok (framed stream.now.number (view_reply_header reply_header)
+            (unregister_session self.old stream.now reply_header.session))) self.old result self.new }
     {
         if has_session(stream, reply_header.session) {
             return self.end_session(stream.number);
@@ -162,7 +172,8 @@ impl<T: ConnectionTable> Adapter<T> {
     /// SendRRData.
     #[tactic(auto, using(adapter_replies::specs::RouteLaws::routed_over_stream))]
     fn send_rr_data(&mut self, stream: &Stream, reply_header: ReplyHeader, body: &[u8]) -> Outcome
-        ensures { Follows (Ok (framed stream.now.number (view_reply_header reply_header) (send_rr_data self.old stream.now reply_header.session body.now))) self.old result self.new }
+        ensures { Follows (Ok (framed stream.now.number (view_reply_header reply_header)
+            (send_rr_data self.old stream.now reply_header.session body.now))) self.old result self.new }
     {
         if !has_session(stream, reply_header.session) {
             return self.refuse_frame(stream.number, reply_header, EncapStatus::InvalidSession);
@@ -177,7 +188,8 @@ impl<T: ConnectionTable> Adapter<T> {
     /// A whole message, by its command.
     #[tactic(auto, unfolding(adapter_table::specs::Encapsulation::handled))]
     fn handle(&mut self, stream: &Stream, reply_header: ReplyHeader, body: &[u8]) -> Outcome
-        ensures { Follows (Ok (framed stream.now.number (view_reply_header reply_header) (handled self.old stream.now (view_reply_header reply_header) body.now (command_of reply_header.command)))) self.old result self.new }
+        ensures { Follows (Ok (framed stream.now.number (view_reply_header reply_header) (handled self.old stream.now
+            (view_reply_header reply_header) body.now (command_of reply_header.command)))) self.old result self.new }
     {
         match Command::of(reply_header.command) {
             Command::Nop => Ok(Answer::plain(self.alloc, Verdict::Done)),
@@ -199,7 +211,8 @@ impl<T: ConnectionTable> Adapter<T> {
 
     /// A header whose length field is wrong.
     fn misfit(&mut self, number: u16, reply_header: ReplyHeader) -> Outcome
-        ensures { Follows (Ok (misfit_answer self.old number (view_reply_header reply_header))) self.old result self.new }
+        ensures { Follows (Ok (misfit_answer self.old number (view_reply_header reply_header)))
+            self.old result self.new }
     {
         if Command::of(reply_header.command).is_silent() {
             return Ok(Answer::plain(self.alloc, Verdict::BadFrame));
