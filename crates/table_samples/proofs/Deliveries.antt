@@ -1,4 +1,4 @@
--- Datagrams that come: how they are judged, and what they do to an output and to the watchdog.
+-- Samples of received datagrams: the delivery of each, and its effect on an output and on the watchdog.
 use Rattle.std.proofs.Common.{◌≡◌, refl, ℕ, List, [], ◌∷◌, take, map}
 use Rattle.cip_events.specs.declared.event.Delivery.TheVariants.{Applied, Idle, Heartbeat, Duplicate, Old, UnknownId, WrongSize, Malformed}
 use Rattle.cip_events.specs.declared.event.Event.{Event}
@@ -11,7 +11,7 @@ use Rattle.cip_events.specs.Outcomes.{Outcome}
 use Rattle.cip_tables.specs.Run.{outcomes_of}
 use Rattle.table_samples.specs.Hex.{hex}
 use Rattle.table_samples.specs.Devices.{common, acting, double, peer, other, own}
-use Rattle.table_samples.specs.Requests.{Asking, owner, consumer}
+use Rattle.table_samples.specs.Requests.{OpeningRequest, owner, consumer}
 use Rattle.table_samples.specs.Datagrams.{datagram, running, idling}
 use Rattle.table_samples.specs.Runs.{after, opens, closes, delivers, holds, ends, accepts, notices_of}
 use Rattle.table_samples.specs.Rows.{from}
@@ -31,7 +31,7 @@ idles number count = datagram 0x10000001 number count (idling (hex "55 66 77 88"
 abbrev first : List ℕ
 first = hex "02 00 02 80 08 00 01 00 00 10 01 00 00 00 B1 00 0A 00 01 00 01 00 00 00 11 22 33 44"
 
--- what the output then holds, what comes next, and what it holds at first
+-- the bytes of the output, those of the next datagram, and those at the beginning
 abbrev before : List ℕ
 before = hex "11 22 33 44"
 
@@ -41,11 +41,11 @@ next = hex "55 66 77 88"
 abbrev zeros : List ℕ
 zeros = hex "00 00 00 00"
 
--- what an adapter says once the owner's first datagram was applied
+-- the outcomes at an adapter that has applied the owner's first datagram
 abbrev then_said : Profile → List Event → List Outcome
 then_said profile events = outcomes_of (after profile (opens owner ∷ comes first ∷ [])) events
 
--- ---- whose it is
+-- ---- its connection
 
 the_first_is_applied : outcomes_of (after common (opens owner ∷ [])) (comes first ∷ Read 150 ∷ []) ≡ delivers Applied ∷ holds before ∷ []
 unfolding computing
@@ -160,7 +160,7 @@ idle_leaves_the_bytes_under_hold : then_said (acting Hold Hold) (comes (idles 2 
 unfolding computing
 idle_leaves_the_bytes_under_hold = refl
 
--- bit 0 of the header alone tells the mode
+-- bit 0 of the header alone gives the mode
 abbrev headed : List ℕ → Event
 headed header = comes (datagram 0x10000001 2 2 header)
 
@@ -186,7 +186,7 @@ a_heartbeat_is_never_a_duplicate = refl
 
 -- ---- the watchdog: its time-out is 16 times 10 ms
 
--- what the owner's connection does in two ticks after the event that comes 100 ms after the first datagram
+-- the owner's connection in two ticks after an event that comes 100 ms after the first datagram
 abbrev refreshed_by : Event → List (List Notice)
 refreshed_by event = map notices_of (then_said common (Tick 100 ∷ event ∷ Tick 59 ∷ Tick 1 ∷ Tick 99 ∷ Tick 1 ∷ []))
 
@@ -243,7 +243,7 @@ the_least_multiplier = refl
 
 -- ---- an output whose idle action is not its fault action
 
--- what the output holds after the events
+-- the bytes of the output after the events
 abbrev left : Profile → List Event → List Outcome
 left profile events = outcomes_of (after profile (opens owner ∷ comes first ∷ events)) (Read 150 ∷ [])
 
@@ -251,13 +251,13 @@ idle_zero_before_it_is_lost : left (acting Zero Hold) (comes (idles 2 2) ∷ [])
 unfolding computing
 idle_zero_before_it_is_lost = refl
 
-held_when_it_expires : left (acting Zero Hold) (Tick 160 ∷ []) ≡ holds before ∷ []
+kept_when_it_expires : left (acting Zero Hold) (Tick 160 ∷ []) ≡ holds before ∷ []
 unfolding computing
-held_when_it_expires = refl
+kept_when_it_expires = refl
 
-held_when_it_is_closed : left (acting Zero Hold) (closes peer owner ∷ []) ≡ holds before ∷ []
+kept_when_it_is_closed : left (acting Zero Hold) (closes peer owner ∷ []) ≡ holds before ∷ []
 unfolding computing
-held_when_it_is_closed = refl
+kept_when_it_is_closed = refl
 
 idle_holds : left (acting Hold Zero) (comes (idles 2 2) ∷ []) ≡ holds before ∷ []
 unfolding computing
@@ -275,8 +275,8 @@ not_when_another_is_closed : left (acting Hold Zero) (opens (consumer 2) ∷ clo
 unfolding computing
 not_when_another_is_closed = refl
 
--- a lost owner's close leaves the output to the next one
-abbrev successor : Asking
+-- the close of a timed-out owner leaves the output to the next owner
+abbrev successor : OpeningRequest
 successor = record owner { serial = 2; t_o_id = 0x20000002 }
 
 a_lost_owner_s_close_changes_nothing :
@@ -288,7 +288,7 @@ a_lost_owner_s_close_changes_nothing = refl
 -- ---- two outputs
 
 -- the owner of the second output, of 2 bytes
-abbrev second_owner : Asking
+abbrev second_owner : OpeningRequest
 second_owner = record owner { serial = 2; t_o_id = 0x20000002; o_t_params = 0x4808; t_o_params = 0x4804; path = hex "20 04 24 97 2C A0 2C 6E" }
 
 each_output_has_its_owner :

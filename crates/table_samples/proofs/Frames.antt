@@ -1,4 +1,4 @@
--- Streams, sessions and the messages that come over them.
+-- Samples of streams, sessions and the messages over them.
 use Rattle.std.proofs.Common.{◌≡◌, refl, ℕ, List, [], ◌∷◌, ◌++◌, map, take, Ok, Err}
 use Rattle.cip_events.specs.declared.event.Event.{Event}
 use Rattle.cip_events.specs.declared.event.Event.TheVariants.{Frame, StreamCut, StreamOpened, Tick}
@@ -10,7 +10,7 @@ use Rattle.cip_events.specs.Outcomes.{Outcome}
 use Rattle.cip_tables.specs.Run.{outcomes_of}
 use Rattle.table_samples.specs.Hex.{hex}
 use Rattle.table_samples.specs.Devices.{common, peer, other}
-use Rattle.table_samples.specs.Requests.{Asking, owner, gatherer, opening, opened_reply, refused_reply}
+use Rattle.table_samples.specs.Requests.{OpeningRequest, owner, gatherer, opening, opened_reply, refused_reply}
 use Rattle.table_samples.specs.Datagrams.{datagram, to_one}
 use Rattle.table_samples.specs.Runs.{said, after, says, emits, opened_notice, id}
 use Rattle.table_samples.specs.Rows.{from}
@@ -20,7 +20,7 @@ use Rattle.table_samples.proofs.Computing.{computing}
 the_register_request : register ≡ hex "65 00 04 00 00 00 00 00 00 00 00 00 01 02 03 04 05 06 07 08 00 00 00 00 01 00 00 00"
 the_register_request = refl
 
--- what is said to messages over stream 0, where no session is registered, and where one is
+-- the outcomes of messages over stream 0, without and with a registered session
 abbrev opened : List (List ℕ) → List Outcome
 opened messages = outcomes_of (after common (StreamOpened 0 peer ∷ [])) (map (Frame 0) messages)
 
@@ -157,7 +157,7 @@ a_length_before_the_session : registered ((sent 5 (hex "0E") ++ hex "00") ∷ []
 unfolding computing
 a_length_before_the_session = refl
 
--- what never has a reply is a bad frame, and a session does not end so
+-- a message without a reply is a bad frame, and does not end the session
 bad_frames_without_a_reply :
     registered ((message 0x00 0 0 [] ++ hex "00") ∷ (message 0x66 1 0 [] ++ hex "00") ∷ register ∷ [])
     ≡ says BadFrame ∷ says BadFrame ∷ back (message 0x65 0 0x01 []) ∷ []
@@ -184,8 +184,8 @@ bad_items :
 unfolding computing
 bad_items = refl
 
--- an opening of the stream's peer, and what its reply says
-abbrev opens : Asking → ℕ → ℕ → List ℕ → Outcome
+-- a request to open of the stream's peer, and its reply
+abbrev opens : OpeningRequest → ℕ → ℕ → List ℕ → Outcome
 opens a counter t_o_id bytes = frames (message 0x6F 1 0 bytes) (opened_notice a counter ∷ [])
 
 a_point_to_point_connection :
@@ -195,7 +195,7 @@ a_point_to_point_connection :
 unfolding computing
 a_point_to_point_connection = refl
 
-abbrev joiner : Asking
+abbrev joiner : OpeningRequest
 joiner = record gatherer { serial = 7 }
 
 a_multicast_connection_is_told_its_socket :

@@ -10,7 +10,7 @@ use Rattle.cip_events.specs.Outcomes.{Outcome}
 use Rattle.cip_tables.specs.Run.{outcomes_of}
 use Rattle.table_samples.specs.Hex.{hex}
 use Rattle.table_samples.specs.Devices.{common, double, input, peer, other, group, triad, own}
-use Rattle.table_samples.specs.Requests.{Asking, opening, owner, gatherer, listener, consumer, inhibited}
+use Rattle.table_samples.specs.Requests.{OpeningRequest, opening, owner, gatherer, listener, consumer, inhibited}
 use Rattle.table_samples.specs.Datagrams.{datagram, outgoing}
 use Rattle.table_samples.specs.Runs.{said, after, opens, closes, replies, accepts, refuses, ends, emits}
 use Rattle.table_samples.proofs.Computing.{computing}
@@ -61,7 +61,7 @@ unfolding computing
 a_listener_is_dropped_with_its_last_supporter = refl
 
 -- an owner, multicast, supports it too
-abbrev owner_shared : Asking
+abbrev owner_shared : OpeningRequest
 owner_shared = record owner { t_o_id = 0; t_o_params = 0x2806 }
 
 two_supporters :
@@ -71,7 +71,7 @@ unfolding computing
 two_supporters = refl
 
 -- a listener supports no listener
-abbrev second_listener : Asking
+abbrev second_listener : OpeningRequest
 second_listener = record listener { serial = 9 }
 
 listeners_go_in_opening_order :
@@ -84,10 +84,10 @@ listeners_go_in_opening_order = refl
 -- ---- joiners
 
 -- the other originator joins, every 10 ms
-abbrev joiner : Asking
+abbrev joiner : OpeningRequest
 joiner = record gatherer { serial = 7 }
 
-abbrev joins : Asking → Event
+abbrev joins : OpeningRequest → Event
 joins a = Request other (opening a)
 
 abbrev joined : Outcome
@@ -97,7 +97,7 @@ abbrev pair : List Node
 pair = peer ∷ other ∷ []
 
 -- a joiner's T->O interval
-abbrev joiner_every : ℕ → Asking
+abbrev joiner_every : ℕ → OpeningRequest
 joiner_every rpi = record gatherer { serial = 8; t_o_rpi = rpi }
 
 joiners_share_the_producer :
@@ -122,10 +122,10 @@ unfolding computing
 one_node_twice = refl
 
 -- what a second request is told beside the first one's group
-abbrev beside : Asking → Asking → List Outcome
+abbrev beside : OpeningRequest → OpeningRequest → List Outcome
 beside first a = said common (opens first ∷ joins a ∷ [])
 
-abbrev not_beside : Asking → ℕ → List Outcome
+abbrev not_beside : OpeningRequest → ℕ → List Outcome
 not_beside a code = gathered ∷ refuses other a code ∷ []
 
 another_trigger : beside gatherer (inhibited 0 joiner) ≡ not_beside joiner 0x0103
@@ -177,7 +177,7 @@ point_to_point_beside = refl
 -- ---- two inputs
 
 -- the second input, multicast
-abbrev second_gatherer : Asking
+abbrev second_gatherer : OpeningRequest
 second_gatherer = record gatherer { serial = 9; t_o_params = 0x2804; path = hex "20 04 24 97 2C 98 2C 6E" }
 
 each_input_has_its_group :

@@ -1,4 +1,4 @@
--- Datagrams that go out: when, in which order, with which numbers and counts.
+-- Samples of sent datagrams: their times, their order, their numbers and counts.
 use Rattle.std.proofs.Common.{◌≡◌, refl, ℕ, false, List, [], ◌∷◌, Some, Err}
 use Rattle.cip_netparams.specs.declared.Trigger.TheVariants.{ChangeOfState}
 use Rattle.cip_events.specs.declared.event.Event.{Event}
@@ -38,7 +38,7 @@ none = emits [] []
 
 -- ---- cyclic
 
--- what is said beside the owner
+-- the outcomes beside the owner
 abbrev owned : List Event → List Outcome
 owned events = outcomes_of (after common (opens owner ∷ [])) events
 
@@ -81,7 +81,7 @@ late_by_almost_two_intervals : owned (Tick 19 ∷ Tick 9 ∷ Tick 1 ∷ Tick 9 �
 unfolding computing
 late_by_almost_two_intervals = refl
 
--- a datagram is of what the input holds when it goes out
+-- a datagram has the bytes that the input has when it is sent
 a_write_makes_no_cyclic_datagram : owned (Write 100 first ∷ Tick 0 ∷ []) ≡ none ∷ one 1 1 first ∷ []
 unfolding computing
 a_write_makes_no_cyclic_datagram = refl
@@ -100,7 +100,7 @@ number_and_count_begin_again :
 unfolding computing
 number_and_count_begin_again = refl
 
--- also in the table, where there is room for more
+-- also in the table, while it has space for more
 abbrev begun_again : Production
 begun_again = record (production 1) { sequence = 0; count = 0; written = false; due = record { 0 = 10 }; last = Some (record { 0 = 4 }) }
 
@@ -224,7 +224,7 @@ each_input_has_its_producers :
 unfolding computing
 each_input_has_its_producers = refl
 
--- ---- what can be written and read
+-- ---- writes and reads
 
 a_write_is_of_an_input :
     owned (Write 150 first ∷ Write 151 [] ∷ Write 152 [] ∷ Write 70 first ∷ Write 100 (hex "05 06 07") ∷ Write 100 (hex "05 06 07 08 09") ∷ Write 70 [] ∷ Read 100 ∷ Write 100 first ∷ Read 100 ∷ [])

@@ -184,7 +184,7 @@ other_revisions : map profile_fault (revised 0 1 ∷ revised 128 1 ∷ revised 2
 unfolding computing ones
 other_revisions = refl
 
--- ---- which of two goes first
+-- ---- the first of two
 
 the_incarnation_before_the_address : profile_fault (record (addressed 0xC0A80100 0xFFFFFF00) { incarnation = 0 }) ≡ Some Incarnation
 unfolding computing ones

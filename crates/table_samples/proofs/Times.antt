@@ -1,4 +1,4 @@
--- Ticks: the clock, the connections that time out, and the order of what happens.
+-- Samples of ticks: the clock, the connections that time out, and the order of the effects.
 use Rattle.std.proofs.Common.{◌≡◌, refl, List, [], ◌∷◌, map, Err}
 use Rattle.cip_events.specs.declared.event.Event.{Event}
 use Rattle.cip_events.specs.declared.event.Event.TheVariants.{Datagram, Request, Read, Tick}
@@ -11,7 +11,7 @@ use Rattle.cip_events.specs.Outcomes.{Outcome}
 use Rattle.cip_tables.specs.Run.{outcomes_of}
 use Rattle.table_samples.specs.Hex.{hex}
 use Rattle.table_samples.specs.Devices.{common, peer, other, group, own, triad}
-use Rattle.table_samples.specs.Requests.{Asking, opening, owner, gatherer, listener, consumer}
+use Rattle.table_samples.specs.Requests.{OpeningRequest, opening, owner, gatherer, listener, consumer}
 use Rattle.table_samples.specs.Datagrams.{datagram, running, outgoing, to_one}
 use Rattle.table_samples.specs.Runs.{after, opens, closes, delivers, emits, holds, notices_of}
 use Rattle.table_samples.specs.Rows.{at_clock}
@@ -20,7 +20,7 @@ use Rattle.table_samples.proofs.Computing.{computing}
 abbrev none : Outcome
 none = emits [] []
 
--- what happens to connections at the events
+-- the notices of the events
 abbrev happens : List Event → List Event → List (List Notice)
 happens before events = map notices_of (outcomes_of (after common before) events)
 
@@ -54,7 +54,7 @@ ten_seconds = refl
 a_longer_time_out : first_deadline (record { 0 = 5 }) 10240 ≡ record { 0 = 10245 }
 a_longer_time_out = refl
 
--- the last datagram goes out 10 ms before the deadline, and none at it
+-- the last datagram is sent 10 ms before the deadline, and none at it
 an_owner_that_sends_nothing :
     outcomes_of (after common (opens owner ∷ [])) (Tick 9990 ∷ Tick 9 ∷ Tick 1 ∷ [])
     ≡ emits (to_one peer (datagram 0x20000001 1 1 (hex "00 00 00 00")) ∷ []) [] ∷ none ∷ emits [] (Expired (own 1) ∷ []) ∷ []
@@ -62,7 +62,7 @@ unfolding computing
 an_owner_that_sends_nothing = refl
 
 -- 512 times 20 ms
-abbrev patient : Asking
+abbrev patient : OpeningRequest
 patient = record (consumer 2) { multiplier = 7; o_t_rpi = 20000 }
 
 one_that_waits_longer_than_ten_seconds : happens (opens patient ∷ []) (Tick 10239 ∷ Tick 1 ∷ []) ≡ [] ∷ (Expired (own 2) ∷ []) ∷ []
@@ -70,7 +70,7 @@ unfolding computing
 one_that_waits_longer_than_ten_seconds = refl
 
 -- the O->T interval makes the time-out, not the T->O one
-abbrev slow_consumer : Asking
+abbrev slow_consumer : OpeningRequest
 slow_consumer = record (consumer 2) { multiplier = 7; t_o_rpi = 20000 }
 
 the_consumed_interval_makes_the_time_out : happens (opens slow_consumer ∷ []) (Tick 9999 ∷ Tick 1 ∷ []) ≡ [] ∷ (Expired (own 2) ∷ []) ∷ []

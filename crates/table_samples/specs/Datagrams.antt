@@ -17,7 +17,7 @@ running bytes = hex "01 00 00 00" ++ bytes
 abbrev pub idling : List ℕ → List ℕ
 idling bytes = hex "00 00 00 00" ++ bytes
 
--- a datagram that goes out
+-- a sent datagram
 abbrev pub outgoing : Node → List Node → List ℕ → OutgoingDatagram
 outgoing address nodes bytes = record { address = address; nodes = nodes; bytes = bytes }
 

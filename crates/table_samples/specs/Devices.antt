@@ -11,7 +11,7 @@ use Rattle.cip_tables.specs.declared.table.DeviceTable.{DeviceTable}
 use Rattle.cip_tables.specs.declared.table.DeviceTable.TheVariants.{Adapter}
 use Rattle.adapter_table.specs.Step.{adapter_table}
 
--- an output, with what becomes of it when its owner is idle and when it is lost
+-- an output, with its idle action and its fault action
 abbrev pub output : ℕ → ℕ → Action → Action → OutputPoint
 output instance len idle fault = record { instance = instance; len = len; idle = idle; fault = fault }
 
@@ -37,7 +37,7 @@ common = record {
 abbrev pub configured : Profile
 configured = record common { config = Some (input 151 2) }
 
--- the same with what becomes of its output when its owner is idle and when it is lost
+-- the same with the idle action and the fault action of its output
 abbrev pub acting : Action → Action → Profile
 acting idle fault = record common { outputs = output 150 4 idle fault ∷ [] }
 

@@ -1,4 +1,4 @@
--- Encapsulation messages, byte for byte, and what is said to them (Volume 2, chapter 2, encapsulation
+-- Encapsulation messages, byte for byte, and their replies (Volume 2, chapter 2, encapsulation
 -- messages and common packet format).
 use Rattle.std.specs.Prelude.{ℕ, List, [], ◌∷◌, ◌++◌, length, Ok}
 use Rattle.cip_events.specs.declared.event.Event.{Event}
@@ -37,7 +37,7 @@ sent session bytes = message 0x6F session 0 (items bytes)
 abbrev pub in_session : List Event
 in_session = StreamOpened 0 peer ∷ Frame 0 register ∷ []
 
--- a message goes back over stream 0
+-- a reply over stream 0
 abbrev pub frames : List ℕ → List Notice → Outcome
 frames bytes notices = Ok (record {
   frames = record { to = Stream 0; bytes = bytes } ∷ [];

@@ -17,7 +17,7 @@ abbrev pub from : ℕ → ℕ → List ℕ
 from first zero = []
 from first (suc more) = first ∷ from (first + 1) more
 
--- the clock stands here
+-- the clock of these tables
 abbrev pub at_clock : ℕ → DeviceTable
 at_clock ms = Adapter (record (adapter_table common) { clock = record { 0 = ms } })
 

@@ -1,4 +1,4 @@
--- What a device says to events, one after another.
+-- The outcomes of events at a device, one after another.
 use Rattle.std.specs.Prelude.{ℕ, ◌+◌, List, [], ◌∷◌, Ok, Err}
 use Rattle.cip_types.specs.declared.names.Node.{Node}
 use Rattle.cip_events.specs.declared.event.Delivery.{Delivery}
@@ -15,19 +15,19 @@ use Rattle.cip_tables.specs.declared.table.DeviceTable.{DeviceTable}
 use Rattle.cip_events.specs.Outcomes.{Outcome}
 use Rattle.cip_tables.specs.Run.{outcomes_of, table_after}
 use Rattle.table_samples.specs.Devices.{fresh, peer, triad}
-use Rattle.table_samples.specs.Requests.{Asking, opening, opened_reply, refused_reply, closing, closed_reply}
+use Rattle.table_samples.specs.Requests.{OpeningRequest, opening, opened_reply, refused_reply, closing, closed_reply}
 
 -- ---- events
 
--- the first originator asks to open
-abbrev pub opens : Asking → Event
+-- the first originator requests to open a connection
+abbrev pub opens : OpeningRequest → Event
 opens a = Request peer (opening a)
 
 -- a node closes a connection
-abbrev pub closes : Node → Asking → Event
+abbrev pub closes : Node → OpeningRequest → Event
 closes node a = Request node (closing a.serial a.originator)
 
--- what a device of the profile says to the events
+-- the outcomes of the events at a fresh device of the profile
 abbrev pub said : Profile → List Event → List Outcome
 said profile events = outcomes_of (fresh profile) events
 
@@ -37,23 +37,23 @@ after profile events = table_after (fresh profile) events
 
 -- ---- outcomes
 
--- nothing but a verdict
+-- a verdict alone
 abbrev pub says : Verdict → Outcome
 says verdict = Ok (record { frames = []; datagrams = []; verdict = verdict; notices = [] })
 
--- what became of a datagram
+-- the delivery of a datagram
 abbrev pub delivers : Delivery → Outcome
 delivers delivery = says (Delivered delivery)
 
--- what a point holds
+-- the bytes of a point
 abbrev pub holds : List ℕ → Outcome
 holds bytes = says (Value bytes)
 
--- datagrams go out, and these things happen to connections
+-- sent datagrams, and these notices
 abbrev pub emits : List OutgoingDatagram → List Notice → Outcome
 emits datagrams notices = Ok (record { frames = []; datagrams = datagrams; verdict = Done; notices = notices })
 
--- a reply to a node, and these things happen to connections
+-- a reply to a node, and these notices
 abbrev pub replies : Node → List ℕ → List Notice → Outcome
 replies to bytes notices = Ok (record {
   frames = record { to = Peer to; bytes = bytes } ∷ [];
@@ -67,24 +67,24 @@ abbrev pub id : ℕ → ℕ
 id counter = 0x10000000 + counter
 
 -- the notice of an opened connection of the common adapter
-abbrev pub opened_notice : Asking → ℕ → Notice
+abbrev pub opened_notice : OpeningRequest → ℕ → Notice
 opened_notice a counter = Opened (triad a.serial a.originator) (record { 0 = id counter })
 
 -- the connection is opened with this counter in its O->T id and with this T->O id, every 10 ms both ways
-abbrev pub accepts : Node → Asking → ℕ → ℕ → Outcome
+abbrev pub accepts : Node → OpeningRequest → ℕ → ℕ → Outcome
 accepts to a counter t_o_id = replies to (opened_reply a (id counter) t_o_id 10000 10000) (opened_notice a counter ∷ [])
 
 -- the connection is refused with an additional status
-abbrev pub refuses : Node → Asking → ℕ → Outcome
+abbrev pub refuses : Node → OpeningRequest → ℕ → Outcome
 refuses to a code = replies to (refused_reply a code) []
 
 -- the connection is closed
-abbrev pub ends : Node → Asking → List Notice → Outcome
+abbrev pub ends : Node → OpeningRequest → List Notice → Outcome
 ends to a dropped = replies to (closed_reply a.serial a.originator) (Closed (triad a.serial a.originator) ∷ dropped)
 
 -- ---- parts of outcomes
 
--- what happened to connections
+-- the notices of an outcome
 abbrev pub notices_of : Outcome → List Notice
 notices_of (Ok answer) = answer.notices
 notices_of (Err fault) = []

@@ -1,4 +1,4 @@
-//! What the tables' definitions give at worked values: bytes of requests, datagrams and replies that were
-//! worked out by hand, from the profile of this line. There is no code here. The samples in `proofs/` are
-//! computed by the check, so that no definition can come to mean something else unseen.
+//! Samples of the tables' definitions: requests, datagrams and replies byte for byte, worked out by hand from the
+//! profile of this line. The crate has no code. The check computes the samples in `proofs/`, so a definition that
+//! changes its meaning fails there.
 #![tactic(auto)]

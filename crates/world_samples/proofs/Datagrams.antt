@@ -1,4 +1,4 @@
--- What is sent, and in whose name it comes.
+-- Samples of sent datagrams, and of the sender's address at their delivery.
 use Rattle.std.proofs.Common.{◌≡◌, refl, ℕ, List, [], ◌∷◌, Err}
 use Rattle.cip_events.specs.declared.event.Delivery.TheVariants.{UnknownId}
 use Rattle.cip_events.specs.declared.event.Event.TheVariants.{Datagram, Tick}
@@ -33,7 +33,7 @@ a_datagram_goes_out :
 unfolding playing
 a_datagram_goes_out = refl
 
--- it is there from now on, by the address of its sender
+-- it is in the log from now on, with the address of its sender
 abbrev sent : ℕ → Sent
 sent number = record { from = home; bytes = numbered number }
 
@@ -41,7 +41,7 @@ what_is_sent_is_kept : (after producing (ticks 1 ∷ ticks 5 ∷ ticks 10 ∷ []
 unfolding playing
 what_is_sent_is_kept = refl
 
--- the datagram comes to a device that has no such connection
+-- a device without such a connection receives the datagram
 abbrev unknown : ℕ → ℕ → Saying
 unknown device number = reports device (Datagram home (numbered number)) (plainly (Delivered UnknownId))
 
@@ -51,7 +51,7 @@ it_comes_in_its_sender_s_name :
 unfolding playing
 it_comes_in_its_sender_s_name = refl
 
--- to whomever, in whatever order, and again
+-- any device, in any order, and again
 it_comes_where_and_when_it_likes :
     says (after producing (ticks 1 ∷ ticks 10 ∷ [])) (Deliver 1 1 ∷ Deliver 0 0 ∷ Deliver 1 1 ∷ [])
     ≡ unknown 1 2 ∷ unknown 0 1 ∷ unknown 1 2 ∷ []

@@ -92,7 +92,7 @@ a_bad_profile : world_fault (both common (record neighbour { inputs = [] })) ≡
 unfolding playing ones
 a_bad_profile = refl
 
--- of two bad profiles the first one's fault, though the other's goes before it within one profile
+-- the fault of the first of two bad profiles, though the other's fault goes before it within one profile
 the_first_bad_profile : world_fault (both (record common { inputs = [] }) (record neighbour { incarnation = 0 })) ≡ Some (BadProfile Points)
 unfolding playing ones
 the_first_bad_profile = refl

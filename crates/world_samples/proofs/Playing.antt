@@ -1,4 +1,4 @@
--- What a sample unfolds.
+-- The definitions that a sample unfolds.
 use Rattle.cip_datagram.specs.Reading as datagrams
 use Rattle.cip_encap.specs.Reading as messages
 use Rattle.adapter_table.specs.Datagrams.{received}

@@ -1,4 +1,4 @@
--- What waits on a stream, and what is left of it when it ends.
+-- Samples of streams: their queues, and the queues when a stream ends.
 use Rattle.std.proofs.Common.{◌≡◌, refl, ℕ, List, [], ◌∷◌, Err}
 use Rattle.cip_events.specs.declared.event.Event.TheVariants.{StreamOpened, StreamCut, Frame}
 use Rattle.cip_events.specs.declared.event.Notice.TheVariants.{StreamClosed}
@@ -49,7 +49,7 @@ in_session = with_tables (fresh common) (table_after (fresh neighbour) (StreamOp
 abbrev registered : List ℕ
 registered = message 0x65 1 0 (hex "01 00 00 00")
 
--- the answer waits for the other end, behind what waited there
+-- the answer waits for the other end, behind the items that waited there
 a_frame_is_taken_and_answered :
     says (over (living (knowing (Queued register ∷ [])) (unknowing (Opening ∷ []))) accepted) (NextFrame 0 Forth ∷ NextFrame 0 Forth ∷ [])
     ≡ reports 1 (Frame 0 register) (record { frames = record { to = to.Stream 0; bytes = registered } ∷ []; datagrams = []; verdict = Done; notices = [] })
@@ -63,7 +63,7 @@ an_answer_waits_behind_what_waits :
 unfolding playing
 an_answer_waits_behind_what_waits = refl
 
--- the device does not know the stream, so that the frame stays, for as often as it is tried
+-- the device does not have the stream, so the frame stays, however often it is tried
 a_refused_frame_stays :
     says (over (living (knowing (Queued register ∷ [])) (knowing [])) two) (NextFrame 0 Forth ∷ NextFrame 0 Forth ∷ [])
     ≡ Err (Step NotAllowedNow) ∷ Err (Step NotAllowedNow) ∷ []
@@ -99,7 +99,7 @@ nothing_is_sent_over_a_stream_that_has_ended = refl
 
 -- ---- a cut
 
--- what is left of a stream that is cut
+-- a stream after a cut
 abbrev cut : Stream → List Stream
 cut s = (after (over s two) (CutStream 0 ∷ [])).streams
 
@@ -126,7 +126,7 @@ a_cut_is_learnt_once :
 unfolding playing
 a_cut_is_learnt_once = refl
 
--- the other end does not learn a second time
+-- the other end receives the mark once
 a_cut_of_what_has_ended : cut (ended (knowing []) (knowing (Ending ∷ []))) ≡ ended (knowing []) (knowing (Ending ∷ [])) ∷ []
 unfolding playing
 a_cut_of_what_has_ended = refl
@@ -136,7 +136,7 @@ a_cut_of_what_has_ended = refl
 abbrev unregister : List ℕ
 unregister = message 0x66 1 0 []
 
--- what is left of the stream when the second device closes it
+-- the stream after the second device closes it
 abbrev closed : List QueueItem → Side → List Stream
 closed rest back = (after (over (living (knowing (Queued unregister ∷ rest)) back) in_session) (NextFrame 0 Forth ∷ [])).streams
 
@@ -156,7 +156,7 @@ nor_does_it_where_it_never_knew :
 unfolding playing
 nor_does_it_where_it_never_knew = refl
 
--- the first device closes, where it has the stream
+-- the first device closes the stream, if it has it
 the_first_closes :
     notices_applied 0 (living (knowing (Queued register ∷ [])) (knowing (Queued registered ∷ [])) ∷ []) (StreamClosed 0 ∷ [])
     ≡ ended (knowing (Ending ∷ [])) (knowing []) ∷ []

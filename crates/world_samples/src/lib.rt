@@ -1,4 +1,4 @@
-//! What the definitions of a simulated segment give at worked values: which marks wait on a stream, what a cut and
-//! a closed stream leave, in whose name a datagram comes, and which fault goes first. There is no code here. The
-//! samples in `proofs/` are computed by the check, so that no definition can come to mean something else unseen.
+//! Samples of the simulated network's definitions: the marks on a new stream, the queues of a cut and of a closed stream,
+//! the sender's address of a delivered datagram, and the order of faults. The crate has no code. The check computes the
+//! samples in `proofs/`, so a definition that changes its meaning fails there.
 #![tactic(auto)]

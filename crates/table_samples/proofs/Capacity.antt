@@ -1,4 +1,4 @@
--- Ids and places: how many there are, and which connection makes room.
+-- Samples of capacity: the number of ids, the number of connections, and the connection that a new one replaces.
 use Rattle.std.proofs.Common.{◌≡◌, refl, ℕ, List, [], ◌∷◌, map}
 use Rattle.cip_events.specs.declared.event.Event.{Event}
 use Rattle.cip_events.specs.declared.event.Event.TheVariants.{Tick}
@@ -8,7 +8,7 @@ use Rattle.cip_events.specs.Outcomes.{Outcome}
 use Rattle.cip_tables.specs.Run.{outcomes_of}
 use Rattle.table_samples.specs.Hex.{hex}
 use Rattle.table_samples.specs.Devices.{common, peer, own}
-use Rattle.table_samples.specs.Requests.{Asking, owner, gatherer, listener, consumer, inhibited, opened_reply}
+use Rattle.table_samples.specs.Requests.{OpeningRequest, owner, gatherer, listener, consumer, inhibited, opened_reply}
 use Rattle.table_samples.specs.Runs.{after, opens, closes, replies, opened_notice, accepts, refuses, notices_of, id}
 use Rattle.table_samples.specs.Rows.{from, at_counter, alive, lost, connected}
 use Rattle.table_samples.proofs.Computing.{computing}
@@ -28,7 +28,7 @@ the_last_two_ids :
 unfolding computing
 the_last_two_ids = refl
 
--- a joiner draws one
+-- a connection that joins a group takes one
 a_joiner_takes_the_last_id :
     outcomes_of (at_counter 16777213) (opens gatherer ∷ opens (record gatherer { serial = 6 }) ∷ opens (record gatherer { serial = 7 }) ∷ [])
     ≡ accepts peer gatherer 0xFFFFFD 0x10FFFFFE ∷ accepts peer (record gatherer { serial = 6 }) 0xFFFFFF 0x10FFFFFE ∷ refuses peer (record gatherer { serial = 7 }) 0x0113 ∷ []
@@ -42,7 +42,7 @@ unfolding computing
 the_group_before_the_ids = refl
 
 -- the owner has the last id
-abbrev second : Asking
+abbrev second : OpeningRequest
 second = record owner { serial = 2; t_o_id = 0x20000002 }
 
 ownership_and_support_before_the_ids :
@@ -51,16 +51,16 @@ ownership_and_support_before_the_ids :
 unfolding computing
 ownership_and_support_before_the_ids = refl
 
--- a refused request draws none
+-- a refused request takes none
 a_refused_request_draws_no_id :
     outcomes_of (at_counter 16777215) (opens (record owner { t_o_params = 0x4807 }) ∷ opens owner ∷ [])
     ≡ refuses peer owner 0x0128 ∷ accepts peer owner 0xFFFFFF 0x20000001 ∷ []
 unfolding computing
 a_refused_request_draws_no_id = refl
 
--- ---- places
+-- ---- connections
 
--- a request that another connection makes room for
+-- a request for which another connection is replaced
 abbrev replaces : ℕ → ℕ → ℕ → Outcome
 replaces serial counter old = replies peer (opened_reply (consumer serial) (id counter) 0x20000002 10000 10000) (Replaced (own old) ∷ opened_notice (consumer serial) counter ∷ [])
 
@@ -77,11 +77,11 @@ the_own_lost_connection_before_the_oldest :
 unfolding computing
 the_own_lost_connection_before_the_oldest = refl
 
-the_oldest_lost_connection_makes_room :
+the_oldest_timed_out_connection_is_replaced :
     outcomes_of (connected (alive 1 ∷ lost 2 ∷ lost 3 ∷ map alive (from 4 61))) (opens (consumer 65) ∷ [])
     ≡ replaces 65 65 2 ∷ []
 unfolding computing
-the_oldest_lost_connection_makes_room = refl
+the_oldest_timed_out_connection_is_replaced = refl
 
 only_among_sixty_four :
     outcomes_of (connected (lost 1 ∷ map alive (from 2 62))) (opens (consumer 65) ∷ opens (consumer 66) ∷ [])
