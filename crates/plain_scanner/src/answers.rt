@@ -11,7 +11,7 @@ use slot_places::ScannerState;
 use slot_transactions::Transaction;
 use std::alloc::Global;
 
-/// An answer with datagrams. Takes no memory.
+/// Makes an answer with these datagrams alone. Takes no memory.
 pub fn sent_answer(alloc: Global, datagrams: Vec<OutgoingDatagram>) -> Answer
     ensures { result ≡ record { frames = []; datagrams = datagrams.items; verdict = Verdict.Done; notices = [] } }
 {
@@ -21,7 +21,7 @@ pub fn sent_answer(alloc: Global, datagrams: Vec<OutgoingDatagram>) -> Answer
     }
 }
 
-/// The answer of a draft, whose table becomes the present one. Takes no memory.
+/// Ends a transaction: its table becomes the present one. Returns its answer. Takes no memory.
 pub fn taken(
     transaction: Transaction,
     scanner: &mut ScannerState,

@@ -1,4 +1,4 @@
-//! Events at a scanner.
+//! The events of a scanner.
 
 ghost use Rattle.std.specs.Prelude.{◌≡◌, ◌≢◌, Ok, Err, Some, None, IfOk, IfErr, true};
 ghost use Rattle.cip_events.specs.Outcomes.{Follows};
@@ -20,7 +20,7 @@ use slot_data::{receive, set_mode, write};
 use slot_places::{ScannerState, slot_at};
 use std::alloc::Global;
 
-/// What the slot of a number gathered. Takes no memory.
+/// Returns the image of the slot of a number. Takes no memory. `NoSuchSlot` is the only error.
 pub fn image_at<'a>(
     profile: &'a ScannerProfile,
     scanner: &'a ScannerState,
@@ -35,7 +35,7 @@ pub fn image_at<'a>(
     }
 }
 
-/// What the slot of a number gathered, as an answer.
+/// Reads the image of the slot of a number, as an answer.
 #[tactic(auto, unfolding(scanner_table::specs::Points::read))]
 fn read(alloc: Global, profile: &ScannerProfile, scanner: &mut ScannerState, number: u32) -> Outcome
     ensures { Follows (read (table_of profile.now scanner.old) number) (table_of profile.now scanner.old) result (table_of profile.now scanner.new) }
@@ -44,7 +44,7 @@ fn read(alloc: Global, profile: &ScannerProfile, scanner: &mut ScannerState, num
     Ok(Answer::plain(alloc, Verdict::Value(value)))
 }
 
-/// Other bytes for the output of a slot. Takes no memory.
+/// Writes the output of a slot. Takes no memory.
 pub fn written(
     alloc: Global,
     profile: &ScannerProfile,
@@ -62,7 +62,7 @@ pub fn written(
     }
 }
 
-/// An event.
+/// Performs one event.
 pub fn happened(
     alloc: Global,
     profile: &ScannerProfile,

@@ -1,4 +1,4 @@
-//! A scanner over plain lists, whose every step is the table's.
+//! A scanner over plain lists. Each of its steps is the step of the scanner's table.
 #![tactic(auto)]
 
 mod answers;

@@ -1,4 +1,4 @@
-//! What a scanner begins with.
+//! The first state of a scanner.
 
 ghost use Rattle.std.specs.Prelude.{◌≡◌, map, IfOk};
 ghost use Rattle.scanner_table.specs.Step.{fresh_slot, scanner_table};
@@ -9,7 +9,7 @@ use scanner_table::{ScannerProfile, ScannerTable, Slot, SlotConfig, SlotState, c
 use slot_places::ScannerState;
 use std::alloc::Global;
 
-/// A slot that was never started.
+/// Makes a slot before its first start.
 fn fresh_slot(alloc: Global, config: &SlotConfig) -> Result<Slot, OutOfMemory>
     ensures { IfOk result (λ slot. slot ≡ fresh_slot config.now) }
 {
@@ -34,7 +34,7 @@ fn fresh_slots(alloc: Global, configs: &[SlotConfig]) -> Result<Vec<Slot>, OutOf
     Ok(slots)
 }
 
-/// What a fresh scanner has beside its profile.
+/// Makes the state of a fresh scanner.
 pub fn fresh_state(alloc: Global, profile: &ScannerProfile) -> Result<ScannerState, OutOfMemory>
     ensures { IfOk result (λ scanner. table_of profile.now scanner ≡ scanner_table profile.now) }
 {
@@ -50,7 +50,7 @@ pub fn fresh_state(alloc: Global, profile: &ScannerProfile) -> Result<ScannerSta
     })
 }
 
-/// What a scanner of this table has beside its profile.
+/// Makes the state of a scanner with this table.
 pub fn state_of(alloc: Global, table: &ScannerTable) -> Result<ScannerState, OutOfMemory>
     ensures { IfOk result (λ scanner. table_of table.now.profile scanner ≡ table.now) }
 {

@@ -13,7 +13,7 @@ use slot_places::ScannerState;
 use std::alloc::Global;
 use std::marker::Model;
 
-/// A scanner over plain lists, which contracts see as its table.
+/// A scanner over plain lists. Contracts see it as its table.
 ///
 /// It keeps the allocator that it was made with.
 #[derive(Drop)]
@@ -54,6 +54,7 @@ impl Device for PlainScanner {
             }
         };
         profile.check()?;
+        // The fresh table is whole, since the profile has no fault.
         fresh_tables_are_whole();
         let scanner = fresh_state(alloc, &profile)?;
         Ok(PlainScanner {
@@ -65,18 +66,21 @@ impl Device for PlainScanner {
 
     #[tactic(auto, unfolding(cip_tables::specs::Step::step), using(cip_tables::specs::FollowLaws::scanner_follows, crate::proofs::Kept::follows_kept))]
     fn step(&mut self, event: &Event) -> Outcome {
+        // The next table is whole, as the invariant of this type says.
         steps_keep_tables_whole();
         happened(self.alloc, &self.profile, &mut self.scanner, event)
     }
 
     #[tactic(auto, unfolding(cip_tables::specs::Step::step), using(crate::proofs::Kept::received_kept))]
     fn deliver(&mut self, peer: Node, bytes: &[u8]) -> Delivery {
+        // The next table is whole, as the invariant of this type says.
         steps_keep_tables_whole();
         receive(&self.profile, &mut self.scanner, peer, bytes)
     }
 
     #[tactic(auto, unfolding(cip_tables::specs::Step::step), using(cip_tables::specs::FollowLaws::scanner_follows, crate::proofs::Kept::written_kept))]
     fn write_point(&mut self, point: u32, bytes: &[u8]) -> Outcome {
+        // The next table is whole, as the invariant of this type says.
         steps_keep_tables_whole();
         written(self.alloc, &self.profile, &mut self.scanner, point, bytes)
     }
@@ -100,6 +104,7 @@ impl Device for PlainScanner {
     }
 
     fn is_whole(&self) {
+        // Reading a field gives the prover the invariant of this type.
         let _clock = self.scanner.clock;
     }
 }
@@ -110,9 +115,9 @@ impl PlainScanner {
     ghost use Rattle.cip_tables.specs.declared.table.DeviceTable.TheVariants.{Scanner};
     ghost use Rattle.cip_tables.specs.Step.{is_adapter};
 
-    /// The scanner whose table is the copied one.
+    /// Makes a scanner that goes on from a copied table.
     ///
-    /// The faults, in order: `WrongKind` where the copy is of an adapter's table, `OutOfMemory`.
+    /// The errors, in order: `WrongKind` if the copy is of an adapter's table; `OutOfMemory`.
     pub fn from_copy(alloc: Global, copy: &TableCopy) -> Result<Self, NewFault>
         ensures table { IfOk result (λ scanner. Scanner scanner ≡ copy.now) }
         ensures fault { IfErr result (λ fault. IsRefusedAs None (not (is_adapter copy.now)) fault) }

@@ -1,4 +1,4 @@
-//! Slots that are started and stopped.
+//! Starts and stops of slots.
 
 ghost use Rattle.std.specs.Prelude.{◌≡◌, IsOk};
 ghost use Rattle.cip_events.specs.Outcomes.{Follows};
@@ -14,7 +14,7 @@ use slot_places::{ScannerState, slot_at};
 use slot_transactions::Transaction;
 use std::alloc::Global;
 
-/// Whether a slot is idle, and not to be open.
+/// Returns whether a slot can be started: it is idle, and its connection is not desired.
 fn can_start(slot: &Slot) -> bool
     ensures { result ≡ can_start slot.now.desired_up slot.now.state }
 {
@@ -27,7 +27,7 @@ fn can_start(slot: &Slot) -> bool
     }
 }
 
-/// Whether a slot is to be open, or has a connection that is not yet closing.
+/// Returns whether a slot can be stopped: its connection is desired, or is not yet closing.
 fn can_stop(slot: &Slot) -> bool
     ensures { result ≡ can_stop slot.now.desired_up slot.now.state }
 {
@@ -38,7 +38,7 @@ fn can_stop(slot: &Slot) -> bool
     }
 }
 
-/// A slot is to be open, and opens where it can at once.
+/// Starts a slot, which opens at once if it can.
 #[tactic(auto, unfolding(scanner_table::specs::Points::start))]
 pub fn start(
     alloc: Global,
@@ -60,7 +60,7 @@ pub fn start(
     Ok(taken(transaction, scanner, Vec::new(alloc)))
 }
 
-/// A slot is not to be open.
+/// Stops a slot.
 #[tactic(auto, unfolding(scanner_table::specs::Points::stop))]
 pub fn stop(
     alloc: Global,

@@ -1,4 +1,4 @@
-//! Streams to targets, and the frames that come over them.
+//! Streams to targets, and the frames that the scanner receives over them.
 
 ghost use Rattle.std.specs.Prelude.{◌≡◌, ◌∷◌, ◌++◌, [], OnOk, OnErr, find};
 ghost use Rattle.std.specs.List.{list_any};
@@ -31,14 +31,14 @@ fn goes_to(streams: &[TargetStream], target: Node) -> bool
     streams.iter().any(|stream| stream.peer.0 == target.0)
 }
 
-/// Whether a stream of this number is open, or one to this target, or as many as can be.
+/// Returns whether the number is in use, the target has a stream already, or 16 streams are open.
 fn is_taken(streams: &[TargetStream], number: u16, target: Node) -> bool
     ensures { result ≡ is_taken streams.now number target }
 {
     has_number(streams, number) || goes_to(streams, target) || streams.len() >= MOST_STREAMS
 }
 
-/// One stream more is open.
+/// Adds a stream.
 fn add_stream(streams: &mut Vec<TargetStream>, stream: TargetStream) -> Result<(), OutOfMemory>
     ensures added { OnOk result (streams.new.items ≡ streams.old.items ++ stream ∷ []) }
     ensures kept { OnErr result (streams.new.items ≡ streams.old.items) }
@@ -46,7 +46,7 @@ fn add_stream(streams: &mut Vec<TargetStream>, stream: TargetStream) -> Result<(
     Ok(streams.push(stream)?)
 }
 
-/// A stream to a target opens, and a session is asked for on it.
+/// Opens a stream to a target, and registers a session on it.
 #[tactic(auto, unfolding(scanner_table::specs::Encapsulation::stream_opened))]
 pub fn open_stream(
     alloc: Global,
@@ -83,7 +83,7 @@ fn find_stream(streams: &[TargetStream], number: u16) -> Option<TargetStream>
         .find(|stream| stream.number == number)
 }
 
-/// A stream breaks, or its target ends it.
+/// Takes the cut of a stream, or its close by the target.
 #[tactic(auto, unfolding(scanner_table::specs::Encapsulation::stream_cut))]
 pub fn cut(
     alloc: Global,
@@ -102,7 +102,7 @@ pub fn cut(
     Ok(taken(transaction, scanner, Vec::new(alloc)))
 }
 
-/// A frame on a stream.
+/// Takes a frame of a stream.
 #[tactic(auto, unfolding(scanner_table::specs::Encapsulation::frame))]
 pub fn frame(
     alloc: Global,

@@ -20,7 +20,7 @@ use slot_runs::advance;
 use slot_transactions::Transaction;
 use std::alloc::Global;
 
-/// The clock comes to a time by which nothing happens to connections: slots that are due send.
+/// Moves the clock to a time by which no connection changes: only due slots send.
 fn pass(alloc: Global, profile: &ScannerProfile, scanner: &mut ScannerState, clock: Ms) -> Outcome
     requires whole { IsWhole (table_of profile.now scanner.old) }
     requires time { clock.0 ≤ 2 ^ 48 }
@@ -32,7 +32,7 @@ fn pass(alloc: Global, profile: &ScannerProfile, scanner: &mut ScannerState, clo
     Ok(sent_answer(alloc, datagrams))
 }
 
-/// What milliseconds that do not lead past the end of the clock make of connections.
+/// Performs the part of a tick before its productions. The clock does not pass its end.
 fn advanced(
     alloc: Global,
     profile: &ScannerProfile,
@@ -49,8 +49,7 @@ fn advanced(
     Ok(transaction)
 }
 
-/// Milliseconds pass that do not lead past the end of the clock: what becomes of connections, and then slots that
-/// are due send.
+/// Performs a tick in which connections change: then due slots send. The clock does not pass its end.
 fn advance_by(
     alloc: Global,
     profile: &ScannerProfile,
@@ -61,6 +60,7 @@ fn advance_by(
     requires time { scanner.old.clock.0 + ms ≤ 2 ^ 48 }
     ensures { Follows (Ok (ticked (advanced (clocked_table (table_of profile.now scanner.old) ms)))) (table_of profile.now scanner.old) result (table_of profile.now scanner.new) }
 {
+    // The due slots produce from a whole table.
     advancing_keeps_tables_whole();
     let mut transaction = advanced(alloc, profile, scanner, ms)?;
     let clock = transaction.scanner.clock;
@@ -69,7 +69,7 @@ fn advance_by(
     Ok(taken(transaction, scanner, datagrams))
 }
 
-/// Milliseconds pass.
+/// Performs a tick. The errors, in order: `TickTooLong`, `ClockEnd`, `OutOfMemory`.
 #[tactic(auto, unfolding(scanner_table::specs::Ticks::tick))]
 pub fn tick(alloc: Global, profile: &ScannerProfile, scanner: &mut ScannerState, ms: u32) -> Outcome
     requires { IsWhole (table_of profile.now scanner.old) }

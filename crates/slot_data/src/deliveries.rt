@@ -1,4 +1,4 @@
-//! Datagrams that slots gather.
+//! Datagrams that slots receive.
 
 ghost use Rattle.std.specs.Prelude.{◌≡◌, ◌≤◌, ◌^◌, length, find, IfOk, if◌then◌else◌};
 ghost use Rattle.cip_datagram.specs.Datagram.{view_datagram};
@@ -22,8 +22,8 @@ use cip_types::{Ms, Node};
 use scanner_table::{Connection, ScannerProfile, Slot, SlotState};
 use slot_places::{ScannerState, SlotTest, SlotView, find_slot};
 
-/// A connection that has accepted a datagram: its number and count are the last ones, and the next datagram
-/// is waited for from now on.
+/// Returns the connection after it has accepted a datagram: it records the sequence number and the count, and starts its
+/// watchdog anew.
 fn accepted_connection(
     connection: Connection,
     clock: Ms,
@@ -35,6 +35,7 @@ fn accepted_connection(
     requires time { clock.0 ≤ 2 ^ 48 }
     ensures { result ≡ accepted_connection clock mult (view_datagram datagram.now) connection }
 {
+    // The multiplier is at most 7 and the interval at most 10 seconds, so there is a timeout.
     let timeout = timeout_of(mult, connection.t_o_api_ms).unwrap();
     Connection {
         last: Some(Accepted {
@@ -46,8 +47,8 @@ fn accepted_connection(
     }
 }
 
-/// The connection that accepts a datagram which is for a place: the datagram has the size of the input, and
-/// its number is newer than the last accepted one.
+/// Returns the connection of a slot if it accepts a datagram: the datagram has the size of the input, and its sequence
+/// number is newer than the last accepted one. The error is the delivery of a datagram that is not accepted.
 fn accepting(indexed: SlotView<'_>, datagram: &Datagram<'_>) -> Result<Connection, Delivery>
     ensures judged { (t : ScannerTable) → state_received t (view_slot indexed.entry) (view_datagram datagram.now) indexed.entry.slot.now.state ≡ judged t (view_slot indexed.entry) (view_datagram datagram.now) result }
     ensures established { IfOk result (λ connection. indexed.entry.slot.now.state ≡ state.Established connection) }
@@ -65,7 +66,7 @@ fn accepting(indexed: SlotView<'_>, datagram: &Datagram<'_>) -> Result<Connectio
     Ok(connection)
 }
 
-/// The slot has a connection that accepts a datagram, and gathers its data where they are new.
+/// Lets a slot's connection accept a datagram, and copies its data to the image if they are new.
 fn gather(
     slot: &mut Slot,
     connection: Connection,
@@ -88,7 +89,7 @@ fn gather(
     Delivery::Applied
 }
 
-/// The same of the place that a datagram is for, if there is one.
+/// Delivers a datagram to the slot that it is for, if there is one.
 fn receive_read(
     profile: &ScannerProfile,
     scanner: &mut ScannerState,
@@ -116,10 +117,10 @@ fn receive_read(
     }
 }
 
-/// What becomes of a datagram of a peer: it is for the established slot of the peer with its connection id,
-/// where it has the size of the slot's input and its number is newer than the last accepted one; the slot
-/// then waits for the next from now on, and its image are the data, unless the count is that of the last
-/// accepted one. Takes no memory.
+/// Delivers a datagram of a peer. It is for the established slot of the peer with the datagram's connection id. The slot
+/// accepts it if it has the size of the slot's input and a newer sequence number than the last accepted one. The slot then
+/// starts its watchdog anew, and its image becomes the data, unless the count is that of the last accepted datagram. Takes
+/// no memory.
 ///
 /// Volume 1, chapter 3, class 1 transport and connection timeouts; Volume 2, chapter 2, sequenced address item.
 #[tactic(auto, unfolding(scanner_table::specs::Datagrams::received))]

@@ -1,5 +1,5 @@
-//! Class 1 data at a scanner: datagrams that its slots gather, the outputs and the mode that its application
-//! sets, and what its slots send. Nothing but what is sent takes memory.
+//! Class 1 data at a scanner: the datagrams that its slots receive, the outputs and the mode that its application sets,
+//! and the datagrams that its slots send. Only sent datagrams take memory.
 //!
 //! Volume 1, chapter 3, class 1 transport, real time formats and run/idle; Volume 2, chapter 2, sequenced
 //! address item.

@@ -1,4 +1,4 @@
-//! What the application sets: outputs, and whether it runs.
+//! The outputs and the mode that the application sets.
 
 ghost use Rattle.std.specs.Prelude.{◌≡◌, ◌≤◌, IfErr, map, length, if◌then◌else◌};
 ghost use Rattle.cip_events.specs.Answers.{plain_answer};

@@ -1,4 +1,4 @@
-//! Places of slots.
+//! A slot with its number.
 
 ghost use Rattle.std.specs.Prelude.{◌≡◌, find};
 ghost use Rattle.std.specs.Option.{option_map};
@@ -7,15 +7,18 @@ ghost use Rattle.slot_places.specs.Views.{view_slot};
 
 use scanner_table::{Slot, SlotConfig};
 
-/// A slot with its number and what the profile says of it.
+/// A view of a slot with its number and its configuration.
 #[derive(Clone, Copy)]
 pub struct SlotView<'a> {
+    /// The number of the slot.
     pub number: u32,
+    /// The configuration of the slot.
     pub config: &'a SlotConfig,
+    /// The slot.
     pub slot: &'a Slot,
 }
 
-/// The place of a number, if there are so many slots. Takes no memory.
+/// Returns the slot of this number, if there is one. Takes no memory.
 #[tactic(auto, using(crate::proofs::SlotLemmas::few_configs, crate::proofs::SlotLemmas::few_slots))]
 pub fn slot_at<'a>(
     configs: &'a [SlotConfig],

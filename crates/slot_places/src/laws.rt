@@ -1,4 +1,4 @@
-//! What holds of the places of any slots. Each call does nothing: its contract is the law.
+//! Laws of indexed slots. A law call does nothing; its contract states the law.
 
 ghost use Rattle.std.specs.Prelude.{◌≡◌, ◌<◌, ℕ, suc, Bool, List, ◌∷◌, length, drop, find, map, get_or, slice_get, slice_set, Some};
 ghost use Rattle.scanner_table.specs.declared.profile.SlotConfig.{SlotConfig};
@@ -6,18 +6,18 @@ ghost use Rattle.scanner_table.specs.declared.slot.Slot.{Slot};
 ghost use Rattle.scanner_table.specs.Slots.{IndexedSlot, indexed_from};
 ghost use Rattle.slot_places.specs.Views.{changed_slot};
 
-/// A place that is found has the configuration and the slot of its number.
+/// A slot that a search finds has the configuration and the slot of its number.
 pub fn found_slots_match()
     ensures { (test : IndexedSlot → Bool) (configs : List SlotConfig) (slots : List Slot) (indexed : IndexedSlot) → find test (indexed_from 0 configs slots) ≡ Some indexed → (slice_get configs indexed.number ≡ Some indexed.config) × (slice_get slots indexed.number ≡ Some indexed.slot) }
 {}
 
-/// The places from a number on begin with the place of that number.
+/// The indexed slots from a number on begin with the slot of that number.
 #[tactic(auto, using(crate::proofs::SlotLemmas::rest_begins))]
 pub fn slots_go_on()
     ensures { (index : ℕ) (configs : List SlotConfig) (slots : List Slot) (config : SlotConfig) (slot : Slot) → index < length configs → index < length slots → indexed_from index (drop index configs) (drop index slots) ≡ record { number = index; config = get_or configs index config; slot = get_or slots index slot } ∷ indexed_from (suc index) (drop (suc index) configs) (drop (suc index) slots) }
 {}
 
-/// Where one slot becomes another, its place changes alone.
+/// If one slot is replaced, no other indexed slot changes.
 #[tactic(auto, using(crate::proofs::SlotLemmas::slot_changed))]
 pub fn one_slot_changes()
     ensures { (configs : List SlotConfig) (slots : List Slot) (number : ℕ) (slot : Slot) → indexed_from 0 configs (slice_set slots number slot) ≡ map (changed_slot number slot) (indexed_from 0 configs slots) }

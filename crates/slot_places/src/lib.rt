@@ -1,5 +1,5 @@
-//! A scanner's slots in their places: what is to be known of a slot with its number, tests of its state, and
-//! the session with its target.
+//! Searches among a scanner's slots: a slot with its number and configuration, tests of its state, and the session with
+//! its target.
 //!
 //! Volume 1, chapter 3, connection object state.
 #![tactic(auto)]

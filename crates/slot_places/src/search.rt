@@ -1,4 +1,4 @@
-//! Searches among places.
+//! Searches among slots.
 
 ghost use Rattle.std.specs.Prelude.{◌≡◌, ◌≤◌, ◌^◌, ◌==◌, find, filter, map, length, IfOk};
 ghost use Rattle.std.specs.Option.{option_map};
@@ -13,22 +13,22 @@ use cip_types::{ConnId, Ms, Node, OutOfMemory};
 use scanner_table::{Slot, SlotConfig};
 use std::alloc::Global;
 
-/// What is asked of places.
+/// A test of a slot.
 #[derive(Clone, Copy)]
 pub enum SlotTest {
-    /// Its connection is established with this peer, and has this T->O id.
+    /// The slot is established with this peer, and has this T->O id.
     For(Node, ConnId),
-    /// It waits for the reply to the request of this number, from this target.
+    /// The slot waits for the reply of this target to the request of this number.
     Awaiting(Node, u64),
-    /// It is another one than this, and is established with this target and this T->O id.
+    /// The slot has another number than this, and is established with this target and this T->O id.
     UsesId(u32, Node, ConnId),
-    /// It is to be open, is not, and may try at this time.
+    /// The slot's connection is desired, is not open, and its retry time has come.
     Ready(Ms),
-    /// Its deadline has come, its connection being established.
+    /// The slot is established, and its deadline has come.
     Expired(Ms),
-    /// It has waited for an answer long enough.
+    /// The deadline of the slot's request has come.
     Overdue(Ms),
-    /// Its connection is established, and its producer is due.
+    /// The slot is established, and its producer is due.
     Due(Ms),
 }
 
@@ -45,7 +45,7 @@ fn uses_id(indexed: SlotView<'_>, number: u32, target: Node, id: ConnId) -> bool
 }
 
 impl SlotTest {
-    /// Whether a place passes. Takes no memory.
+    /// Returns whether a slot passes the test. Takes no memory.
     pub fn passes(self, indexed: SlotView<'_>) -> bool
         ensures { result ≡ passes self (view_slot indexed.entry) }
     {
@@ -64,7 +64,7 @@ impl SlotTest {
     }
 }
 
-/// The first place that passes. Takes no memory.
+/// Returns the first slot that passes the test, if any. Takes no memory.
 pub fn find_slot<'a>(
     configs: &'a [SlotConfig],
     slots: &'a [Slot],
@@ -86,7 +86,7 @@ pub fn find_slot<'a>(
     None
 }
 
-/// The places that pass, in their order.
+/// Returns the slots that pass the test, in order. `OutOfMemory` is the only error.
 pub fn slots_that<'a>(
     alloc: Global,
     configs: &'a [SlotConfig],
@@ -110,7 +110,7 @@ pub fn slots_that<'a>(
     Ok(found)
 }
 
-/// Whether a place passes. Takes no memory.
+/// Returns whether any slot passes the test. Takes no memory.
 pub fn any_passes(configs: &[SlotConfig], slots: &[Slot], test: SlotTest) -> bool
     requires { length configs.now ≤ 2 ^ 32 }
     ensures { result ≡ list_any (passes test) (indexed_from 0 configs.now slots.now) }

@@ -47,7 +47,7 @@ fn message_frame(
     })
 }
 
-/// RegisterSession, on a stream that opened. Want of memory is the only fault, as of the other frames.
+/// Makes the RegisterSession frame of a new stream. `OutOfMemory` is the only error.
 ///
 /// Volume 2, chapter 2, RegisterSession.
 pub fn registration_frame(alloc: Global, stream: u16) -> Result<Frame, OutOfMemory>
@@ -114,7 +114,7 @@ fn id_or_zero(id: Option<ConnId>) -> ConnId
     id.unwrap_or(ConnId(0))
 }
 
-/// What a slot asks for.
+/// Returns the fields of a slot's Forward_Open.
 fn open_request<'a>(config: &SlotConfig, requested: &Requested, path: &'a [u8]) -> OpenRequest<'a>
     requires { IsTrue (has_lengths config.now) }
     ensures { view_open result ≡ record (open_fields config.now requested.now) { path = path.now } }
@@ -135,7 +135,7 @@ fn open_request<'a>(config: &SlotConfig, requested: &Requested, path: &'a [u8]) 
     }
 }
 
-/// The data of the request that asks for a slot's connection.
+/// Writes the data of a slot's Forward_Open.
 fn open_body(
     alloc: Global,
     config: &SlotConfig,
@@ -150,8 +150,8 @@ fn open_body(
     write_open(alloc, is_large(config), &request)
 }
 
-/// A Forward_Open, or a Large_Forward_Open where a size needs it, which asks for a slot's connection within
-/// a session. The request's number is the sender context.
+/// Makes the frame of a slot's Forward_Open, or of a Large_Forward_Open if a size needs it, within a session. The
+/// number of the request is the sender context. `OutOfMemory` is the only error.
 ///
 /// Volume 1, chapter 3, Forward_Open and Large_Forward_Open services.
 pub fn open_frame(
@@ -185,8 +185,8 @@ fn close_body(alloc: Global, config: &SlotConfig, triad: Triad) -> Result<Vec<u8
     write_close(alloc, &request)
 }
 
-/// A Forward_Close, which ends a slot's connection within a session. The request's number is the sender
-/// context.
+/// Makes the frame of a slot's Forward_Close, within a session. The number of the request is the sender context.
+/// `OutOfMemory` is the only error.
 ///
 /// Volume 1, chapter 3, Forward_Close service.
 pub fn close_frame(

@@ -1,4 +1,4 @@
-//! The messages that a scanner sends to its targets, and what their replies tell.
+//! The messages that a scanner sends to its targets, and the replies to them.
 //!
 //! Volume 1, chapter 3, Connection Manager services; Volume 2, chapter 2, RegisterSession and SendRRData.
 #![tactic(auto)]

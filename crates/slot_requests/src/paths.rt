@@ -25,7 +25,7 @@ fn segment_of(bytes: &[u8]) -> Option<&[u8]>
     if bytes.is_empty() { None } else { Some(bytes) }
 }
 
-/// What the path says.
+/// Returns the parts of the path.
 fn slot_path(config: &SlotConfig) -> ConnPath<'_>
     ensures { view_path result ≡ slot_path config.now }
 {

@@ -1,4 +1,4 @@
-//! What replies tell.
+//! Replies to requests.
 
 ghost use Rattle.std.specs.Prelude.{◌≡◌};
 ghost use Rattle.cip_encap.specs.Message.{view_message};
@@ -23,10 +23,10 @@ fn opened_service(large: bool) -> u8
     }
 }
 
-/// What a message answers to a Forward_Open, or to a Large_Forward_Open.
+/// Reads the answer to a Forward_Open or, if `large`, to a Large_Forward_Open from a message.
 ///
-/// `Encap` where the message has a status, which goes first; `Unreadable` where it is no message of
-/// SendRRData, or no reply of the service that was asked for is in it.
+/// The errors, in order: `Encap` if the message has a status; `Unreadable` if it is no SendRRData message, or has no
+/// reply of the requested service.
 ///
 /// Volume 1, chapter 3, Forward_Open service, successful and unsuccessful response; Volume 2, chapter 2,
 /// SendRRData.
@@ -52,7 +52,7 @@ pub fn open_answer(large: bool, message: &MessageView<'_>) -> Result<OpenAnswer,
     Ok(reply.answer)
 }
 
-/// Whether a message says that a session is registered.
+/// Returns whether a message is a successful RegisterSession reply.
 ///
 /// Volume 2, chapter 2, RegisterSession.
 pub fn is_registered(message: &MessageView<'_>) -> bool

@@ -9,10 +9,10 @@ use cip_netparams::{ConnectionType, NetParams, Priority};
 use cip_productions::Kind;
 use scanner_table::SlotConfig;
 
-/// The longest output whose datagrams a Forward_Open can ask for.
+/// The longest output that a Forward_Open can request: 511 bytes less the sequence count and the run/idle header.
 const LONGEST_OUTPUT: u64 = 505;
 
-/// The longest input whose datagrams a Forward_Open can ask for.
+/// The longest input that a Forward_Open can request: 511 bytes less the sequence count.
 const LONGEST_INPUT: u64 = 509;
 
 /// Bytes of an O->T datagram.

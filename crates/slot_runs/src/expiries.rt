@@ -1,4 +1,4 @@
-//! Connections that time out, by their deadlines, and what else becomes of connections as time passes.
+//! Connections that time out, in the order of their deadlines, and the part of a tick before its productions.
 
 ghost use Rattle.std.specs.Prelude.{◌≡◌, ◌≤◌, ◌^◌, None, IfOk, filter, map};
 ghost use Rattle.scanner_table.specs.Profiles.{profile_fault};
@@ -17,14 +17,16 @@ use slot_places::{ScannerState, SlotTest, SlotView, slots_that};
 use slot_transactions::Transaction;
 use std::alloc::Global;
 
-/// A connection that times out: its deadline, and the number of its slot.
+/// A connection that times out.
 #[derive(Clone, Copy)]
 pub struct Expiry {
+    /// The deadline of the connection.
     pub deadline: Ms,
+    /// The number of its slot.
     pub number: u32,
 }
 
-/// Connections by their deadlines, and then by the numbers of their slots.
+/// The order by deadlines, and then by the numbers of slots.
 struct Deadlines;
 
 impl Order<Expiry> for Deadlines {
@@ -36,7 +38,7 @@ impl Order<Expiry> for Deadlines {
     }
 }
 
-/// Until when something is waited for.
+/// Returns the deadline of a state, and 0 for a state without one.
 fn deadline_of(state: &SlotState) -> Ms
     ensures { result.0 ≡ deadline_of state.now }
 {
@@ -67,7 +69,7 @@ fn expiries_of(alloc: Global, indexed_slots: &[SlotView<'_>]) -> Result<Vec<Expi
     Ok(found)
 }
 
-/// The connections whose deadline has come, in the order of their slots.
+/// Returns the connections whose deadline has come, in the order of their slots.
 #[tactic(auto, using(crate::proofs::Few::few_slots))]
 fn expiries(
     alloc: Global,
@@ -82,7 +84,7 @@ fn expiries(
     expiries_of(alloc, &found)
 }
 
-/// The connections whose deadline has come time out, by their deadlines. Want of memory is the only fault.
+/// Times out the connections whose deadline has come, in the order of their deadlines. `OutOfMemory` is the only error.
 ///
 /// Volume 1, chapter 3, connection timeouts.
 pub fn expire_all(
@@ -103,9 +105,8 @@ pub fn expire_all(
     Ok(())
 }
 
-/// What becomes of connections as time passes, before the productions: connections whose deadline has come
-/// time out, then slots give up answers that did not come, then slots that may try open. Want of memory is the
-/// only fault.
+/// Performs the part of a tick before its productions: late connections time out, then slots give up late replies, then
+/// ready slots open. `OutOfMemory` is the only error.
 pub fn advance(transaction: &mut Transaction, profile: &ScannerProfile) -> Result<(), OutOfMemory>
     requires faultless { profile_fault profile.now ≡ None }
     requires time { transaction.old.scanner.clock.0 ≤ 2 ^ 48 }

@@ -1,5 +1,5 @@
-//! Effects on a scanner's slots, one slot after another, and what the frames of its targets bring: what each
-//! adds to a draft of the table.
+//! Effects on a scanner's slots, one slot after another, and the effects of the frames of its targets. Each adds to a
+//! transaction on the table.
 //!
 //! Volume 1, chapter 3, connection timeouts and Forward_Open service; Volume 2, chapter 2, encapsulation messages.
 #![tactic(auto)]

@@ -1,4 +1,4 @@
-//! What becomes of the frames that targets send.
+//! The frames that targets send.
 
 ghost use Rattle.std.specs.Prelude.{◌≡◌, ◌≤◌, ◌^◌, None, Some, IfOk, find};
 ghost use Rattle.cip_encap.specs.Message.{view_message};
@@ -23,18 +23,18 @@ use slot_requests::{is_large, open_answer};
 use slot_transactions::Transaction;
 use std::alloc::Global;
 
-/// What a frame brings.
+/// The outcome of a frame.
 #[derive(Drop)]
 pub enum FrameOutcome {
-    /// It is no whole message.
+    /// The frame is no whole message.
     BadFrame,
-    /// It is a message that nothing waits for.
+    /// Nothing waits for the message.
     Ignored,
-    /// It is one that something waited for.
+    /// The message is a reply that a slot or a registration waited for.
     Answered(Transaction),
 }
 
-/// The reply to a slot's opening.
+/// Takes the reply to a slot's Forward_Open.
 fn open_replied(
     alloc: Global,
     profile: &ScannerProfile,
@@ -54,7 +54,7 @@ fn open_replied(
     Ok(FrameOutcome::Answered(transaction))
 }
 
-/// The reply to what a slot waits for; a closing is over whatever the reply says.
+/// Takes the reply to a slot's Forward_Close, whatever it says.
 fn given_up(
     alloc: Global,
     profile: &ScannerProfile,
@@ -71,7 +71,7 @@ fn given_up(
     Ok(FrameOutcome::Answered(transaction))
 }
 
-/// The reply to an opening, or to a closing, which is over whatever the reply says.
+/// Takes the reply to a slot's request.
 fn replied(
     alloc: Global,
     profile: &ScannerProfile,
@@ -95,7 +95,7 @@ fn replied(
     }
 }
 
-/// The reply to a request of a slot of this target.
+/// Takes the reply of a target to a request of one of its slots.
 #[tactic(auto, using(crate::proofs::Few::few_slots))]
 fn replied_to(
     alloc: Global,
@@ -115,7 +115,7 @@ fn replied_to(
     }
 }
 
-/// The reply to a registration, which has sender context 0.
+/// Takes the reply to a registration, which has sender context 0.
 fn registered(
     alloc: Global,
     profile: &ScannerProfile,
@@ -135,7 +135,7 @@ fn registered(
     Ok(FrameOutcome::Answered(transaction))
 }
 
-/// A message of the target of an open stream, by how far the session of the stream is.
+/// Takes a message of the target of an open stream, by the stage of the stream's session.
 fn reported(
     alloc: Global,
     profile: &ScannerProfile,
@@ -154,7 +154,7 @@ fn reported(
     }
 }
 
-/// What a frame of an open stream brings. Want of memory is the only fault.
+/// Takes a frame of an open stream. `OutOfMemory` is the only error.
 ///
 /// Volume 2, chapter 2, encapsulation messages.
 pub fn receive_frame(

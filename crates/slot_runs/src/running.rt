@@ -1,4 +1,4 @@
-//! Runs over slots in their order.
+//! Actions on slots, one slot after another.
 
 ghost use Rattle.std.specs.Prelude.{◌≡◌, ◌≤◌, ◌^◌, None, IfOk};
 ghost use Rattle.scanner_table.specs.Profiles.{profile_fault};
@@ -13,7 +13,7 @@ use cip_types::{Node, OutOfMemory};
 use scanner_table::ScannerProfile;
 use slot_transactions::Transaction;
 
-/// A move of the slot of a number.
+/// Performs an action on the slot of a number.
 pub fn act_on_slot(
     transaction: &mut Transaction,
     profile: &ScannerProfile,
@@ -32,7 +32,7 @@ pub fn act_on_slot(
     }
 }
 
-/// A move of each of the chosen slots, one after another.
+/// Performs an action on each slot that the filter selects, one after another.
 #[tactic(auto, using(crate::proofs::Few::few_slots))]
 fn run(
     transaction: &mut Transaction,
@@ -54,8 +54,8 @@ fn run(
     Ok(())
 }
 
-/// All slots that may try now open. Want of memory is the only fault, and the draft is then to be thrown away,
-/// as of the other runs.
+/// Opens all ready slots. `OutOfMemory` is the only error, here and in the functions below; the transaction must be
+/// dropped then.
 ///
 /// Volume 1, chapter 3, Forward_Open service.
 pub fn open_ready(
@@ -71,7 +71,7 @@ pub fn open_ready(
     run(transaction, profile, SlotAction::Open, ready)
 }
 
-/// The slots of a target that may try now open.
+/// Opens the ready slots of a target.
 ///
 /// Volume 1, chapter 3, Forward_Open service.
 pub fn open_target(
@@ -88,7 +88,7 @@ pub fn open_target(
     run(transaction, profile, SlotAction::Open, ready)
 }
 
-/// The slots of a target whose stream is gone wait for no answer any more.
+/// Lets the slots of a target whose stream was closed give up the replies that they wait for.
 #[tactic(auto, unfolding(scanner_table::specs::Closing::target_lost))]
 pub fn lose_target(
     transaction: &mut Transaction,
@@ -108,7 +108,7 @@ pub fn lose_target(
     )
 }
 
-/// The slots that have waited for an answer long enough give it up.
+/// Lets the slots whose request has its deadline give up the reply.
 #[tactic(auto, unfolding(scanner_table::specs::Ticks::all_given_up))]
 pub fn give_up_overdue(
     transaction: &mut Transaction,

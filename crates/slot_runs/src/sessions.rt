@@ -1,4 +1,4 @@
-//! What becomes of slots as the session with their target begins or ends.
+//! Slots at the beginning and at the end of the session with their target.
 
 ghost use Rattle.std.specs.Prelude.{◌≡◌, ◌≤◌, ◌^◌, None, IfOk};
 ghost use Rattle.scanner_table.specs.Profiles.{profile_fault};
@@ -15,7 +15,7 @@ use scanner_table::{ScannerProfile, Stage, TargetStream};
 use slot_requests::is_registered;
 use slot_transactions::Transaction;
 
-/// A session is registered on a stream, and the slots of its target that may try now open.
+/// Records the session of a stream, and opens the target's slots that are ready.
 fn begin_session(
     transaction: &mut Transaction,
     profile: &ScannerProfile,
@@ -31,7 +31,7 @@ fn begin_session(
     open_target(transaction, profile, stream.peer)
 }
 
-/// The registration on a stream failed.
+/// Records that the registration on a stream failed.
 #[tactic(auto, using(crate::proofs::Remaining::adds_nothing))]
 fn fail_session(transaction: &mut Transaction, profile: &ScannerProfile, stream: TargetStream)
     ensures effect { let d = view_transaction profile.now transaction.old in view_transaction profile.now transaction.new ≡ followed d (session_failed d.table stream) }
@@ -40,8 +40,7 @@ fn fail_session(transaction: &mut Transaction, profile: &ScannerProfile, stream:
     transaction.set_stage(stream.number, Stage::Unused);
 }
 
-/// The reply to a registration says whether the session is registered. Want of memory is the only fault, and
-/// the draft is then to be thrown away.
+/// Takes the reply to a registration. `OutOfMemory` is the only error; the transaction must be dropped then.
 ///
 /// Volume 2, chapter 2, RegisterSession.
 pub fn register(
@@ -62,8 +61,8 @@ pub fn register(
     Ok(())
 }
 
-/// A stream is not open any more, and the slots of its target wait for no answer. Want of memory is the only
-/// fault, and the draft is then to be thrown away.
+/// Removes a stream, and lets its target's slots give up the replies that they wait for. `OutOfMemory` is the only error;
+/// the transaction must be dropped then.
 pub fn cut_stream(
     transaction: &mut Transaction,
     profile: &ScannerProfile,

@@ -1,4 +1,4 @@
-//! Which slots an event is for, and what it does to each.
+//! Actions on slots, and filters of slots.
 
 ghost use Rattle.std.specs.Prelude.{◌≡◌, find};
 ghost use Rattle.slot_places.specs.Views.{view_slot};
@@ -9,27 +9,27 @@ use cip_types::{Ms, Node};
 use scanner_table::{ScannerProfile, Slot};
 use slot_places::{SlotView, is_overdue, is_ready, slot_at};
 
-/// What is done to a slot.
+/// An action on a slot.
 #[derive(Clone, Copy)]
 pub enum SlotAction {
-    /// It opens.
+    /// The slot opens.
     Open,
-    /// It gives up what it waits for.
+    /// The slot gives up the reply that it waits for.
     GiveUp,
-    /// Its connection times out.
+    /// The slot's connection times out.
     Expire,
 }
 
-/// Which slots it is done to.
+/// A choice of slots.
 #[derive(Clone, Copy)]
 pub enum SlotFilter {
-    /// Those that may try to open at this time.
+    /// The slots that are ready to open at this time.
     Ready(Ms),
-    /// Those among them with this target.
+    /// The slots of this target that are ready to open at this time.
     ReadyWith(Node, Ms),
-    /// Those with this target.
+    /// The slots of this target.
     With(Node),
-    /// Those that have waited until this time for an answer.
+    /// The slots whose request has its deadline by this time.
     Overdue(Ms),
 }
 
@@ -40,7 +40,7 @@ fn is_with(indexed: SlotView<'_>, target: Node) -> bool
 }
 
 impl SlotFilter {
-    /// Whether a slot is one of them.
+    /// Returns whether the filter selects a slot.
     fn has(self, indexed: SlotView<'_>) -> bool
         ensures { result ≡ selected self (view_slot indexed.entry) }
     {
@@ -54,7 +54,7 @@ impl SlotFilter {
         }
     }
 
-    /// Whether the slot of a number is one of them.
+    /// Returns whether the filter selects the slot of a number.
     pub fn has_number(self, profile: &ScannerProfile, slots: &[Slot], number: u32) -> bool
         ensures { result ≡ at_passes (selected self) (find (is_numbered number) (indexed_from 0 profile.now.slots slots.now)) }
     {

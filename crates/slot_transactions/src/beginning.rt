@@ -1,4 +1,4 @@
-//! The beginning of a draft.
+//! The beginning of a transaction.
 
 ghost use Rattle.std.specs.Prelude.{◌≡◌, IfOk};
 ghost use Rattle.scanner_table.specs.declared.profile.ScannerProfile.{ScannerProfile};
@@ -11,7 +11,7 @@ use slot_places::ScannerState;
 use std::alloc::Global;
 
 impl Transaction {
-    /// A draft of the table as it is: nothing is sent or told. Want of memory is the only fault.
+    /// Begins a transaction with a copy of the table, without requests and notices. `OutOfMemory` is the only error.
     pub fn begin(alloc: Global, scanner: &ScannerState) -> Result<Transaction, OutOfMemory>
         ensures effect { IfOk result (λ transaction. (profile : ScannerProfile) → view_transaction profile transaction ≡ begun (table_of profile scanner.now)) }
         ensures clock { IfOk result (λ transaction. transaction.scanner.clock ≡ scanner.now.clock) }

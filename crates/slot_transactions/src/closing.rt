@@ -22,7 +22,7 @@ use slot_places::{ScannerState, session_with, slot_at};
 use slot_requests::close_frame;
 use std::alloc::Global;
 
-/// How a slot stands that is not to be open.
+/// Returns the change of a slot whose connection is no longer desired.
 fn resigned(slot: &Slot) -> SlotChange
     ensures { result ≡ resigned_change slot.now }
 {
@@ -33,7 +33,7 @@ fn resigned(slot: &Slot) -> SlotChange
     }
 }
 
-/// A Forward_Close, and how the slot stands that waits for its answer.
+/// Makes a Forward_Close, and the change of the slot that waits for its reply.
 fn closing(
     alloc: Global,
     profile: &ScannerProfile,
@@ -67,7 +67,7 @@ fn closing(
     Ok(NewRequest { frame, slot_change })
 }
 
-/// Want of memory as a fault of a step.
+/// Turns `OutOfMemory` into the fault of a step.
 fn faulted(outcome: Result<(), OutOfMemory>) -> Result<(), StepFault>
     ensures { result ≡ faulted outcome }
 {
@@ -78,8 +78,8 @@ fn faulted(outcome: Result<(), OutOfMemory>) -> Result<(), StepFault>
 }
 
 impl Transaction {
-    /// No answer comes any more to a slot that waits for one: an opening is tried again after a while, and a
-    /// closing is over.
+    /// Gives up the reply that a slot waits for: a slot that opens tries again after the retry time, and a slot that closes
+    /// becomes idle.
     pub fn give_up(&mut self, profile: &ScannerProfile, number: u32) -> Result<(), OutOfMemory>
         requires faultless { profile_fault profile.now ≡ None }
         requires time { self.old.scanner.clock.0 ≤ 2 ^ 48 }
@@ -104,7 +104,7 @@ impl Transaction {
         self.change(profile, number, slot_change, None)
     }
 
-    /// A slot is not to be open.
+    /// Makes a slot idle, with its connection no longer desired.
     pub fn resign(&mut self, profile: &ScannerProfile, number: u32) -> Result<(), OutOfMemory>
         ensures effect { IfOk result (λ _. view_transaction profile.now self.new ≡ after_at slot_resigned number (view_transaction profile.now self.old)) }
         ensures clock { self.new.scanner.clock ≡ self.old.scanner.clock }
@@ -116,7 +116,7 @@ impl Transaction {
         self.change(profile, number, slot_change, None)
     }
 
-    /// No number is left for what a slot was to ask.
+    /// Makes a slot idle for which no request number or id is left, and adds a notice of that.
     pub(crate) fn exhaust(
         &mut self,
         profile: &ScannerProfile,
@@ -133,7 +133,7 @@ impl Transaction {
         self.change(profile, number, slot_change, Some(reported))
     }
 
-    /// A slot asks its target to end its connection within a session; a request number is left for that.
+    /// Sends the Forward_Close of a slot within a session. A request number is left for it.
     fn request_close(
         &mut self,
         profile: &ScannerProfile,
@@ -162,8 +162,8 @@ impl Transaction {
         self.send_request(profile, number, new_request)
     }
 
-    /// The connection of a slot is closed within the session with its target, and without one it is left. Where
-    /// no number is left for the request, the slot is not to be open any more.
+    /// Closes the connection of a slot: by a Forward_Close within the session with its target, or without one by dropping
+    /// it. If no request number is left, the slot becomes idle.
     ///
     /// Volume 1, chapter 3, Forward_Close service.
     pub fn close(
@@ -190,10 +190,10 @@ impl Transaction {
         self.request_close(profile, number, connection, session)
     }
 
-    /// A slot is not to be open any more: its connection is closed, and an opening of it is left.
+    /// Stops a slot: closes its connection, or gives up its opening.
     ///
-    /// `NoSuchSlot` where no slot has the number; `NotAllowedNow` where the slot is not to be open, or closes;
-    /// `OutOfMemory`.
+    /// The errors, in order: `NoSuchSlot` if no slot has the number; `NotAllowedNow` if the slot was not started, or is
+    /// closing; `OutOfMemory`.
     pub fn stop(&mut self, profile: &ScannerProfile, number: u32) -> Result<(), StepFault>
         requires faultless { profile_fault profile.now ≡ None }
         requires time { self.old.scanner.clock.0 ≤ 2 ^ 48 }

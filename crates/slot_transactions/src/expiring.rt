@@ -1,4 +1,4 @@
-//! Connections whose deadline came.
+//! Connections that time out.
 
 ghost use Rattle.std.specs.Prelude.{◌≡◌, ◌≤◌, ◌^◌, None, IfOk};
 ghost use Rattle.scanner_table.specs.Profiles.{profile_fault};
@@ -12,8 +12,8 @@ use scanner_table::{ScannerProfile, SlotState};
 use slot_places::slot_at;
 
 impl Transaction {
-    /// The connection of a slot times out, where one is established: its image stays, and it may be tried
-    /// again after a while.
+    /// Times the connection of a slot out, if it is established. The image stays, and the slot opens again after the retry
+    /// time.
     ///
     /// Volume 1, chapter 3, connection timeouts.
     pub fn expire(&mut self, profile: &ScannerProfile, number: u32) -> Result<(), OutOfMemory>

@@ -1,4 +1,4 @@
-//! The answer of a draft.
+//! The end of a transaction.
 
 ghost use Rattle.std.specs.Prelude.{◌≡◌};
 ghost use Rattle.scanner_table.specs.declared.profile.ScannerProfile.{ScannerProfile};
@@ -11,12 +11,13 @@ use slot_places::ScannerState;
 use std::alloc::Global;
 
 impl Transaction {
-    /// The allocator that the draft was made with.
+    /// Returns the allocator of the transaction.
     pub fn alloc(&self) -> Global {
         self.alloc
     }
 
-    /// The answer with what is sent and told, and with datagrams, and the table after it. Takes no memory.
+    /// Ends the transaction: returns the answer with its requests, its notices and these datagrams, and the next table.
+    /// Takes no memory.
     pub fn finish(self, datagrams: Vec<OutgoingDatagram>) -> (Answer, ScannerState)
         ensures answer { (profile : ScannerProfile) → result.0 ≡ progress_answer (view_transaction profile self) datagrams.items }
         ensures scanner { result.1 ≡ self.scanner }

@@ -1,9 +1,9 @@
-//! A scanner's table in the making: what the effects of an event on one place after another send and tell,
-//! and the table that they leave.
+//! A transaction on a scanner's table: the effects of one event on one slot after another, the requests and notices that
+//! they add, and the table that they leave.
 //!
-//! A draft begins with a copy of the table. Each effect on a place is a call by the number of the slot, whose
-//! contract is the definition of the effect; a number that no slot has changes nothing. A draft whose call
-//! answered want of memory is to be thrown away.
+//! A transaction begins with a copy of the table. Each effect on a slot is a call with the slot's number, whose contract is
+//! the definition of the effect; a number that no slot has changes nothing. A transaction whose call found no memory must
+//! be dropped: the table is unchanged, since the transaction changed only its copy.
 #![tactic(auto)]
 
 mod beginning;

@@ -1,4 +1,4 @@
-//! Requests that are sent, and the slots that wait for their answers.
+//! Requests, and the slots that wait for their replies.
 
 ghost use Rattle.std.specs.Prelude.{◌≡◌, ◌≤◌, ◌^◌, None, IfOk};
 ghost use Rattle.slot_transactions.specs.Transactions.{view_transaction, after_at, slot_changed, with_request};
@@ -11,7 +11,7 @@ use scanner_table::ScannerProfile;
 /// The last request number.
 pub(crate) const LAST_REQUEST: u64 = 1 << 48;
 
-/// The next request, and how the slot stands that waits for its answer.
+/// The next request, and the change of the slot that waits for its reply.
 #[derive(Drop)]
 pub(crate) struct NewRequest {
     pub frame: Frame,
@@ -19,7 +19,7 @@ pub(crate) struct NewRequest {
 }
 
 impl Transaction {
-    /// The next request is sent, and a slot waits for its answer.
+    /// Sends the next request, and changes the slot that waits for its reply.
     pub(crate) fn send_request(
         &mut self,
         profile: &ScannerProfile,

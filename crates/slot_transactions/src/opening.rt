@@ -20,24 +20,24 @@ use slot_places::{ScannerState, session_with, slot_at};
 use slot_requests::open_frame;
 use std::alloc::Global;
 
-/// The last serial number, after which the first one comes again.
+/// The last serial number. Serial number 1 follows it.
 const LAST_SERIAL: u16 = u16::MAX;
 
-/// Whether a request number is left, and a connection id where one is drawn.
+/// Returns whether a request number is left and, for a point to point slot, a connection id.
 fn can_open(scanner: &ScannerState, multicast: bool) -> bool
     ensures { result ≡ (nat_le scanner.now.next_request (2 ^ 48) && (multicast || nat_le scanner.now.next_id 16777215)) }
 {
     scanner.next_request <= LAST_REQUEST && (multicast || scanner.next_id < IDS_PER_INCARNATION)
 }
 
-/// The serial number after this one; none is 0.
+/// Returns the next serial number, which is never 0.
 fn serial_after(serial: u16) -> u16
     ensures { result ≡ serial_after serial }
 {
     if serial == LAST_SERIAL { 1 } else { serial + 1 }
 }
 
-/// The counter after an opening, which draws an id where it is not multicast.
+/// Returns the id counter after an opening. A multicast opening uses no id.
 fn id_after(multicast: bool, counter: u32) -> u32
     requires { IsTrue (multicast || nat_le counter 16777215) }
     ensures { result ≡ (if multicast then counter else counter + 1) }
@@ -45,7 +45,7 @@ fn id_after(multicast: bool, counter: u32) -> u32
     if multicast { counter } else { counter + 1 }
 }
 
-/// The connection id of a counter.
+/// Returns the connection id of a counter.
 fn connection_id(profile: &ScannerProfile, counter: u32) -> ConnId
     requires { counter ≤ 16777215 }
     ensures { result ≡ connection_id profile.now counter }
@@ -53,7 +53,7 @@ fn connection_id(profile: &ScannerProfile, counter: u32) -> ConnId
     ConnId(u32::from(profile.incarnation) * IDS_PER_INCARNATION + counter)
 }
 
-/// The T->O id that an opening asks for: the target chooses that of a multicast connection.
+/// Returns the T->O id that an opening requests: none for a multicast connection, whose target chooses it.
 fn next_t_o_id(profile: &ScannerProfile, counter: u32, multicast: bool) -> Option<ConnId>
     requires { IsTrue (multicast || nat_le counter 16777215) }
     ensures { result ≡ (if multicast then None else Some (connection_id profile.now counter)) }
@@ -65,7 +65,7 @@ fn next_t_o_id(profile: &ScannerProfile, counter: u32, multicast: bool) -> Optio
     }
 }
 
-/// What the next opening of a slot asks for.
+/// Returns the triad and the id that the next opening of a slot requests.
 fn next_requested(
     profile: &ScannerProfile,
     scanner: &ScannerState,
@@ -84,7 +84,7 @@ fn next_requested(
     }
 }
 
-/// A Forward_Open, and how the slot stands that waits for its answer.
+/// Makes a Forward_Open, and the change of the slot that waits for its reply.
 fn opening(
     alloc: Global,
     profile: &ScannerProfile,
@@ -119,7 +119,7 @@ fn opening(
 }
 
 impl Transaction {
-    /// A slot asks its target for its connection within a session; numbers are left for it.
+    /// Sends the Forward_Open of a slot within a session. Numbers are left for it.
     fn request_open(
         &mut self,
         profile: &ScannerProfile,
@@ -141,8 +141,8 @@ impl Transaction {
         self.send_request(profile, number, new_request)
     }
 
-    /// A slot asks its target for its connection, where the session with it is registered. Where no number is
-    /// left for that, the slot is not to be open any more.
+    /// Opens a slot by a Forward_Open, if the session with its target is registered. If no number is left, the slot becomes
+    /// idle.
     ///
     /// Volume 1, chapter 3, Forward_Open service.
     #[tactic(auto, unfolding(scanner_table::specs::Opening::opened))]
@@ -166,7 +166,7 @@ impl Transaction {
         self.request_open(profile, number, session)
     }
 
-    /// A slot is to be open from now on, and opens where it can at once.
+    /// Starts a slot: its connection is desired from now on, and it opens at once if it can.
     pub fn start(&mut self, profile: &ScannerProfile, number: u32) -> Result<(), OutOfMemory>
         requires faultless { profile_fault profile.now ≡ None }
         requires time { self.old.scanner.clock.0 ≤ 2 ^ 48 }

@@ -1,4 +1,4 @@
-//! Replies to openings.
+//! Replies to a Forward_Open.
 
 ghost use Rattle.std.specs.Prelude.{◌≡◌, ◌<◌, ◌≤◌, ◌^◌, None, IfOk, length, slice_get, slice_set};
 ghost use Rattle.std.specs.Option.{ForSome};
@@ -23,7 +23,7 @@ use scanner_table::{Connection, PendingOpen, ScannerProfile, Slot, SlotConfig, S
 use slot_places::{SlotTest, any_passes, slot_at};
 use std::alloc::Global;
 
-/// What names the connection that a success opens, or what is amiss with the success.
+/// Returns the triad and ids of the connection that a successful reply opens, or the mismatch of the reply.
 fn linked(requested: Requested, opened: &Opened, id_free: bool) -> Result<Link, Mismatch>
     ensures { result ≡ link_or_why requested opened.now (first_case (answer_tests requested opened.now id_free)) }
 {
@@ -40,25 +40,26 @@ fn linked(requested: Requested, opened: &Opened, id_free: bool) -> Result<Link, 
     }
 }
 
-/// Microseconds in milliseconds, rounded up.
+/// Converts microseconds to milliseconds, rounded up.
 fn interval_ms(interval: u32) -> u32
     ensures { result ≡ interval_ms interval }
 {
     interval.div_ceil(1000)
 }
 
-/// Until when the first datagram is waited for.
+/// Returns the deadline of the first datagram of a connection.
 fn first_deadline(clock: Ms, mult: u8, api: u32) -> Ms
     requires time { clock.0 ≤ 2 ^ 48 }
     requires mult { mult ≤ 7 }
     requires api { api ≤ 10000 }
     ensures { result ≡ first_deadline clock (timeout mult api) }
 {
+    // The multiplier is at most 7 and the interval at most 10 seconds, so there is a timeout.
     let wait = timeout_of(mult, api).unwrap();
     Ms(clock.0 + FIRST_WATCHDOG_MS.max(wait.0))
 }
 
-/// The producer of a connection that begins: it is cyclic, its data are new, and due at once.
+/// Returns the producer of a new connection: it is cyclic, has new data, and is due at once.
 fn production(clock: Ms, config: &SlotConfig, number: u32) -> Production
     ensures { result ≡ production_of clock config.now number }
 {
@@ -75,7 +76,7 @@ fn production(clock: Ms, config: &SlotConfig, number: u32) -> Production
     }
 }
 
-/// The connection that a success opens, with the packet intervals that it tells.
+/// Returns the connection that a successful reply opens, with the actual packet intervals of the reply.
 fn new_connection(
     clock: Ms,
     config: &SlotConfig,
@@ -101,7 +102,7 @@ fn new_connection(
     }
 }
 
-/// Lets the slot of a number have a connection, and these bytes for its image. Takes no memory.
+/// Gives the slot of a number its new connection, and these bytes as its image. Takes no memory.
 fn occupy(slots: &mut Vec<Slot>, number: u32, state: SlotState, image: Items<u8>)
     requires { number < length slots.old.items }
     ensures { ForSome (slice_get slots.old.items number) (λ slot. slots.new.items ≡ slice_set slots.old.items number (occupied state image slot)) }
@@ -112,7 +113,7 @@ fn occupy(slots: &mut Vec<Slot>, number: u32, state: SlotState, image: Items<u8>
 }
 
 impl Transaction {
-    /// A reply opens nothing, and the slot may try again after a while.
+    /// Refuses a reply: the slot becomes idle, and opens again after the retry time.
     fn refuse(
         &mut self,
         profile: &ScannerProfile,
@@ -136,7 +137,7 @@ impl Transaction {
         self.change(profile, number, slot_change, Some(reported))
     }
 
-    /// A slot has the connection that a success opens, and has gathered nothing yet.
+    /// Establishes a slot with the connection that a successful reply opens, and an image of zeros.
     fn establish(
         &mut self,
         profile: &ScannerProfile,
@@ -171,7 +172,7 @@ impl Transaction {
         Ok(())
     }
 
-    /// What a success does to the slot that waits for it: it opens the connection where nothing is amiss.
+    /// Takes a successful reply to the slot that waits for it: establishes the slot, or refuses the reply for a mismatch.
     fn judge(
         &mut self,
         profile: &ScannerProfile,
@@ -195,8 +196,8 @@ impl Transaction {
         }
     }
 
-    /// What an answer to its opening does to a slot: a success opens the connection where nothing is amiss;
-    /// else the slot may try again after a while, and why is told.
+    /// Takes the answer to a slot's Forward_Open. A successful reply without a mismatch establishes the slot. Otherwise the
+    /// slot opens again after the retry time, and a notice gives the reason.
     ///
     /// Volume 1, chapter 3, Forward_Open service, successful and unsuccessful response.
     #[tactic(auto, unfolding(scanner_table::specs::Replies::answered))]

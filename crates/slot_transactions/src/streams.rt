@@ -1,4 +1,4 @@
-//! The streams of a scanner in a draft.
+//! The streams of a scanner within a transaction.
 
 ghost use Rattle.std.specs.Prelude.{◌≡◌, filter, map};
 ghost use Rattle.scanner_table.specs.declared.profile.ScannerProfile.{ScannerProfile};
@@ -23,7 +23,7 @@ fn staged_stream(stream: TargetStream, number: u16, stage: Stage) -> TargetStrea
     TargetStream { stage, ..stream }
 }
 
-/// The stream of a number has come so far.
+/// Sets the stage of the stream of a number.
 fn stage_streams(streams: &mut [TargetStream], number: u16, stage: Stage)
     ensures { streams.new ≡ map (staged_stream number stage) streams.old }
 {
@@ -32,7 +32,7 @@ fn stage_streams(streams: &mut [TargetStream], number: u16, stage: Stage)
     }
 }
 
-/// Takes the stream of a number out of the list.
+/// Removes the stream of a number from the list.
 fn drop_stream(streams: &mut Vec<TargetStream>, number: u16)
     ensures { streams.new.items ≡ filter (is_other_stream number) streams.old.items }
 {
@@ -40,7 +40,7 @@ fn drop_stream(streams: &mut Vec<TargetStream>, number: u16)
 }
 
 impl Transaction {
-    /// The session of a stream has come so far. Takes no memory.
+    /// Sets the stage of a stream's session. Takes no memory.
     pub fn set_stage(&mut self, number: u16, stage: Stage)
         ensures effect { (profile : ScannerProfile) → view_transaction profile self.new ≡ with_staged number stage (view_transaction profile self.old) }
         ensures clock { self.new.scanner.clock ≡ self.old.scanner.clock }
@@ -48,7 +48,7 @@ impl Transaction {
         stage_streams(&mut self.scanner.streams, number, stage);
     }
 
-    /// The stream of a number is not open any more. Takes no memory.
+    /// Removes the stream of a number. Takes no memory.
     pub fn cut_stream(&mut self, number: u16)
         ensures effect { (profile : ScannerProfile) → view_transaction profile self.new ≡ without_cut number (view_transaction profile self.old) }
         ensures clock { self.new.scanner.clock ≡ self.old.scanner.clock }

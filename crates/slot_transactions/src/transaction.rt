@@ -1,4 +1,4 @@
-//! A table in the making.
+//! The transaction, and a change of one slot.
 
 ghost use Rattle.std.specs.Prelude.{◌≡◌, ◌++◌, ◌∷◌, ◌<◌, [], length, slice_set, slice_get, IfOk, if◌then◌else◌, ◌==◌};
 ghost use Rattle.std.specs.Option.{ForSome};
@@ -11,7 +11,7 @@ use scanner_table::{ScannerProfile, Slot, SlotState};
 use slot_places::{ScannerState, number_of, slot_at};
 use std::alloc::Global;
 
-/// A scanner's table in the making, with what is sent and told so far.
+/// A changed copy of a scanner's table, with the requests and notices so far.
 ///
 /// It keeps the allocator that it was made with.
 #[derive(Drop)]
@@ -22,8 +22,7 @@ pub struct Transaction {
     pub(crate) notices: Vec<Notice>,
 }
 
-/// How a slot is to stand: how far its connection is, whether it is to be open, and from when on it may be
-/// tried again.
+/// The new state of a slot, whether its connection is desired, and its retry time.
 #[derive(Clone, Copy)]
 pub(crate) struct SlotChange {
     pub state: SlotState,
@@ -31,7 +30,7 @@ pub(crate) struct SlotChange {
     pub retry_at: Ms,
 }
 
-/// Lets the slot of a number stand otherwise. Takes no memory.
+/// Changes the slot of a number. Takes no memory.
 pub(crate) fn change_slot(slots: &mut Vec<Slot>, number: u32, slot_change: SlotChange)
     requires { number < length slots.old.items }
     ensures { ForSome (slice_get slots.old.items number) (λ slot. slots.new.items ≡ slice_set slots.old.items number (with_change slot_change slot)) }
@@ -42,7 +41,7 @@ pub(crate) fn change_slot(slots: &mut Vec<Slot>, number: u32, slot_change: SlotC
     slot.retry_at = slot_change.retry_at;
 }
 
-/// Tells that a slot has come into another state, after what else is told of it.
+/// Adds a notice, if there is one, and then a notice of the slot's new state, if its number changes.
 pub(crate) fn report(
     notices: &mut Vec<Notice>,
     reported: Option<Notice>,
@@ -63,7 +62,7 @@ pub(crate) fn report(
 }
 
 impl Transaction {
-    /// Lets a slot stand otherwise, and tells of it.
+    /// Changes a slot, and adds the notices of the change.
     pub(crate) fn change(
         &mut self,
         profile: &ScannerProfile,

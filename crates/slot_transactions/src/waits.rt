@@ -1,11 +1,11 @@
-//! How long a scanner waits.
+//! Deadlines.
 
 ghost use Rattle.std.specs.Prelude.{◌≡◌, ◌+◌, ◌≤◌, ◌^◌};
 ghost use Rattle.scanner_table.specs.Opening.{later};
 
 use cip_types::Ms;
 
-/// Some milliseconds later.
+/// Returns the time this many milliseconds later.
 pub(crate) fn later(clock: Ms, ms: u64) -> Ms
     requires time { clock.0 ≤ 2 ^ 48 }
     requires wait { ms ≤ 60000 }
