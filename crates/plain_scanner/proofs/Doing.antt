@@ -1,4 +1,4 @@
--- What a draft of a start or a stop comes to, and what a write is refused for.
+-- The effect of a start or a stop, and the faults of a write.
 use Rattle.std.proofs.Common.{◌≡◌, ◌≢◌, ℕ, Bool, true, false, List, [], find, Option, Some, None, Result, Ok, Err, IsOk, refl, sym, ap, subst, ◌∙◌}
 use Rattle.std.specs.Prelude.{if◌then◌else◌, not, length, ◌==◌}
 use Rattle.cip_events.specs.declared.event.Answer.{Answer}
@@ -31,13 +31,13 @@ Said = Result Next StepFault
 abbrev as_ok : Next → Said
 as_ok next = Ok next
 
--- ---- drafts
+-- ---- transactions
 
--- a draft with one effect comes to what the effect does
+-- a transaction with one effect is that effect
 pub transaction_done : (t : ScannerTable) (effect : Effect) (d : Progress) (answer : Answer) (new : ScannerTable) → d ≡ followed (begun t) effect → answer ≡ progress_answer d [] → new ≡ d.table → done effect ≡ (answer, new)
 transaction_done t effect d answer new is reported left = rw (reported, left, is) refl
 
--- an effect on a place that is found
+-- the effect on a slot that the lookup found
 followed_slot : (t : ScannerTable) (indexed : IndexedSlot) (number : ℕ) (effect : ScannerTable → IndexedSlot → Effect) → slot_at t number ≡ Some indexed → at_number effect t number ≡ effect t indexed
 followed_slot t indexed number effect found = ap (at_found effect t) found
 
@@ -100,7 +100,7 @@ stop_ok t number indexed found can =
     let e = stops t number indexed found can in
     rw (stop_done t number e.0 e.1) refl
 
--- what a stop adds to a draft that has just begun
+-- a stop within a transaction that has just begun
 stop_adds : (t : ScannerTable) (number : ℕ) (effect : Effect) (first last : Progress) (unit : Unit {0}) → stopped_at t (slot_at t number) ≡ Ok effect → first ≡ begun t → Adds (stopped_at first.table (slot_at first.table number)) first (Ok unit) last → last ≡ followed (begun t) effect
 stop_adds t number effect first last unit is begins adds =
     let ran : Adds (stopped_at t (slot_at t number)) (begun t) (Ok unit) last = subst (λ (d : Progress). Adds (stopped_at d.table (slot_at d.table number)) d (Ok unit) last) begins adds in

@@ -1,4 +1,4 @@
--- What a tick comes to.
+-- The effect of a tick.
 use Rattle.std.proofs.Common.{◌≡◌, ℕ, ◌+◌, List, [], map, Result, Ok, Err, refl, ap, ◌∙◌}
 use Rattle.cip_events.specs.declared.event.Answer.{Answer}
 use Rattle.cip_events.specs.declared.event.OutgoingDatagram.{OutgoingDatagram}
@@ -11,11 +11,11 @@ use Rattle.scanner_table.specs.Productions.{due_productions, produced_table}
 use Rattle.scanner_table.specs.Ticks.{clocked_table, advanced, ticked}
 use Rattle.slot_transactions.specs.Transactions.{Progress, begun, followed, progress_answer}
 
--- the clock of a draft comes to another time
+-- a transaction with another clock
 abbrev pub with_clock : Ms → Progress → Progress
 with_clock clock d = record d { table = record d.table { clock = clock } }
 
--- the table of a draft becomes another
+-- a transaction with another table
 abbrev pub with_table : ScannerTable → Progress → Progress
 with_table t d = record d { table = t }
 

@@ -3,7 +3,7 @@ use Rattle.std.specs.Prelude.{not, Bool, true, false}
 use Rattle.scanner_table.specs.declared.slot.SlotState.{SlotState}
 use Rattle.scanner_table.specs.declared.slot.SlotState.TheVariants.{Idle, Opening, Established, TimedOut, Closing}
 
--- a slot that is to be open, or not, can be started in this state
+-- a slot can be started in this state, by whether its connection is desired
 abbrev pub can_start : Bool → SlotState → Bool
 can_start desired_up Idle = not desired_up
 can_start desired_up (Opening o) = false
@@ -11,7 +11,7 @@ can_start desired_up (Established c) = false
 can_start desired_up (TimedOut link) = false
 can_start desired_up (Closing c) = false
 
--- it can be stopped
+-- the slot can be stopped
 abbrev pub can_stop : Bool → SlotState → Bool
 can_stop desired_up Idle = desired_up
 can_stop desired_up (Opening o) = true

@@ -40,14 +40,14 @@ accepted_by : (b : Bool) (t : ScannerTable) (indexed : IndexedSlot) (d : Datagra
 accepted_by true t indexed d c is = rw is refl
 accepted_by false t indexed d c is = rw is refl
 
--- what a datagram is to the place that is found for it
+-- a datagram at the slot that the lookup found for it
 pub received_is : (t : ScannerTable) (indexed : IndexedSlot) (d : DatagramFields) (c : Connection) (found : Option IndexedSlot) (old new : Slot) (delivery : Delivery) → Some indexed ≡ found → state_received t indexed d indexed.slot.state ≡ judged t indexed d (Ok c) → old ≡ indexed.slot → delivery ≡ cond (is_duplicate c.last d.count) Duplicate Applied → new ≡ record old { state = Established (accepted_connection t.clock indexed.config.mult d c); image = cond (is_duplicate c.last d.count) old.image d.payload } → ◌≡◌ {A = Next} (plain_answer (Delivered delivery), with_slot t indexed.number new) (received_at t d found)
 received_is t indexed d c found old new delivery at is same reported changed =
     sym (ap (received_at t d) (sym at) ∙ is ∙ accepted_by (is_duplicate c.last d.count) t indexed d c refl ∙ step (sym reported) (changed ∙ ap (λ (s : Slot). record s { state = Established (accepted_connection t.clock indexed.config.mult d c); image = cond (is_duplicate c.last d.count) s.image d.payload }) same)) where
       step : cond (is_duplicate c.last d.count) Duplicate Applied ≡ delivery → new ≡ gathered_slot (is_duplicate c.last d.count) t indexed d c → ◌≡◌ {A = Next} (plain_answer (Delivered (cond (is_duplicate c.last d.count) Duplicate Applied)), with_slot t indexed.number (gathered_slot (is_duplicate c.last d.count) t indexed d c)) (plain_answer (Delivered delivery), with_slot t indexed.number new)
       step reported is = rw (reported, is) refl
 
--- what a write is to the place that is found for it
+-- a write at the slot that the lookup found for it
 pub written_is : (t : ScannerTable) (number : ℕ) (indexed : IndexedSlot) (bytes : List ℕ) (old new : Slot) → Some indexed ≡ find (is_numbered number) (indexed_slots t) → indexed.number ≡ number → is_owner indexed.config.kind ≡ true → (length bytes == indexed.config.out_len) ≡ true → old ≡ indexed.slot → new ≡ output_slot bytes old → ◌≡◌ {A = Result Next StepFault} (Ok (plain_answer Done, with_slot t number new)) (write t number bytes)
 unfolding write
 written_is t number indexed bytes old new at same owner long stood changed =
@@ -76,11 +76,11 @@ map_more f xs ys i d y lt same mapped is =
     let rest = mapped.rest in
     record { front = grind (arith, common_steps); rest = grind (arith, common_steps) }
 
--- the places from a number on begin with the place of that number
+-- the slots from a number on begin with the slot of that number
 pub rest_begins : (index : ℕ) (configs : List SlotConfig) (slots : List Slot) (d : SlotConfig) (e : Slot) → index < length configs → index < length slots → indexed_from index (drop index configs) (drop index slots) ≡ record { number = index; config = get_or configs index d; slot = get_or slots index e } ∷ indexed_from (suc index) (drop (suc index) configs) (drop (suc index) slots)
 rest_begins index configs slots d e lt lt' = rw (drop-cons configs index d lt, drop-cons slots index e lt') refl
 
--- a loop over places that has changed the slots up to i
+-- a loop over slots that has changed the slots up to i
 abbrev pub Renewed : List SlotConfig → List Slot → List Slot → ℕ → Type 0
 Renewed configs old new i = map moded_slot (indexed_from 0 configs old) ≡ take i new ++ map moded_slot (indexed_from i (drop i configs) (drop i new))
 
@@ -113,7 +113,7 @@ renewed_all configs old slots i le so_far =
     let none : drop i slots ≡ [] = grind (arith, common_steps) in
     sym (so_far ∙ ap (λ l. l ++ map moded_slot (indexed_from i (drop i configs) (drop i slots))) all ∙ ap (λ l. slots ++ map moded_slot (indexed_from i (drop i configs) l)) none ∙ ap (λ l. slots ++ map moded_slot l) (no_slots i (drop i configs)) ∙ append-nil slots)
 
--- one more place's production is sent
+-- one more slot's production is sent
 pub sent_more : {A B C D : Type 0} (view : A → B) (f : B → Option C) (g : C → D) (xs : List A) (i : ℕ) (x d : A) (sent more : List D) → i < length xs → x ≡ get_or xs i d → sent ≡ map g (filter_map f (map view (take i xs))) → more ≡ sent ++ map g (filter_map f (view x ∷ [])) → more ≡ map g (filter_map f (map view (take (i + 1) xs)))
 sent_more view f g xs i x d sent more lt is so_far grown =
     let one : take (i + 1) xs ≡ take i xs ++ x ∷ [] = rw is (grind (arith, common_steps)) in

@@ -1,4 +1,4 @@
--- What a whole table says of a place that is found in it.
+-- Properties of a slot that a lookup found in a whole table.
 use Rattle.std.proofs.Common.{◌≡◌, ◌<◌, ◌≤◌, ℕ, zero, suc, ◌+◌, ◌==◌, ◌&&◌, not, Bool, true, false, cond, nat_le, List, [], ◌∷◌, find, filter, map, length, get_or, Option, Some, None, refl, sym, ◌∙◌, subst, arith}
 use Rattle.std.specs.List.{list_all}
 use Rattle.std.proofs.lemmas.Bool.Decides.{nat_tests}
@@ -38,7 +38,7 @@ and_parts : (a b : Bool) → (a && b) ≡ true → (a ≡ true) × (b ≡ true)
 and_parts true b is = (refl, is)
 and_parts false b is = absurd (let e : false ≡ true = is in cc)
 
--- what a faultless profile has, as far as it is asked here
+-- the properties of a profile without a fault that are needed here
 pub record Faultless (profile : ScannerProfile) : Type 0 where
   pub few : length profile.slots ≤ 64
   pub lengths : list_all has_lengths profile.slots ≡ true
@@ -70,9 +70,9 @@ faultless profile is =
 pub few_slots : (t : ScannerTable) → IsWhole t → length t.profile.slots ≤ 4294967296
 few_slots t whole = omega (arith, (faultless t.profile whole.faultless).few)
 
--- ---- places
+-- ---- slots
 
--- a place among those from a number on
+-- a slot among those from a number on
 record Stands (test : IndexedSlot → Bool) (r k from : ℕ) (configs : List SlotConfig) (slots : List Slot) (indexed : IndexedSlot) : Type 0 where
   pub index : ℕ
   pub number : indexed.number ≡ from + index
@@ -106,7 +106,7 @@ found_stands test r k from (config ∷ configs) (slot ∷ slots) indexed fit tim
     stands_step test (test (record { number = from; config = config; slot = slot })) r k from config configs slot slots indexed (find test (indexed_from (suc from) configs slots)) refl fit.0 both.0 is
     (λ later. found_stands test r k (suc from) configs slots indexed fit.1 both.1 later)
 
--- a place that is found in a whole table
+-- a slot that a lookup found in a whole table
 pub record Found (test : IndexedSlot → Bool) (t : ScannerTable) (indexed : IndexedSlot) : Type 0 where
   pub below : indexed.number < length t.slots
   pub slot : (d : Slot) → get_or t.slots indexed.number d ≡ indexed.slot
@@ -141,11 +141,11 @@ found test t indexed whole is =
 pub interval_of : (r k : ℕ) (desired_up : Bool) (state : SlotState) (c : Connection) → state ≡ Established c → FitsState r k desired_up state → c.t_o_api_ms ≤ 10000
 interval_of r k desired_up state c is fits = let fit : FitsState r k desired_up (Established c) = subst (FitsState r k desired_up) is fits in fit.1.t_o_api_ms
 
--- the place that has a number
+-- the slot that has a number
 pub number_is : (number : ℕ) (indexed : IndexedSlot) → is_numbered number indexed ≡ true → indexed.number ≡ number
 number_is number indexed is = grind (arith, nat_tests)
 
--- the slot at its place, by another name of the number
+-- the slot under its number, by another name of the number
 pub stood_at : (slots : List Slot) (number other : ℕ) (old stood d : Slot) → other ≡ number → ((e : Slot) → get_or slots other e ≡ stood) → old ≡ get_or slots number d → old ≡ stood
 stood_at slots number other old stood d same at is = is ∙ subst (λ n. get_or slots n d ≡ stood) same (at d)
 
@@ -192,7 +192,7 @@ short_order : (before : IndexedSlot → IndexedSlot → Bool) (all : List Indexe
 short_order before [] short = tt
 short_order before (indexed ∷ rest) short = short_inserted before indexed (in_order before rest) short.0 (short_order before rest short.1)
 
--- the outputs of the places that a test chooses are short, in any order
+-- the outputs of the slots that a test chooses are short, in any order
 pub short_due : (t : ScannerTable) (p : IndexedSlot → Bool) (before : IndexedSlot → IndexedSlot → Bool) → IsWhole t → Short (in_order before (filter p (indexed_slots t)))
 short_due t p before whole = short_order before (filter p (indexed_slots t)) (short_filter p (indexed_slots t) (short_from t.next_request t.clock.0 0 t.profile.slots t.slots whole.slots (faultless t.profile whole.faultless).lengths))
 

@@ -1,4 +1,4 @@
--- What the functions of this crate answer, in the words of the table's definitions.
+-- The results of this crate's functions, in terms of the table's definitions.
 use Rattle.std.specs.Prelude.{◌&&◌, not, Bool, Result, Ok, Err}
 use Rattle.std.specs.List.{list_any}
 use Rattle.cip_datagram.specs.Datagram.{DatagramFields}
@@ -19,16 +19,16 @@ use Rattle.scanner_table.specs.Ticks.{has_expired, is_overdue}
 abbrev pub at_time : ScannerTable → Ms → ScannerTable
 at_time t clock = record t { clock = clock }
 
--- a datagram that is refused is delivered so, and one for a connection is accepted
+-- the error is the delivery of a datagram that is not accepted; otherwise the connection accepts it
 abbrev pub judged : ScannerTable → IndexedSlot → DatagramFields → Result Connection Delivery → Next
 judged t indexed d (Err delivery) = delivered delivery t
 judged t indexed d (Ok connection) = accepted t indexed d connection
 
--- what a change without an answer is as a step
+-- a change without an answer, as a step
 abbrev pub done_or : Result (Unit {0}) StepFault → ScannerTable → Result Next StepFault
 done_or (Ok nothing) t = Ok (plain_answer Done, t)
 done_or (Err why) t = Err why
 
--- no slot times out, gives up, or may try
+-- no slot times out, gives up a reply, or is ready to open
 abbrev pub is_quiet : ScannerTable → Bool
 is_quiet t = not (list_any (has_expired t.clock) (indexed_slots t)) && (not (list_any (is_overdue t.clock) (indexed_slots t)) && not (list_any (is_ready_slot t.clock) (indexed_slots t)))

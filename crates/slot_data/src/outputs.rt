@@ -17,7 +17,7 @@ use cip_productions::{Kind, Production};
 use scanner_table::{Connection, ScannerProfile, Slot, SlotConfig, SlotState};
 use slot_places::{ScannerState, slot_at};
 
-/// A state whose established connection's producer has new data.
+/// Returns a state whose established connection has new data.
 fn written_state(state: SlotState) -> SlotState
     ensures { result ≡ written_state state }
 {
@@ -42,7 +42,7 @@ fn is_owner(kind: Kind) -> bool
     }
 }
 
-/// The slot's output are other bytes, which are new data.
+/// Sets the output of a slot, which is new data.
 fn set_output(slot: &mut Slot, bytes: &[u8])
     requires { length slot.old.output ≡ length bytes.now }
     ensures { slot.new ≡ output_slot bytes.now slot.old }
@@ -51,11 +51,10 @@ fn set_output(slot: &mut Slot, bytes: &[u8])
     slot.state = written_state(slot.state);
 }
 
-/// Writes other bytes for an owner's output, which are new data. Takes no memory.
+/// Writes the output of an exclusive owner. The bytes are new data. Takes no memory.
 ///
-/// The faults, in this order: `NoSuchSlot` where there is none of this number; `NotAllowedNow` where it is no
-/// owner's, and so has no output; `WrongLength` where the output has another number of bytes. The table is
-/// then as it was.
+/// The errors, in order: `NoSuchSlot` if no slot has the number; `NotAllowedNow` if the slot is no exclusive owner and so
+/// has no output; `WrongLength` if the output has another length. An error leaves the table unchanged.
 ///
 /// Volume 1, chapter 3, class 1 transport.
 #[tactic(auto, unfolding(scanner_table::specs::Points::write))]
@@ -102,7 +101,7 @@ fn renew(configs: &[SlotConfig], slots: &mut [Slot])
     }
 }
 
-/// Each owner's producer has new data.
+/// Gives the producer of each exclusive owner new data.
 fn renew_all(configs: &[SlotConfig], slots: &mut Vec<Slot>)
     requires { length slots.old.items ≤ length configs.now }
     ensures { slots.new.items ≡ map moded_slot (indexed_from 0 configs.now slots.old.items) }
@@ -110,8 +109,8 @@ fn renew_all(configs: &[SlotConfig], slots: &mut Vec<Slot>)
     renew(configs, slots);
 }
 
-/// The application runs or is idle. A change of mode is new data for each owner's producer, since the mode
-/// goes with them. Takes no memory.
+/// Sets the application to run or to idle. A change of mode is new data for each exclusive owner, since the data carry the
+/// mode. Takes no memory.
 ///
 /// Volume 1, chapter 3, real time formats and run/idle.
 #[tactic(auto, unfolding(scanner_table::specs::Points::mode))]

@@ -1,4 +1,4 @@
-//! What slots send.
+//! The datagrams that slots send.
 
 ghost use Rattle.std.specs.Prelude.{◌≡◌, ◌≤◌, All, ◌^◌, ◌+◌, ◌++◌, ◌∷◌, [], OnOk, map, filter, length, IfOk, if◌then◌else◌};
 ghost use Rattle.std.specs.Int.{w32, to_le_bytes};
@@ -36,7 +36,7 @@ fn due_of(state: &SlotState) -> u64
     }
 }
 
-/// Places by when they are due, and then by their numbers.
+/// The order by due times, and then by the numbers of slots.
 struct ByDue;
 
 impl<'a> Order<SlotView<'a>> for ByDue {
@@ -48,7 +48,7 @@ impl<'a> Order<SlotView<'a>> for ByDue {
     }
 }
 
-/// What an owner sends: the mode of the application, and its output.
+/// Writes the data of an exclusive owner: the run/idle header and the output.
 fn owned_data(alloc: Global, run: bool, slot: &Slot) -> Result<Vec<u8>, OutOfMemory>
     requires { length slot.now.output ≤ 65529 }
     ensures { IfOk result (λ bytes. bytes.items ≡ to_le_bytes w32 (mode_header run) ++ slot.now.output) }
@@ -60,7 +60,7 @@ fn owned_data(alloc: Global, run: bool, slot: &Slot) -> Result<Vec<u8>, OutOfMem
     Ok(bytes)
 }
 
-/// What a slot sends: an owner the mode of the application and its output, another kind nothing.
+/// Writes the data of a slot: an exclusive owner sends the run/idle header and its output, another kind no data.
 fn slot_data(alloc: Global, run: bool, indexed: SlotView<'_>) -> Result<Vec<u8>, OutOfMemory>
     requires { length indexed.slot.now.output ≤ 65529 }
     ensures data { IfOk result (λ bytes. bytes.items ≡ slot_data run (view_slot indexed.entry)) }
@@ -72,7 +72,7 @@ fn slot_data(alloc: Global, run: bool, indexed: SlotView<'_>) -> Result<Vec<u8>,
     }
 }
 
-/// What the connection of a place produces next, for its target alone.
+/// Makes the next datagram of a slot's connection, for its target alone.
 fn outgoing(
     alloc: Global,
     run: bool,
@@ -96,7 +96,7 @@ fn outgoing(
     )
 }
 
-/// The places that are due, by when they are and then by their numbers.
+/// Returns the due slots, in the order of their due times and then of their numbers.
 fn due_slots<'a>(
     alloc: Global,
     configs: &'a [SlotConfig],
@@ -110,7 +110,7 @@ fn due_slots<'a>(
     sorted(alloc, &due, &ByDue)
 }
 
-/// Adds what the connection of a place produces next, if it has one.
+/// Adds the next datagram of a slot's connection, if it is established.
 fn push_outgoing(
     alloc: Global,
     run: bool,
@@ -127,7 +127,7 @@ fn push_outgoing(
     Ok(())
 }
 
-/// What the connections of these places produce next.
+/// Makes the next datagrams of these slots' connections.
 fn datagrams_of(
     alloc: Global,
     run: bool,
@@ -143,7 +143,7 @@ fn datagrams_of(
     Ok(due_datagrams)
 }
 
-/// What the slots that are due at a time send: one datagram each, to its target.
+/// Makes the datagrams of the slots that are due at a time: one each, to its target. `OutOfMemory` is the only error.
 ///
 /// Volume 1, chapter 3, class 1 transport and real time formats; Volume 2, chapter 2, sequenced address item.
 pub fn due_datagrams(
@@ -170,7 +170,7 @@ fn produced_connection(connection: Connection, clock: Ms) -> Connection
     }
 }
 
-/// A state after the production of its connection, where that was due.
+/// Returns a state after the production of its connection, if that was due.
 fn after_production(state: SlotState, clock: Ms) -> SlotState
     requires { clock.0 ≤ 2 ^ 48 }
     ensures { result ≡ (if state_is_due clock state then produced_state clock state else state) }
@@ -183,7 +183,7 @@ fn after_production(state: SlotState, clock: Ms) -> SlotState
     }
 }
 
-/// A slot has produced, where it was due.
+/// Records the production of a slot, if it was due.
 fn produce_slot(slot: &mut Slot, clock: Ms)
     requires { clock.0 ≤ 2 ^ 48 }
     ensures { slot.new ≡ produced_slot clock slot.old }
@@ -207,7 +207,7 @@ fn produce_all(slots: &mut Vec<Slot>, clock: Ms)
     produce_slots(slots, clock);
 }
 
-/// The clock comes to a time, and the slots that are due have produced. Takes no memory.
+/// Moves the clock to a time, and records the productions of the due slots. Takes no memory.
 ///
 /// Volume 1, chapter 3, class 1 transport.
 #[tactic(auto, unfolding(scanner_table::specs::Productions::produced_table))]

@@ -1,4 +1,4 @@
-//! Ticks in which nothing but productions happens.
+//! Ticks in which slots only produce.
 
 ghost use Rattle.std.specs.Prelude.{◌≡◌, ◌≤◌, ◌^◌, ◌&&◌, not, length, IsTrue};
 ghost use Rattle.std.specs.List.{list_any};
@@ -23,8 +23,8 @@ fn does_nothing(configs: &[SlotConfig], slots: &[Slot], clock: Ms) -> bool
         && !any_passes(configs, slots, SlotTest::Ready(clock))
 }
 
-/// Whether by a time no slot times out, gives up an answer, or may try to open: time then does nothing to
-/// connections. Takes no memory.
+/// Returns whether by this time no slot times out, gives up a reply, or is ready to open: no connection changes then.
+/// Takes no memory.
 ///
 /// Volume 1, chapter 3, connection timeouts.
 pub fn is_quiet(profile: &ScannerProfile, scanner: &ScannerState, clock: Ms) -> bool

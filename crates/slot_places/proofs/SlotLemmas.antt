@@ -1,4 +1,4 @@
--- The place of a number.
+-- The slot of a number.
 use Rattle.std.proofs.Common.{◌≡◌, Bool, true, false, ◌<◌, ℕ, zero, suc, ◌+◌, ◌==◌, List, [], ◌∷◌, find, slice_get, get_or, length, drop, drop-cons, min, cond, ◌||◌, ◌++◌, map, filter, ◌≤◌, Option, slice_set, subst, Some, None, refl, sym, ◌∙◌, ap, arith}
 use Rattle.std.proofs.lemmas.Bool.Decides.{nat_tests}
 use Rattle.std.proofs.lemmas.List.{append-nil}
@@ -10,7 +10,7 @@ use Rattle.scanner_table.specs.declared.slot.Slot.{Slot}
 use Rattle.scanner_table.specs.Slots.{IndexedSlot, indexed_from, is_numbered}
 use Rattle.slot_places.specs.Views.{changed_slot}
 
--- the place of a config and a slot, where both are there
+-- the indexed slot of a configuration and a slot, if both are there
 abbrev pub indexed_at : ℕ → Option SlotConfig → Option Slot → Option IndexedSlot
 indexed_at number None slot = None
 indexed_at number (Some config) None = None
@@ -35,7 +35,7 @@ found_from number (suc index) from (config ∷ configs) (slot ∷ slots) is =
     let other : (from == number) ≡ false = grind (arith, nat_tests, is) in
     rw other (found_from number index (suc from) configs slots (omega (arith, is)))
 
--- the place of a number has the config and the slot of that index
+-- the indexed slot of a number has the configuration and the slot of that index
 pub found_at : (number : ℕ) (configs : List SlotConfig) (slots : List Slot) → find (is_numbered number) (indexed_from 0 configs slots) ≡ indexed_at number (slice_get configs number) (slice_get slots number)
 found_at number configs slots = found_from number number 0 configs slots (omega arith)
 
@@ -61,9 +61,9 @@ pub at_index : (number : ℕ) (configs : List SlotConfig) (slots : List Slot) (c
 at_index number configs slots config d slot e lt lt' is is' =
     sym (both number configs slots config slot (slice_get-get_or configs number d lt ∙ ap (λ c. Some c) (sym is)) (slice_get-get_or slots number e lt' ∙ ap (λ c. Some c) (sym is')))
 
--- ---- the places from a number on
+-- ---- the slots from a number on
 
--- the first of them is the place of the number, and the others follow
+-- the first of them is the slot of the number, and the others follow
 pub rest_begins : (index : ℕ) (configs : List SlotConfig) (slots : List Slot) (d : SlotConfig) (e : Slot) → index < length configs → index < length slots → indexed_from index (drop index configs) (drop index slots) ≡ record { number = index; config = get_or configs index d; slot = get_or slots index e } ∷ indexed_from (suc index) (drop (suc index) configs) (drop (suc index) slots)
 rest_begins index configs slots d e lt lt' = rw (drop-cons configs index d lt, drop-cons slots index e lt') refl
 
@@ -106,12 +106,12 @@ found_any test (indexed ∷ rest) = any_is test (test indexed) indexed rest (fou
 pub all_gathered : (test : IndexedSlot → Bool) (front all : List IndexedSlot) (index : ℕ) (configs : List SlotConfig) (slots : List Slot) → min (length configs) (length slots) ≤ index → front ++ filter test (indexed_from index (drop index configs) (drop index slots)) ≡ all → front ≡ all
 all_gathered test front all index configs slots le so_far = sym (append-nil front) ∙ ap (λ l. front ++ l) (sym (ap (filter test) (rest_ends index configs slots le))) ∙ so_far
 
--- ---- places that are found, and places that change
+-- ---- slots that lookups find, and slots that change
 
 some_is : {A : Type 0} (a b : A) → Some a ≡ Some b → a ≡ b
 some_is a b is = cc
 
--- a place stands in two lists, whose first elements have a number
+-- an indexed slot is in two lists, whose first elements have a number
 pub record StandsAt (from : ℕ) (configs : List SlotConfig) (slots : List Slot) (indexed : IndexedSlot) : Type 0 where
   pub index : ℕ
   pub number : indexed.number ≡ from + index
@@ -142,7 +142,7 @@ same_slot : (b : Bool) (slot : Slot) (indexed : IndexedSlot) → b ≡ false →
 same_slot true slot indexed is = absurd (let e : true ≡ false = is in cc)
 same_slot false slot indexed is = refl
 
--- no place changes whose number is past
+-- no slot with a smaller number changes
 unchanged : (number from : ℕ) (configs : List SlotConfig) (slots : List Slot) (slot : Slot) → number < from → map (changed_slot number slot) (indexed_from from configs slots) ≡ indexed_from from configs slots
 unchanged number from [] slots slot lt = refl
 unchanged number from (config ∷ configs) [] slot lt = refl

@@ -1,4 +1,4 @@
--- What the types of this crate are in the definitions.
+-- The types of this crate as values of the definitions.
 use Rattle.std.specs.Prelude.{ℕ, Bool, if◌then◌else◌}
 use Rattle.scanner_table.specs.declared.profile.ScannerProfile.{ScannerProfile}
 use Rattle.scanner_table.specs.declared.table.ScannerTable.{ScannerTable}
@@ -15,7 +15,7 @@ use Rattle.slot_places.specs.declared.search.SlotTest.{SlotTest}
 use Rattle.slot_places.specs.declared.search.SlotTest.TheVariants.{For, Awaiting, UsesId, Ready, Expired, Overdue, Due}
 use Rattle.slot_places.specs.declared.scanner.ScannerState.{ScannerState}
 
--- a place, wherever its parts lie in memory
+-- an indexed slot, wherever its parts are in memory
 abbrev pub view_slot : SlotView → IndexedSlot
 view_slot view = record { number = view.number; config = view.config.now; slot = view.slot.now }
 
@@ -32,7 +32,7 @@ table_of profile scanner = record {
   streams = scanner.streams.items;
 }
 
--- what is asked of a place
+-- the slot passes the test
 abbrev pub passes : SlotTest → IndexedSlot → Bool
 passes (For peer id) = is_for peer id.0
 passes (Awaiting target number) = is_awaiting target number
@@ -42,6 +42,6 @@ passes (Expired clock) = has_expired clock
 passes (Overdue clock) = is_overdue clock
 passes (Due clock) = is_due clock
 
--- another slot stands in the place of a number
+-- the indexed slot, with another slot if it has this number
 abbrev pub changed_slot : ℕ → Slot → IndexedSlot → IndexedSlot
 changed_slot number slot indexed = if is_numbered number indexed then record indexed { slot = slot } else indexed

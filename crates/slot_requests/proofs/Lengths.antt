@@ -1,4 +1,4 @@
--- The lengths of a faultless slot, and of what is written for it.
+-- The lengths of a slot without a fault, and of the texts written for it.
 use Rattle.std.proofs.Common.{◌≡◌, ◌≤◌, ℕ, ◌+◌, ◌/◌, ◌%◌, ltb, Bool, true, false, cond, IsTrue, List, [], ◌∷◌, ◌++◌, length, map, Option, Some, None, ap, ◌∙◌, refl, rules, arith}
 use Rattle.std.specs.Prelude.{option_to_list, IfSome}
 use Rattle.std.specs.Int.{w16, w32, to_le_bytes}
@@ -18,7 +18,7 @@ use Rattle.scanner_table.specs.declared.profile.SlotConfig.{SlotConfig}
 use Rattle.scanner_table.specs.Requests.{segment_of, slot_path}
 use Rattle.scanner_table.specs.Profiles.{is_out_len, is_config, has_lengths}
 
--- ---- what a profile allows
+-- ---- the limits of a profile
 
 out_bound : (kind : Kind) (len : ℕ) → is_out_len kind len ≡ true → len ≤ 1400
 out_bound ExclusiveOwner len is = grind (arith, nat_tests)

@@ -1,4 +1,4 @@
--- What a draft answers that began with the table, and the place that is found.
+-- The answer of a transaction that began with the table, and the slot that a lookup found.
 use Rattle.std.proofs.Common.{◌≡◌, ℕ, Bool, true, false, cond, List, [], ◌∷◌, find, Option, Some, sym, ◌∙◌, ap, subst}
 use Rattle.scanner_table.specs.declared.table.ScannerTable.{ScannerTable}
 use Rattle.scanner_table.specs.declared.profile.SlotConfig.{SlotConfig}
@@ -12,7 +12,7 @@ use Rattle.slot_runs.proofs.SlotNumbers.{Each, StandsIn, slots_stand}
 pub is_done : (t : ScannerTable) (effect : Effect) (d : Progress) → d ≡ followed (begun t) effect → progress_next d ≡ done effect
 is_done t effect d is = ap progress_next is
 
--- an effect on a place that stands in the table
+-- an effect on a slot that is one of the table's
 pub slot_done : (effect : ScannerTable → IndexedSlot → Effect) (t : ScannerTable) (indexed : IndexedSlot) (number : ℕ) (start now : Progress) → slot_at t number ≡ Some indexed → start ≡ begun t → now ≡ after_at effect number start → progress_next now ≡ done (effect t indexed)
 slot_done effect t indexed number start now stands is made =
     is_done t (effect t indexed) now (made ∙ ap (after_at effect number) is ∙ ap (λ (o : Option IndexedSlot). followed (begun t) (at_found effect t o)) stands)
@@ -29,7 +29,7 @@ each_found : (P : IndexedSlot → Type 0) (test : IndexedSlot → Bool) (all : L
 each_found P test [] indexed each e = absurd cc
 each_found P test (first ∷ rest) indexed each e = find_each P test (test first) first indexed (find test rest) each.0 (each_found P test rest indexed each.1) e
 
--- a place that is found stands in its table
+-- a slot that a lookup found is one of its table's
 found_stands : (t : ScannerTable) (test : IndexedSlot → Bool) (indexed : IndexedSlot) → Some indexed ≡ find test (indexed_slots t) → slot_at t indexed.number ≡ Some indexed
 found_stands t test indexed is = each_found (StandsIn t) test (indexed_slots t) indexed (slots_stand t).each (sym is)
 

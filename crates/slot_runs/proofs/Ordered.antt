@@ -1,4 +1,4 @@
--- The order of what is taken of places is theirs.
+-- Expiries are in the order of their slots.
 use Rattle.std.proofs.Common.{◌≡◌, ◌<◌, ◌≤◌, ℕ, zero, suc, ◌+◌, Bool, true, false, cond, List, [], ◌∷◌, map, drop, get_or, length, filter, refl, sym, ◌∙◌, ap, subst, arith}
 use Rattle.std.proofs.lemmas.List.{length-map}
 use Rattle.std.proofs.lemmas.List.{drop_all}
@@ -27,7 +27,7 @@ ordered_is : (all : List IndexedSlot) → in_order expires_before (map expiry_of
 ordered_is [] = refl
 ordered_is (indexed ∷ rest) = ap (inserted expires_before (expiry_of indexed)) (ordered_is rest) ∙ inserted_is indexed (in_order by_deadline rest)
 
--- in order they are those of the places that expire
+-- in order they are those of the slots that expire
 pub expiries_are : (t : ScannerTable) (found ordered : List Expiry) → found ≡ map expiry_of (filter (has_expired t.clock) (indexed_slots t)) → ordered ≡ in_order expires_before found → ordered ≡ map expiry_of (expired_slots t)
 expiries_are t found ordered is sorted = sorted ∙ ap (in_order expires_before) is ∙ ordered_is (filter (has_expired t.clock) (indexed_slots t))
 
@@ -39,7 +39,7 @@ all_remain d = record {
   stand = stand_in_order d.table by_deadline (filter (has_expired d.table.clock) (indexed_slots d.table)) (stand_filter d.table (has_expired d.table.clock) (indexed_slots d.table) (slots_stand d.table));
 }
 
--- the place of the next one
+-- the slot of the next one
 pub record Next (all : List IndexedSlot) (index : ℕ) (e : Expiry) : Type 0 where
   pub indexed : IndexedSlot
   pub rest : drop index all ≡ indexed ∷ drop (suc index) all

@@ -1,4 +1,4 @@
--- A run over places by their numbers: what the whole adds is what is added so far, and then what the places
+-- A run over slots by their numbers: the whole adds what was added so far, and then what the slots
 -- from the next number on add.
 use Rattle.std.proofs.Common.{◌≡◌, ◌<◌, ◌≤◌, ℕ, zero, suc, ◌+◌, ◌==◌, Bool, true, false, cond, List, [], ◌∷◌, ◌++◌, length, map, drop, filter, find, Option, Some, None, refl, sym, ◌∙◌, ap, arith, append_assoc}
 use Rattle.std.specs.Prelude.{option_to_list}
@@ -26,7 +26,7 @@ adds_both d first next =
 pub adds_nothing : (d : Progress) → followed d (nothing d.table) ≡ d
 adds_nothing d = rw (append-nil d.frames, append-nil d.notices) refl
 
--- ---- the places from a number on
+-- ---- the slots from a number on
 
 no_slots : (number : ℕ) (configs : List SlotConfig) → indexed_from number configs [] ≡ []
 no_slots number [] = refl
@@ -45,7 +45,7 @@ go_on number (suc index) from (config ∷ configs) (slot ∷ slots) is =
     let other : (from == number) ≡ false = grind (arith, nat_tests, is) in
     rw other (go_on number index (suc from) configs slots (omega (arith, is)))
 
--- the place of the number, if there is one, and the later ones
+-- the slot of the number, if there is one, and the later ones
 remaining : (t : ScannerTable) (number : ℕ) → indexed_from number (drop number t.profile.slots) (drop number t.slots) ≡ option_to_list (slot_at t number) ++ indexed_from (suc number) (drop (suc number) t.profile.slots) (drop (suc number) t.slots)
 remaining t number = go_on number number 0 t.profile.slots t.slots (omega arith)
 
@@ -56,7 +56,7 @@ find_passes : (test : IndexedSlot → Bool) (b : Bool) (first indexed : IndexedS
 find_passes test true first indexed rest is later e = let same : first ≡ indexed = cc in ap test (sym same) ∙ is
 find_passes test false first indexed rest is later e = later e
 
--- what is found passes the test
+-- the slot that a search finds passes its test
 pub found_passes : (test : IndexedSlot → Bool) (all : List IndexedSlot) (indexed : IndexedSlot) → find test all ≡ Some indexed → test indexed ≡ true
 found_passes test [] indexed e = absurd cc
 found_passes test (first ∷ rest) indexed e = find_passes test (test first) first indexed (find test rest) refl (found_passes test rest indexed) e
@@ -69,7 +69,7 @@ found_number t number indexed is = number_is indexed.number number (found_passes
 
 -- ---- the run
 
--- what is left of a run from a number on
+-- the rest of a run from a number on
 abbrev pub left : (ScannerTable → IndexedSlot → Effect) → (IndexedSlot → Bool) → ℕ → ScannerTable → Effect
 left effect test number t = on_each effect (filter test (indexed_from number (drop number t.profile.slots) (drop number t.slots))) t
 
@@ -77,7 +77,7 @@ skipped : (test : IndexedSlot → Bool) (found : Option IndexedSlot) (rest : Lis
 skipped test None rest is = refl
 skipped test (Some indexed) rest is = rw is refl
 
--- a place that does not pass is left
+-- a slot that does not pass adds nothing
 pub skip : (effect : ScannerTable → IndexedSlot → Effect) (test : IndexedSlot → Bool) (all now : Progress) (number : ℕ) → all ≡ followed now (left effect test number now.table) → at_passes test (slot_at now.table number) ≡ false → all ≡ followed now (left effect test (suc number) now.table)
 skip effect test all now number is fails =
     is ∙ ap (λ (ps : List IndexedSlot). followed now (on_each effect ps now.table)) (ap (filter test) (remaining now.table number) ∙ skipped test (slot_at now.table number) _ fails)
@@ -93,13 +93,13 @@ taken effect test t number rest (Some indexed) is passes = record { indexed = in
   kept : filter test (indexed ∷ rest) ≡ indexed ∷ filter test rest
   kept = let holds : test indexed ≡ true = passes in rw holds refl
 
--- a change of one slot leaves the later places
+-- a change of one slot leaves the later slots
 tail_same : (number n : ℕ) (t u : ScannerTable) → Changes n t u → n < suc number → indexed_from (suc number) (drop (suc number) t.profile.slots) (drop (suc number) t.slots) ≡ indexed_from (suc number) (drop (suc number) u.profile.slots) (drop (suc number) u.slots)
 tail_same number n t u changes below =
     ap (λ (p : ScannerProfile). indexed_from (suc number) (drop (suc number) p.slots) (drop (suc number) t.slots)) (sym changes.profile)
     ∙ ap (indexed_from (suc number) (drop (suc number) u.profile.slots)) (sym (changes.later (suc number) below))
 
--- a place that passes adds its effect
+-- a slot that passes adds its effect
 pub take_one : (effect : ScannerTable → IndexedSlot → Effect) (test : IndexedSlot → Bool) (all now next : Progress) (number : ℕ) → IsTame effect → all ≡ followed now (left effect test number now.table) → at_passes test (slot_at now.table number) ≡ true → next ≡ after_at effect number now → all ≡ followed next (left effect test (suc number) next.table)
 take_one effect test all now next number tame is passes made =
     let t = now.table in

@@ -1,4 +1,4 @@
--- Places that stand in a table, each with a number of its own, in any order.
+-- Slots of a table, each with a number of its own, in any order.
 use Rattle.std.proofs.Common.{◌≡◌, ◌<◌, ℕ, zero, suc, ◌+◌, ◌==◌, Bool, true, false, cond, List, [], ◌∷◌, filter, find, slice_get, Option, Some, None, refl, sym, ◌∙◌, ap, subst, arith}
 use Rattle.std.specs.List.{list_any}
 use Rattle.std.proofs.lemmas.Bool.{or_parts}
@@ -14,9 +14,9 @@ use Rattle.slot_transactions.specs.Transactions.{Progress, followed, at_found, a
 use Rattle.slot_runs.proofs.Tame.{Changes, IsTame}
 use Rattle.slot_runs.proofs.Remaining.{adds_both, adds_nothing}
 
--- ---- the place of a number
+-- ---- the slot of a number
 
--- the place of a config and a slot, where both are there
+-- the indexed slot of a configuration and a slot, if both are there
 abbrev indexed_at : ℕ → Option SlotConfig → Option Slot → Option IndexedSlot
 indexed_at number None slot = None
 indexed_at number (Some config) None = None
@@ -37,13 +37,13 @@ found_from number (suc index) from (config ∷ configs) (slot ∷ slots) is =
 at_get : (t : ScannerTable) (number : ℕ) → slot_at t number ≡ indexed_at number (slice_get t.profile.slots number) (slice_get t.slots number)
 at_get t number = found_from number number 0 t.profile.slots t.slots (omega arith)
 
--- the places of other numbers than that of a changed slot stay
+-- the slots of other numbers than that of a changed slot stay
 at_other : (t u : ScannerTable) (number n : ℕ) → Changes number t u → (n == number) ≡ false → slot_at u n ≡ slot_at t n
 at_other t u number n changes other =
     at_get u n ∙ ap (λ (p : ScannerProfile). indexed_at n (slice_get p.slots n) (slice_get u.slots n)) changes.profile
     ∙ ap (indexed_at n (slice_get t.profile.slots n)) (changes.others n other) ∙ sym (at_get t n)
 
--- ---- places that stand
+-- ---- slots of a table
 
 abbrev pub Each : (IndexedSlot → Type 0) → List IndexedSlot → Type 0
 Each P [] = Unit {0}
@@ -53,11 +53,11 @@ abbrev pub Differ : List IndexedSlot → Type 0
 Differ [] = Unit {0}
 Differ (indexed ∷ rest) = (list_any (is_numbered indexed.number) rest ≡ false) × Differ rest
 
--- the place stands in the table
+-- the slot is one of the table's
 abbrev pub StandsIn : ScannerTable → IndexedSlot → Type 0
 StandsIn t indexed = slot_at t indexed.number ≡ Some indexed
 
--- the places stand in the table, and each has a number of its own
+-- the slots are slots of the table, and each has its own number
 pub record Stand (t : ScannerTable) (all : List IndexedSlot) : Type 0 where
   pub each : Each (StandsIn t) all
   pub differ : Differ all
@@ -94,7 +94,7 @@ each_found : (all : List IndexedSlot) → Differ all → Each (FoundIn all) all
 each_found [] differ = tt
 each_found (indexed ∷ rest) differ = (found_head indexed rest, found_behind indexed rest rest differ.0 (each_found rest differ.1))
 
--- the places of a table stand in it
+-- all slots of a table are slots of it
 pub slots_stand : (t : ScannerTable) → Stand t (indexed_slots t)
 slots_stand t =
     let differ = slots_differ 0 t.profile.slots t.slots in
@@ -185,7 +185,7 @@ stand_still t u number (indexed ∷ some) changes none each =
     let parts = or_parts (indexed.number == number) (list_any (is_numbered number) some) none in
     (at_other t u number indexed.number changes parts.0 ∙ each.0, stand_still t u number some changes parts.1 each.1)
 
--- what is left of a run over a list of places: they stand in the table so far
+-- the rest of a run over a list of slots: they are slots of the table so far
 pub record Remains (effect : ScannerTable → IndexedSlot → Effect) (all now : Progress) (rest : List IndexedSlot) : Type 0 where
   pub adds : all ≡ followed now (on_each effect rest now.table)
   pub stand : Stand now.table rest

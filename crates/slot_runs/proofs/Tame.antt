@@ -1,4 +1,4 @@
--- An effect on a place changes the slot of its number alone, and no profile.
+-- An effect on a slot changes the slot of its number alone, and no profile.
 use Rattle.std.proofs.Common.{◌≡◌, ◌<◌, ℕ, zero, suc, ◌==◌, Bool, true, false, cond, List, [], ◌∷◌, drop, slice_get, slice_set, Option, Some, None, refl, ◌∙◌, ap, arith}
 use Rattle.std.proofs.lemmas.Bool.Decides.{nat_tests}
 use Rattle.std.proofs.lemmas.List.{drop-set-lt}
@@ -70,7 +70,7 @@ tame_expired t indexed (Established c) = set_changes indexed.number t _ _ refl r
 tame_expired t indexed (TimedOut link) = nothing_changes indexed.number t
 tame_expired t indexed (Closing c) = nothing_changes indexed.number t
 
--- each move changes one slot
+-- each action changes one slot
 pub actions_are_tame : (action : SlotAction) → IsTame (effect_of action)
 actions_are_tame slot_action.Open t indexed = tame_opened t indexed
 actions_are_tame slot_action.GiveUp t indexed = tame_given t indexed indexed.slot.state

@@ -1,4 +1,4 @@
--- What a frame brings.
+-- The outcome of a frame.
 use Rattle.std.specs.Prelude.{[]}
 use Rattle.cip_events.specs.declared.event.Verdict.TheVariants as verdict
 use Rattle.cip_events.specs.Answers.{plain_answer}
@@ -9,11 +9,11 @@ use Rattle.slot_transactions.specs.Transactions.{Progress, progress_answer, view
 use Rattle.slot_runs.specs.declared.messages.FrameOutcome.{FrameOutcome}
 use Rattle.slot_runs.specs.declared.messages.FrameOutcome.TheVariants as frame_outcome
 
--- the answer with what is sent and told, and the table after it
+-- the answer with the requests and notices, and the next table
 abbrev pub progress_next : Progress → Next
 progress_next so_far = (progress_answer so_far [], so_far.table)
 
--- the answer to a frame, and the table after it
+-- the answer to a frame, and the next table
 abbrev pub frame_next : ScannerProfile → ScannerTable → FrameOutcome → Next
 frame_next profile t frame_outcome.BadFrame = (plain_answer verdict.BadFrame, t)
 frame_next profile t frame_outcome.Ignored = (plain_answer verdict.Ignored, t)

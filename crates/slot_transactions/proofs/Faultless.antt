@@ -1,4 +1,4 @@
--- What a faultless profile says of lengths and times.
+-- Lengths and times of a profile without a fault.
 use Rattle.std.proofs.Common.{◌≡◌, ◌≤◌, ◌^◌, ◌∙◌, ap, nat_le, length, Ok, Err, ℕ, zero, suc, Bool, true, false, not, ◌&&◌, ◌==◌, List, [], ◌∷◌, slice_get, Option, Some, None, refl, arith}
 use Rattle.std.specs.List.{list_all}
 use Rattle.std.proofs.lemmas.Bool.Decides.{nat_tests}
@@ -59,7 +59,7 @@ faultless profile is =
       retry = wait_fits profile.retry waits.1;
     }
 
--- what holds of all holds of each
+-- a property of all holds of each
 pub all_at : {A : Type 0} (p : A → Bool) (xs : List A) (i : ℕ) (x : A) → list_all p xs ≡ true → slice_get xs i ≡ Some x → p x ≡ true
 all_at p [] i x all is = absurd (cc)
 all_at p (y ∷ ys) zero x all is = let both = both_so (p y) (list_all p ys) all in let same : y ≡ x = cc in rw (← same) both.0
@@ -98,7 +98,7 @@ interval_fits rpi is =
     let le : rpi ≤ 10000000 = grind (arith, nat_tests) in
     omega arith
 
--- a success where nothing is amiss has packet intervals
+-- a successful reply without a mismatch has packet intervals within their limits
 pub none_amiss : (requested : Requested) (opened : made.Opened) (free : Bool) → first_case (answer_tests requested opened free) ≡ None → interval_ms opened.t_o_api_us ≤ 10000
 none_amiss requested opened free is =
     let second = (no_more (not (same_triad opened.triad requested.triad)) mismatch.Triad ((not (is_requested_id requested.t_o_id opened.t_o_id && free), mismatch.Id) ∷ (not (has_intervals opened), mismatch.Api) ∷ []) is).1 in

@@ -1,4 +1,4 @@
--- The place of a number: the config and the slot of that index.
+-- The indexed slot of a number: the configuration and the slot of that index.
 use Rattle.std.proofs.Common.{◌≡◌, ◌<◌, ℕ, zero, suc, ◌+◌, ◌==◌, true, false, List, [], ◌∷◌, find, slice_get, slice_set, get_or, length, Option, Some, None, refl, sym, ◌∙◌, ap, arith}
 use Rattle.std.proofs.lemmas.Bool.Decides.{nat_tests}
 use Rattle.std.proofs.lemmas.Option.{slice_get_within, slice_get-get_or}
@@ -6,7 +6,7 @@ use Rattle.scanner_table.specs.declared.profile.SlotConfig.{SlotConfig}
 use Rattle.scanner_table.specs.declared.slot.Slot.{Slot}
 use Rattle.scanner_table.specs.Slots.{IndexedSlot, indexed_from, is_numbered}
 
--- the place of a config and a slot, where both are there
+-- the indexed slot of a configuration and a slot, if both are there
 abbrev indexed_at : ℕ → Option SlotConfig → Option Slot → Option IndexedSlot
 indexed_at number None slot = None
 indexed_at number (Some config) None = None
@@ -27,7 +27,7 @@ found_from number (suc index) from (config ∷ configs) (slot ∷ slots) is =
 found_at : (number : ℕ) (configs : List SlotConfig) (slots : List Slot) → find (is_numbered number) (indexed_from 0 configs slots) ≡ indexed_at number (slice_get configs number) (slice_get slots number)
 found_at number configs slots = found_from number number 0 configs slots (omega arith)
 
--- what is known of the place that is found
+-- the properties of the slot that the lookup found
 pub record Found (number : ℕ) (configs : List SlotConfig) (slots : List Slot) (indexed : IndexedSlot) : Type 0 where
   pub numbered : indexed.number ≡ number
   pub config : slice_get configs number ≡ Some indexed.config
@@ -66,7 +66,7 @@ read_back [] i x lt = absurd (omega arith)
 read_back (y ∷ ys) zero x lt = refl
 read_back (y ∷ ys) (suc i) x lt = read_back ys i x (omega arith)
 
--- the place of a number, once another slot stands in it
+-- the indexed slot of a number, after its slot was replaced
 pub refound : (number : ℕ) (configs : List SlotConfig) (slots : List Slot) (indexed : IndexedSlot) (slot : Slot) → Some indexed ≡ find (is_numbered number) (indexed_from 0 configs slots) → Some (record indexed { slot = slot }) ≡ find (is_numbered number) (indexed_from 0 configs (slice_set slots number slot))
 refound number configs slots indexed slot is =
     let known = found number configs slots indexed is in

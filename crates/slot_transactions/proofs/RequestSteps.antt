@@ -1,4 +1,4 @@
--- Openings and closings as requests and changes of how the slot stands.
+-- Openings and closings as requests and changes of a slot.
 use Rattle.std.proofs.Common.{◌≡◌, ◌≤◌, ◌<◌, ℕ, Bool, true, false, nat_le, if◌then◌else◌, List, [], ◌∷◌, ◌++◌, length, slice_get, slice_set, Option, Some, None, refl, sym, ◌∙◌, ap, subst, arith, IsTrue, Result, Ok, Err}
 use Rattle.std.specs.Result.{IfOk}
 use Rattle.cip_types.specs.declared.memory.OutOfMemory as memory
@@ -33,7 +33,7 @@ use Rattle.slot_transactions.proofs.Found.{found, at_index, refound, there}
 pub within : (a b : ℕ) → nat_le a b ≡ true → a ≤ b
 within a b is = grind (arith, nat_tests)
 
--- what is left for a place is left for its config
+-- the numbers left for a slot are left for its configuration
 pub left_for : (t : ScannerTable) (number : ℕ) (config : SlotConfig) → number < length t.slots → slice_get t.profile.slots number ≡ Some config → ForSome (slot_at t number) (λ indexed. IsTrue (can_open t indexed.config)) → (has_request t ≡ true) × (has_id t config ≡ true)
 left_for t number config slot_in is left =
     let s = there t.slots number slot_in in

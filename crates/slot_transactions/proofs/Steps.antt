@@ -1,4 +1,4 @@
--- What one change of a slot makes of a draft.
+-- A transaction after one change of a slot.
 use Rattle.std.proofs.Common.{◌≡◌, ℕ, List, [], ◌++◌, slice_set, slice_get, replicate, Option, Some, None, refl, sym, ◌∙◌, ap}
 use Rattle.std.specs.Option.{ForSome}
 use Rattle.std.proofs.lemmas.List.{append-nil}
@@ -25,7 +25,7 @@ use Rattle.slot_transactions.proofs.Found.{found}
 pub still : (so_far : Progress) → so_far ≡ followed so_far (nothing so_far.table)
 still so_far = rw (append-nil so_far.frames, append-nil so_far.notices) refl
 
--- the same where no place has the number
+-- the same where no slot has the number
 pub none_found : (effect : ScannerTable → IndexedSlot → Effect) (so_far : Progress) (number : ℕ) → None ≡ slot_at so_far.table number → so_far ≡ followed so_far (at_number effect so_far.table number)
 none_found effect so_far number is =
     still so_far ∙ ap (λ (o : Option IndexedSlot). followed so_far (at_found effect so_far.table o)) is
@@ -38,7 +38,7 @@ some_found effect so_far new number indexed is made =
 pub changed_adds : (so_far : Progress) (indexed : IndexedSlot) (slot : Slot) (reported notices : List Notice) (slots : List Slot) → notices ≡ so_far.notices ++ (reported ++ state_notices indexed.number indexed.slot.state slot.state) → slots ≡ slice_set so_far.table.slots indexed.number slot → record { frames = so_far.frames; notices = notices; table = record so_far.table { slots = slots } } ≡ followed so_far (changed so_far.table indexed slot reported)
 changed_adds so_far indexed slot reported notices slots said set = rw (said, set, append-nil so_far.frames) refl
 
--- a slot that stands otherwise
+-- a changed slot
 pub slot_changed_adds : (so_far : Progress) (number : ℕ) (slot_change : SlotChange) (reported : Option Notice) (indexed : IndexedSlot) (notices : List Notice) (slots : List Slot) → Some indexed ≡ slot_at so_far.table number → notices ≡ so_far.notices ++ (listed reported ++ state_notices number indexed.slot.state slot_change.state) → ForSome (slice_get so_far.table.slots number) (λ slot. slots ≡ slice_set so_far.table.slots number (with_change slot_change slot)) → record { frames = so_far.frames; notices = notices; table = record so_far.table { slots = slots } } ≡ followed so_far (at_number (slot_changed slot_change reported) so_far.table number)
 slot_changed_adds so_far number slot_change reported indexed notices slots is said set =
     let known = found number so_far.table.profile.slots so_far.table.slots indexed is in
@@ -46,7 +46,7 @@ slot_changed_adds so_far number slot_change reported indexed notices slots is sa
     let at = sym known.numbered in
     some_found (slot_changed slot_change reported) so_far _ number indexed is (changed_adds so_far indexed (with_change slot_change indexed.slot) (listed reported) notices slots (said ∙ ap (λ (n : ℕ). so_far.notices ++ (listed reported ++ state_notices n indexed.slot.state slot_change.state)) at) (put ∙ ap (λ (n : ℕ). slice_set so_far.table.slots n (with_change slot_change indexed.slot)) at))
 
--- an effect on a place that is a change of how the slot stands
+-- an effect that is a change of one slot
 pub by_change : (effect : ScannerTable → IndexedSlot → Effect) (so_far new : Progress) (number : ℕ) (slot_change : SlotChange) (reported : Option Notice) (indexed : IndexedSlot) → Some indexed ≡ slot_at so_far.table number → new ≡ after_at (slot_changed slot_change reported) number so_far → slot_changed slot_change reported so_far.table indexed ≡ effect so_far.table indexed → new ≡ after_at effect number so_far
 by_change effect so_far new number slot_change reported indexed is made same =
     made
@@ -65,7 +65,7 @@ occupied_adds so_far number opening opened link connection image indexed notices
     let reported : notices ≡ so_far.notices ++ ([] ++ state_notices number indexed.slot.state slot.state) = said ∙ ap (λ (s : Slot). so_far.notices ++ ([] ++ state_notices number indexed.slot.state s.state)) same in
     some_found (established_by opening opened) so_far _ number indexed is (changed_adds so_far indexed slot [] notices slots (reported ∙ ap (λ (n : ℕ). so_far.notices ++ ([] ++ state_notices n indexed.slot.state slot.state)) at) (put ∙ ap (λ (s : Slot). slice_set so_far.table.slots number s) same ∙ ap (λ (n : ℕ). slice_set so_far.table.slots n slot) at))
 
--- a success where something is amiss
+-- a successful reply with a mismatch
 pub judged_adds : (so_far : Progress) (number : ℕ) (indexed : IndexedSlot) (opening : pending.PendingOpen) (opened : made.Opened) (why : Mismatch) → Some indexed ≡ slot_at so_far.table number → first_case (answer_tests opening.requested opened (is_id_free so_far.table indexed opened.t_o_id)) ≡ Some why → after_at (refused_by (reason.Mismatch why)) number so_far ≡ after_at (judged_by opening opened) number so_far
 judged_adds so_far number indexed opening opened why is amiss =
     ap (λ (o : Option IndexedSlot). followed so_far (at_found (refused_by (reason.Mismatch why)) so_far.table o)) (sym is)

@@ -1,4 +1,4 @@
--- What the effects of an event add up to while they come.
+-- Transactions: the effects of one event so far, and the changes of one slot that they are made of.
 use Rattle.std.specs.Prelude.{◌≡◌, ℕ, true, false, List, [], ◌∷◌, ◌++◌, map, Option, Some, None, Result, Ok, Err}
 use Rattle.std.specs.Result.{MatchResult}
 use Rattle.cip_types.specs.declared.names.Ms.{Ms}
@@ -44,54 +44,54 @@ use Rattle.slot_transactions.specs.declared.transaction.Transaction.{Transaction
 use Rattle.slot_transactions.specs.declared.transaction.SlotChange.{SlotChange}
 use Rattle.slot_places.specs.Views.{table_of}
 
--- the frames that are sent so far, what is told so far, and the table so far
+-- the frames, the notices and the table so far
 pub record Progress : Type 0 where
   pub frames : List Frame
   pub notices : List Notice
   pub table : ScannerTable
 
--- the table as it is, nothing being sent or told
+-- the beginning: the table, without frames and notices
 abbrev pub begun : ScannerTable → Progress
 begun t = record { frames = []; notices = []; table = t }
 
--- what an effect on the table so far adds
+-- the transaction after an effect on its table
 abbrev pub followed : Progress → Effect → Progress
 followed so_far effect = record { frames = so_far.frames ++ map sent_frame effect.sent; notices = so_far.notices ++ effect.notices; table = effect.table }
 
 abbrev pub view_transaction : ScannerProfile → Transaction → Progress
 view_transaction profile transaction = record { frames = transaction.frames.items; notices = transaction.notices.items; table = table_of profile transaction.scanner }
 
--- an effect on the place that is found, if one is
+-- the effect on the slot that the lookup found, if any
 abbrev pub at_found : (ScannerTable → IndexedSlot → Effect) → ScannerTable → Option IndexedSlot → Effect
 at_found effect t None = nothing t
 at_found effect t (Some indexed) = effect t indexed
 
--- an effect on the place of a number; where the scanner has not so many slots there is none
+-- the effect on the slot of a number; none if no slot has the number
 abbrev pub at_number : (ScannerTable → IndexedSlot → Effect) → ScannerTable → ℕ → Effect
 at_number effect t number = at_found effect t (slot_at t number)
 
--- what an effect on the place of a number adds
+-- the transaction after an effect on the slot of a number
 abbrev pub after_at : (ScannerTable → IndexedSlot → Effect) → ℕ → Progress → Progress
 after_at effect number so_far = followed so_far (at_number effect so_far.table number)
 
--- a slot that stands otherwise, its bytes being as they are
+-- a slot after a change, which leaves its bytes
 abbrev pub with_change : SlotChange → Slot → Slot
 with_change slot_change slot = record slot { state = slot_change.state; desired_up = slot_change.desired_up; retry_at = slot_change.retry_at }
 
--- what there is, as a list
+-- the value, if there is one, as a list
 abbrev pub listed : {A : Type 0} → Option A → List A
 listed None = []
 listed (Some a) = a ∷ []
 
--- a slot stands otherwise, which is told
+-- a slot changes, with its notices
 abbrev pub slot_changed : SlotChange → Option Notice → ScannerTable → IndexedSlot → Effect
 slot_changed slot_change reported t indexed = changed t indexed (with_change slot_change indexed.slot) (listed reported)
 
--- how a slot stands that is not to be open
+-- the change of a slot whose connection is no longer desired
 abbrev pub resigned_change : Slot → SlotChange
 resigned_change slot = record { state = Idle; desired_up = false; retry_at = slot.retry_at }
 
--- how a slot stands that waits for the answer to its next opening
+-- the change of a slot that waits for the reply to its next opening
 abbrev pub opening_change : ScannerTable → SlotConfig → Slot → SlotChange
 opening_change t config slot = record {
   state = Opening (record { request = t.next_request; requested = next_requested t config; deadline = later t.clock t.profile.open_timeout });
@@ -99,31 +99,31 @@ opening_change t config slot = record {
   retry_at = slot.retry_at;
 }
 
--- the next request is numbered, and sent in this frame
+-- the next request, sent in this frame
 abbrev pub with_request : Frame → Progress → Progress
 with_request frame so_far = record so_far { frames = so_far.frames ++ frame ∷ []; table = counted so_far.table }
 
--- a slot is to be open from now on, and opens where it can at once
+-- the connection of a slot is desired from now on, and the slot opens at once if it can
 abbrev pub freshly_started : ScannerTable → IndexedSlot → Effect
 freshly_started t indexed = started t indexed (desired_slot t indexed.slot)
 
--- a Forward_Open is sent within this session
+-- the slot sends a Forward_Open within this session
 abbrev pub open_requested_within : Session → ScannerTable → IndexedSlot → Effect
 open_requested_within session t indexed = open_requested t indexed session
 
--- the session of a stream has come so far
+-- the session of a stream is in a new stage
 abbrev pub with_staged : ℕ → Stage → Progress → Progress
 with_staged number stage so_far = record so_far { table = with_stage so_far.table number stage }
 
--- a stream is not open any more
+-- a stream is removed
 abbrev pub without_cut : ℕ → Progress → Progress
 without_cut number so_far = record so_far { table = without_stream so_far.table number }
 
--- what is answered, with datagrams
+-- the answer, with these datagrams
 abbrev pub progress_answer : Progress → List OutgoingDatagram → Answer
 progress_answer so_far datagrams = record { frames = so_far.frames; datagrams = datagrams; verdict = Done; notices = so_far.notices }
 
--- how a slot stands that waits for the answer to its closing
+-- the change of a slot that waits for the reply to its Forward_Close
 abbrev pub closing_change : ScannerTable → Connection → Slot → SlotChange
 closing_change t connection slot = record {
   state = Closing (record { request = t.next_request; link = connection.link; deadline = later t.clock t.profile.open_timeout });
@@ -131,50 +131,50 @@ closing_change t connection slot = record {
   retry_at = slot.retry_at;
 }
 
--- a Forward_Close is sent within this session
+-- the slot sends a Forward_Close within this session
 abbrev pub close_requested_within : Connection → Session → ScannerTable → IndexedSlot → Effect
 close_requested_within connection session t indexed = close_requested t indexed connection session
 
--- the connection of a slot is closed
+-- the slot closes its connection
 abbrev pub closed : Connection → ScannerTable → IndexedSlot → Effect
 closed connection t indexed = closed_within t indexed connection (session_with t indexed.config.target)
 
--- what an answer does to the slot that waits for it
+-- the effect of the answer on the slot that waits for it
 abbrev pub answered_by : pending.PendingOpen → Result OpenAnswer Reason → ScannerTable → IndexedSlot → Effect
 answered_by opening reported t indexed = answered t indexed opening reported
 
--- a reply opens nothing
+-- the reply opens no connection
 abbrev pub refused_by : Reason → ScannerTable → IndexedSlot → Effect
 refused_by why t indexed = refused t indexed why
 
--- a slot has a connection
+-- the slot is established with a new connection
 abbrev pub established_by : pending.PendingOpen → made.Opened → ScannerTable → IndexedSlot → Effect
 established_by opening opened t indexed = changed t indexed (established_slot indexed (new_connection t indexed opening opened)) []
 
--- want of memory as a fault of a step
+-- `OutOfMemory` as a fault of a step
 abbrev pub faulted : Result (Unit {0}) memory.OutOfMemory → Result (Unit {0}) StepFault
 faulted (Ok done) = Ok done
 faulted (Err why) = Err OutOfMemory
 
--- a call that may be refused: it is, with the same fault, or adds its effect, or wants memory
+-- a call that may be refused: it is refused with the same fault, or adds its effect, or finds no memory
 abbrev pub Adds : Result Effect StepFault → Progress → Result (Unit {0}) StepFault → Progress → Type 0
 Adds (Err why) so_far result new = result ≡ Err why
 Adds (Ok effect) so_far result new = MatchResult result (λ _. new ≡ followed so_far effect) (λ why. why ≡ OutOfMemory)
 
--- what names the connection that a success opens, or what is amiss
+-- the triad and ids of the connection that a successful reply opens, or the mismatch
 abbrev pub link_or_why : Requested → made.Opened → Option Mismatch → Result Link Mismatch
 link_or_why requested opened None = Ok (link_of requested opened)
 link_or_why requested opened (Some why) = Err why
 
--- a slot that has a connection, with other bytes for its image
+-- a slot with a new connection and a new image
 abbrev pub occupied : SlotState → List ℕ → Slot → Slot
 occupied state image slot = record slot { state = state; image = image }
 
--- what a success does to the slot that waits for it
+-- the effect of a successful reply on the slot that waits for it
 abbrev pub judged_by : pending.PendingOpen → made.Opened → ScannerTable → IndexedSlot → Effect
 judged_by opening opened t indexed = judged_success t indexed opening opened (first_case (answer_tests opening.requested opened (is_id_free t indexed opened.t_o_id)))
 
--- the producer of a connection that begins
+-- the producer of a new connection
 abbrev pub production_of : Ms → SlotConfig → ℕ → Production
 production_of clock config number = record {
   producer = number;
@@ -188,7 +188,7 @@ production_of clock config number = record {
   last = None;
 }
 
--- the connection that a success opens, by what it is made from
+-- the connection that a successful reply opens, from its parts
 abbrev pub connection_of : Ms → SlotConfig → ℕ → ℕ → Link → made.Opened → Connection
 connection_of clock config number opening link opened = record {
   opening = opening;
