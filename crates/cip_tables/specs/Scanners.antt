@@ -16,8 +16,12 @@ use Rattle.cip_tables.specs.Whole.{IsWholeDevice}
 -- The property holds of every scanner's table that a run from a whole table reaches, and of every one that a run from a fresh
 -- device reaches whose profile has no fault.
 pub record OverEveryScanner (Holds : ScannerTable → Type 0) : Type 0 where
-  pub whole : (old : DeviceTable) (events : List Event) (outcomes : List Outcome) (t : ScannerTable) → IsWholeDevice old → Runs old events outcomes (Scanner t) → Holds t
-  pub fresh : (made : Config) (events : List Event) (outcomes : List Outcome) (t : ScannerTable) → config_fault made ≡ None → Runs (opening_table made) events outcomes (Scanner t) → Holds t
+  pub whole :
+      (old : DeviceTable) (events : List Event) (outcomes : List Outcome) (t : ScannerTable) →
+      IsWholeDevice old → Runs old events outcomes (Scanner t) → Holds t
+  pub fresh :
+      (made : Config) (events : List Event) (outcomes : List Outcome) (t : ScannerTable) →
+      config_fault made ≡ None → Runs (opening_table made) events outcomes (Scanner t) → Holds t
 
 -- the property holds of each slot
 abbrev pub EachSlot : (IndexedSlot → Type 0) → List IndexedSlot → Type 0

@@ -19,13 +19,21 @@ IsSoundDevice (Scanner t) = IsWholeScanner t
 
 -- the property holds of every adapter's table that a run from a whole table or from a fresh device reaches
 pub record OverEveryRun (Holds : AdapterTable → Type 0) : Type 0 where
-  pub whole : (old : DeviceTable) (events : List Event) (outcomes : List Outcome) (t : AdapterTable) → IsWholeDevice old → Runs old events outcomes (Adapter t) → Holds t
-  pub fresh : (made : Config) (events : List Event) (outcomes : List Outcome) (t : AdapterTable) → Runs (opening_table made) events outcomes (Adapter t) → Holds t
+  pub whole :
+      (old : DeviceTable) (events : List Event) (outcomes : List Outcome) (t : AdapterTable) →
+      IsWholeDevice old → Runs old events outcomes (Adapter t) → Holds t
+  pub fresh :
+      (made : Config) (events : List Event) (outcomes : List Outcome) (t : AdapterTable) →
+      Runs (opening_table made) events outcomes (Adapter t) → Holds t
 
 -- the counter of the next connection id does not fall in a step
 abbrev pub StepsCountOn : Type 0
-StepsCountOn = (old : DeviceTable) (event : Event) (next : DeviceNext) → step old event ≡ Ok next → next_id_of old ≤ next_id_of next.1
+StepsCountOn =
+    (old : DeviceTable) (event : Event) (next : DeviceNext) →
+    step old event ≡ Ok next → next_id_of old ≤ next_id_of next.1
 
 -- nor in a run
 abbrev pub RunsCountOn : Type 0
-RunsCountOn = (old new : DeviceTable) (events : List Event) (outcomes : List Outcome) → Runs old events outcomes new → next_id_of old ≤ next_id_of new
+RunsCountOn =
+    (old new : DeviceTable) (events : List Event) (outcomes : List Outcome) →
+    Runs old events outcomes new → next_id_of old ≤ next_id_of new

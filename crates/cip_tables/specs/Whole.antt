@@ -27,7 +27,9 @@ with_next_id (Scanner t) counter = Scanner (record t { next_id = counter })
 
 -- a run from a whole table reaches a whole table
 abbrev pub RunsKeepWhole : Type 0
-RunsKeepWhole = (old new : DeviceTable) (events : List Event) (outcomes : List Outcome) → IsWholeDevice old → Runs old events outcomes new → IsWholeDevice new
+RunsKeepWhole =
+    (old new : DeviceTable) (events : List Event) (outcomes : List Outcome) →
+    IsWholeDevice old → Runs old events outcomes new → IsWholeDevice new
 
 -- the table of a fresh device is whole, if its profile has no fault
 abbrev pub FreshDevicesAreWhole : Type 0
@@ -35,4 +37,6 @@ FreshDevicesAreWhole = (made : Config) → config_fault made ≡ None → IsWhol
 
 -- each adapter's table that a run from such a device reaches is whole
 abbrev pub TablesAreWhole : Type 0
-TablesAreWhole = (made : Config) (events : List Event) (outcomes : List Outcome) (t : AdapterTable) → config_fault made ≡ None → Runs (opening_table made) events outcomes (Adapter t) → IsWhole t
+TablesAreWhole =
+    (made : Config) (events : List Event) (outcomes : List Outcome) (t : AdapterTable) →
+    config_fault made ≡ None → Runs (opening_table made) events outcomes (Adapter t) → IsWhole t

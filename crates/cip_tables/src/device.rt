@@ -48,7 +48,8 @@ pub trait Device {
 
     /// Delivers a class 1 datagram of a peer, as the event `Datagram` does. Takes no memory, and never fails.
     fn deliver(&mut self, peer: Node, bytes: &[u8]) -> Delivery
-        ensures { step (table self.old) (Event.Datagram peer bytes.now) ≡ Ok (plain_answer (Verdict.Delivered result), table self.new) };
+        ensures { step (table self.old) (Event.Datagram peer bytes.now)
+            ≡ Ok (plain_answer (Verdict.Delivered result), table self.new) };
 
     /// Writes an input of an adapter, or the output of a scanner's slot, as the event `Write` does. Takes memory only
     /// if a change-of-state producer of the input produces at once.

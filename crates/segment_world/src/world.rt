@@ -44,7 +44,12 @@ impl<A: Device, S: Device> Model for World<A, S> {
 
     ghost Value = { Segment };
 
-    ghost view = { λ w. record { nodes = w.nodes.items; tables = w.devices.items; sent = w.log.sent; streams = w.streams.streams } };
+    ghost view = { λ w. record {
+      nodes = w.nodes.items;
+      tables = w.devices.items;
+      sent = w.log.sent;
+      streams = w.streams.streams;
+    } };
 
     ghost invariant = { λ w. length w.nodes.items ≡ length w.devices.items };
 }
@@ -171,7 +176,9 @@ impl<A: Device, S: Device> World<A, S> {
     }
 
     fn next_frame(&mut self, stream: u16, direction: Direction) -> Result<Option<Answer>, ActFault>
-        ensures { ActFollows (taken_at stream direction self.old (slice_get self.old.streams stream)) self.old result self.new }
+        ensures { ActFollows
+            (taken_at stream direction self.old (slice_get self.old.streams stream))
+            self.old result self.new }
     {
         let arrival = match self.arrival(stream, direction) {
             Ok(arrival) => arrival,

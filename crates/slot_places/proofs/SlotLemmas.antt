@@ -142,7 +142,7 @@ same_slot : (b : Bool) (slot : Slot) (indexed : IndexedSlot) → b ≡ false →
 same_slot true slot indexed is = absurd (let e : true ≡ false = is in cc)
 same_slot false slot indexed is = refl
 
--- no slot with a smaller number changes
+-- the slots from a larger number on do not change
 unchanged : (number from : ℕ) (configs : List SlotConfig) (slots : List Slot) (slot : Slot) → number < from → map (changed_slot number slot) (indexed_from from configs slots) ≡ indexed_from from configs slots
 unchanged number from [] slots slot lt = refl
 unchanged number from (config ∷ configs) [] slot lt = refl
