@@ -60,7 +60,7 @@ counts_always = record {
     slots = record {
       same = λ t. record { profile = refl; slots = λ full. refl; ids = omega arith; requests = omega arith };
       after = counts_after;
-      opening = λ t indexed stands resting. drawn_counts t indexed.config indexed.number (opening_slot t indexed);
+      opening = λ t indexed stands closed_before. drawn_counts t indexed.config indexed.number (opening_slot t indexed);
       idling = λ t indexed slot stands idle. set_counts t indexed.number slot;
       timing_out = λ t indexed c stands is. set_counts t indexed.number (failed_slot t (TimedOut c.link) indexed.slot);
       closing = λ t indexed c stands is. counted_counts t indexed.number (closing_slot t c indexed.slot);

@@ -40,7 +40,7 @@ clock_kept : Kept ClockStays
 clock_kept = record {
   same = λ t. refl;
   after = λ t u v first next. next ∙ first;
-  opening = λ t indexed stands resting. refl;
+  opening = λ t indexed stands closed_before. refl;
   idling = λ t indexed slot stands idle. refl;
   timing_out = λ t indexed c stands is. refl;
   closing = λ t indexed c stands is. refl;
@@ -268,7 +268,7 @@ clear_widely : (k : Ms) (test : SlotState → Bool) → Calms k test → Slotwis
 clear_widely k test calms = record {
   stays = λ t u number config slot later from wait is. is;
   after = λ t u v number config a b c first next before behind from wait is. behind (omega (arith, from, first.clock)) (subst (λ (p : ScannerProfile). 1 ≤ p.open_timeout) (sym first.profile) wait) (before from wait is);
-  opening = λ t indexed resting from wait is. calms.opening _ (not_yet k.0 t.clock.0 t.profile.open_timeout from wait);
+  opening = λ t indexed closed_before from wait is. calms.opening _ (not_yet k.0 t.clock.0 t.profile.open_timeout from wait);
   idling = λ t indexed slot idle from wait is. rw idle.state calms.idle;
   timing_out = λ t indexed c was from wait is. calms.timed_out c.link;
   closing = λ t indexed c was from wait is. calms.closing _ (not_yet k.0 t.clock.0 t.profile.open_timeout from wait);

@@ -64,11 +64,11 @@ next_drawn profile n true = tt
 next_drawn profile n false = record { counter = n; is = refl; begins = omega arith; ends = omega arith }
 
 not_opening : (state : SlotState) (opening : pending.PendingOpen) → is_closed state ≡ true → state ≡ Opening opening → ⊥
-not_opening Idle opening resting is = absurd cc
-not_opening (Opening o) opening resting is = absurd cc
-not_opening (Established c) opening resting is = absurd cc
-not_opening (TimedOut link) opening resting is = absurd cc
-not_opening (Closing c) opening resting is = absurd cc
+not_opening Idle opening closed_before is = absurd cc
+not_opening (Opening o) opening closed_before is = absurd cc
+not_opening (Established c) opening closed_before is = absurd cc
+not_opening (TimedOut link) opening closed_before is = absurd cc
+not_opening (Closing c) opening closed_before is = absurd cc
 
 -- the same state, if it is opening
 written_opening : (state : SlotState) (opening : pending.PendingOpen) → written_state state ≡ Opening opening → state ≡ Opening opening
@@ -101,7 +101,7 @@ opens_always = record {
   widely = record {
     stays = λ t u number config slot later opening is. inl is;
     after = opens_after;
-    opening = λ t indexed resting opening is.
+    opening = λ t indexed closed_before opening is.
         let same : (opening_slot t indexed).state ≡ Opening opening = is in
         inr (subst (Began t _ indexed.config) (opens_is _ opening is) (record { begins = omega arith; ends = omega arith; id = next_drawn t.profile t.next_id indexed.config.multicast }));
     idling = λ t indexed slot idle opening is. absurd (idle_opens_none slot.state opening idle.state is);

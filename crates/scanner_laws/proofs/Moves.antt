@@ -154,20 +154,20 @@ does_clear R kept t indexed stands = does_idle R kept t indexed (idle_slot index
 -- ---- openings
 
 open_step : (b : Bool) (R : ScannerTable → ScannerTable → Type 0) → Kept R → (t : ScannerTable) (indexed : IndexedSlot) (session : Session) → Stands t indexed → is_closed indexed.slot.state ≡ true → Does R t indexed (cond b (open_requested t indexed session) (exhausted t indexed))
-open_step true R kept t indexed session stands resting = record { leads = kept.opening t indexed stands resting; local = set_local t (counted (drawn t indexed.config)) indexed.number (opening_slot t indexed) refl refl }
-open_step false R kept t indexed session stands resting = does_resigned R kept t indexed (notice.NoIds indexed.number ∷ []) stands
+open_step true R kept t indexed session stands closed_before = record { leads = kept.opening t indexed stands closed_before; local = set_local t (counted (drawn t indexed.config)) indexed.number (opening_slot t indexed) refl refl }
+open_step false R kept t indexed session stands closed_before = does_resigned R kept t indexed (notice.NoIds indexed.number ∷ []) stands
 
 within_does : (R : ScannerTable → ScannerTable → Type 0) → Kept R → (t : ScannerTable) (indexed : IndexedSlot) (session : Option Session) → Stands t indexed → is_closed indexed.slot.state ≡ true → Does R t indexed (opened_within t indexed session)
-within_does R kept t indexed None stands resting = does_nothing R kept t indexed
-within_does R kept t indexed (Some session) stands resting = open_step (can_open t indexed.config) R kept t indexed session stands resting
+within_does R kept t indexed None stands closed_before = does_nothing R kept t indexed
+within_does R kept t indexed (Some session) stands closed_before = open_step (can_open t indexed.config) R kept t indexed session stands closed_before
 
 -- the slot has no connection and waits for no reply
-abbrev pub IsResting : IndexedSlot → Type 0
-IsResting indexed = is_closed indexed.slot.state ≡ true
+abbrev pub IsClosedSlot : IndexedSlot → Type 0
+IsClosedSlot indexed = is_closed indexed.slot.state ≡ true
 
-pub opened_does : (R : ScannerTable → ScannerTable → Type 0) → Kept R → (t : ScannerTable) (indexed : IndexedSlot) → Stands t indexed → IsResting indexed → Does R t indexed (opened t indexed)
+pub opened_does : (R : ScannerTable → ScannerTable → Type 0) → Kept R → (t : ScannerTable) (indexed : IndexedSlot) → Stands t indexed → IsClosedSlot indexed → Does R t indexed (opened t indexed)
 unfolding opened
-opened_does R kept t indexed stands resting = within_does R kept t indexed (session_with t indexed.config.target) stands resting
+opened_does R kept t indexed stands closed_before = within_does R kept t indexed (session_with t indexed.config.target) stands closed_before
 
 -- ---- effects on slots, one after another
 
@@ -182,7 +182,7 @@ each_does R kept Q effect does (indexed ∷ rest) t stand apart holds =
     kept.after t next (on_each effect rest next).table first.leads
     (each_does R kept Q effect does rest next (stand_on t next indexed.number rest first.local apart.0 stand.1) apart.1 holds.1)
 
-ready_rests : (clock : Ms) (indexed : IndexedSlot) → is_ready_slot clock indexed ≡ true → IsResting indexed
+ready_rests : (clock : Ms) (indexed : IndexedSlot) → is_ready_slot clock indexed ≡ true → IsClosedSlot indexed
 ready_rests clock indexed ready = (and_parts (is_closed indexed.slot.state) _ (and_parts indexed.slot.desired_up _ ready).1).0
 
 ready_stand : (t : ScannerTable) → Each (Stands t) (ready_slots t)
@@ -191,18 +191,18 @@ ready_stand t = each_filter (Stands t) (is_ready_slot t.clock) (indexed_slots t)
 ready_apart : (t : ScannerTable) → EachTwo Apart (ready_slots t)
 ready_apart t = two_filter Apart (is_ready_slot t.clock) (indexed_slots t) (slots_apart t)
 
-ready_rest : (t : ScannerTable) → Each IsResting (ready_slots t)
-ready_rest t = each_more (λ indexed. is_ready_slot t.clock indexed ≡ true) IsResting (ready_rests t.clock) (ready_slots t) (each_passes (is_ready_slot t.clock) (indexed_slots t))
+ready_rest : (t : ScannerTable) → Each IsClosedSlot (ready_slots t)
+ready_rest t = each_more (λ indexed. is_ready_slot t.clock indexed ≡ true) IsClosedSlot (ready_rests t.clock) (ready_slots t) (each_passes (is_ready_slot t.clock) (indexed_slots t))
 
 pub ready_leads : (R : ScannerTable → ScannerTable → Type 0) → Kept R → (t : ScannerTable) → R t (ready_opened t).table
 unfolding ready_opened
-ready_leads R kept t = each_does R kept IsResting opened (opened_does R kept) (ready_slots t) t (ready_stand t) (ready_apart t) (ready_rest t)
+ready_leads R kept t = each_does R kept IsClosedSlot opened (opened_does R kept) (ready_slots t) t (ready_stand t) (ready_apart t) (ready_rest t)
 
 target_leads : (R : ScannerTable → ScannerTable → Type 0) → Kept R → (target : Node) (t : ScannerTable) → R t (target_opened target t).table
 unfolding target_opened
 target_leads R kept target t =
-    each_does R kept IsResting opened (opened_does R kept) (filter (is_with target) (ready_slots t)) t
-    (each_filter (Stands t) (is_with target) (ready_slots t) (ready_stand t)) (two_filter Apart (is_with target) (ready_slots t) (ready_apart t)) (each_filter IsResting (is_with target) (ready_slots t) (ready_rest t))
+    each_does R kept IsClosedSlot opened (opened_does R kept) (filter (is_with target) (ready_slots t)) t
+    (each_filter (Stands t) (is_with target) (ready_slots t) (ready_stand t)) (two_filter Apart (is_with target) (ready_slots t) (ready_apart t)) (each_filter IsClosedSlot (is_with target) (ready_slots t) (ready_rest t))
 
 -- ---- endings
 

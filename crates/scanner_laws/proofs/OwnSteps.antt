@@ -111,7 +111,7 @@ drawn_always = record {
   widely = record {
     stays = λ t u number config slot later drawn. state_on t.profile u.profile t.next_id u.next_id t.next_request u.next_request config.multicast slot.state later.profile later.ids later.requests drawn;
     after = λ t u v number config a b c first next before behind drawn. behind (before drawn);
-    opening = λ t indexed resting drawn. (omega arith, wants_next t.profile t.next_id indexed.config.multicast);
+    opening = λ t indexed closed_before drawn. (omega arith, wants_next t.profile t.next_id indexed.config.multicast);
     idling = λ t indexed slot idle drawn. idle_drawn t indexed.config.multicast slot.state idle.state;
     timing_out = λ t indexed c is drawn. (state_is t indexed.config.multicast indexed.slot.state (Established c) is drawn).1;
     closing = λ t indexed c is drawn. (omega arith, (state_is t indexed.config.multicast indexed.slot.state (Established c) is drawn).1);
@@ -287,7 +287,7 @@ owns_kept : Kept Owns
 owns_kept = record {
   same = λ t. owns_by t t (drawn_goes.widely.slots.same t) (stays_goes IdStays id_stays t t (drawn_goes.widely.slots.same t).later refl);
   after = owns_after;
-  opening = λ t indexed stands resting. record { goes = drawn_goes.widely.slots.opening t indexed stands resting; own = opening_owns t indexed stands };
+  opening = λ t indexed stands closed_before. record { goes = drawn_goes.widely.slots.opening t indexed stands closed_before; own = opening_owns t indexed stands };
   idling = λ t indexed slot stands idle. set_owns t t indexed slot (drawn_goes.widely.slots.idling t indexed slot stands idle) (set_later t indexed.number slot) refl stands (λ drawn id is. absurd (no_id indexed.config.multicast slot.state id idle.state is));
   timing_out = λ t indexed c stands is.
       let slot = failed_slot t (TimedOut c.link) indexed.slot in

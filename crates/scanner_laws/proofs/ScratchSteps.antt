@@ -80,7 +80,7 @@ calm_slotwise : Slotwise Calm
 calm_slotwise = record {
   stays = λ t u number config slot later. record { image = refl; begun = λ is. is };
   after = λ t u v number config a b c first next before behind. record { image = behind.image ∙ before.image; begun = λ is. before.begun (behind.begun is) };
-  opening = λ t indexed resting. record { image = refl; begun = λ is. absurd cc };
+  opening = λ t indexed closed_before. record { image = refl; begun = λ is. absurd cc };
   idling = λ t indexed slot idle. record { image = idle.image; begun = λ is. absurd (not_established slot.state idle.state is) };
   timing_out = λ t indexed c was. record { image = refl; begun = λ is. absurd cc };
   closing = λ t indexed c was. record { image = refl; begun = λ is. absurd cc };
@@ -264,7 +264,7 @@ same_slotwise : Slotwise Same
 same_slotwise = record {
   stays = λ t u number config slot later. refl;
   after = λ t u v number config a b c first next before behind. behind ∙ before;
-  opening = λ t indexed resting. refl;
+  opening = λ t indexed closed_before. refl;
   idling = λ t indexed slot idle. idle.output;
   timing_out = λ t indexed c was. refl;
   closing = λ t indexed c was. refl;
@@ -458,7 +458,7 @@ anything_always = record {
   widely = record {
     stays = λ t u number config slot later. tt;
     after = λ t u v number config a b c first next before behind. tt;
-    opening = λ t indexed resting. tt;
+    opening = λ t indexed closed_before. tt;
     idling = λ t indexed slot idle. tt;
     timing_out = λ t indexed c is. tt;
     closing = λ t indexed c is. tt;

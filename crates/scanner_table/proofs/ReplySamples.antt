@@ -26,12 +26,12 @@ use Rattle.scanner_table.specs.Points.{write, read, mode, start, stop}
 use Rattle.scanner_table.specs.Step.{scanner_table}
 
 -- an opening that is not answered, of the first request
-abbrev asking : ScannerTable
-asking = after connected (Start 0 ∷ [])
+abbrev pending_open : ScannerTable
+pending_open = after connected (Start 0 ∷ [])
 
 -- the reply of these bytes is refused so, and the slot is tried again after 3 seconds and no sooner
 abbrev replied : List ℕ → List Outcome
-replied bytes = reported asking (Frame 0 bytes ∷ Tick 2999 ∷ [])
+replied bytes = reported pending_open (Frame 0 bytes ∷ Tick 2999 ∷ [])
 
 abbrev refused_for : Reason → List Outcome
 refused_for why = refuses why ∷ quiet ∷ []
@@ -87,7 +87,7 @@ unfolding messages.message_reading packets.packet_reading packets.behind_socket 
 long_interval = refl
 
 -- bytes that are no whole and a reply to no request
-not_whole : reported asking (Frame 0 (0x6F ∷ []) ∷ Frame 0 (items 2 30 (success 1 1 1)) ∷ Frame 0 opened_frame ∷ []) ≡ only BadFrame ∷ only Ignored ∷ becomes 3 ∷ []
+not_whole : reported pending_open (Frame 0 (0x6F ∷ []) ∷ Frame 0 (items 2 30 (success 1 1 1)) ∷ Frame 0 opened_frame ∷ []) ≡ only BadFrame ∷ only Ignored ∷ becomes 3 ∷ []
 unfolding messages.message_reading packets.packet_reading packets.behind_socket packets.are_sockets replies.open_reply_reading replies.unread_reading opens.open_text closes.close_text datagrams.datagram_reading opened ready_opened target_opened open_answer answered target_lost stream_opened stream_cut frame received produced_table all_expired all_given_up tick write read mode start stop
 not_whole = refl
 
@@ -116,7 +116,7 @@ unfolding messages.message_reading packets.packet_reading packets.behind_socket 
 stop_idle = refl
 
 -- an opening is given up, and its reply comes to nothing
-stop_opening : reported asking (Start 0 ∷ Stop 0 ∷ Frame 0 opened_frame ∷ Tick 3000 ∷ []) ≡ not_now ∷ becomes 0 ∷ only Ignored ∷ quiet ∷ []
+stop_opening : reported pending_open (Start 0 ∷ Stop 0 ∷ Frame 0 opened_frame ∷ Tick 3000 ∷ []) ≡ not_now ∷ becomes 0 ∷ only Ignored ∷ quiet ∷ []
 unfolding messages.message_reading packets.packet_reading packets.behind_socket packets.are_sockets replies.open_reply_reading replies.unread_reading opens.open_text closes.close_text datagrams.datagram_reading opened ready_opened target_opened open_answer answered target_lost stream_opened stream_cut frame received produced_table all_expired all_given_up tick write read mode start stop
 stop_opening = refl
 

@@ -241,9 +241,9 @@ later_row was device t u opening peer s d row ids all at byte whole table none t
     let drawn_id = rows_found (is_for peer d.connection) u.profile u.next_id u.rows row found whole.sound.ids_are_drawn in
     let value : row.o_t_id.0 ≡ u.profile.incarnation * 2 ^ 24 + row.opening = ap (λ (i : ConnId). i.0) drawn_id.0 in
     let marks = (all_found (RowIds (Passes ids) (Passes (opened_from device t device))) (is_for peer d.connection) u.rows row found table).opening in
-    let known : opened_or_later t row.opening true ≡ true = ap (λ (b : Bool). opened_or_later t row.opening b) (sym (equal_is device)) ∙ marks in
+    let test_passes : opened_or_later t row.opening true ≡ true = ap (λ (b : Bool). opened_or_later t row.opening b) (sym (equal_is device)) ∙ marks in
     let stood : list_any (was_opened_as row.opening) t.rows ≡ false = ap (λ (n : ℕ). list_any (was_opened_as n) t.rows) same ∙ none in
-    let from = le_is t.next_id row.opening (left_is (nat_le t.next_id row.opening) (list_any (was_opened_as row.opening) t.rows) known stood) in
+    let from = le_is t.next_id row.opening (left_is (nat_le t.next_id row.opening) (list_any (was_opened_as row.opening) t.rows) test_passes stood) in
     let in_range = whole.sound.ids_are_left in
     let below = drawn_id.1 in
     unsent was device (Adapter t) row.opening s d all at from (omega (arith, in_range, below)) there reads (omega (arith, id, value, byte)))

@@ -110,8 +110,8 @@ own_now w new t device reported same at after leaves =
 leads_step : (b : Bool) (Q : List ℕ → Type 0) (w new : World) (t : DeviceTable) (device : ℕ) (reported : ReportedEvent) → is_of device reported ≡ b → slice_get w.tables device ≡ Some t → Came Q w reported new → AnswersIf b t reported × (slice_get new.tables device ≡ Some (led_by b t reported))
 leads_step true Q w new t device reported is at came =
     let same : reported.device ≡ device = same_slot reported.device device is in
-    let known : Some came.before ≡ Some t = sym came.is ∙ ap (slice_get w.tables) same ∙ at in
-    let before : came.before ≡ t = let e = known in cc in
+    let same_table : Some came.before ≡ Some t = sym came.is ∙ ap (slice_get w.tables) same ∙ at in
+    let before : came.before ≡ t = let e = same_table in cc in
     let stepped : step t reported.event ≡ Ok (reported.answer, came.after) = subst (λ (x : DeviceTable). step x reported.event ≡ Ok (reported.answer, came.after)) before came.stepped in
     let tables : new.tables ≡ set w.tables reported.device came.after = ap (λ (x : World). x.tables) came.leaves in
     let left : led_by true t reported ≡ came.after = ap (table_of t) stepped in

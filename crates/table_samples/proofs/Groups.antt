@@ -121,7 +121,7 @@ one_node_twice :
 unfolding computing
 one_node_twice = refl
 
--- what a second request is told beside the first one's group
+-- the outcome of a second request beside the first one's group
 abbrev beside : OpeningRequest → OpeningRequest → List Outcome
 beside first a = said common (opens first ∷ joins a ∷ [])
 
