@@ -6,8 +6,8 @@ use Rattle.std.proofs.lemmas.List.{append-nil}
 use Rattle.cip_events.specs.Outcomes.{Outcome}
 use Rattle.trace_text.specs.declared.trace.Trace.{Trace}
 use Rattle.trace_outcomes.specs.Written.{outcome_text, outcomes_text}
-use Rattle.trace_stepper.specs.declared.player.PlayFault.{PlayFault}
-use Rattle.trace_stepper.specs.declared.player.PlayFault.TheVariants as play
+use Rattle.trace_stepper.specs.declared.stepper.StepperFault.{StepperFault}
+use Rattle.trace_stepper.specs.declared.stepper.StepperFault.TheVariants as stepper
 use Rattle.trace_stepper.specs.Playing.{IsPlayed, WritesFirst}
 use Rattle.trace_stepper.specs.Stepping.{outcomes_of_trace}
 use Rattle.trace_stepper.specs.Written.{BeginsToWrite, IsTaken}
@@ -40,6 +40,11 @@ begun_behind old mid new a b one (first, (rest, (parts, written))) = (a ++ first
 
 pub begun_all : (old new : Option (List ℕ)) (a : List ℕ) → Appends old new a → BeginsToWrite old a new
 begun_all old new a written = (a, ([], (sym (append-nil a), written)))
+
+-- what the stream took is a beginning of the text, whether it took all or not
+pub begun_taken : {F : Type 0} (old new : Option (List ℕ)) (a : List ℕ) (result : Result Unit F) → IsTaken old a result new → BeginsToWrite old a new
+begun_taken old new a (Ok done) taken = begun_all old new a taken
+begun_taken old new a (Err refused) taken = taken
 
 begun_kept : (old mid new : Option (List ℕ)) (a : List ℕ) → BeginsToWrite old a mid → Keeps mid new → BeginsToWrite old a new
 begun_kept old mid new a (first, (rest, (parts, written))) same = (first, (rest, (parts, kept old mid new first written (stayed mid new same))))
@@ -105,28 +110,28 @@ first_begun : (old new : Option (List ℕ)) (trace : Trace) → WritesFirst trac
 first_begun old new trace (first, (rest, (reported, written))) = (outcomes_text 1 first, (outcomes_text (1 + length first) rest, (ap (outcomes_text 1) reported ∙ text_apart 1 first rest, written)))
 
 -- the run ended before the last event
-pub run_stopped : (input old mid new : Option (List ℕ)) (same_kind : Bool) (trace : Trace) (fault : PlayFault) (reported : ProgramFault) → Reads input trace → IsPlayed same_kind trace old mid (Err fault) → Keeps mid new → IsStop fault reported → IsStepped input old new (Err reported)
-run_stopped input old mid new same_kind trace play.OutOfMemory program.OutOfMemory read played same is = inr (trace, (read, first_kept old mid new trace played same))
-run_stopped input old mid new same_kind trace play.Profile program.OutOfMemory read played same is = inr (trace, (read, first_kept old mid new trace (none_reported old mid trace played.1) same))
-run_stopped input old mid new same_kind trace play.WrongKind program.OutOfMemory read played same is = inr (trace, (read, first_kept old mid new trace (none_reported old mid trace played.1) same))
-run_stopped input old mid new same_kind trace play.OutOfMemory program.Write read played same is = (trace, (read, inl (first_begun old new trace (first_kept old mid new trace played same))))
-run_stopped input old mid new same_kind trace play.Profile program.Write read played same is = (trace, (read, inl (first_begun old new trace (first_kept old mid new trace (none_reported old mid trace played.1) same))))
-run_stopped input old mid new same_kind trace play.WrongKind program.Write read played same is = (trace, (read, inl (first_begun old new trace (first_kept old mid new trace (none_reported old mid trace played.1) same))))
-run_stopped input old mid new same_kind trace play.Write program.Write read played same is = (trace, (read, inl (begun_kept old mid new _ played same)))
-run_stopped input old mid new same_kind trace play.Profile program.TooLong read played same is = absurd is
-run_stopped input old mid new same_kind trace play.Profile (program.BadLine _) read played same is = absurd is
-run_stopped input old mid new same_kind trace play.Profile (program.BadProfile _) read played same is = absurd is
-run_stopped input old mid new same_kind trace play.Profile program.Read read played same is = absurd is
-run_stopped input old mid new same_kind trace play.WrongKind program.TooLong read played same is = absurd is
-run_stopped input old mid new same_kind trace play.WrongKind (program.BadLine _) read played same is = absurd is
-run_stopped input old mid new same_kind trace play.WrongKind (program.BadProfile _) read played same is = absurd is
-run_stopped input old mid new same_kind trace play.WrongKind program.Read read played same is = absurd is
-run_stopped input old mid new same_kind trace play.OutOfMemory program.TooLong read played same is = absurd is
-run_stopped input old mid new same_kind trace play.OutOfMemory (program.BadLine _) read played same is = absurd is
-run_stopped input old mid new same_kind trace play.OutOfMemory (program.BadProfile _) read played same is = absurd is
-run_stopped input old mid new same_kind trace play.OutOfMemory program.Read read played same is = absurd is
-run_stopped input old mid new same_kind trace play.Write program.TooLong read played same is = absurd is
-run_stopped input old mid new same_kind trace play.Write (program.BadLine _) read played same is = absurd is
-run_stopped input old mid new same_kind trace play.Write (program.BadProfile _) read played same is = absurd is
-run_stopped input old mid new same_kind trace play.Write program.OutOfMemory read played same is = absurd is
-run_stopped input old mid new same_kind trace play.Write program.Read read played same is = absurd is
+pub run_stopped : (input old mid new : Option (List ℕ)) (same_kind : Bool) (trace : Trace) (fault : StepperFault) (reported : ProgramFault) → Reads input trace → IsPlayed same_kind trace old mid (Err fault) → Keeps mid new → IsStop fault reported → IsStepped input old new (Err reported)
+run_stopped input old mid new same_kind trace stepper.OutOfMemory program.OutOfMemory read played same is = inr (trace, (read, first_kept old mid new trace played same))
+run_stopped input old mid new same_kind trace stepper.Profile program.OutOfMemory read played same is = inr (trace, (read, first_kept old mid new trace (none_reported old mid trace played.1) same))
+run_stopped input old mid new same_kind trace stepper.WrongKind program.OutOfMemory read played same is = inr (trace, (read, first_kept old mid new trace (none_reported old mid trace played.1) same))
+run_stopped input old mid new same_kind trace stepper.OutOfMemory program.Write read played same is = (trace, (read, inl (first_begun old new trace (first_kept old mid new trace played same))))
+run_stopped input old mid new same_kind trace stepper.Profile program.Write read played same is = (trace, (read, inl (first_begun old new trace (first_kept old mid new trace (none_reported old mid trace played.1) same))))
+run_stopped input old mid new same_kind trace stepper.WrongKind program.Write read played same is = (trace, (read, inl (first_begun old new trace (first_kept old mid new trace (none_reported old mid trace played.1) same))))
+run_stopped input old mid new same_kind trace stepper.Write program.Write read played same is = (trace, (read, inl (begun_kept old mid new _ played same)))
+run_stopped input old mid new same_kind trace stepper.Profile program.TooLong read played same is = absurd is
+run_stopped input old mid new same_kind trace stepper.Profile (program.BadLine _) read played same is = absurd is
+run_stopped input old mid new same_kind trace stepper.Profile (program.BadProfile _) read played same is = absurd is
+run_stopped input old mid new same_kind trace stepper.Profile program.Read read played same is = absurd is
+run_stopped input old mid new same_kind trace stepper.WrongKind program.TooLong read played same is = absurd is
+run_stopped input old mid new same_kind trace stepper.WrongKind (program.BadLine _) read played same is = absurd is
+run_stopped input old mid new same_kind trace stepper.WrongKind (program.BadProfile _) read played same is = absurd is
+run_stopped input old mid new same_kind trace stepper.WrongKind program.Read read played same is = absurd is
+run_stopped input old mid new same_kind trace stepper.OutOfMemory program.TooLong read played same is = absurd is
+run_stopped input old mid new same_kind trace stepper.OutOfMemory (program.BadLine _) read played same is = absurd is
+run_stopped input old mid new same_kind trace stepper.OutOfMemory (program.BadProfile _) read played same is = absurd is
+run_stopped input old mid new same_kind trace stepper.OutOfMemory program.Read read played same is = absurd is
+run_stopped input old mid new same_kind trace stepper.Write program.TooLong read played same is = absurd is
+run_stopped input old mid new same_kind trace stepper.Write (program.BadLine _) read played same is = absurd is
+run_stopped input old mid new same_kind trace stepper.Write (program.BadProfile _) read played same is = absurd is
+run_stopped input old mid new same_kind trace stepper.Write program.OutOfMemory read played same is = absurd is
+run_stopped input old mid new same_kind trace stepper.Write program.Read read played same is = absurd is

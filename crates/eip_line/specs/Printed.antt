@@ -9,8 +9,8 @@ use Rattle.trace_stepper.specs.Compared.{IsJudged}
 use Rattle.trace_stepper.specs.Playing.{WritesFirst}
 use Rattle.trace_stepper.specs.Stepping.{outcomes_of_trace}
 use Rattle.trace_stepper.specs.Written.{BeginsToWrite}
-use Rattle.trace_stepper.specs.declared.player.PlayFault.{PlayFault}
-use Rattle.trace_stepper.specs.declared.player.PlayFault.TheVariants as play
+use Rattle.trace_stepper.specs.declared.stepper.StepperFault.{StepperFault}
+use Rattle.trace_stepper.specs.declared.stepper.StepperFault.TheVariants as stepper
 use Rattle.eip_line.specs.Faults.{numbered_line, fault_line}
 use Rattle.eip_line.specs.declared.console.ProgramFault.{ProgramFault}
 use Rattle.eip_line.specs.declared.console.ProgramFault.TheVariants as program
@@ -86,9 +86,9 @@ IsFinished old (Some number) new (Err program.Write) = BeginsToWrite old (differ
 IsFinished old differs new (Err fault) = ⊥
 
 -- what a run that was not played to its end is told to be
-abbrev pub IsStop : PlayFault → ProgramFault → Type 0
+abbrev pub IsStop : StepperFault → ProgramFault → Type 0
 IsStop stopped program.Write = Unit {0}
-IsStop play.Profile program.OutOfMemory = Unit {0}
-IsStop play.WrongKind program.OutOfMemory = Unit {0}
-IsStop play.OutOfMemory program.OutOfMemory = Unit {0}
+IsStop stepper.Profile program.OutOfMemory = Unit {0}
+IsStop stepper.WrongKind program.OutOfMemory = Unit {0}
+IsStop stepper.OutOfMemory program.OutOfMemory = Unit {0}
 IsStop stopped fault = ⊥

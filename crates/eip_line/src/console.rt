@@ -19,7 +19,7 @@ use std::convert::AsStr;
 use std::io::{ErrorKind, Read, Write};
 use std::net::{Net, TcpListener, TcpStream};
 use std::rt::Clock;
-use trace_stepper::{NotTaken, PlayFault, play, write_text};
+use trace_stepper::{NotTaken, StepperFault, play, write_text};
 use trace_text::{Trace, TraceFault, read_trace};
 
 /// The status of a run that failed.
@@ -68,6 +68,21 @@ impl From<TraceFault> for ProgramFault {
             TraceFault::BadLine(number) => ProgramFault::BadLine(number),
             TraceFault::BadProfile(number) => ProgramFault::BadProfile(number),
             TraceFault::OutOfMemory => ProgramFault::OutOfMemory,
+        }
+    }
+}
+
+impl From<StepperFault> for ProgramFault {
+    ghost use Rattle.eip_line.specs.Faults.{program_fault_of_step};
+
+    ghost from_gives = { λ error fault. fault ≡ program_fault_of_step error };
+
+    fn from(fault: StepperFault) -> ProgramFault {
+        match fault {
+            StepperFault::Write => ProgramFault::Write,
+            StepperFault::Profile | StepperFault::OutOfMemory | StepperFault::WrongKind => {
+                ProgramFault::OutOfMemory
+            }
         }
     }
 }
@@ -183,7 +198,11 @@ fn step<I: Read, O: Write>(alloc: Global, reader: &mut I, out: &mut O) -> Result
 }
 
 /// Plays a trace at a device of its kind.
-fn played<O: Write>(alloc: Global, trace: &Trace, out: &mut O) -> Result<Option<usize>, PlayFault>
+fn played<O: Write>(
+    alloc: Global,
+    trace: &Trace,
+    out: &mut O,
+) -> Result<Option<usize>, StepperFault>
     ensures { IsPlayed true trace.now (O.contents out.old) (O.contents out.new) result }
 {
     match &trace.config {
@@ -206,19 +225,14 @@ fn finish<O: Write>(out: &mut O, differs: Option<usize>) -> Result<bool, Program
 }
 
 /// What a run that was not played to its end is told to be, once what is written was handed on.
-fn stop<O: Write>(out: &mut O, fault: PlayFault) -> ProgramFault
+fn stop<O: Write>(out: &mut O, fault: StepperFault) -> ProgramFault
     ensures kept { Keeps (O.contents out.old) (O.contents out.new) }
     ensures fault { IsStop fault result }
 {
     if out.flush().is_err() {
         return ProgramFault::Write;
     }
-    match fault {
-        PlayFault::Write => ProgramFault::Write,
-        PlayFault::Profile | PlayFault::WrongKind | PlayFault::OutOfMemory => {
-            ProgramFault::OutOfMemory
-        }
-    }
+    ProgramFault::from(fault)
 }
 
 /// Hands on what was written.

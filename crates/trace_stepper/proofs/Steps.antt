@@ -58,3 +58,4 @@ pub not_moved : (old new : DeviceTable) (left rest : List Entry) (wrong : Option
 not_moved old new left rest wrong same stepper.OutOfMemory moves good kind = (good, kind)
 not_moved old new left rest wrong same stepper.Profile moves good kind = absurd moves
 not_moved old new left rest wrong same stepper.WrongKind moves good kind = absurd moves
+not_moved old new left rest wrong same stepper.Write moves good kind = absurd moves

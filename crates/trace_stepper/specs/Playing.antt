@@ -5,8 +5,8 @@ use Rattle.cip_events.specs.Outcomes.{Outcome}
 use Rattle.cip_tables.specs.Step.{config_fault}
 use Rattle.trace_text.specs.declared.trace.Trace.{Trace}
 use Rattle.trace_outcomes.specs.Written.{outcomes_text}
-use Rattle.trace_stepper.specs.declared.player.PlayFault.{PlayFault}
-use Rattle.trace_stepper.specs.declared.player.PlayFault.TheVariants as fault
+use Rattle.trace_stepper.specs.declared.stepper.StepperFault.{StepperFault}
+use Rattle.trace_stepper.specs.declared.stepper.StepperFault.TheVariants as fault
 use Rattle.trace_stepper.specs.Compared.{IsJudged}
 use Rattle.trace_stepper.specs.Stepping.{outcomes_of_trace}
 use Rattle.trace_stepper.specs.Written.{BeginsToWrite}
@@ -18,7 +18,7 @@ WritesFirst trace old new = (first : List Outcome) × ((rest : List Outcome) × 
 -- All outcomes are told, and the first that is not as recorded is found; or memory is wanted, and the first
 -- ones are told; or a write failed, and a beginning of what is to be told is written; or the profile is wrong, or for
 -- a device of another kind, and nothing is written.
-abbrev pub IsPlayed : Bool → Trace → Option (List ℕ) → Option (List ℕ) → Result (Option ℕ) PlayFault → Type 0
+abbrev pub IsPlayed : Bool → Trace → Option (List ℕ) → Option (List ℕ) → Result (Option ℕ) StepperFault → Type 0
 IsPlayed same_kind trace old new (Ok differs) = Appends old new (outcomes_text 1 (outcomes_of_trace trace)) × IsJudged trace.events (outcomes_of_trace trace) (length trace.events) differs
 IsPlayed same_kind trace old new (Err fault.OutOfMemory) = WritesFirst trace old new
 IsPlayed same_kind trace old new (Err fault.Write) = BeginsToWrite old (outcomes_text 1 (outcomes_of_trace trace)) new

@@ -10,8 +10,6 @@ use Rattle.trace_text.specs.declared.trace.Trace.{Trace}
 use Rattle.trace_text.specs.Reading.{Entry}
 use Rattle.trace_stepper.specs.declared.stepper.StepperFault.{StepperFault}
 use Rattle.trace_stepper.specs.declared.stepper.StepperFault.TheVariants as fault
-use Rattle.trace_stepper.specs.declared.player.PlayFault.{PlayFault}
-use Rattle.trace_stepper.specs.declared.player.PlayFault.TheVariants as play
 
 -- the events of entries
 abbrev pub events_of : List Entry → List Event
@@ -29,14 +27,11 @@ MovesOn old left (Ok None) new rest = (left ≡ []) × (rest ≡ []) × (new ≡
 MovesOn old left (Err fault.OutOfMemory) new rest = (left ≢ []) × (rest ≡ left) × (new ≡ old)
 MovesOn old left (Err fault.Profile) new rest = ⊥
 MovesOn old left (Err fault.WrongKind) new rest = ⊥
+MovesOn old left (Err fault.Write) new rest = ⊥
 
 -- a stepper is refused for what is wrong with the profile, or else for its kind, or else for want of memory
 abbrev pub IsRefused : Option ProfileFault → Bool → StepperFault → Type 0
 IsRefused wrong same_kind fault.Profile = wrong ≢ None
 IsRefused wrong same_kind fault.WrongKind = (wrong ≡ None) × (same_kind ≡ false)
 IsRefused wrong same_kind fault.OutOfMemory = (wrong ≡ None) × (same_kind ≡ true)
-
-abbrev pub play_fault_of : StepperFault → PlayFault
-play_fault_of fault.Profile = play.Profile
-play_fault_of fault.WrongKind = play.WrongKind
-play_fault_of fault.OutOfMemory = play.OutOfMemory
+IsRefused wrong same_kind fault.Write = ⊥

@@ -7,6 +7,6 @@ mod stepper;
 mod writing;
 
 pub use compared::{Differs, agrees, compare};
-pub use player::{PlayFault, play};
+pub use player::play;
 pub use stepper::{Report, Stepper, StepperFault, replay};
 pub use writing::{NotTaken, write_text};

@@ -9,64 +9,11 @@ ghost use Rattle.trace_stepper.specs.Playing.{IsPlayed};
 
 use crate::compared::agrees;
 use crate::stepper::{Stepper, StepperFault};
-use crate::writing::{NotTaken, write_text};
+use crate::writing::write_text;
 use cip_tables::{Device, Outcome};
-use cip_types::OutOfMemory;
 use std::alloc::Global;
 use std::io::Write;
-use thiserror::Error;
 use trace_text::{Trace, push_outcome};
-
-/// Why a trace was not played to its end.
-#[derive(Clone, Copy, Debug, PartialEq, Eq, Error)]
-pub enum PlayFault {
-    /// The profile is wrong.
-    #[error("bad profile")]
-    Profile,
-    /// The configuration is for a device of another kind.
-    #[error("wrong kind of device")]
-    WrongKind,
-    /// A growth of memory was refused.
-    #[error("no memory")]
-    OutOfMemory,
-    /// The outcomes could not be written.
-    #[error("fault Write")]
-    Write,
-}
-
-impl From<OutOfMemory> for PlayFault {
-    ghost use Rattle.trace_stepper.specs.declared.player.PlayFault.TheVariants as fault;
-
-    ghost from_gives = { λ _ f. f ≡ fault.OutOfMemory };
-
-    fn from(_error: OutOfMemory) -> PlayFault {
-        PlayFault::OutOfMemory
-    }
-}
-
-impl From<NotTaken> for PlayFault {
-    ghost use Rattle.trace_stepper.specs.declared.player.PlayFault.TheVariants as fault;
-
-    ghost from_gives = { λ _ f. f ≡ fault.Write };
-
-    fn from(_error: NotTaken) -> PlayFault {
-        PlayFault::Write
-    }
-}
-
-impl From<StepperFault> for PlayFault {
-    ghost use Rattle.trace_stepper.specs.Stepping.{play_fault_of};
-
-    ghost from_gives = { λ fault f. f ≡ play_fault_of fault };
-
-    fn from(fault: StepperFault) -> PlayFault {
-        match fault {
-            StepperFault::Profile => PlayFault::Profile,
-            StepperFault::WrongKind => PlayFault::WrongKind,
-            StepperFault::OutOfMemory => PlayFault::OutOfMemory,
-        }
-    }
-}
 
 /// Writes the outcomes of a trace's events at a fresh device, each as it comes, and answers the number of the
 /// first event whose outcome is not the one that is recorded.
@@ -74,7 +21,7 @@ pub fn play<D: Device + Drop, O: Write>(
     alloc: Global,
     trace: &Trace,
     out: &mut O,
-) -> Result<Option<usize>, PlayFault>
+) -> Result<Option<usize>, StepperFault>
     ensures { IsPlayed (same_kind D.ADAPTER (makes_adapter trace.now.config)) trace.now (O.contents out.old) (O.contents out.new) result }
 {
     let mut stepper: Stepper<'_, D> = Stepper::new(alloc, trace)?;

@@ -4,24 +4,28 @@ ghost use Rattle.std.specs.Prelude.{◌≡◌, ◌↔◌, true, None, Err, IsTru
 ghost use Rattle.cip_tables.specs.Step.{opening_table, config_fault, makes_adapter, same_kind};
 ghost use Rattle.trace_stepper.specs.Stepping.{outcomes_of_trace, MovesOn, IsRefused};
 
+use crate::writing::NotTaken;
 use cip_tables::{Config, Device, NewFault, Outcome, StepFault};
 use cip_types::{Items, OutOfMemory};
 use std::alloc::{AllocFailed, Global};
 use thiserror::Error;
 use trace_text::Trace;
 
-/// Why a trace's events are not taken.
+/// Why a trace was not played to its end. A new fault gets a number behind these.
 #[derive(Clone, Copy, Debug, PartialEq, Eq, Error)]
 pub enum StepperFault {
-    /// The profile is wrong.
+    /// The profile of the trace is wrong.
     #[error("bad profile")]
-    Profile,
-    /// The configuration is for a device of another kind.
-    #[error("wrong kind of device")]
-    WrongKind,
-    /// A growth of memory was refused.
+    Profile = 1,
+    /// An allocation was refused.
     #[error("no memory")]
-    OutOfMemory,
+    OutOfMemory = 2,
+    /// The configuration is for the other kind of device.
+    #[error("wrong kind of device")]
+    WrongKind = 3,
+    /// The outcomes could not be written.
+    #[error("fault Write")]
+    Write = 4,
 }
 
 impl From<OutOfMemory> for StepperFault {
@@ -31,6 +35,16 @@ impl From<OutOfMemory> for StepperFault {
 
     fn from(_error: OutOfMemory) -> StepperFault {
         StepperFault::OutOfMemory
+    }
+}
+
+impl From<NotTaken> for StepperFault {
+    ghost use Rattle.trace_stepper.specs.declared.stepper.StepperFault.TheVariants as fault;
+
+    ghost from_gives = { λ _ f. f ≡ fault.Write };
+
+    fn from(_error: NotTaken) -> StepperFault {
+        StepperFault::Write
     }
 }
 
