@@ -7,9 +7,11 @@ ghost use Rattle.trace_stepper.specs.Written.{BeginsToWrite, IsTaken};
 ghost use Rattle.eip_line.specs.Faults.{fault_line};
 ghost use Rattle.eip_line.specs.Printed.{longest_trace, PrintsRun, Fails, IsStepped, IsFinished, IsTraceRead, IsTextFault, IsStop};
 ghost use Rattle.eip_line.specs.Tasks.{FailsTask, HasFailed, IsDone, Prints};
+ghost use Rattle.eip_line.specs.Usage.{usage_text};
 
 use crate::commands::{Misuse, Task, read_task};
 use crate::loops::loop_status;
+use crate::usage::write_usage;
 use adapter_engine::FastAdapter;
 use cip_tables::Config;
 use itoa::Buffer;
@@ -26,7 +28,7 @@ use trace_text::{Trace, TraceFault, read_trace};
 const FAILED: u8 = 1;
 
 /// The status for a command line that is none of the program's.
-const USAGE: u8 = 2;
+const MISUSED: u8 = 2;
 
 /// The most bytes of a trace.
 const LONGEST_TRACE: usize = 16_777_216;
@@ -102,13 +104,22 @@ where
     ensures status { result ≤ 2 }
     ensures done { result ≡ 0 → IsDone (map S.text words.now) (I.remaining reader.old) (O.contents out.old) (O.contents out.new) × (err.new ≡ err.old) }
     ensures failed { result ≡ 1 → HasFailed (map S.text words.now) (I.remaining reader.old) (O.contents out.old) (O.contents out.new) (E.contents err.old) (E.contents err.new) }
-    ensures usage { result ≡ 2 → (out.new ≡ out.old) × (err.new ≡ err.old) }
+    ensures usage { result ≡ 2 → (out.new ≡ out.old) × BeginsToWrite (E.contents err.old) usage_text (E.contents err.new) }
 {
     match read_task(rt.alloc(), words) {
         Ok(task) => perform(rt, task, reader, out, err),
-        Err(Misuse::Usage) => USAGE,
+        Err(Misuse::Usage) => misused(err),
         Err(Misuse::OutOfMemory) => failed(err, ProgramFault::OutOfMemory),
     }
+}
+
+/// Writes how the program is used, as far as the stream takes it, and answers the status for that.
+pub(crate) fn misused<E: Write>(err: &mut E) -> u8
+    ensures status { result ≡ 2 }
+    ensures usage { BeginsToWrite (E.contents err.old) usage_text (E.contents err.new) }
+{
+    let _ = write_usage(err);
+    MISUSED
 }
 
 /// Does what a command line asked for, and answers the status: 0 where all is done and printed, else 1, after a line

@@ -6,6 +6,7 @@ mod commands;
 mod console;
 mod loops;
 mod running;
+mod usage;
 
 use std::process::ExitCode;
 

@@ -1,14 +1,11 @@
 //! The program at its standard streams.
 
-use crate::console::program;
+use crate::console::{misused, program};
 use std::env::{self, Env};
 use std::io::{BufWriter, ErrorKind, Read, Write};
 use std::net::{Net, TcpListener, TcpStream};
 use std::process::ExitCode;
 use std::rt::Clock;
-
-/// The status for a command line that is none of the program's.
-const USAGE: u8 = 2;
 
 /// Hands the program its command line and these streams, the output through a buffer, and answers its status.
 pub fn run<R, I, O, E>(rt: &R, reader: &mut I, out: O, err: &mut E) -> ExitCode
@@ -24,7 +21,7 @@ where
             if error.kind() == ErrorKind::OutOfMemory {
                 return no_memory(err);
             }
-            return ExitCode::from(USAGE);
+            return ExitCode::from(misused(err));
         }
     };
     let Ok(words) = words.collect::<Vec<String>>(rt.alloc()) else {

@@ -1,0 +1,27 @@
+//! How the program is used.
+
+ghost use Rattle.trace_stepper.specs.Written.{IsTaken};
+ghost use Rattle.eip_line.specs.Usage.{usage_text};
+
+use std::io::Write;
+use trace_stepper::{NotTaken, write_text};
+
+/// What the program does, its commands with their options and ranges, and an example.
+const USAGE: &[u8] = b"\
+usage: eip_line step < TRACE
+           makes the device of a trace, steps it by each event of the trace, and prints the outcomes
+       eip_line loop [--tcp PORT] [--udp PORT] [--turns N]
+           runs an adapter and a scanner over sockets of 127.0.0.1, and prints the number of turns
+           --tcp PORT  the adapter's TCP port, 1 to 65534 (44818 if it is left out)
+           --udp PORT  the adapter's UDP port, 1 to 65534 (2222 if it is left out); the scanner's is the next one
+           --turns N   the turns of each device, 1 to 1000000 (1000 if it is left out)
+example: eip_line step < examples/first_open.trace
+status: 0 done; 1 an outcome is not as recorded, or a fault, which standard error names; 2 this text
+";
+
+/// Writes how the program is used. Takes no memory.
+pub(crate) fn write_usage<W: Write>(out: &mut W) -> Result<(), NotTaken>
+    ensures { IsTaken (W.contents out.old) usage_text result (W.contents out.new) }
+{
+    write_text(out, USAGE)
+}
