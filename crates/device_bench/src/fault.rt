@@ -6,10 +6,12 @@ use std::alloc::AllocError;
 use std::io;
 use thiserror::Error;
 
-/// Why the work is not done.
-#[derive(Clone, Copy)]
+/// Why a measured piece of work was not done.
+#[derive(Clone, Copy, Debug, PartialEq, Eq, Error)]
 pub enum WorkFault {
+    #[error("no memory")]
     OutOfMemory,
+    #[error("an outcome is not the expected one")]
     Differs,
 }
 

@@ -3,18 +3,23 @@
 use cip_tables::{NewFault, StepFault};
 use cip_types::OutOfMemory;
 use socket_port::OpenFault;
+use thiserror::Error;
 use udp_runner::{PortFault, RunFault};
 
 /// Why a line over sockets ends early.
-#[derive(Clone, Copy, Debug, PartialEq, Eq)]
+#[derive(Clone, Copy, Debug, PartialEq, Eq, Error)]
 pub enum LoopFault {
-    /// A port could not be made, or failed.
+    /// A port could not be opened, or failed.
+    #[error("fault Port")]
     Port,
     /// A device refused its configuration.
+    #[error("fault New")]
     New,
     /// A device refused an event.
+    #[error("fault Step")]
     Step,
-    /// A growth of memory was refused.
+    /// An allocation was refused.
+    #[error("no memory")]
     OutOfMemory,
 }
 

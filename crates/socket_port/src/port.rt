@@ -13,14 +13,17 @@ use std::net::{Net, TcpListener, TcpStream, UdpSocket};
 use std::rt::Clock as System;
 use std::time::Duration;
 use std::{io, thread};
+use thiserror::Error;
 use udp_runner::{Input, Output, Port, PortFault};
 
-/// Why a port cannot be made.
-#[derive(Clone, Copy, Debug, PartialEq, Eq)]
+/// Why a port cannot be opened.
+#[derive(Clone, Copy, Debug, PartialEq, Eq, Error)]
 pub enum OpenFault {
     /// A socket could not be bound, connected or prepared.
+    #[error("a socket could not be prepared")]
     Socket,
-    /// A growth of memory was refused.
+    /// An allocation was refused.
+    #[error("no memory")]
     OutOfMemory,
 }
 

@@ -4,9 +4,11 @@ ghost use Rattle.std.specs.Prelude.{◌++◌};
 ghost use Rattle.trace_stepper.specs.Written.{IsTaken};
 
 use std::io::{ErrorKind, Write};
+use thiserror::Error;
 
 /// The stream did not take all of a text.
-#[derive(Clone, Copy, Debug, PartialEq, Eq)]
+#[derive(Clone, Copy, Debug, PartialEq, Eq, Error)]
+#[error("fault Write")]
 pub struct NotTaken;
 
 /// Writes a text and nothing else. Where the stream fails, a beginning of the text is written, as far as the

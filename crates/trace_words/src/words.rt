@@ -9,13 +9,16 @@ use cip_types::{ConnId, Items, Node, OutOfMemory};
 use hex::FromHexError;
 use std::alloc::{AllocFailed, Global};
 use std::net::Ipv4Addr;
+use thiserror::Error;
 
 /// Why a line is not read.
-#[derive(Clone, Copy, Debug, PartialEq, Eq)]
+#[derive(Clone, Copy, Debug, PartialEq, Eq, Error)]
 pub enum LineFault {
-    /// It is none of the lines that may stand there.
+    /// It is none of the lines that are allowed there.
+    #[error("bad line")]
     Bad,
-    /// A growth of memory was refused.
+    /// An allocation was refused.
+    #[error("no memory")]
     OutOfMemory,
 }
 
