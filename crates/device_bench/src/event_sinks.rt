@@ -1,10 +1,11 @@
 //! What is done with events.
 
-use crate::adapter::{OWN, PEER, adapter, numbered, open};
+use crate::adapter::{adapter, numbered, open};
 use crate::fault::BenchFault;
 use cip_tables::{Answer, Delivery, Device, Event, Verdict};
 use cip_types::{ConnId, Items, OutOfMemory};
 use device_lock::Book;
+use example_profiles::{CONTROLLER, FORWARD_OPEN};
 use plain_engine::PlainAdapter;
 use std::alloc::Global;
 
@@ -75,7 +76,7 @@ impl EventSink for Book<PlainAdapter> {
 /// An adapter whose output has an owner.
 pub fn stepped(alloc: Global) -> Result<PlainAdapter, BenchFault> {
     let mut device = adapter(alloc)?;
-    let _owner = open(alloc, &mut device, &OWN)?;
+    let _owner = open(alloc, &mut device, &FORWARD_OPEN)?;
     Ok(device)
 }
 
@@ -87,7 +88,7 @@ pub fn book(alloc: Global) -> Result<Book<PlainAdapter>, BenchFault> {
 /// The datagram with this number over the first connection of an adapter.
 fn datagram(alloc: Global, number: u32) -> Result<Event, OutOfMemory> {
     Ok(Event::Datagram {
-        peer: PEER,
+        peer: CONTROLLER,
         bytes: Items::copy_of(alloc, &numbered(ConnId(0x1000_0001), number))?,
     })
 }

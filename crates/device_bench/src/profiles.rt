@@ -1,10 +1,8 @@
 //! Three adapters with two outputs each, and six scanners, each of which owns one of these.
 
-use cip_netparams::Trigger;
-use cip_tables::{
-    Action, Config, InputPoint, Kind, OutputPoint, Profile, ScannerProfile, SlotConfig,
-};
-use cip_types::{Identity, Items, Node, OutOfMemory};
+use cip_tables::{Action, Config, OutputPoint, Profile, ScannerProfile, SlotConfig};
+use cip_types::{Items, Node, OutOfMemory};
+use example_profiles::{ADAPTER, CONTROLLER, MASK};
 use std::alloc::Global;
 
 const fn output(instance: u32) -> OutputPoint {
@@ -18,7 +16,7 @@ const fn output(instance: u32) -> OutputPoint {
 
 /// The address of an adapter.
 fn address(place: u8) -> Node {
-    Node(0xC0A8_010A + u32::from(place))
+    Node(ADAPTER.0 + u32::from(place))
 }
 
 fn outputs(alloc: Global) -> Result<Vec<OutputPoint>, OutOfMemory> {
@@ -29,59 +27,35 @@ fn outputs(alloc: Global) -> Result<Vec<OutputPoint>, OutOfMemory> {
 }
 
 fn adapter(alloc: Global, place: u8) -> Result<Config, OutOfMemory> {
-    let input = InputPoint {
-        instance: 100,
-        len: 4,
-    };
+    let example = example_profiles::adapter(alloc, place.wrapping_add(0x10), address(place), MASK)?;
     Ok(Config::Adapter(Profile {
-        incarnation: place.wrapping_add(0x10),
-        node: address(place),
-        mask: 0xFFFF_FF00,
-        identity: Identity {
-            vendor: 1,
-            device_type: 12,
-            product: 7,
-            major: 2,
-            minor: 3,
-        },
         outputs: Items::from_vec(outputs(alloc)?),
-        inputs: Items::one(alloc, input)?,
         config: None,
-        input_only: 152,
-        listen_only: 153,
+        ..example
     }))
 }
 
-/// An exclusive owner at 10 ms, both ways four bytes.
+/// An exclusive owner of one of the outputs of its target.
 fn slot(alloc: Global, place: u8) -> SlotConfig {
     SlotConfig {
-        target: address(place / 2),
-        kind: Kind::ExclusiveOwner,
         config: None,
         consumed: if place % 2 == 0 { 150 } else { 160 },
-        produced: 100,
-        out_len: 4,
-        in_len: 4,
-        o_t_rpi: 10_000,
-        t_o_rpi: 10_000,
-        mult: 2,
-        multicast: false,
-        key: None,
-        config_data: Items::new(alloc),
-        trigger: Trigger::Cyclic,
-        inhibit: 0,
+        ..example_profiles::slot(alloc, address(place / 2))
     }
 }
 
 fn scanner(alloc: Global, place: u8) -> Result<Config, OutOfMemory> {
+    let node = Node(CONTROLLER.0 + u32::from(place));
+    let example = example_profiles::scanner(
+        alloc,
+        place.wrapping_add(0x20),
+        node,
+        address(place / 2),
+    )?;
     Ok(Config::Scanner(ScannerProfile {
-        incarnation: place.wrapping_add(0x20),
-        node: Node(0xC0A8_0114 + u32::from(place)),
-        vendor: 0x1234,
         serial: 0x1234_5678 + u32::from(place),
-        open_timeout: 2_000,
-        retry: 3_000,
         slots: Items::one(alloc, slot(alloc, place))?,
+        ..example
     }))
 }
 

@@ -2,9 +2,10 @@
 
 use crate::clock::{ROUNDS, cpu_nanos};
 use crate::fault::BenchFault;
-use cip_netparams::Trigger;
-use cip_tables::{Config, Delivery, Device, Event, Kind, Notice, ScannerProfile, SlotConfig};
-use cip_types::{Items, Node, OutOfMemory};
+use cip_tables::{Config, Delivery, Device, Event, Notice, ScannerProfile, SlotConfig};
+use cip_types::limits::MOST_SLOTS;
+use cip_types::{Items, OutOfMemory};
+use example_profiles::{ADAPTER, CONTROLLER};
 use plain_engine::PlainScanner;
 use std::alloc::Global;
 use std::rt::CpuClock;
@@ -15,10 +16,7 @@ const DATAGRAMS: u32 = 200_000;
 const TICKS: u32 = 900;
 
 /// The most slots of a scanner.
-const MOST: u8 = 64;
-
-/// Whom all slots are for.
-const TARGET: Node = Node(0xC0A8_010A);
+const MOST: u8 = MOST_SLOTS as u8;
 
 /// The reply to RegisterSession, with session 1.
 const REGISTERED: [u8; 28] = [
@@ -32,24 +30,12 @@ const OPEN_REPLY: [u8; 70] = [
     0x12, 0x78, 0x56, 0x34, 0x12, 0x10, 0x27, 0, 0, 0x10, 0x27, 0, 0, 0, 0,
 ];
 
-/// An exclusive owner of output 150 for an input of its own, both of four bytes, at 10 ms.
+/// An exclusive owner of output 150 that consumes an input of its own.
 fn slot(alloc: Global, produced: u32) -> SlotConfig {
     SlotConfig {
-        target: TARGET,
-        kind: Kind::ExclusiveOwner,
         config: None,
-        consumed: 150,
         produced,
-        out_len: 4,
-        in_len: 4,
-        o_t_rpi: 10_000,
-        t_o_rpi: 10_000,
-        mult: 2,
-        multicast: false,
-        key: None,
-        config_data: Items::new(alloc),
-        trigger: Trigger::Cyclic,
-        inhibit: 0,
+        ..example_profiles::slot(alloc, ADAPTER)
     }
 }
 
@@ -59,13 +45,8 @@ fn profile(alloc: Global, slots: u8) -> Result<ScannerProfile, OutOfMemory> {
         configs.push(slot(alloc, u32::from(index)))?;
     }
     Ok(ScannerProfile {
-        incarnation: 0x20,
-        node: Node(0xC0A8_0114),
-        vendor: 0x1234,
-        serial: 0x1234_5678,
-        open_timeout: 2_000,
-        retry: 3_000,
         slots: Items::from_vec(configs),
+        ..example_profiles::scanner(alloc, 0x20, CONTROLLER, ADAPTER)?
     })
 }
 
@@ -81,7 +62,7 @@ fn frame(alloc: Global, device: &mut PlainScanner, bytes: &[u8]) -> Result<bool,
 fn register(alloc: Global, device: &mut PlainScanner) -> Result<(), BenchFault> {
     let _registration = device.step(&Event::StreamOpened {
         stream: 0,
-        peer: TARGET,
+        peer: ADAPTER,
     })?;
     let _registered = frame(alloc, device, &REGISTERED)?;
     Ok(())
@@ -131,7 +112,7 @@ fn numbered(id: u8, number: u32) -> [u8; 24] {
 /// Sends so many datagrams for the slot of this connection id, each of which has to be applied.
 fn send_all(device: &mut PlainScanner, id: u8, count: u32) -> Result<(), BenchFault> {
     for number in 0..count {
-        if device.deliver(TARGET, &numbered(id, number)) != Delivery::Applied {
+        if device.deliver(ADAPTER, &numbered(id, number)) != Delivery::Applied {
             return Err(BenchFault::Differs);
         }
     }

@@ -3,23 +3,13 @@
 
 use adapter_engine::FastAdapter;
 use cip_tables::{
-    Action, Config, Delivery, Device, DeviceTable, Event, InputPoint, Outcome, OutputPoint,
-    Profile, StepFault, TableCopy, run,
+    Config, Delivery, Device, DeviceTable, Event, Outcome, StepFault, TableCopy, run,
 };
-use cip_types::{Identity, Items, Node, OutOfMemory};
+use cip_types::{Items, OutOfMemory};
+use example_profiles::{ADAPTER, CONTROLLER, FORWARD_OPEN, MASK, RUN_DATA};
 use plain_engine::PlainAdapter;
 use std::alloc::Global;
 use std::test::Fail;
-
-/// A peer of the adapter.
-pub const PEER: Node = Node(0xC0A8_0114);
-
-/// An exclusive owner's Forward_Open of output 150 for input 100, at 10 ms.
-const OPEN: [u8; 50] = [
-    0x54, 2, 0x20, 6, 0x24, 1, 0x0A, 0x0E, 0, 0, 0, 0, 1, 0, 0, 0x20, 1, 0, 0x34, 0x12, 0x78, 0x56,
-    0x34, 0x12, 2, 0, 0, 0, 0x10, 0x27, 0, 0, 0x0A, 0x48, 0x10, 0x27, 0, 0, 6, 0x48, 1, 4, 0x20, 4,
-    0x24, 0x97, 0x2C, 0x96, 0x2C, 0x64,
-];
 
 /// Input only, multicast, of input 100 at 10 ms.
 const GATHER: [u8; 50] = [
@@ -28,16 +18,10 @@ const GATHER: [u8; 50] = [
     0x24, 0x97, 0x2C, 0x98, 0x2C, 0x64,
 ];
 
-/// The owner's first datagram.
-const FIRST: [u8; 28] = [
-    2, 0, 2, 0x80, 8, 0, 1, 0, 0, 0x10, 1, 0, 0, 0, 0xB1, 0, 0x0A, 0, 1, 0, 1, 0, 0, 0, 0x11, 0x22,
-    0x33, 0x44,
-];
-
-/// What it puts at the output.
+/// The data that the owner sends for the output.
 const OUTPUT_DATA: [u8; 4] = [0x11, 0x22, 0x33, 0x44];
 
-/// What the application puts at the input.
+/// The data that the application writes to the input.
 const DATA: [u8; 4] = [5, 6, 7, 8];
 
 /// The reply to the owner's open with the last id.
@@ -51,48 +35,14 @@ const USED_UP: [u8; 16] = [
     0xD4, 0, 1, 1, 0x13, 1, 5, 0, 0x34, 0x12, 0x78, 0x56, 0x34, 0x12, 0, 0,
 ];
 
-/// One output, one input, a configuration without bytes, and two heartbeats.
-fn profile(alloc: Global) -> Result<Profile, OutOfMemory> {
-    let output = OutputPoint {
-        instance: 150,
-        len: 4,
-        idle: Action::Zero,
-        fault: Action::Zero,
-    };
-    let input = InputPoint {
-        instance: 100,
-        len: 4,
-    };
-    Ok(Profile {
-        incarnation: 0x10,
-        node: Node(0xC0A8_010A),
-        mask: 0xFFFF_FF00,
-        identity: Identity {
-            vendor: 1,
-            device_type: 12,
-            product: 7,
-            major: 2,
-            minor: 3,
-        },
-        outputs: Items::one(alloc, output)?,
-        inputs: Items::one(alloc, input)?,
-        config: Some(InputPoint {
-            instance: 151,
-            len: 0,
-        }),
-        input_only: 152,
-        listen_only: 153,
-    })
-}
-
 fn adapter(alloc: Global) -> Result<PlainAdapter, Fail> {
-    let profile = profile(alloc)?;
+    let profile = example_profiles::adapter(alloc, 0x10, ADAPTER, MASK)?;
     Ok(PlainAdapter::new(alloc, Config::Adapter(profile))?)
 }
 
 fn request(alloc: Global, bytes: &[u8]) -> Result<Event, OutOfMemory> {
     Ok(Event::Request {
-        peer: PEER,
+        peer: CONTROLLER,
         bytes: Items::copy_of(alloc, bytes)?,
     })
 }
@@ -136,13 +86,13 @@ fn runs(alloc: Global, device: &mut PlainAdapter, events: &[Event]) -> bool {
 #[test]
 fn a_run_has_an_outcome_for_each_event(rt: HostRuntime) -> Result<(), Fail> {
     let mut device = adapter(rt.alloc())?;
-    let open = request(rt.alloc(), &OPEN)?;
+    let open = request(rt.alloc(), &FORWARD_OPEN)?;
     assert!(rt; runs(rt.alloc(), &mut device, &[open, Event::Tick { ms: 60_001 }]));
     Ok(())
 }
 
 fn takes_data(device: &mut PlainAdapter) -> bool {
-    device.deliver(PEER, &FIRST) == Delivery::Applied && holds(device, 150, &OUTPUT_DATA)
+    device.deliver(CONTROLLER, &RUN_DATA) == Delivery::Applied && holds(device, 150, &OUTPUT_DATA)
 }
 
 #[test]
@@ -174,7 +124,7 @@ fn reads_and_writes_need_no_event(rt: HostRuntime) -> Result<(), Fail> {
 /// An adapter with an owner, some time after that.
 fn begun(alloc: Global) -> Result<PlainAdapter, Fail> {
     let mut device = adapter(alloc)?;
-    let open = request(alloc, &OPEN)?;
+    let open = request(alloc, &FORWARD_OPEN)?;
     if device.step(&open).is_err() || device.step(&Event::Tick { ms: 1 }).is_err() {
         return Err("not as told".into());
     }
@@ -251,7 +201,7 @@ fn refuses_a_group<D: Device>(alloc: Global, device: &mut D) -> bool {
 }
 
 fn takes_an_owner<D: Device>(alloc: Global, device: &mut D) -> bool {
-    replies(alloc, device, &OPEN, &LAST_OPENED)
+    replies(alloc, device, &FORWARD_OPEN, &LAST_OPENED)
 }
 
 /// Whether a new group is refused before an owner takes the last id and after it.

@@ -1,17 +1,14 @@
 //! An adapter with one output and eight inputs, and what is asked of it.
 
 use crate::fault::TimesFault;
-use cip_tables::{
-    Action, Config, Delivery, Device, Event, InputPoint, Notice, OutputPoint, Profile, StepFault,
-};
-use cip_types::{ConnId, Identity, Items, Node, OutOfMemory};
+use cip_tables::{Config, Delivery, Device, Event, InputPoint, Notice, Profile, StepFault};
+use cip_types::limits::MOST_CONNECTIONS;
+use cip_types::{ConnId, Items, Node, OutOfMemory};
+use example_profiles::{ADAPTER, CONTROLLER, MASK};
 use std::alloc::Global;
 
 /// The most connections of an adapter.
-pub const MOST: u8 = 64;
-
-/// The lowest of the peers.
-const PEERS: u32 = 0xC0A8_0114;
+pub const MOST: u8 = MOST_CONNECTIONS as u8;
 
 /// The lowest input, and how many there are.
 const INPUT: u8 = 100;
@@ -63,31 +60,9 @@ fn inputs(alloc: Global) -> Result<Items<InputPoint>, OutOfMemory> {
 }
 
 fn profile(alloc: Global) -> Result<Profile, OutOfMemory> {
-    let output = OutputPoint {
-        instance: 150,
-        len: 4,
-        idle: Action::Zero,
-        fault: Action::Zero,
-    };
     Ok(Profile {
-        incarnation: 0x10,
-        node: Node(0xC0A8_010A),
-        mask: 0xFFFF_FF00,
-        identity: Identity {
-            vendor: 1,
-            device_type: 12,
-            product: 7,
-            major: 2,
-            minor: 3,
-        },
-        outputs: Items::one(alloc, output)?,
         inputs: inputs(alloc)?,
-        config: Some(InputPoint {
-            instance: 151,
-            len: 0,
-        }),
-        input_only: 152,
-        listen_only: 153,
+        ..example_profiles::adapter(alloc, 0x10, ADAPTER, MASK)?
     })
 }
 
@@ -97,7 +72,7 @@ pub fn adapter<D: Device>(alloc: Global) -> Result<D, TimesFault> {
 }
 
 fn peer(place: u8) -> Node {
-    Node(PEERS.wrapping_add(u32::from(place)))
+    Node(CONTROLLER.0.wrapping_add(u32::from(place)))
 }
 
 /// A request of the peer at this place.

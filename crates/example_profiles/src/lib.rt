@@ -19,6 +19,12 @@ pub const INPUT: u32 = 100;
 /// The connection point of the configuration, which has no bytes.
 const CONFIG: u32 = 151;
 
+/// The address of the adapter, 192.168.1.10, where it is not on this host.
+pub const ADAPTER: Node = Node(0xC0A8_010A);
+
+/// The mask of the network of the adapter and the controller, 255.255.255.0.
+pub const MASK: u32 = 0xFFFF_FF00;
+
 /// Forward_Open of an exclusive owner of the output that consumes the input, each every 10 ms, point to point.
 ///
 /// Volume 1, chapter 3, Forward_Open service.
@@ -81,8 +87,8 @@ pub fn adapter(
     })
 }
 
-/// A slot that owns the output of its target and gathers the input.
-fn slot(alloc: Global, target: Node) -> SlotConfig
+/// A slot that owns the output of its target and consumes its input.
+pub fn slot(alloc: Global, target: Node) -> SlotConfig
     ensures { result ≡ slot_config target }
 {
     SlotConfig {

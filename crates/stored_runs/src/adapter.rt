@@ -5,64 +5,19 @@ ghost use Rattle.cip_tables.specs.Step.{config_fault, makes_adapter};
 
 use crate::fault::StoredRunFault;
 use adapter_engine::FastAdapter;
-use cip_tables::{Action, Config, Device, Event, InputPoint, Outcome, OutputPoint, Profile};
-use cip_types::{Identity, Items, Node, OutOfMemory};
+use cip_tables::{Config, Device, Event, Outcome};
+use cip_types::{Items, OutOfMemory};
 use device_lock::{Book, Receipt, Segment};
+use example_profiles::{ADAPTER, CONTROLLER, FORWARD_OPEN, MASK, RUN_DATA};
 use std::alloc::Global;
 use trace_outcomes::write_outcome;
-
-/// 192.168.1.20, who opens a connection and sends data.
-const PEER: Node = Node(0xC0A8_0114);
-
-/// A Forward_Open of an exclusive owner of output 150 for input 100, both point to point at 10 ms.
-const OPEN: [u8; 50] = [
-    0x54, 2, 0x20, 6, 0x24, 1, 0x0A, 0x0E, 0, 0, 0, 0, 1, 0, 0, 0x20, 1, 0, 0x34, 0x12, 0x78, 0x56,
-    0x34, 0x12, 2, 0, 0, 0, 0x10, 0x27, 0, 0, 0x0A, 0x48, 0x10, 0x27, 0, 0, 6, 0x48, 1, 4, 0x20, 4,
-    0x24, 0x97, 0x2C, 0x96, 0x2C, 0x64,
-];
-
-/// The owner's first datagram, in run mode.
-const DATAGRAM: [u8; 28] = [
-    2, 0, 2, 0x80, 8, 0, 1, 0, 0, 0x10, 1, 0, 0, 0, 0xB1, 0, 10, 0, 1, 0, 1, 0, 0, 0, 0x11, 0x22,
-    0x33, 0x44,
-];
-
-const fn point(instance: u32, len: u64) -> InputPoint {
-    InputPoint { instance, len }
-}
-
-fn profile(alloc: Global) -> Result<Profile, OutOfMemory> {
-    let output = OutputPoint {
-        instance: 150,
-        len: 4,
-        idle: Action::Zero,
-        fault: Action::Zero,
-    };
-    Ok(Profile {
-        incarnation: 0x10,
-        node: Node(0xC0A8_010A),
-        mask: 0xFFFF_FF00,
-        identity: Identity {
-            vendor: 1,
-            device_type: 12,
-            product: 7,
-            major: 2,
-            minor: 3,
-        },
-        outputs: Items::one(alloc, output)?,
-        inputs: Items::one(alloc, point(100, 4))?,
-        config: Some(point(151, 0)),
-        input_only: 152,
-        listen_only: 153,
-    })
-}
 
 /// What the adapter is made of.
 pub fn config(alloc: Global) -> Result<Config, StoredRunFault>
     ensures valid { IfOk result (λ config. config_fault config ≡ None) }
     ensures kind { IfOk result (λ config. makes_adapter config ≡ true) }
 {
-    let profile = profile(alloc)?;
+    let profile = example_profiles::adapter(alloc, 0x10, ADAPTER, MASK)?;
     profile.check()?;
     Ok(Config::Adapter(profile))
 }
@@ -76,16 +31,16 @@ pub fn book(alloc: Global) -> Result<Book<FastAdapter>, StoredRunFault> {
 /// The owner opens its connection.
 pub fn opening(alloc: Global) -> Result<Event, OutOfMemory> {
     Ok(Event::Request {
-        peer: PEER,
-        bytes: Items::copy_of(alloc, &OPEN)?,
+        peer: CONTROLLER,
+        bytes: Items::copy_of(alloc, &FORWARD_OPEN)?,
     })
 }
 
 /// The owner sends data.
 pub fn datagram(alloc: Global) -> Result<Event, OutOfMemory> {
     Ok(Event::Datagram {
-        peer: PEER,
-        bytes: Items::copy_of(alloc, &DATAGRAM)?,
+        peer: CONTROLLER,
+        bytes: Items::copy_of(alloc, &RUN_DATA)?,
     })
 }
 

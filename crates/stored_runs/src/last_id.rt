@@ -4,15 +4,11 @@ use crate::adapter::print_answer;
 use crate::devices::{FIRST, config};
 use crate::fault::StoredRunFault;
 use cip_tables::{Device, Event};
-use cip_types::{Items, Node};
+use cip_types::Items;
+use cip_types::limits::IDS_PER_INCARNATION;
+use example_profiles::ADAPTER;
 use plain_engine::PlainScanner;
 use std::alloc::Global;
-
-/// The counter at which no connection id is left.
-const NO_ID: u32 = 1 << 24;
-
-/// The target of the scanner's slot.
-const TARGET: Node = Node(0xC0A8_010A);
 
 /// The target's answer to RegisterSession: the session has the handle 1.
 const REGISTERED: [u8; 28] = [
@@ -33,7 +29,7 @@ fn fresh(alloc: Global) -> Result<PlainScanner, StoredRunFault> {
 /// The same scanner with the counter at its end.
 fn used_up(alloc: Global, scanner: &PlainScanner) -> Result<PlainScanner, StoredRunFault> {
     scanner.is_whole();
-    let copy = scanner.copy()?.with_next_id(NO_ID);
+    let copy = scanner.copy()?.with_next_id(IDS_PER_INCARNATION);
     Ok(PlainScanner::from_copy(alloc, &copy)?)
 }
 
@@ -55,7 +51,7 @@ fn register(
 ) -> Result<(), StoredRunFault> {
     let opened = Event::StreamOpened {
         stream: 0,
-        peer: TARGET,
+        peer: ADAPTER,
     };
     step(rt, alloc, scanner, 1, opened)?;
     step(rt, alloc, scanner, 2, registered(alloc)?)
