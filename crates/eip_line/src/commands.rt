@@ -3,10 +3,12 @@
 ghost use Rattle.std.specs.Prelude.{◌≡◌, map, true, IfOk};
 ghost use Rattle.eip_line.specs.Tasks.{Requests};
 
+use cip_types::limits::{TCP_PORT, UDP_PORT};
 use clap::error::ErrorKind;
 use clap::{Arg, ArgAction, ArgMatches, Command, value_parser};
 use std::alloc::{AllocError, Global};
 use std::convert::AsStr;
+use thiserror::Error;
 
 /// What a command line asks for.
 #[derive(Clone, Copy)]
@@ -28,21 +30,17 @@ pub struct LoopTask {
     pub turns: u32,
 }
 
-/// The port of EtherNet/IP's messages.
-const TCP: u16 = 44_818;
-
-/// The port of EtherNet/IP's class 1 datagrams.
-const UDP: u16 = 2_222;
-
 /// The usual number of turns.
 const TURNS: u32 = 1_000;
 
-/// Why a command line asks for nothing.
-#[derive(Clone, Copy)]
+/// Why a command line requests no task.
+#[derive(Clone, Copy, Debug, PartialEq, Eq, Error)]
 pub enum Misuse {
-    /// It is none of the program's, or asks for help.
+    /// It is none of the program's, or requests help.
+    #[error("no command line of the program")]
     Usage,
-    /// A growth of memory was refused.
+    /// An allocation was refused.
+    #[error("no memory")]
     OutOfMemory,
 }
 
@@ -125,8 +123,8 @@ fn port<'a>(alloc: Global, name: &'a str) -> Arg<'a> {
 /// What is given, and else what is usual.
 fn loop_task(given: &ArgMatches<'_>) -> LoopTask {
     LoopTask {
-        tcp: given.get_one("tcp").unwrap_or(TCP),
-        udp: given.get_one("udp").unwrap_or(UDP),
+        tcp: given.get_one("tcp").unwrap_or(TCP_PORT),
+        udp: given.get_one("udp").unwrap_or(UDP_PORT),
         turns: given.get_one("turns").unwrap_or(TURNS),
     }
 }

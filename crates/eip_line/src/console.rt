@@ -14,6 +14,7 @@ use crate::loops::loop_status;
 use crate::usage::write_usage;
 use adapter_engine::FastAdapter;
 use cip_tables::Config;
+use cip_types::limits::LONGEST_TRACE;
 use itoa::Buffer;
 use plain_engine::PlainScanner;
 use std::alloc::Global;
@@ -21,6 +22,7 @@ use std::convert::AsStr;
 use std::io::{ErrorKind, Read, Write};
 use std::net::{Net, TcpListener, TcpStream};
 use std::rt::Clock;
+use thiserror::Error;
 use trace_stepper::{NotTaken, StepperFault, play, write_text};
 use trace_text::{Trace, TraceFault, read_trace};
 
@@ -30,23 +32,26 @@ const FAILED: u8 = 1;
 /// The status for a command line that is none of the program's.
 const MISUSED: u8 = 2;
 
-/// The most bytes of a trace.
-const LONGEST_TRACE: usize = 16_777_216;
-
-/// Why a run ended with status 1, as standard error tells it.
-#[derive(Clone, Copy)]
+/// Why a run ended with status 1, with the line that reports it on standard error.
+#[derive(Clone, Copy, Debug, PartialEq, Eq, Error)]
 pub enum ProgramFault {
-    /// The trace is longer than any that is read: `too long`.
+    /// The trace has more than `LONGEST_TRACE` bytes: `too long`.
+    #[error("too long")]
     TooLong,
-    /// The line of this number does not belong into the trace: `bad line N`.
+    /// The line of this number is not allowed there: `bad line N`.
+    #[error("bad line {0}")]
     BadLine(u64),
-    /// The profile is wrong in the way of this number: `bad profile N`.
+    /// The profile has the fault of this number: `bad profile N`.
+    #[error("bad profile {0}")]
     BadProfile(u8),
-    /// A growth of memory was refused: `no memory`.
+    /// An allocation was refused: `no memory`.
+    #[error("no memory")]
     OutOfMemory,
     /// The input could not be read: `fault Read`.
+    #[error("fault Read")]
     Read,
     /// The output could not be written: `fault Write`.
+    #[error("fault Write")]
     Write,
 }
 

@@ -13,14 +13,17 @@ use socket_loop::{LoopFault, run_loop};
 use std::io::Write;
 use std::net::{Net, TcpListener, TcpStream};
 use std::rt::Clock;
+use thiserror::Error;
 use trace_stepper::{NotTaken, write_text};
 
-/// Why a loop ended with status 1, as standard error tells it.
-#[derive(Clone, Copy)]
+/// Why a loop ended with status 1, with the line that reports it on standard error.
+#[derive(Clone, Copy, Debug, PartialEq, Eq, Error)]
 pub enum LoopEnd {
-    /// The line failed: `fault Port`, `fault New`, `fault Step` or `no memory`.
+    /// The devices or their ports failed: `fault Port`, `fault New`, `fault Step` or `no memory`.
+    #[error(transparent)]
     Line(LoopFault),
     /// The output could not be written: `fault Write`.
+    #[error("fault Write")]
     Write,
 }
 

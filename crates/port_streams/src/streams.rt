@@ -6,12 +6,10 @@ ghost use Rattle.port_streams.specs.StreamInputs.{begun};
 ghost use Rattle.port_streams.specs.Slots.{Receives, ended_at, given_at, is_free, left_at, slot_at, read_at, written_at};
 
 use crate::port_stream::PortStream;
+use cip_types::limits::MOST_STREAMS;
 use cip_types::{Node, OutOfMemory};
 use std::alloc::Global;
 use udp_runner::Input;
-
-/// A port has at most so many streams.
-const MOST_STREAMS: usize = 16;
 
 /// The streams of a port by their numbers, each with the socket under it.
 ///

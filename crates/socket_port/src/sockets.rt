@@ -5,6 +5,7 @@ ghost use Rattle.socket_port.specs.ReadOutcomes.{Fits};
 
 use crate::addresses::{address_of, node_of};
 use crate::calls::{self, ReadOutcome};
+use cip_types::limits::MOST_STREAMS;
 use cip_types::{Items, Node, OutOfMemory};
 use port_streams::{DatagramRoutes, PortStreams};
 use std::alloc::Global;
@@ -12,8 +13,8 @@ use std::io;
 use std::net::{SocketAddr, TcpListener, TcpStream, UdpSocket};
 use udp_runner::{Input, Output, PortFault};
 
-/// A port has at most so many streams.
-const MOST_STREAMS: u16 = 16;
+/// The numbers of streams are below this one.
+const STREAM_NUMBERS: u16 = MOST_STREAMS as u16;
 
 /// A datagram of UDP has fewer bytes, and no more are read of a stream at once.
 const BUFFER_BYTES: usize = 65_536;
@@ -138,9 +139,9 @@ impl PortSockets {
 
     /// What is there of the streams now. They take turns.
     fn poll_streams(&mut self) -> Result<Option<Input>, PortFault> {
-        let first = self.first % MOST_STREAMS;
-        for offset in 0..MOST_STREAMS {
-            let number = (first + offset) % MOST_STREAMS;
+        let first = self.first % STREAM_NUMBERS;
+        for offset in 0..STREAM_NUMBERS {
+            let number = (first + offset) % STREAM_NUMBERS;
             if let Some(input) = self.poll_stream(number)? {
                 self.first = number + 1;
                 return Ok(Some(input));

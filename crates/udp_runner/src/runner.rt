@@ -10,9 +10,7 @@ use crate::port::{Clock, Port};
 use crate::sending::send_answer;
 use cip_events::Event;
 use cip_tables::Device;
-
-/// The longest tick, in milliseconds.
-const LONGEST_TICK: u64 = 60_000;
+use cip_types::limits::LONGEST_TICK_MS;
 
 /// Drives the device for some turns, and answers the number of its events.
 ///
@@ -78,7 +76,7 @@ fn tick<P: Port, D: Device>(port: &mut P, device: &mut D, ms: u64) -> Result<u64
     if ms == 0 {
         return Ok(0);
     }
-    let ms = ms.min(LONGEST_TICK) as u32;
+    let ms = ms.min(u64::from(LONGEST_TICK_MS)) as u32;
     act(port, device, &Event::Tick { ms })?;
     Ok(1)
 }
