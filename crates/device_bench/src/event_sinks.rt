@@ -1,4 +1,4 @@
-//! What is done with events.
+//! Sinks of events.
 
 use crate::adapter::{adapter, numbered, open};
 use crate::fault::BenchFault;
@@ -9,13 +9,13 @@ use example_profiles::{CONTROLLER, FORWARD_OPEN};
 use plain_engine::PlainAdapter;
 use std::alloc::Global;
 
-/// What is done with each event.
+/// A sink of events.
 pub trait EventSink {
-    /// Takes an event, and tells whether it did with it what was wanted.
+    /// Takes an event, and answers whether the outcome is the expected one.
     fn take(&mut self, event: Event) -> bool;
 }
 
-/// Events are made, and no more is done with them.
+/// Events are made and dropped.
 #[derive(Clone, Copy)]
 pub struct Making;
 

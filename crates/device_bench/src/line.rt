@@ -26,7 +26,7 @@ pub struct BenchLine {
     pub acts: u64,
 }
 
-/// What became of a datagram.
+/// The delivery of a datagram.
 fn delivery_of(answer: Option<Answer>) -> Result<Delivery, WorkFault> {
     match answer {
         Some(answer) => match answer.verdict {
@@ -61,7 +61,7 @@ impl BenchLine {
         self.done(&Act::NextFrame { stream, direction })
     }
 
-    /// A datagram comes to a device, which has to make this of it.
+    /// A datagram is delivered to a device, with this outcome.
     pub fn deliver(
         &mut self,
         index: usize,

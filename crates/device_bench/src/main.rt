@@ -1,6 +1,6 @@
-//! How long devices take over plain lists, on one thread, with no network.
+//! The times of devices over plain lists, on one thread, with no network.
 //!
-//! With no word, or the word `check`: short runs, and what they came to. With the word `scanner`: datagrams and ticks at a
+//! With no word, or the word `check`: short runs, and their results. With the word `scanner`: datagrams and ticks at a
 //! scanner. `world`: 100,000 acts on a simulated segment of nine devices, and by how much it grows. `books`: what a book
 //! adds to a step of an adapter, beside a copy of the event.
 #![tactic(auto)]
@@ -28,7 +28,7 @@ fn check(rt: &impl Print, alloc: Global) -> Result<(), BenchFault> {
     books::check(rt, alloc)
 }
 
-/// Does what the word asks for.
+/// Does the requested work.
 fn bench<R: Print + CpuClock + Files + AllocGlobal>(
     rt: &R,
     alloc: Global,

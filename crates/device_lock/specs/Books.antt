@@ -40,8 +40,8 @@ pub record IsReceipt (b : BookValue) (event : Event) (r : Receipt) : Type 0 wher
   pub event_is : r.event ≡ event
   pub answer : step (present b) event ≡ Ok (r.answer, present (with_event b event))
 
--- Why the book refuses the event. A full segment goes first; then memory may be wanted for the event itself, or
--- for the answer; and then it is what the step of the present table refuses.
+-- Why the book refuses the event, in order: a full segment; no memory for the event or for the answer; the fault of
+-- the step of the present table.
 abbrev pub IsRefused : BookValue → Event → BookFault → Type 0
 IsRefused b event TraceFull = length b.events ≡ most_events
 IsRefused b event (Step OutOfMemory) = length b.events < most_events

@@ -13,7 +13,7 @@ use std::alloc::Global;
 use std::marker::Model;
 use std::mem;
 
-/// How many events a segment holds at most.
+/// The most events of a segment.
 pub const MOST_EVENTS: usize = 1_048_576;
 
 /// A device, the table that it had when the present segment began, and the events that it has answered since.
@@ -77,8 +77,8 @@ impl<D: Device + Drop> Book<D> {
 
     /// Steps the device at the event, and stores the event. After a fault the book is as it was.
     ///
-    /// The faults, in order: `TraceFull` where the segment has 1,048,576 events, `Step(OutOfMemory)` where there
-    /// is no memory to store the event, `Step` with what the device answers.
+    /// The faults, in order: `TraceFull` if the segment has 1,048,576 events, `Step(OutOfMemory)` if there is no memory
+    /// to store the event, `Step` with the fault of the device.
     #[tactic(auto, using(crate::proofs::Replays::after_answered))]
     pub fn step(&mut self, event: Event) -> Result<Receipt, BookFault>
         ensures receipt { IfOk result (IsReceipt self.old event) }
@@ -103,8 +103,8 @@ impl<D: Device + Drop> Book<D> {
         })
     }
 
-    /// Hands out the present segment, and begins a new one with the device as it is. Want of memory leaves the
-    /// book as it was.
+    /// Hands out the present segment, and begins a new one with the device as it is. If an allocation is refused, the
+    /// book is as it was.
     pub fn rotate(&mut self) -> Result<Segment, OutOfMemory>
         requires { self.old.segment < 65535 }
         ensures segment { IfOk result (λ segment. segment ≡ record { opening = self.old.opening; events = self.old.events }) }
@@ -121,8 +121,7 @@ impl<D: Device + Drop> Book<D> {
     }
 }
 
-// What a device answers to an event. A datagram goes straight to `deliver`, whose answer takes no memory and is made in
-// its place.
+// Steps a device at an event. A datagram goes straight to `deliver`, so that its answer takes no memory.
 fn answered<D: Device>(alloc: Global, device: &mut D, event: &Event) -> Outcome
     ensures { Follows (step (D.table device.old) event.now) (D.table device.old) result (D.table device.new) }
 {

@@ -11,9 +11,8 @@ use cip_types::OutOfMemory;
 use std::alloc::Global;
 use std::marker::Model;
 
-/// What happened at one device since it was made: its configuration and all its events, which segments gave that
-/// follow on one another. Contracts see the configuration, the events in one list, and how many of them each
-/// segment had.
+/// What happened at one device since it was made: its configuration, and the events of all its segments. Contracts see
+/// the configuration, the events in one list, and the number of events of each segment.
 #[derive(Drop)]
 pub struct History {
     config: Config,
@@ -33,9 +32,9 @@ impl Model for History {
 }
 
 impl History {
-    /// The history that segments of a device give, in their order.
+    /// The history of the segments of a device, in their order.
     ///
-    /// None only where they do not follow on one another, as `follow` tells, or memory was refused.
+    /// None only if the segments do not follow on one another, as `follow` decides, or if an allocation was refused.
     pub fn new<D: Device + Drop>(
         alloc: Global,
         config: Config,
@@ -53,7 +52,7 @@ impl History {
     }
 
     /// Whether the first segment opens with the table of a fresh device, and each further one with the table that
-    /// the events of the one before lead to. No segments do.
+    /// the events of the one before lead to. An empty list of segments does.
     pub fn follow<D: Device + Drop>(
         alloc: Global,
         config: &Config,
@@ -73,7 +72,7 @@ impl History {
         Ok(true)
     }
 
-    /// What the device was made of. Takes no memory.
+    /// The configuration that the device was made of. Takes no memory.
     pub fn config(&self) -> &Config
         ensures { result.now ≡ self.now.config }
     {
@@ -104,6 +103,7 @@ impl History {
         if index >= *count {
             return None;
         }
+        // (gives the prover that all counts together fit a usize)
         let _few = self.events.len();
         Some(total(&self.counts[..usize::from(segment)]) + index)
     }
@@ -118,6 +118,7 @@ fn fresh<D: Device + Drop>(alloc: Global, config: &Config) -> Result<D, OutOfMem
     match D::new(alloc, config.copy(alloc)?) {
         Ok(device) => Ok(device),
         Err(NewFault::OutOfMemory) => Err(OutOfMemory),
+        // (a valid configuration of the device's kind is refused for lack of memory alone)
         Err(_) => unreachable!(),
     }
 }
@@ -132,7 +133,7 @@ fn replay<D: Device>(device: &mut D, events: &[Event]) -> Result<(), OutOfMemory
     Ok(())
 }
 
-// One stored event. Where the device refuses it, it stays as it was.
+// Steps a device at one stored event. A device that refuses the event stays as it was.
 fn repeat<D: Device>(device: &mut D, event: &Event) -> Result<(), OutOfMemory>
     ensures { IfOk result (λ _. D.table device.new ≡ table_after (D.table device.old) (event.now ∷ [])) }
 {

@@ -2,8 +2,8 @@
 
 ghost use Rattle.device_lock.specs.Histories.{EventsStandAtTheirPlaces};
 
-/// Does nothing: its contract tells a caller that the place of each event of each segment is where that event
-/// stands in the list of all.
+/// Does nothing. Its contract is a law for callers: the place of each event of each segment is its index in the list
+/// of all events.
 pub fn events_stand_at_their_places()
     ensures { EventsStandAtTheirPlaces }
 {}

@@ -5,23 +5,23 @@ use cip_types::OutOfMemory;
 use std::alloc::AllocError;
 use thiserror::Error;
 
-/// The account of one event: where it stands in the book of its device, and what the device answered.
+/// The account of one event: its position in the book of its device, and the answer of the device.
 #[derive(Drop)]
 pub struct Receipt {
     /// The incarnation byte of the device.
     pub device: u8,
-    /// How many segments the book had handed out.
+    /// The number of segments that the book had handed out.
     pub segment: u16,
-    /// How many events of the segment come before.
+    /// The number of events of the segment before this one.
     pub index: u32,
     pub event: Event,
     pub answer: Answer,
 }
 
-/// Why a book takes no event. It is then as it was.
+/// Why a book refused an event. The book is then as it was.
 #[derive(Clone, Copy, Debug, PartialEq, Eq, Error)]
 pub enum BookFault {
-    /// The device refuses the event, or memory was refused.
+    /// The device refused the event, or an allocation was refused.
     #[error(transparent)]
     Step(StepFault),
     /// The segment holds 1,048,576 events.

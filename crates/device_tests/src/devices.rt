@@ -1,5 +1,5 @@
-//! A plain adapter's calls beside `step`, and copies of adapters. What their steps answer is shown by the traces of
-//! the scenarios.
+//! A plain adapter's calls beside `step`, and copies of adapters. The traces of the scenarios show the answers of their
+//! steps.
 
 use adapter_engine::FastAdapter;
 use cip_tables::{
@@ -30,7 +30,7 @@ const LAST_OPENED: [u8; 30] = [
     0x10, 0x27, 0, 0, 0x10, 0x27, 0, 0, 0, 0,
 ];
 
-/// The refusal of the connection of serial number 5 for want of ids.
+/// The refusal of the connection of serial number 5, since no id is left.
 const USED_UP: [u8; 16] = [
     0xD4, 0, 1, 1, 0x13, 1, 5, 0, 0x34, 0x12, 0x78, 0x56, 0x34, 0x12, 0, 0,
 ];

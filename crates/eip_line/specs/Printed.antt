@@ -1,4 +1,4 @@
--- What a run of the program prints.
+-- The output of a run of the program.
 use Rattle.std.specs.Prelude.{ℕ, ◌≡◌, ◌≤◌, ◌<◌, ◌⊎◌, Bool, true, false, List, [], ◌++◌, length, codes, Option, Some, None, Result, Ok, Err, IfSome}
 use Rattle.std.specs.Io.KnownBytes.{Appends}
 use Rattle.trace_text.specs.declared.trace.Trace.{Trace}
@@ -19,11 +19,11 @@ use Rattle.eip_line.specs.declared.console.ProgramFault.TheVariants as program
 abbrev pub longest_trace : ℕ
 longest_trace = 16777216
 
--- the trace that is read, where what was to be read is known
+-- the trace that is read, where the bytes of the input are known
 abbrev pub Reads : Option (List ℕ) → Trace → Type 0
 Reads input trace = IfSome input (λ text. (trace_reading text ≡ Ok trace) × (length text ≤ longest_trace))
 
--- the line that tells the first difference
+-- the line with the number of the first difference
 abbrev pub differs_line : ℕ → List ℕ
 differs_line number = numbered_line (codes "differs ") number
 
@@ -31,7 +31,7 @@ differs_line number = numbered_line (codes "differs ") number
 abbrev pub PrintsRun : Option (List ℕ) → Option (List ℕ) → Option (List ℕ) → Type 0
 PrintsRun input old new = (trace : Trace) × (Reads input trace × Appends old new (outcomes_text 1 (outcomes_of_trace trace)) × IsJudged trace.events (outcomes_of_trace trace) (length trace.events) None)
 
--- all outcomes are written, and a last line that tells the first that is not as recorded
+-- all outcomes are written, and a last line with the number of the first that is not as recorded
 abbrev pub PrintsDifference : Option (List ℕ) → Option (List ℕ) → Option (List ℕ) → Type 0
 PrintsDifference input old new = (trace : Trace) × ((number : ℕ) × (Reads input trace × Appends old new (outcomes_text 1 (outcomes_of_trace trace) ++ differs_line number) × IsJudged trace.events (outcomes_of_trace trace) (length trace.events) (Some number)))
 
@@ -43,7 +43,7 @@ PrintsFirst input old new = (trace : Trace) × (Reads input trace × WritesFirst
 abbrev pub BeginsToPrint : Option (List ℕ) → Option (List ℕ) → Option (List ℕ) → Type 0
 BeginsToPrint input old new = (trace : Trace) × (Reads input trace × (BeginsToWrite old (outcomes_text 1 (outcomes_of_trace trace)) new ⊎ ((number : ℕ) × (IsJudged trace.events (outcomes_of_trace trace) (length trace.events) (Some number) × BeginsToWrite old (outcomes_text 1 (outcomes_of_trace trace) ++ differs_line number) new))))
 
--- What was printed when a run ends so: a trace that is refused prints nothing.
+-- The output when a run ends so: a trace that is refused prints nothing.
 abbrev pub IsStepped : Option (List ℕ) → Option (List ℕ) → Option (List ℕ) → Result Bool ProgramFault → Type 0
 IsStepped input old new (Ok true) = PrintsRun input old new
 IsStepped input old new (Ok false) = PrintsDifference input old new
@@ -54,12 +54,12 @@ IsStepped input old new (Err program.Read) = new ≡ old
 IsStepped input old new (Err program.OutOfMemory) = (new ≡ old) ⊎ PrintsFirst input old new
 IsStepped input old new (Err program.Write) = BeginsToPrint input old new
 
--- A run with status 1: a recorded outcome was not given, and nothing is told; or the run failed, and the line of
--- the fault is written, as far as the stream took it.
+-- A run with status 1: an outcome is not as recorded, and no fault is reported; or the run failed, and the line of the
+-- fault is written, as far as the stream took it.
 abbrev pub Fails : Option (List ℕ) → Option (List ℕ) → Option (List ℕ) → Option (List ℕ) → Option (List ℕ) → Type 0
 Fails input old new silent reported = (PrintsDifference input old new × (reported ≡ silent)) ⊎ ((fault : ProgramFault) × (IsStepped input old new (Err fault) × BeginsToWrite silent (fault_line fault) reported))
 
--- what ends the reading of the text
+-- the faults that end the reading of the text
 abbrev pub IsTextFault : ProgramFault → Type 0
 IsTextFault program.TooLong = Unit {0}
 IsTextFault program.Read = Unit {0}
@@ -76,8 +76,8 @@ IsTraceRead input (Err program.Read) = Unit {0}
 IsTraceRead input (Err program.OutOfMemory) = Unit {0}
 IsTraceRead input (Err program.Write) = ⊥
 
--- What is written behind the outcomes: nothing, or the line of the first difference; or the stream took a
--- beginning of that alone, or did not hand on what it took.
+-- The text behind the outcomes: nothing, or the line of the first difference; or the stream took only a beginning of
+-- that, or could not be flushed.
 abbrev pub IsFinished : Option (List ℕ) → Option ℕ → Option (List ℕ) → Result Bool ProgramFault → Type 0
 IsFinished old None new (Ok same) = (same ≡ true) × Appends old new []
 IsFinished old (Some number) new (Ok same) = (same ≡ false) × Appends old new (differs_line number)
@@ -85,7 +85,7 @@ IsFinished old None new (Err program.Write) = Appends old new []
 IsFinished old (Some number) new (Err program.Write) = BeginsToWrite old (differs_line number) new
 IsFinished old differs new (Err fault) = ⊥
 
--- what a run that was not played to its end is told to be
+-- why a run that was not played to its end failed: for the stepper's fault, or since the output could not be flushed
 abbrev pub IsStop : StepperFault → ProgramFault → Type 0
 IsStop stopped program.Write = Unit {0}
 IsStop stepper.Profile program.OutOfMemory = Unit {0}

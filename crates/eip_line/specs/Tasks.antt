@@ -1,4 +1,4 @@
--- What a command line asks for, and what is printed when that is done or fails.
+-- The task that a command line requests, and the output when it is done or fails.
 use Rattle.std.specs.Prelude.{ℕ, ◌≡◌, ◌⊎◌, List, codes, slice_get, Option, Some}
 use Rattle.std.specs.Io.KnownBytes.{Appends}
 use Rattle.trace_stepper.specs.Written.{BeginsToWrite}
@@ -22,10 +22,10 @@ abbrev pub FailsTask : Task → Option (List ℕ) → Option (List ℕ) → Opti
 FailsTask task.Step input old new silent reported = Fails input old new silent reported
 FailsTask (task.Loop given) input old new silent reported = FailsLoop given.turns old new silent reported
 
--- what the words ask for is printed
+-- the requested task is done and printed
 abbrev pub IsDone : List (List ℕ) → Option (List ℕ) → Option (List ℕ) → Option (List ℕ) → Type 0
 IsDone words input old new = (requested : Task) × (Requests words requested × Prints requested input old new)
 
--- There was no memory to read the words, which is told; or what they ask for failed.
+-- There was no memory to read the words, which is reported; or the requested task failed.
 abbrev pub HasFailed : List (List ℕ) → Option (List ℕ) → Option (List ℕ) → Option (List ℕ) → Option (List ℕ) → Option (List ℕ) → Type 0
 HasFailed words input old new silent reported = ((new ≡ old) × BeginsToWrite silent (codes "no memory\n") reported) ⊎ ((requested : Task) × (Requests words requested × FailsTask requested input old new silent reported))

@@ -10,7 +10,7 @@ use std::alloc::{AllocError, Global};
 use std::convert::AsStr;
 use thiserror::Error;
 
-/// What a command line asks for.
+/// The task that a command line requests.
 #[derive(Clone, Copy)]
 pub enum Task {
     /// Steps a device by the lines of the input.
@@ -19,14 +19,14 @@ pub enum Task {
     Loop(LoopTask),
 }
 
-/// Where an adapter and a scanner talk, and for how many turns of each.
+/// The ports of an adapter and a scanner, and the number of turns of each.
 #[derive(Clone, Copy)]
 pub struct LoopTask {
     /// The adapter's port of TCP.
     pub tcp: u16,
     /// The adapter's port of UDP. The scanner's is the next one.
     pub udp: u16,
-    /// How often each of them takes a turn.
+    /// The number of turns of each device.
     pub turns: u32,
 }
 
@@ -59,7 +59,7 @@ impl From<clap::Error> for Misuse {
     }
 }
 
-/// What the words ask for. The first of them is the program's own name, and the next one the command's.
+/// The task that the words request. The first word is the program's own name, and the next one the command's.
 pub fn read_task<S: AsStr>(alloc: Global, words: &[S]) -> Result<Task, Misuse>
     ensures { IfOk result (Requests (map S.text words.now)) }
 {
@@ -120,7 +120,7 @@ fn port<'a>(alloc: Global, name: &'a str) -> Arg<'a> {
         .value_parser(value_parser!(u16).range(1..=65_534))
 }
 
-/// What is given, and else what is usual.
+/// The given options, and the usual values of the others.
 fn loop_task(given: &ArgMatches<'_>) -> LoopTask {
     LoopTask {
         tcp: given.get_one("tcp").unwrap_or(TCP_PORT),

@@ -94,11 +94,14 @@ impl From<StepperFault> for ProgramFault {
     }
 }
 
-/// Runs the program on the words of a command line, the first of them its own name, and answers its
-/// status: 0, where what they ask for is done (`step`: all outcomes are printed and each is as recorded; `loop`: its
-/// turns are done, and their number is printed); 1 where a recorded outcome was not given, after a last line that
-/// tells the first, or where the run failed, after one line on `err` that tells why, as far as the stream took it;
-/// 2 where the command line is none of the program's, which prints nothing.
+/// Runs the program on the words of a command line, the first of them its own name, and answers its status.
+///
+/// - 0: the task is done. `step`: all outcomes are printed, and each is as recorded. `loop`: all turns are done, and
+///   their number is printed.
+/// - 1: an outcome is not as recorded, and the last line names the first such event; or the run failed, and one line on
+///   `err` says why, as far as the stream took it.
+/// - 2: the command line is none of the program's. Nothing is printed, and `err` gets the usage text, as far as the stream
+///   took it.
 pub fn program<R, S, I, O, E>(rt: &R, words: &[S], reader: &mut I, out: &mut O, err: &mut E) -> u8
 where
     R: AllocGlobal + Clock + Net<Listener = TcpListener, Stream = TcpStream>,
@@ -127,8 +130,8 @@ pub(crate) fn misused<E: Write>(err: &mut E) -> u8
     MISUSED
 }
 
-/// Does what a command line asked for, and answers the status: 0 where all is done and printed, else 1, after a line
-/// on `err` where the task failed.
+/// Does the requested task, and answers the status: 0 if all is done and printed, else 1, after a line on `err` if the
+/// task failed.
 pub fn perform<R, I, O, E>(rt: &R, task: Task, reader: &mut I, out: &mut O, err: &mut E) -> u8
 where
     R: AllocGlobal + Clock + Net<Listener = TcpListener, Stream = TcpStream>,
@@ -145,7 +148,7 @@ where
     }
 }
 
-/// Steps a device by the trace that the reader holds. The status is 0, or 1 after a difference or a fault.
+/// Steps a device by the trace that the reader has. The status is 0, or 1 after a difference or a fault.
 fn step_status<I, O, E>(alloc: Global, reader: &mut I, out: &mut O, err: &mut E) -> u8
 where
     I: Read,
@@ -162,11 +165,12 @@ where
     }
 }
 
-/// Tells a fault, as far as the stream takes it.
+/// Reports a fault, as far as the stream takes the line, and answers the status for that.
 fn failed<E: Write>(err: &mut E, fault: ProgramFault) -> u8
     ensures status { result ≡ 1 }
     ensures reported { BeginsToWrite (E.contents err.old) (fault_line fault) (E.contents err.new) }
 {
+    // (a stream that does not take the line changes nothing more)
     let _ = write_fault(err, fault);
     FAILED
 }
@@ -201,8 +205,8 @@ pub(crate) fn write_numbered<W: Write>(
     write_text(out, b"\n")
 }
 
-/// Steps a device by the trace that the reader holds, and prints the outcomes as they come. False where one
-/// is not as recorded.
+/// Steps a device by the trace that the reader has, and prints each outcome before the next step. False if an outcome is
+/// not as recorded.
 fn step<I: Read, O: Write>(alloc: Global, reader: &mut I, out: &mut O) -> Result<bool, ProgramFault>
     ensures { IsStepped (I.remaining reader.old) (O.contents out.old) (O.contents out.new) result }
 {
@@ -227,7 +231,7 @@ fn played<O: Write>(
     }
 }
 
-/// The last line, where an outcome is not as recorded, and the end of what is written.
+/// Writes the last line, if an outcome is not as recorded, and flushes the output.
 fn finish<O: Write>(out: &mut O, differs: Option<usize>) -> Result<bool, ProgramFault>
     ensures { IsFinished (O.contents out.old) differs (O.contents out.new) result }
 {
@@ -240,7 +244,7 @@ fn finish<O: Write>(out: &mut O, differs: Option<usize>) -> Result<bool, Program
     Ok(false)
 }
 
-/// What a run that was not played to its end is told to be, once what is written was handed on.
+/// Flushes the output of a run that was not played to its end, and answers why it ended.
 fn stop<O: Write>(out: &mut O, fault: StepperFault) -> ProgramFault
     ensures kept { Keeps (O.contents out.old) (O.contents out.new) }
     ensures fault { IsStop fault result }
@@ -251,7 +255,7 @@ fn stop<O: Write>(out: &mut O, fault: StepperFault) -> ProgramFault
     ProgramFault::from(fault)
 }
 
-/// Hands on what was written.
+/// Flushes the output.
 fn flush<O: Write>(out: &mut O) -> Result<(), ProgramFault>
     ensures kept { Keeps (O.contents out.old) (O.contents out.new) }
     ensures fault { IfErr result (λ fault. fault ≡ ProgramFault.Write) }
@@ -262,7 +266,7 @@ fn flush<O: Write>(out: &mut O) -> Result<(), ProgramFault>
     }
 }
 
-/// The trace that the reader holds.
+/// Reads a trace.
 fn trace_of<I: Read>(alloc: Global, reader: &mut I) -> Result<Trace, ProgramFault>
     ensures { IsTraceRead (I.remaining reader.old) result }
 {

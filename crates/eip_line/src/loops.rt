@@ -47,7 +47,7 @@ impl From<LoopFault> for LoopEnd {
     }
 }
 
-/// Runs a loop, and prints its turns. The status is 0, or 1 after a fault, which is told on `err`.
+/// Runs a loop, and prints the number of its turns. The status is 0, or 1 after a fault, which is reported on `err`.
 pub(crate) fn loop_status<R, O, E>(rt: &R, task: LoopTask, out: &mut O, err: &mut E) -> u8
 where
     R: AllocGlobal + Clock + Net<Listener = TcpListener, Stream = TcpStream>,
@@ -60,13 +60,14 @@ where
     match print_turns(rt, task, out) {
         Ok(()) => 0,
         Err(end) => {
+            // (a stream that does not take the line changes nothing more)
             let _ = write_fault(err, end);
             1
         }
     }
 }
 
-/// Runs a loop, and prints its turns.
+/// Runs a loop, and prints the number of its turns.
 fn print_turns<R, O>(rt: &R, task: LoopTask, out: &mut O) -> Result<(), LoopEnd>
 where
     R: AllocGlobal + Clock + Net<Listener = TcpListener, Stream = TcpStream>,
@@ -78,7 +79,7 @@ where
     flush(out)
 }
 
-/// Hands on what was written.
+/// Flushes the output.
 fn flush<O: Write>(out: &mut O) -> Result<(), LoopEnd>
     ensures kept { Keeps (O.contents out.old) (O.contents out.new) }
     ensures fault { IfErr result (λ end. end ≡ LoopEnd.Write) }

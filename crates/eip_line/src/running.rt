@@ -7,7 +7,7 @@ use std::net::{Net, TcpListener, TcpStream};
 use std::process::ExitCode;
 use std::rt::Clock;
 
-/// Hands the program its command line and these streams, the output through a buffer, and answers its status.
+/// Runs the program on its command line and these streams, with a buffer for the output, and answers its status.
 pub fn run<R, I, O, E>(rt: &R, reader: &mut I, out: O, err: &mut E) -> ExitCode
 where
     R: AllocGlobal + Env + Clock + Net<Listener = TcpListener, Stream = TcpStream>,
@@ -33,7 +33,7 @@ where
     ExitCode::from(program(rt, words.as_slice(), reader, &mut out, err))
 }
 
-/// Tells that memory was refused.
+/// Reports that an allocation was refused.
 fn no_memory<E: Write>(err: &mut E) -> ExitCode {
     let _ = err.write_all(b"no memory\n");
     ExitCode::from(1)

@@ -1,4 +1,4 @@
-//! An adapter with one output and eight inputs, and what is asked of it.
+//! An adapter with one output and eight inputs, and the requests to it.
 
 use crate::fault::TimesFault;
 use cip_tables::{Config, Delivery, Device, Event, InputPoint, Notice, Profile, StepFault};
@@ -83,7 +83,7 @@ fn request(alloc: Global, place: u8, bytes: &[u8]) -> Result<Event, OutOfMemory>
     })
 }
 
-/// What an adapter tells of a request.
+/// The first notice of an adapter about a request.
 fn notice_of<D: Device>(device: &mut D, request: &Event) -> Result<Option<Notice>, StepFault> {
     let answer = device.step(request)?;
     Ok(answer.notices.as_slice().first().copied())

@@ -70,7 +70,7 @@ fn fresh<D: Device, R: AllocGlobal>(rt: &R) -> Result<D, TimesFault> {
     Ok(D::new(rt.alloc(), Config::Adapter(profile))?)
 }
 
-/// All datagrams go to this port of this host.
+/// Sends all datagrams to this port of this host.
 fn to_loopback(port: u16) -> DatagramRoutes {
     DatagramRoutes::One(Destination {
         node: LOOPBACK,
@@ -79,7 +79,7 @@ fn to_loopback(port: u16) -> DatagramRoutes {
 }
 
 impl<R: System + Drop, D: Device + Drop> Driven<R, D> {
-    /// A fresh adapter at these sockets, which sends its datagrams to this port and hears those from there.
+    /// A fresh adapter at these sockets, which sends its datagrams to this port and receives those from there.
     pub fn at(
         rt: R,
         listener: TcpListener,

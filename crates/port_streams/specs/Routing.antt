@@ -1,4 +1,4 @@
--- Where the datagrams of a node go.
+-- The destination of the datagrams of a node.
 use Rattle.std.specs.Prelude.{List, [], ◌∷◌, Option, Some, None, ◌==◌, if◌then◌else◌}
 use Rattle.cip_types.specs.declared.names.Node.{Node}
 use Rattle.port_streams.specs.declared.routes.Destination.{Destination}
@@ -6,7 +6,7 @@ use Rattle.port_streams.specs.declared.routes.DatagramRoute.{DatagramRoute}
 use Rattle.port_streams.specs.declared.routes.DatagramRoutes.{DatagramRoutes}
 use Rattle.port_streams.specs.declared.routes.DatagramRoutes.TheVariants.{One, Own, Listed}
 
--- where the first route of the node goes
+-- the destination of the first route of the node
 abbrev pub listed : List DatagramRoute → Node → Option Destination
 listed [] node = None
 listed (route ∷ routes) node = if route.node.0 == node.0 then Some route.to else listed routes node

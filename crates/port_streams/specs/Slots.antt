@@ -1,11 +1,11 @@
--- The streams of a port by their numbers: sixteen places, each free or with a stream.
+-- The streams of a port by their numbers: sixteen slots, each free or with a stream.
 use Rattle.std.specs.Prelude.{◌≡◌, ℕ, Bool, true, false, List, slice_index_or, slice_set, Option, Some, None}
 use Rattle.std.specs.Option.{is_none}
 use Rattle.udp_runner.specs.declared.input.Input.{Input}
 use Rattle.port_streams.specs.declared.port_stream.PortStream.{PortStream}
 use Rattle.port_streams.specs.StreamInputs.{ReceivesBytes, ended, given_of, left_of, takes_bytes}
 
--- no stream has the number of the place
+-- no stream has the number of the slot
 abbrev pub is_free : {S : Type 0} → Option (PortStream S) → Bool
 is_free slot = is_none slot
 
@@ -13,7 +13,7 @@ is_free slot = is_none slot
 abbrev pub slot_at : {S : Type 0} → List (Option (PortStream S)) → ℕ → Option (PortStream S)
 slot_at slots number = slice_index_or slots number None
 
--- what is given next of a place, and what is left of it: a number is free again once the end of its stream was given
+-- the next input of a slot, and the slot after it: a number is free again once the end of its stream was taken
 abbrev pub given_at : {S : Type 0} → ℕ → Option (PortStream S) → Option Input
 given_at number None = None
 given_at number (Some port_stream) = given_of number port_stream
@@ -22,24 +22,24 @@ abbrev pub left_at : {S : Type 0} → Option (PortStream S) → Option (PortStre
 left_at None = None
 left_at (Some port_stream) = left_of port_stream
 
--- the stream's end came, if there is a stream
+-- the stream has ended, if there is one
 abbrev pub ended_at : {S : Type 0} → Option (PortStream S) → Option (PortStream S)
 ended_at None = None
 ended_at (Some port_stream) = Some (ended port_stream)
 
--- what becomes of a place with a piece of bytes
+-- the slot after a piece of bytes was received
 abbrev pub ReceivesAt : {S : Type 0} → Option (PortStream S) → List ℕ → Option (PortStream S) → Type 0
 ReceivesAt None piece new = new ≡ None
 ReceivesAt (Some port_stream) piece None = ⊥
 ReceivesAt (Some port_stream) piece (Some new) = ReceivesBytes (takes_bytes port_stream) port_stream piece new
 
--- bytes of the stream of this number came: no other stream changes
+-- bytes of the stream of this number were received: no other stream changes
 pub record Receives {S : Type 0} (old : List (Option (PortStream S))) (number : ℕ) (piece : List ℕ) (new : List (Option (PortStream S))) : Type 0 where
   pub slot : Option (PortStream S)
   pub received : ReceivesAt (slot_at old number) piece slot
   pub others : new ≡ slice_set old number slot
 
--- the socket to read of a stream that takes bytes, and the one to write to until the end of the stream comes
+-- the socket to read from, of a stream that takes bytes, and the one to write to, until the stream ends
 abbrev pub socket_if : {S : Type 0} → Bool → S → Option S
 socket_if true socket = Some socket
 socket_if false socket = None

@@ -1,4 +1,4 @@
--- One stream of a port: how it begins, what its bytes are taken for, and what is given of it in turn.
+-- One stream of a port: how it begins, the messages in its bytes, and its inputs in turn.
 use Rattle.std.specs.Prelude.{◌≡◌, ◌⊎◌, ℕ, Bool, true, false, List, [], ◌∷◌, ◌++◌, Option, Some, None}
 use Rattle.cip_types.specs.declared.names.Node.{Node}
 use Rattle.cip_encap.specs.Stream.{AreMessages, EndsTooLong, GoOn}
@@ -6,11 +6,11 @@ use Rattle.udp_runner.specs.declared.input.Input.{Input}
 use Rattle.udp_runner.specs.declared.input.Input.TheVariants as input
 use Rattle.port_streams.specs.declared.port_stream.PortStream.{PortStream}
 
--- a stream that begins: neither is its beginning told, nor is there anything of it
+-- a new stream: its opening is not reported yet, and no byte of it was received
 abbrev pub begun : {S : Type 0} → Node → S → PortStream S
 begun peer socket = record { peer = peer; socket = socket; reported = false; ended = false; splitter = []; waiting = [] }
 
--- bytes are read of a stream once its beginning was told, as long as no message waits, until its end comes
+-- bytes of a stream are read once its opening was reported, while no message waits, until it ends
 abbrev pub reads : Bool → Bool → List (List ℕ) → Bool
 reads true false [] = true
 reads true false (message ∷ messages) = false
@@ -20,8 +20,8 @@ reads false ended messages = false
 abbrev pub takes_bytes : {S : Type 0} → PortStream S → Bool
 takes_bytes port_stream = reads port_stream.reported port_stream.ended port_stream.waiting
 
--- The bytes that are left and the piece behind them are the messages that wait now, and the bytes that are left
--- now; they go on with what came before.
+-- The bytes that were left, with the piece behind them, are the messages that wait now and the bytes that are left
+-- now.
 pub record Splits {S : Type 0} (old : PortStream S) (piece : List ℕ) (new : PortStream S) : Type 0 where
   pub messages : AreMessages (old.splitter ++ piece) new.waiting new.splitter
   pub goes_on : GoOn old.splitter piece new.waiting new.splitter
@@ -32,16 +32,16 @@ pub record Overflows {S : Type 0} (old : PortStream S) (piece : List ℕ) (new :
   pub too_long : EndsTooLong (old.splitter ++ piece)
   pub same : new ≡ record old { ended = true }
 
--- what becomes of a stream with a piece of its bytes: where it takes none, they are dropped
+-- a stream after a piece of its bytes was received: a stream that takes none drops them
 abbrev pub ReceivesBytes : {S : Type 0} → Bool → PortStream S → List ℕ → PortStream S → Type 0
 ReceivesBytes true old piece new = Splits old piece new ⊎ Overflows old piece new
 ReceivesBytes false old piece new = new ≡ old
 
--- a stream whose end came
+-- a stream that has ended
 abbrev pub ended : {S : Type 0} → PortStream S → PortStream S
 ended port_stream = record port_stream { ended = true }
 
--- what is given next of the stream of this number: first its beginning, then its messages, last its end
+-- the next input of the stream of this number: first its opening, then its messages, last its end
 abbrev pub given_next : ℕ → Node → Bool → List (List ℕ) → Bool → Option Input
 given_next number peer false messages ended = Some (input.Opened number peer)
 given_next number peer true (message ∷ messages) ended = Some (input.Frame number message)
@@ -51,7 +51,7 @@ given_next number peer true [] false = None
 abbrev pub given_of : {S : Type 0} → ℕ → PortStream S → Option Input
 given_of number port_stream = given_next number port_stream.peer port_stream.reported port_stream.waiting port_stream.ended
 
--- what is left of the stream then: after its end nothing
+-- the stream after that input: none after its end
 abbrev pub left_next : {S : Type 0} → PortStream S → Bool → List (List ℕ) → Bool → Option (PortStream S)
 left_next port_stream false messages ended = Some (record port_stream { reported = true })
 left_next port_stream true (message ∷ messages) ended = Some (record port_stream { waiting = messages })

@@ -1,5 +1,5 @@
-//! What a port over sockets does without them: which stream a byte belongs to, the numbers of streams, the
-//! messages in their bytes, what is given of them in turn, and where datagrams go.
+//! The part of a port over sockets that needs no socket: the numbers of streams, the messages in their bytes, the order
+//! of their inputs, and the destinations of datagrams.
 #![tactic(auto)]
 
 mod port_stream;

@@ -9,8 +9,8 @@ use cip_types::{Node, OutOfMemory};
 use std::alloc::Global;
 use udp_runner::Input;
 
-/// One stream of a port: the peer at its other end, the socket under it, whether its beginning was told and
-/// whether its end came, the bytes behind its last whole message, and the messages that wait to be given.
+/// One stream of a port: its peer, its socket, whether its opening was reported, whether it has ended, the bytes behind
+/// its last whole message, and the messages that wait to be taken.
 #[derive(Drop)]
 pub struct PortStream<S> {
     peer: Node,
@@ -22,7 +22,7 @@ pub struct PortStream<S> {
 }
 
 impl<S: Drop> PortStream<S> {
-    /// A stream that begins. Takes no memory.
+    /// A new stream. Takes no memory.
     pub fn begin(alloc: Global, peer: Node, socket: S) -> Self
         ensures { result ≡ begun peer socket }
     {
@@ -36,29 +36,29 @@ impl<S: Drop> PortStream<S> {
         }
     }
 
-    /// The socket under the stream.
+    /// The socket of the stream.
     pub fn socket(&self) -> &S
         ensures { result.now ≡ self.now.socket }
     {
         &self.socket
     }
 
-    /// Whether the end of the stream came.
+    /// Whether the stream has ended.
     pub fn has_ended(&self) -> bool
         ensures { result ≡ self.now.ended }
     {
         self.ended
     }
 
-    /// Whether bytes are to be read: the beginning was told, the end did not come, and no message waits.
+    /// Whether bytes are to be read: the opening was reported, the stream has not ended, and no message waits.
     pub fn takes_bytes(&self) -> bool
         ensures { result ≡ takes_bytes self.now }
     {
         self.reported && !self.ended && self.waiting.is_empty()
     }
 
-    /// Bytes of the stream came. Where it takes none, they are dropped. Want of memory is the only fault, after
-    /// which the stream is as it was.
+    /// Receives bytes of the stream. A stream that takes none drops them. The only fault is a refused allocation, which
+    /// leaves the stream as it was.
     pub fn receive(&mut self, piece: &[u8]) -> Result<(), OutOfMemory>
         ensures received { OnOk result (ReceivesBytes (takes_bytes self.old) self.old piece.now self.new) }
         ensures err { OnErr result (self.new ≡ self.old) }
@@ -79,15 +79,15 @@ impl<S: Drop> PortStream<S> {
         }
     }
 
-    /// The end of the stream came. Takes no memory.
+    /// Marks the stream as ended. Takes no memory.
     pub fn end(&mut self)
         ensures { self.new ≡ ended self.old }
     {
         self.ended = true;
     }
 
-    /// What is given of the stream of this number next, and what is left of it: first its beginning, then its
-    /// messages, last its end. Takes no memory.
+    /// The next input of the stream of this number, and the stream after it: first its opening, then its messages, last
+    /// its end. Takes no memory.
     pub fn next(mut self, number: u16) -> (Option<Input>, Option<Self>)
         ensures given { result.0 ≡ given_of number self }
         ensures left { result.1 ≡ left_of self }

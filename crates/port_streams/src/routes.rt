@@ -1,4 +1,4 @@
-//! Where datagrams go.
+//! The destinations of datagrams.
 
 ghost use Rattle.std.specs.Prelude.{◌≡◌};
 ghost use Rattle.port_streams.specs.Routing.{destination_of, listed};
@@ -12,26 +12,26 @@ pub struct Destination {
     pub port: u16,
 }
 
-/// Where the datagrams of a node go.
+/// The destination of the datagrams of a node.
 #[derive(Clone, Copy)]
 pub struct DatagramRoute {
     pub node: Node,
     pub to: Destination,
 }
 
-/// The table of where the datagrams of each node go.
+/// The destinations of the datagrams of all nodes.
 #[derive(Drop)]
 pub enum DatagramRoutes {
-    /// All to one place, as to a peer on this host.
+    /// One destination for all, as for a peer on this host.
     One(Destination),
-    /// To each node's own address, at this port.
+    /// Each node's own address, at this port.
     Own(u16),
-    /// As the first route of the node says. Those of other nodes go nowhere.
+    /// The destination of the first route of the node. Datagrams of other nodes are dropped.
     Listed(Items<DatagramRoute>),
 }
 
 impl DatagramRoutes {
-    /// Where the datagrams of this node go. Takes no memory.
+    /// The destination of the datagrams of this node. Takes no memory.
     pub fn destination_of(&self, node: Node) -> Option<Destination>
         ensures { result ≡ destination_of self.now node }
     {
@@ -43,7 +43,7 @@ impl DatagramRoutes {
     }
 }
 
-/// Where the first route of this node goes.
+/// The destination of the first route of this node.
 fn listed(routes: &[DatagramRoute], node: Node) -> Option<Destination>
     ensures { result ≡ listed routes.now node }
 {

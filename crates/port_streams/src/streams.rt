@@ -11,7 +11,7 @@ use cip_types::{Node, OutOfMemory};
 use std::alloc::Global;
 use udp_runner::Input;
 
-/// The streams of a port by their numbers, each with the socket under it.
+/// The streams of a port by their numbers, each with its socket.
 ///
 /// It keeps the allocator that it was made with.
 #[derive(Drop)]
@@ -22,7 +22,7 @@ pub struct PortStreams<S> {
 }
 
 impl<S: Drop> PortStreams<S> {
-    /// No streams. Want of memory is the only fault.
+    /// No streams. The only fault is a refused allocation.
     pub fn new(alloc: Global) -> Result<Self, OutOfMemory>
         ensures { IfOk result (λ streams. streams.slots.items ≡ replicate 16 None) }
     {
@@ -33,8 +33,8 @@ impl<S: Drop> PortStreams<S> {
         Ok(PortStreams { alloc, slots })
     }
 
-    /// A peer opened a stream over this socket: it has the least number that is free. Where none is, the socket
-    /// is handed back. Takes no memory.
+    /// Adds the stream that a peer opened over this socket, with the least free number. If no number is free, the socket
+    /// is returned. Takes no memory.
     pub fn accept(&mut self, peer: Node, socket: S) -> Result<u16, S>
         ensures least { IfOk result (λ number. position is_free self.old.slots.items ≡ Some number) }
         ensures begins { IfOk result (λ number. self.new.slots.items ≡ slice_set self.old.slots.items number (Some (begun peer socket))) }
@@ -47,15 +47,15 @@ impl<S: Drop> PortStreams<S> {
         Ok(index as u16)
     }
 
-    /// The least number that is free.
+    /// The least free number.
     fn free_slot(&self) -> Option<usize>
         ensures { result ≡ position is_free self.now.slots.items }
     {
         self.slots.iter().position(|slot| slot.is_none())
     }
 
-    /// The socket to read: that of a stream whose beginning was told and whose end did not come, where no message
-    /// of it waits.
+    /// The socket to read from: that of a stream whose opening was reported, that has not ended, and of which no message
+    /// waits.
     pub fn to_read(&self, number: u16) -> Option<&S>
         ensures { option_map (λ lent. lent.now) result ≡ read_at (slot_at self.now.slots.items number) }
     {
@@ -65,7 +65,7 @@ impl<S: Drop> PortStreams<S> {
         }
     }
 
-    /// The socket to write to: that of a stream whose end did not come.
+    /// The socket to write to: that of a stream that has not ended.
     pub fn to_write(&self, number: u16) -> Option<&S>
         ensures { option_map (λ lent. lent.now) result ≡ written_at (slot_at self.now.slots.items number) }
     {
@@ -75,7 +75,7 @@ impl<S: Drop> PortStreams<S> {
         }
     }
 
-    /// Takes a stream out.
+    /// Removes a stream, and answers it.
     fn take(&mut self, number: u16) -> Option<PortStream<S>>
         ensures taken { result ≡ slot_at self.old.slots.items number }
         ensures left { self.new.slots.items ≡ slice_set self.old.slots.items number None }
@@ -97,9 +97,9 @@ impl<S: Drop> PortStreams<S> {
         }
     }
 
-    /// Bytes of the stream of this number came: they are cut into messages, which wait to be given. A message that
-    /// is too long ends the stream. Bytes of a stream that takes none are dropped. Want of memory is the only
-    /// fault, after which all streams are as they were.
+    /// Receives bytes of the stream of this number, and cuts them into messages, which wait to be taken. A message that
+    /// is too long ends the stream. A stream that takes no bytes drops them. The only fault is a refused allocation, which
+    /// leaves all streams as they were.
     pub fn receive(&mut self, number: u16, piece: &[u8]) -> Result<(), OutOfMemory>
         ensures received { OnOk result (Receives self.old.slots.items number piece.now self.new.slots.items) }
         ensures err { OnErr result (self.new.slots.items ≡ self.old.slots.items) }
@@ -112,7 +112,7 @@ impl<S: Drop> PortStreams<S> {
         received
     }
 
-    /// The end of the stream of this number came. Its messages are still given. Takes no memory.
+    /// Marks the stream of this number as ended. Its messages can still be taken. Takes no memory.
     pub fn end(&mut self, number: u16)
         ensures { self.new.slots.items ≡ slice_set self.old.slots.items number (ended_at (slot_at self.old.slots.items number)) }
     {
@@ -123,8 +123,8 @@ impl<S: Drop> PortStreams<S> {
         self.put(number, Some(port_stream));
     }
 
-    /// What is given next of the stream of this number: first its beginning, then its messages, last its end, with
-    /// which its number is free. Takes no memory.
+    /// Takes the next input of the stream of this number: first its opening, then its messages, last its end, which frees
+    /// the number. Takes no memory.
     pub fn next(&mut self, number: u16) -> Option<Input>
         ensures given { result ≡ given_at number (slot_at self.old.slots.items number) }
         ensures left { self.new.slots.items ≡ slice_set self.old.slots.items number (left_at (slot_at self.old.slots.items number)) }
@@ -135,7 +135,7 @@ impl<S: Drop> PortStreams<S> {
         given
     }
 
-    /// Closes the stream of this number: nothing more is given of it, and its number is free. Takes no memory.
+    /// Closes the stream of this number: it has no further input, and its number is free. Takes no memory.
     pub fn close(&mut self, number: u16)
         ensures { self.new.slots.items ≡ slice_set self.old.slots.items number None }
     {

@@ -1,4 +1,4 @@
-//! Messages that wait to be given.
+//! Messages that wait to be taken.
 
 ghost use Rattle.std.specs.Prelude.{◌≡◌, [], ◌∷◌, IfNone, IfSome};
 ghost use Rattle.port_streams.specs.Nil.{is_nil};
@@ -8,7 +8,7 @@ use std::alloc::Global;
 use std::collections::VecDeque;
 use std::marker::Model;
 
-/// Messages that wait to be given, in their order.
+/// Messages that wait to be taken, in their order.
 #[derive(Drop)]
 pub struct MessageQueue {
     messages: VecDeque<Message>,

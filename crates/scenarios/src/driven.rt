@@ -1,4 +1,4 @@
-//! Drives an adapter over memory by a trace: a tick and what comes after it make a turn. Prints what is sent, and then
+//! Drives an adapter over memory by a trace: a tick and the event after it make a turn. Prints the outputs, and then
 //! shows for each call of the port that its failure ends the run there.
 
 use crate::script::{Script, read_script};
@@ -42,7 +42,7 @@ impl From<AllocError> for DriveFailure {
     }
 }
 
-/// What became of a run: its answer, what went over the port, and the table that the device has then.
+/// The result of a run: its answer, the outputs of the port, and the table of the device.
 #[derive(Drop)]
 struct Driven {
     outcome: Result<u64, RunFault>,
@@ -77,8 +77,8 @@ fn ends_at(part: &Driven, call: u64, whole: &Driven) -> bool {
         && whole.port.sent().starts_with(part.port.sent())
 }
 
-/// Whether a failure of each call ends the run there. The last call of a run is to be a send: the device then
-/// stands after the event whose answer could not be sent, as it does where nothing fails.
+/// Whether a failure of each call ends the run there. The last call of a run has to be a send: the device is then in the
+/// state after the event whose answer could not be sent, as without a failure.
 fn ends_everywhere(alloc: Global, text: &[u8], whole: &Driven) -> Result<bool, DriveFailure> {
     let mut last = false;
     for call in 1..=whole.port.calls() {

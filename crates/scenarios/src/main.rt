@@ -1,6 +1,6 @@
 //! Plays traces over the devices of the line, each named for the behaviour that it shows, and prints a line
 //! for each: whether all outcomes are as recorded. An adapter's traces are played over each of its engines, which have
-//! to tell the same of every event, recorded or not.
+//! to give the same outcome of every event, recorded or not.
 //!
 //! The traces behind the word `driven` are driven over memory instead, with a failure at each call of the port.
 #![tactic(auto)]
@@ -34,7 +34,7 @@ enum Failure {
     Engines,
 }
 
-/// What is done with the traces that are named.
+/// The task for the named traces.
 #[derive(Clone, Copy, PartialEq, Eq)]
 enum Task {
     /// They are played over each engine.
@@ -43,7 +43,7 @@ enum Task {
     Drive,
 }
 
-/// Does what is to be done with the traces whose files the command line names.
+/// Does the task for the traces whose files the command line names.
 fn main(rt: HostRuntime) -> ExitCode {
     let Ok(words) = env::args(&rt) else {
         return ExitCode::from(2);
@@ -63,7 +63,7 @@ fn main(rt: HostRuntime) -> ExitCode {
     ExitCode::from(status)
 }
 
-/// Whether the trace of this file gives what it is to give, and all of it was printed.
+/// Whether the trace of this file has the recorded outcomes, and all of the report was printed.
 fn is_well<R: AllocGlobal + Files + Print>(rt: &R, task: Task, name: &str) -> bool {
     match task {
         Task::Play => is_played(rt, name),
@@ -103,7 +103,7 @@ fn engines_of<R: AllocGlobal + Files>(rt: &R, name: &str) -> Result<&'static str
     replayed(rt.alloc(), &trace)
 }
 
-/// Plays an adapter's trace over both of its engines, which have to tell the same.
+/// Plays an adapter's trace over both of its engines, which have to give the same outcomes.
 fn replayed_by_both(alloc: Global, trace: &Trace) -> Result<(), Failure> {
     let plain = replay::<PlainAdapter>(alloc, trace);
     let fast = replay::<FastAdapter>(alloc, trace);
@@ -114,7 +114,7 @@ fn replayed_by_both(alloc: Global, trace: &Trace) -> Result<(), Failure> {
     compared(trace, fast, "fast")
 }
 
-/// Whether two engines have come to the same outcomes.
+/// Whether two engines gave the same outcomes.
 fn are_alike(plain: &Result<Report, StepperFault>, fast: &Result<Report, StepperFault>) -> bool {
     match (plain, fast) {
         (Ok(plain), Ok(fast)) => plain.outcomes == fast.outcomes,

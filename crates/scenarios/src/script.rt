@@ -1,4 +1,4 @@
-//! Turns of a trace: a tick and what comes after it make one.
+//! Turns of a trace: a tick and the event after it make one.
 
 use crate::driven::DriveFailure;
 use cip_tables::{Config, Event};
@@ -8,7 +8,7 @@ use std::collections::VecDeque;
 use trace_text::read_trace;
 use udp_runner::Input;
 
-/// What a device is made of, and what its clock and its port give in its turns.
+/// The configuration of a device, and the times and inputs of its turns.
 #[derive(Drop)]
 pub struct Script {
     pub config: Config,
@@ -43,7 +43,7 @@ impl Script {
     }
 }
 
-/// What comes over a port where this happens at a device, if it comes over one.
+/// The input of a port for this event of a device, if it comes over a port.
 fn input_of(event: Event) -> Option<Input> {
     match event {
         Event::StreamOpened { stream, peer } => Some(Input::Opened { stream, peer }),

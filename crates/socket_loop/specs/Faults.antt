@@ -1,4 +1,4 @@
--- Why a line over sockets ends early, of what ended it.
+-- Why a line over sockets ends early, for each fault that ends it.
 use Rattle.cip_events.specs.declared.event.NewFault.{NewFault}
 use Rattle.cip_events.specs.declared.event.NewFault.TheVariants as making
 use Rattle.cip_events.specs.declared.event.StepFault.{StepFault}
@@ -12,7 +12,7 @@ use Rattle.udp_runner.specs.declared.fault.RunFault.TheVariants as run
 use Rattle.socket_loop.specs.declared.fault.LoopFault.{LoopFault}
 use Rattle.socket_loop.specs.declared.fault.LoopFault.TheVariants as loop
 
--- a port that could not be made
+-- a port that could not be opened
 abbrev pub of_open : OpenFault → LoopFault
 of_open opening.Socket = loop.Port
 of_open opening.OutOfMemory = loop.OutOfMemory

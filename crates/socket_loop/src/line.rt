@@ -21,7 +21,7 @@ pub struct LoopLine<R: System + Drop, A, S> {
 }
 
 impl<R: System + Drop, A: Device + Drop, S: Device + Drop> LoopLine<R, A, S> {
-    /// Fresh devices at these ports, where the scanner is to open its slot 0 and to run.
+    /// Fresh devices at these ports. The scanner's slot 0 is started, and the scanner is in run mode.
     pub fn begin(
         alloc: Global,
         rt: R,
@@ -58,7 +58,7 @@ impl<R: System + Drop, A: Device + Drop, S: Device + Drop> LoopLine<R, A, S> {
         Ok(())
     }
 
-    /// One turn of the adapter, and then one of the scanner.
+    /// Drives the adapter for one turn, and then the scanner.
     pub fn turn(&mut self) -> Result<(), LoopFault> {
         self.adapter.turn()?;
         self.scanner.turn()
@@ -72,7 +72,7 @@ fn fresh_adapter<A: Device>(alloc: Global) -> Result<A, LoopFault>
     Ok(A::new(alloc, Config::Adapter(profiles::adapter(alloc)?))?)
 }
 
-/// A fresh scanner that is to open its slot 0 and to run.
+/// A fresh scanner whose slot 0 is started, in run mode.
 fn started_scanner<S: Device + Drop>(alloc: Global) -> Result<S, LoopFault>
     ensures { IfOk result (λ device. S.table device ≡ scanner_begins) }
 {
@@ -88,7 +88,7 @@ where
     A: Device + Drop,
     S: Device + Drop,
 {
-    /// The same at ports on 127.0.0.1: the adapter's of TCP and of UDP, the scanner's of UDP is the next one.
+    /// The same at ports on 127.0.0.1: the adapter's TCP and UDP ports, and the next UDP port for the scanner.
     pub fn open(alloc: Global, rt: R, tcp: u16, udp: u16) -> Result<Self, LoopFault>
         ensures adapter { IfOk result (λ line. A.table line.adapter.device ≡ adapter_begins) }
         ensures scanner { IfOk result (λ line. S.table line.scanner.device ≡ scanner_begins) }
@@ -104,7 +104,7 @@ where
     }
 }
 
-/// Runs an adapter and a scanner at these ports for some turns of each.
+/// Runs an adapter and a scanner at these ports for this many turns of each.
 pub fn run_loop<R, A, S>(
     alloc: Global,
     rt: R,

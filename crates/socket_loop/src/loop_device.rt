@@ -15,8 +15,9 @@ pub struct LoopDevice<R: System + Drop, D> {
 }
 
 impl<R: System + Drop, D: Device> LoopDevice<R, D> {
-    /// One turn of the device.
+    /// Drives the device for one turn.
     pub fn turn(&mut self) -> Result<(), LoopFault> {
+        // (`drive` requires that the count of failures can rise)
         if self.port.failures() == u64::MAX {
             return Err(LoopFault::Port);
         }

@@ -1,4 +1,4 @@
-//! Addresses of sockets, and the nodes that they are of.
+//! Addresses of sockets, and the nodes that they belong to.
 
 use cip_types::Node;
 use port_streams::Destination;

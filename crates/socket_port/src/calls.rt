@@ -1,4 +1,4 @@
-//! The calls of sockets. None of them waits, once the sockets are prepared.
+//! Calls of sockets. None of them waits, once the sockets are prepared.
 
 ghost use Rattle.std.specs.Prelude.{◌≤◌, length, IfOk, IfSome};
 ghost use Rattle.socket_port.specs.ReadOutcomes.{Fits};
@@ -7,18 +7,18 @@ use std::io::{self, ErrorKind, Read, Write};
 use std::net::{SocketAddr, TcpListener, TcpStream, UdpSocket};
 use udp_runner::PortFault;
 
-/// What a read of a stream brought.
+/// The outcome of a read of a stream.
 #[derive(Clone, Copy)]
 pub enum ReadOutcome {
     /// Nothing yet.
     Nothing,
-    /// So many bytes.
+    /// This many bytes.
     Bytes(usize),
-    /// Its end: its peer ended it, or it broke.
+    /// The stream has ended: its peer closed it, or it broke.
     End,
 }
 
-/// Whether a failure says no more than that nothing came or nothing goes now. A peer can bring about each of these.
+/// Whether a failure means only that nothing can be received or sent now. A peer can cause each of these.
 fn is_passing(error: &io::Error) -> bool {
     matches!(
         error.kind(),
@@ -30,13 +30,13 @@ fn is_passing(error: &io::Error) -> bool {
     )
 }
 
-/// Lets no call of a connection wait, nor hold back what is written.
+/// Makes the calls of a connection return at once, and its writes be sent at once.
 pub fn prepare(socket: &TcpStream) -> io::Result<()> {
     socket.set_nonblocking(true)?;
     socket.set_nodelay(true)
 }
 
-/// The next connection, if one waits. The connection of a peer that is gone again is none.
+/// The next connection, if one waits. A connection that its peer has closed again does not count.
 pub fn accept(listener: &TcpListener) -> Result<Option<(TcpStream, SocketAddr)>, PortFault> {
     match listener.accept() {
         Ok(accepted) => Ok(Some(accepted)),
@@ -45,7 +45,7 @@ pub fn accept(listener: &TcpListener) -> Result<Option<(TcpStream, SocketAddr)>,
     }
 }
 
-/// Reads what came over a connection.
+/// Reads the bytes that a connection has received.
 pub fn read(mut socket: &TcpStream, buffer: &mut [u8]) -> ReadOutcome
     ensures { Fits result (length buffer.new) }
 {
@@ -59,12 +59,12 @@ pub fn read(mut socket: &TcpStream, buffer: &mut [u8]) -> ReadOutcome
     }
 }
 
-/// Writes all bytes to a connection. False where it does not take them all at once.
+/// Writes all bytes to a connection. False if it does not take them all at once.
 pub fn write(mut socket: &TcpStream, bytes: &[u8]) -> bool {
     socket.write_all(bytes).is_ok()
 }
 
-/// The next datagram, if one waits: how many bytes came, and whence. The fault: `Receive`.
+/// The next datagram, if one waits: the number of its bytes, and its sender. The fault: `Receive`.
 pub fn receive(
     socket: &UdpSocket,
     buffer: &mut [u8],
@@ -78,8 +78,8 @@ pub fn receive(
     }
 }
 
-/// What is made of a send of a datagram. One that the socket does not take now is lost, as it may be on its way. The
-/// fault: `Send`.
+/// The outcome of a send of a datagram. A datagram that the socket does not take now is lost, as it may be on the
+/// network. The fault: `Send`.
 fn sent(outcome: io::Result<usize>) -> Result<(), PortFault> {
     match outcome {
         Ok(_) => Ok(()),

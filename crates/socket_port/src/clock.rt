@@ -4,7 +4,7 @@ use std::rt::Clock as System;
 use std::time::{Duration, Instant};
 use udp_runner::Clock;
 
-/// Whole milliseconds of the system's clock. What is left of one is kept for the next answer.
+/// Whole milliseconds of the system's clock. The remainder is kept for the next answer.
 #[derive(Drop)]
 pub struct SystemClock<R: System + Drop> {
     rt: R,
@@ -12,12 +12,12 @@ pub struct SystemClock<R: System + Drop> {
 }
 
 impl<R: System + Drop> SystemClock<R> {
-    /// A clock that was not asked yet.
+    /// A clock that was not read yet.
     pub fn new(rt: R) -> SystemClock<R> {
         SystemClock { rt, last: None }
     }
 
-    /// The whole milliseconds since what was answered last, if there was an answer and time did not go back.
+    /// The whole milliseconds since the last answer, if there was one and the system's clock did not go back.
     fn since(&mut self) -> Option<u64> {
         let now = Instant::now(&self.rt).ok()?;
         let Some(last) = self.last else {

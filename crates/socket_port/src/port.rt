@@ -51,7 +51,7 @@ pub struct SocketPort<R: System + Drop> {
 }
 
 impl<R: System + Drop> SocketPort<R> {
-    /// An adapter's port: peers open its streams at this listener.
+    /// An adapter's port, whose streams peers open at this listener.
     pub fn listening(
         alloc: Global,
         rt: R,
@@ -71,7 +71,7 @@ impl<R: System + Drop> SocketPort<R> {
         })
     }
 
-    /// A scanner's port: this connection is its stream 0, which it gives first.
+    /// A scanner's port, whose stream 0 is this connection. Its opening is the first input.
     pub fn connected(
         alloc: Global,
         rt: R,
@@ -93,9 +93,8 @@ impl<R: System + Drop> SocketPort<R> {
         })
     }
 
-    /// From now on only datagrams from the one place that all datagrams go to are heard, where there is such a place. The
-    /// UDP socket is connected to it, so that the system does not look for the way of each datagram anew. The fault:
-    /// `Socket`.
+    /// If all datagrams have one destination, connects the UDP socket to it: from then on only datagrams from there are
+    /// received, and the system does not look up the route of each datagram again. The fault: `Socket`.
     pub fn join(&mut self) -> Result<(), OpenFault>
         ensures { self.new.failures ≡ self.old.failures }
     {
@@ -103,7 +102,7 @@ impl<R: System + Drop> SocketPort<R> {
         Ok(())
     }
 
-    /// What came within a millisecond.
+    /// The input that was received within a millisecond.
     fn next_input(&mut self) -> Result<Option<Input>, PortFault>
         ensures { self.new.failures ≡ self.old.failures }
     {
@@ -116,8 +115,8 @@ impl<R: System + Drop> SocketPort<R> {
 }
 
 impl<R: System + Net<Listener = TcpListener, Stream = TcpStream> + Drop> SocketPort<R> {
-    /// An adapter's port on 127.0.0.1, at these ports of TCP and UDP. All its datagrams go to the UDP port of its
-    /// peer on this host.
+    /// An adapter's port on 127.0.0.1, at these ports of TCP and UDP. It sends all datagrams to the UDP port of its peer
+    /// on this host.
     pub fn adapter(alloc: Global, rt: R, tcp: u16, udp: u16, peer: u16) -> Result<Self, OpenFault>
         ensures { IfOk result (λ port. port.failures ≡ 0) }
     {
@@ -126,8 +125,8 @@ impl<R: System + Net<Listener = TcpListener, Stream = TcpStream> + Drop> SocketP
         SocketPort::listening(alloc, rt, listener, socket, to_loopback(peer))
     }
 
-    /// A scanner's port on 127.0.0.1, at this port of UDP, connected to an adapter's port of TCP. All its datagrams
-    /// go to the UDP port of its peer on this host.
+    /// A scanner's port on 127.0.0.1, at this port of UDP, connected to an adapter's port of TCP. It sends all datagrams
+    /// to the UDP port of its peer on this host.
     pub fn scanner(alloc: Global, rt: R, tcp: u16, udp: u16, peer: u16) -> Result<Self, OpenFault>
         ensures { IfOk result (λ port. port.failures ≡ 0) }
     {
@@ -137,7 +136,7 @@ impl<R: System + Net<Listener = TcpListener, Stream = TcpStream> + Drop> SocketP
     }
 }
 
-/// All datagrams go to this port of this host.
+/// Sends all datagrams to this port of this host.
 fn to_loopback(port: u16) -> DatagramRoutes {
     DatagramRoutes::One(Destination {
         node: LOOPBACK,

@@ -1,4 +1,4 @@
-//! The sockets of a port: what comes over them, and what goes.
+//! The sockets of a port, over which it receives and sends.
 
 ghost use Rattle.std.specs.Prelude.{◌≤◌, length};
 ghost use Rattle.socket_port.specs.ReadOutcomes.{Fits};
@@ -16,18 +16,18 @@ use udp_runner::{Input, Output, PortFault};
 /// The numbers of streams are below this one.
 const STREAM_NUMBERS: u16 = MOST_STREAMS as u16;
 
-/// A datagram of UDP has fewer bytes, and no more are read of a stream at once.
+/// A UDP datagram has fewer bytes. A read of a stream takes at most as many.
 const BUFFER_BYTES: usize = 65_536;
 
-/// Streams come before datagrams once in so many polls.
+/// One in this many polls looks at the streams before the datagrams.
 const POLLS: u8 = 16;
 
-/// The listener is asked once what the polls since then count for is so much: a call of it that finds nobody costs as
+/// The listener accepts once the polls since the last time have this weight: a call that finds no connection costs as
 /// much as four reads.
 const ACCEPT_INTERVAL: u8 = 240;
 
-/// A poll that finds something counts for one, and takes microseconds. One that finds nothing follows a wait of a
-/// millisecond, and counts for so much.
+/// The weight of a poll that finds nothing, and follows a wait of a millisecond. A poll that finds something takes
+/// microseconds, and has the weight 1.
 const IDLE_POLL: u8 = 30;
 
 /// The sockets of a port.
@@ -38,7 +38,7 @@ pub struct PortSockets {
     udp: UdpSocket,
     streams: PortStreams<TcpStream>,
     routes: DatagramRoutes,
-    /// Whether the UDP socket is connected to the one place that all datagrams go to.
+    /// Whether the UDP socket is connected to the one destination of all datagrams.
     joined: bool,
     buffer: Vec<u8>,
     first: u16,
@@ -70,7 +70,7 @@ impl PortSockets {
         })
     }
 
-    /// A stream over a connection. One too many is closed unheard.
+    /// Adds a stream over a connection. An extra connection is closed without reading it.
     pub fn welcome(&mut self, peer: Node, socket: TcpStream) {
         if calls::prepare(&socket).is_err() {
             return;
@@ -78,7 +78,7 @@ impl PortSockets {
         let _ = self.streams.accept(peer, socket);
     }
 
-    /// Connects the UDP socket to the one place that all datagrams go to, if there is one.
+    /// Connects the UDP socket to the one destination of all datagrams, if there is one.
     pub fn join(&mut self) -> io::Result<()> {
         if let DatagramRoutes::One(to) = &self.routes {
             self.udp.connect(address_of(*to))?;
@@ -87,8 +87,8 @@ impl PortSockets {
         Ok(())
     }
 
-    /// What is there before the port waits: where the last poll found nothing, that was a moment ago, and nothing is
-    /// asked again. So a port with nothing to do polls once a millisecond, and one with much to do does not wait.
+    /// The input that is there before the port waits. If the last poll found nothing, that was a moment ago, and no socket
+    /// is read again: a port without inputs polls once a millisecond, and a port with many does not wait.
     pub fn poll_again(&mut self) -> Result<Option<Input>, PortFault> {
         if self.idle {
             return Ok(None);
@@ -96,7 +96,7 @@ impl PortSockets {
         self.poll()
     }
 
-    /// What is there now.
+    /// The input that is there now.
     pub fn poll(&mut self) -> Result<Option<Input>, PortFault> {
         self.accept_in_turn()?;
         let input = self.poll_all()?;
@@ -106,8 +106,8 @@ impl PortSockets {
         Ok(input)
     }
 
-    /// What is there of datagrams and streams now. Datagrams come first, and once in a while the streams, so that
-    /// neither holds up the other.
+    /// The datagram or stream input that is there now. Datagrams are first, and in one of `POLLS` polls the streams, so
+    /// that neither delays the other for long.
     fn poll_all(&mut self) -> Result<Option<Input>, PortFault> {
         let turn = self.polls % POLLS;
         self.polls = turn + 1;
@@ -137,7 +137,7 @@ impl PortSockets {
         }
     }
 
-    /// What is there of the streams now. They take turns.
+    /// The input of a stream that is there now. The streams take turns.
     fn poll_streams(&mut self) -> Result<Option<Input>, PortFault> {
         let first = self.first % STREAM_NUMBERS;
         for offset in 0..STREAM_NUMBERS {
@@ -150,7 +150,7 @@ impl PortSockets {
         Ok(None)
     }
 
-    /// Takes the connection that waits, if it is the listener's turn.
+    /// Accepts the connection that waits, if it is the listener's turn.
     fn accept_in_turn(&mut self) -> Result<(), PortFault> {
         if self.since_accept < ACCEPT_INTERVAL {
             return Ok(());
@@ -159,7 +159,7 @@ impl PortSockets {
         self.accept()
     }
 
-    /// Takes the connection that waits.
+    /// Accepts the connection that waits.
     fn accept(&mut self) -> Result<(), PortFault> {
         let Some(listener) = &self.listener else {
             return Ok(());
@@ -173,7 +173,7 @@ impl PortSockets {
         Ok(())
     }
 
-    /// What is there of one stream now.
+    /// The input of one stream that is there now.
     fn poll_stream(&mut self, number: u16) -> Result<Option<Input>, PortFault> {
         match read(&self.streams, number, &mut self.buffer) {
             ReadOutcome::Nothing => {}
@@ -183,8 +183,8 @@ impl PortSockets {
         Ok(self.streams.next(number))
     }
 
-    /// Bytes came over a stream, and stand in the buffer. Where there is no memory for them, they are lost, and
-    /// with them the stream.
+    /// Takes the bytes of a stream out of the buffer. If there is no memory for them, they are lost, and the stream is
+    /// closed.
     fn receive(&mut self, number: u16, count: usize) -> Result<(), PortFault>
         requires { count ≤ length self.old.buffer.items }
     {
@@ -211,14 +211,14 @@ impl PortSockets {
         }
     }
 
-    /// Sends a message over a stream. One that does not take it at once ends.
+    /// Sends a message over a stream. A stream that does not take it at once ends.
     fn send_frame(&mut self, number: u16, bytes: &[u8]) {
         if !is_taken(&self.streams, number, bytes) {
             self.streams.end(number);
         }
     }
 
-    /// Sends a datagram to a node, if there is a way to it.
+    /// Sends a datagram to a node, if it has a destination.
     fn send_datagram(&mut self, node: Node, bytes: &[u8]) -> Result<(), PortFault> {
         if self.joined {
             return calls::send_joined(&self.udp, bytes);
@@ -230,7 +230,7 @@ impl PortSockets {
     }
 }
 
-/// Reads what came over a stream, if it is to be read.
+/// Reads the bytes that a stream has received, if it is to be read.
 fn read(streams: &PortStreams<TcpStream>, number: u16, buffer: &mut [u8]) -> ReadOutcome
     ensures { Fits result (length buffer.new) }
 {
@@ -240,7 +240,7 @@ fn read(streams: &PortStreams<TcpStream>, number: u16, buffer: &mut [u8]) -> Rea
     }
 }
 
-/// Whether a stream takes all of a message. What goes to one that ended is dropped.
+/// Whether a stream takes all of a message. A message to a stream that has ended is dropped.
 fn is_taken(streams: &PortStreams<TcpStream>, number: u16, bytes: &[u8]) -> bool {
     match streams.to_write(number) {
         Some(socket) => calls::write(socket, bytes),

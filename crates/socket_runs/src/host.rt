@@ -1,4 +1,4 @@
-//! An adapter over sockets, and what its peers hear of it.
+//! An adapter over sockets, and what its peers receive.
 
 use crate::fault::SocketFault;
 use cip_tables::{Config, Device, InputPoint, Profile};
@@ -11,10 +11,10 @@ use std::io::{self, ErrorKind, Read, Write};
 use std::net::{Net, TcpListener, TcpStream, UdpSocket};
 use std::rt::Clock;
 
-/// In so many turns an answer has to come.
+/// A reply has to come within this many turns.
 const MOST_TURNS: u32 = 20_000;
 
-/// What a peer hears.
+/// What a peer receives.
 #[derive(Clone, Copy, PartialEq, Eq)]
 pub enum Received {
     Nothing,
@@ -23,7 +23,7 @@ pub enum Received {
     End,
 }
 
-/// An adapter over sockets, and where it is.
+/// An adapter over sockets, and its ports.
 #[derive(Drop)]
 pub struct AdapterHost<R: Clock + Drop> {
     rt: R,
@@ -33,7 +33,7 @@ pub struct AdapterHost<R: Clock + Drop> {
 }
 
 impl<R: Clock + Drop> AdapterHost<R> {
-    /// So many turns of the adapter.
+    /// Drives the adapter for this many turns.
     pub fn turns(&mut self, count: u32) -> Result<(), SocketFault> {
         for _ in 0..count {
             self.loop_device.turn()?;
@@ -41,7 +41,7 @@ impl<R: Clock + Drop> AdapterHost<R> {
         Ok(())
     }
 
-    /// What the peer hears, if it waits for so many bytes.
+    /// What the peer receives, if it waits for this many bytes.
     pub fn received(&mut self, peer: &TcpStream, least: usize) -> Result<Received, SocketFault> {
         let mut count = 0usize;
         for _ in 0..MOST_TURNS {

@@ -1,4 +1,4 @@
-//! Peers that do what no peer should.
+//! Peers that misbehave.
 
 use crate::fault::SocketFault;
 use crate::host::{AdapterHost, Received, write};
@@ -19,7 +19,7 @@ const READ: [u8; 48] = [
 /// The beginning of a message of 2,049 bytes of data.
 const TOO_LONG: [u8; 4] = [0x6F, 0, 0x01, 0x08];
 
-/// Ten messages that ask for nothing.
+/// Ten NOP messages, which request nothing.
 const NOTHING: [u8; 240] = [0; 240];
 
 const MOST_REQUESTS: u32 = 40_000;
@@ -120,7 +120,7 @@ where
     Ok(written == Some(REGISTER.len()) && registers(host, &next)?)
 }
 
-/// The first peer asks, and never reads an answer: its stream ends.
+/// The first peer sends requests, and never reads a reply: its stream ends.
 pub fn never_reads<R>(host: &mut AdapterHost<R>) -> Result<bool, SocketFault>
 where
     R: AllocGlobal + Clock + Net<Listener = TcpListener, Stream = TcpStream> + Copy + Drop,
@@ -138,7 +138,8 @@ where
     Ok(false)
 }
 
-/// Sixteen peers get a session, the next one is closed unheard, and once one of them ends, another one gets one.
+/// Sixteen peers get a session, an extra connection is closed without reading it, and once one of them ends, another one
+/// gets a session.
 pub fn seventeen<R>(host: &mut AdapterHost<R>) -> Result<bool, SocketFault>
 where
     R: AllocGlobal + Clock + Net<Listener = TcpListener, Stream = TcpStream> + Copy + Drop,

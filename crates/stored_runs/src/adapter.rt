@@ -1,4 +1,4 @@
-//! An adapter with output 150 and input 100, what happens at it, and books of it.
+//! An adapter with output 150 and input 100, events at it, and books of it.
 
 ghost use Rattle.std.specs.Prelude.{◌≡◌, true, None, IfOk};
 ghost use Rattle.cip_tables.specs.Step.{config_fault, makes_adapter};
@@ -12,7 +12,7 @@ use example_profiles::{ADAPTER, CONTROLLER, FORWARD_OPEN, MASK, RUN_DATA};
 use std::alloc::Global;
 use trace_outcomes::write_outcome;
 
-/// What the adapter is made of.
+/// The configuration of the adapter.
 pub fn config(alloc: Global) -> Result<Config, StoredRunFault>
     ensures valid { IfOk result (λ config. config_fault config ≡ None) }
     ensures kind { IfOk result (λ config. makes_adapter config ≡ true) }
@@ -57,14 +57,14 @@ pub fn rotated<D: Device + Drop>(book: &mut Book<D>) -> Result<Segment, StoredRu
     Ok(book.rotate()?)
 }
 
-// Prints where an event stands, and what the device answered.
+// Prints the position of an event in its book, and the answer of the device.
 fn print_receipt(rt: &impl Print, alloc: Global, receipt: Receipt) -> Result<(), StoredRunFault> {
     let (device, segment, index) = (receipt.device, receipt.segment, receipt.index);
     println!(rt; "device {device} segment {segment} index {index}")?;
     print_answer(rt, alloc, u64::from(index), &Ok(receipt.answer))
 }
 
-/// Prints what a device answers, as its trace would.
+/// Prints the outcome of an event, in the lines of a trace.
 pub fn print_answer(
     rt: &impl Print,
     alloc: Global,

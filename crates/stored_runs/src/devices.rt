@@ -1,4 +1,5 @@
-//! The devices: an adapter with one output and one input, and two scanners that want them.
+//! The profiles of the devices, as texts: an adapter with one output and one input, and two scanners that open
+//! connections to it.
 
 use crate::fault::StoredRunFault;
 use cip_tables::Config;
@@ -10,15 +11,15 @@ use trace_text::read_trace;
 pub const ADAPTER: &[u8] =
     b"adapter 16 192.168.1.10 255.255.255.0 1 12 7 2 3\noutput 150 4 zero zero\ninput 100 4\nconfig 151 0\nheartbeat 152 153\n";
 
-/// A scanner at 192.168.1.20, which waits 2,000 ms for an answer, and 3,000 ms for another try.
+/// A scanner at 192.168.1.20, with an open timeout of 2,000 ms and a retry delay of 3,000 ms.
 pub const FIRST: &[u8] =
     b"scanner 32 192.168.1.20 4660 305419896 2000 3000\nslot 192.168.1.10 exclusive 151 150 100 4 4 10000 10000 2 p2p - -\n";
 
-/// A scanner at 192.168.1.21, which wants the same output.
+/// A scanner at 192.168.1.21, whose slot is for the same output.
 pub const SECOND: &[u8] =
     b"scanner 33 192.168.1.21 4660 305419897 2000 3000\nslot 192.168.1.10 exclusive 151 150 100 4 4 10000 10000 2 p2p - -\n";
 
-/// What a device is made of, by the lines of its profile.
+/// The configuration in the lines of a profile.
 pub fn config(alloc: Global, lines: &[u8]) -> Result<Config, StoredRunFault> {
     Ok(read_trace(alloc, lines)?.config)
 }
@@ -28,7 +29,7 @@ fn keep(configs: &mut Vec<Config>, config: Config) -> Result<(), OutOfMemory> {
     Ok(())
 }
 
-/// What the devices are made of, in order.
+/// The configurations of the devices, in order.
 pub fn configs(alloc: Global, texts: &[&[u8]]) -> Result<Vec<Config>, StoredRunFault> {
     let mut configs = Vec::new(alloc);
     for text in texts {

@@ -1,12 +1,12 @@
-//! Runs of devices, fast adapters and plain scanners, each as it is told step by step.
+//! Runs of devices, fast adapters and plain scanners, printed step by step.
 //!
-//! First devices on a simulated segment, act by act, as files tell it. In the race of two owners of one output a
-//! datagram that the first owner sent comes after the next owner has opened its connection, and changes nothing. Then a
-//! reply comes too late. What a device answers is printed behind its name, as its trace would tell it. Then stands what
-//! no segment is made of, and a scanner that has no connection id left.
+//! The first runs are of devices on a simulated segment, act by act, from files. In the race of two owners of one output,
+//! a datagram of the first owner is delivered after the next owner has opened its connection, and changes nothing. Then a
+//! reply comes too late. The answer of a device is printed behind its name, in the lines of its trace. Then come the
+//! faults of the making of a segment, and a scanner that has no connection id left.
 //!
-//! Then books of an adapter: what they hand out, the histories that their segments give, a full one, and one that two
-//! threads step. What came of each is printed.
+//! The last runs are of books of an adapter: their segments, the histories of these, a full book, and a book that two
+//! threads step.
 #![tactic(auto)]
 
 mod adapter;

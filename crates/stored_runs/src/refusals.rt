@@ -38,7 +38,7 @@ fn one(alloc: Global, config: Config) -> Result<Vec<Config>, OutOfMemory> {
     Ok(configs)
 }
 
-/// Each fault of the making of a segment, but want of memory.
+/// Each fault of the making of a segment, but `OutOfMemory`.
 pub fn no_worlds(rt: &impl Print, alloc: Global) -> Result<(), StoredRunFault> {
     println!(rt; "# one scanner twice")?;
     print_fault(rt, alloc, configs(alloc, &[ADAPTER, FIRST, FIRST])?)?;

@@ -39,7 +39,7 @@ impl Counts {
     }
 }
 
-/// A segment, and the lines that tell what happened in it.
+/// A segment, and the lines of its acts.
 #[derive(Drop)]
 pub struct Scene {
     alloc: Global,
@@ -48,7 +48,7 @@ pub struct Scene {
     story: String,
 }
 
-/// The lines of an answer, as a device's trace would tell it.
+/// The lines of an answer, as in a device's trace.
 fn lines_of(alloc: Global, number: u64, answer: Answer) -> Result<String, OutOfMemory> {
     let outcome: Outcome = Ok(answer);
     write_outcome(alloc, number, &outcome)
@@ -70,18 +70,18 @@ impl Scene {
         })
     }
 
-    /// What happened so far.
+    /// The lines so far.
     pub fn story(&self) -> &str {
         self.story.as_str()
     }
 
-    /// A line that tells a reader what comes.
+    /// Appends a line for the reader.
     pub fn note(&mut self, words: &str) -> Result<(), OutOfMemory> {
         push_line(&mut self.story, "#", words)
     }
 
-    /// One act, which makes an event of the device at this place, if it makes one. Tells what the device answers, as its
-    /// trace would, behind its name; or why the act did not happen.
+    /// Does one act, which makes an event of the device at this index, if it makes one. Appends the answer of the device
+    /// behind its name, as in its trace; or the reason why the act was refused.
     pub fn act(&mut self, name: &str, place: u32, act: &Act) -> Result<(), OutOfMemory> {
         match self.world.act(act) {
             Ok(Some(answer)) => {

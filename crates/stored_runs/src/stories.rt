@@ -1,14 +1,13 @@
-//! Stories of devices on a segment as files tell them, an act a line. A line begins with the name of a device, and goes
-//! on with what it does or what comes to it:
+//! Stories of devices on a segment, read from files, an act a line. A line is the name of a device, and its act:
 //!
 //! - `opens NAME`: it opens a stream to another device;
-//! - `forth STREAM`, `back STREAM`: what waits first in that direction of a stream comes;
-//! - `takes INDEX`: a datagram comes, by its place among all that were sent;
+//! - `forth STREAM`, `back STREAM`: the first frame in that direction of a stream is delivered;
+//! - `takes INDEX`: a datagram is delivered, by its index in the log of all that were sent;
 //! - `cuts STREAM`: a stream breaks;
 //! - `start SLOT`, `run`, `read POINT`, `write POINT BYTES`: its application acts;
 //! - `tick MS`: time passes.
 //!
-//! A line that begins with `# ` is told as it stands.
+//! A line that begins with `# ` is printed as it is.
 
 use crate::fault::StoredRunFault;
 use crate::scene::Scene;

@@ -20,7 +20,7 @@ pub fn push_lines(story: &mut String, name: &str, lines: &str) -> Result<(), Out
     Ok(())
 }
 
-/// Appends a line that tells why an act did not happen.
+/// Appends a line with the reason why an act was refused.
 pub fn push_fault(alloc: Global, story: &mut String, fault: ActFault) -> Result<(), OutOfMemory> {
     let words = format!(in alloc; "{fault}\n")?;
     Ok(story.push_str(words.as_str())?)

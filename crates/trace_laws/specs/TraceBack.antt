@@ -1,6 +1,6 @@
--- A trace that is written is read as itself: a law of the definitions alone, which `reads_back` promises. Its
--- profile is to be a good one, and no reason that it records a mismatch that carries a refused status, which is
--- written as that status alone. The numbers are those of their types.
+-- A trace that is written is read as itself: a law of the definitions alone, which `reads_back` promises. Its profile has
+-- to be valid, and no recorded reason may be a mismatch that carries a refused status, which is written as that status
+-- alone. The numbers are those of their types.
 use Rattle.std.specs.Prelude.{◌≡◌, ◌<◌, ◌^◌, ◌-◌, List, length, None, Ok, Err, IfSome}
 use Rattle.std.specs.List.{All}
 use Rattle.hex.specs.Hex.{IsBytes}
@@ -122,7 +122,7 @@ abbrev pub OutcomeFits : Outcome → Type 0
 OutcomeFits (Ok answer) = AnswerFits answer
 OutcomeFits (Err fault) = Unit {0}
 
--- an event, and what is recorded of it
+-- an event and its recorded outcome
 abbrev pub EntryFits : Entry → Type 0
 EntryFits entry = EventFits entry.0 × IfSome entry.1 OutcomeFits
 

@@ -1,4 +1,5 @@
--- What is written as a word is read as the same value: laws of the definitions alone, which `reads_back` promises.
+-- A value that is written as a word is read as the same value: laws of the definitions alone, which `reads_back`
+-- promises.
 use Rattle.std.specs.Prelude.{ℕ, ◌≡◌, ◌<◌, ◌^◌, List, decimal, Option, Some, IfSome}
 use Rattle.std.specs.List.{All}
 use Rattle.hex.specs.Hex.{IsBytes}
@@ -11,7 +12,7 @@ use Rattle.trace_words.specs.Words.{number_of, node_word, node_of, nodes_word, n
 abbrev pub NumbersReadBack : Type 0
 NumbersReadBack = (bits n : ℕ) → n < 2 ^ bits → n < 2 ^ 64 → number_of bits (decimal n) ≡ Some n
 
--- an address, and addresses one after the other
+-- an address, and a list of addresses
 abbrev pub NodesReadBack : Type 0
 NodesReadBack = (node : Node) → node.0 < 2 ^ 32 → node_of (node_word node) ≡ Some node
 
@@ -32,6 +33,6 @@ GeneralReadsBack = (general : ℕ) → general < 2 ^ 8 → general_of (general_w
 abbrev pub ExtendedReadsBack : Type 0
 ExtendedReadsBack = (extended : Option ℕ) → IfSome extended (λ status. status < 2 ^ 16) → extended_of (extended_word extended) ≡ Some extended
 
--- what happens to an output
+-- an action for an output
 abbrev pub ActionsReadBack : Type 0
 ActionsReadBack = (action : Action) → action_of (action_word action) ≡ Some action

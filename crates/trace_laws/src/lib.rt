@@ -1,4 +1,4 @@
-//! Laws of traces as text: what is written is read as the same value.
+//! Laws of traces as text: a written value is read as the same value.
 #![tactic(auto)]
 
 mod laws;

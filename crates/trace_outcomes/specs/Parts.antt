@@ -1,4 +1,4 @@
--- The lines of an outcome, behind the number of its event: what is read there.
+-- Readers of the lines of an outcome, behind the number of its event.
 use Rattle.std.specs.Prelude.{ℕ, List, [], ◌∷◌, codes, Option, Some, None}
 use Rattle.cip_types.specs.declared.names.Mismatch.{Mismatch}
 use Rattle.cip_types.specs.declared.names.Mismatch.TheVariants as mismatch
@@ -77,7 +77,7 @@ cip_reader = do
   extended ← next_word extended_of
   ends (reason.Cip (record { general = general; extended = extended }))
 
--- what is amiss in a reply, by its name
+-- the mismatch of a reply, by its name
 abbrev pub mismatch_meanings : Meanings (Option Mismatch)
 mismatch_meanings =
     (codes "Triad", Some mismatch.Triad)
@@ -194,7 +194,7 @@ verdict_meanings =
 unfoldable pub verdict_of : List ℕ → Option Verdict
 verdict_of word = meaning verdict_meanings None word
 
--- the bytes that a point holds
+-- the bytes of a point
 abbrev pub value_reader : Reader Verdict
 value_reader = do
   bytes ← next_word bytes_of

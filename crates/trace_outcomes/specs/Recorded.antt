@@ -1,5 +1,4 @@
--- An outcome as it is recorded, part by part: what became of the event, or the fault, and then the frames, the
--- datagrams and the notices.
+-- A recorded outcome, part by part: the verdict or the fault, and then the frames, the datagrams and the notices.
 use Rattle.std.specs.Prelude.{◌+◌, ◌==◌, if◌then◌else◌, [], ◌∷◌, ◌++◌, length, option_map, Option, Some, None, Ok, Err}
 use Rattle.cip_events.specs.declared.event.Answer.{Answer}
 use Rattle.cip_events.specs.declared.event.Frame.{Frame}
@@ -20,7 +19,7 @@ with_datagram answer outgoing = if length answer.notices == 0 then Some (record 
 abbrev pub plain_answer_of : Verdict → Answer
 plain_answer_of verdict = record { frames = []; datagrams = []; verdict = verdict; notices = [] }
 
--- what is recorded of an event's outcome, with one part more
+-- a recorded outcome with one part more
 abbrev pub recorded_with : Option Outcome → Part → Option Outcome
 recorded_with None (part.Verdict verdict) = Some (Ok (plain_answer_of verdict))
 recorded_with None (part.Fault fault) = Some (Err fault)

@@ -1,5 +1,5 @@
--- How the outcome of an event is printed: a line for what became of it, and a line each for the frames, the
--- datagrams and the notices of its answer, in this order. A line begins with the event's number, and LF ends it.
+-- How the outcome of an event is printed: a line for its verdict or fault, and a line each for the frames, the datagrams
+-- and the notices of its answer, in this order. A line begins with the event's number, and LF ends it.
 use Rattle.std.specs.Prelude.{ℕ, ◌+◌, List, [], ◌∷◌, ◌++◌, codes, decimal, flat_map, Ok, Err}
 use Rattle.cip_types.specs.declared.names.Fault.{Fault}
 use Rattle.cip_types.specs.declared.names.Mismatch.{Mismatch}
@@ -35,7 +35,7 @@ fault_word WrongLength = codes "WrongLength"
 fault_word NoSuchSlot = codes "NoSuchSlot"
 fault_word NotAllowedNow = codes "NotAllowedNow"
 
--- what became of a datagram
+-- the delivery of a datagram
 abbrev pub delivery_word : Delivery → List ℕ
 delivery_word Applied = codes "applied"
 delivery_word Idle = codes "idle"
@@ -46,7 +46,7 @@ delivery_word UnknownId = codes "unknown"
 delivery_word WrongSize = codes "wrong-size"
 delivery_word Malformed = codes "malformed"
 
--- what became of an event
+-- the verdict of an event
 abbrev pub verdict_words : Verdict → List ℕ
 verdict_words Done = codes "done"
 verdict_words BadFrame = codes "bad-frame"
@@ -62,7 +62,7 @@ triad_words triad = decimal triad.serial ++ (codes " " ++ (decimal triad.vendor 
 abbrev pub refusal_words : Fault → List ℕ
 refusal_words fault = codes "cip " ++ (general_word fault.general ++ (codes " " ++ extended_word fault.extended))
 
--- what is amiss in a reply
+-- the mismatch of a reply
 abbrev pub mismatch_words : Mismatch → List ℕ
 mismatch_words mismatch.Triad = codes "mismatch Triad"
 mismatch_words mismatch.Id = codes "mismatch Id"
@@ -78,7 +78,7 @@ reason_words (reason.Mismatch why) = mismatch_words why
 
 -- LINES
 
--- whom a frame goes to
+-- the recipient of a frame
 abbrev pub recipient_words : Recipient → List ℕ
 recipient_words (Stream stream) = codes "frame " ++ decimal stream
 recipient_words (Peer node) = codes "reply " ++ node_word node

@@ -7,7 +7,7 @@ use cip_types::OutOfMemory;
 use std::alloc::Global;
 use std::marker::Model;
 
-/// What is recorded of an event's outcome. Where nothing is, that takes 16 bytes, where an outcome has 112.
+/// The recorded outcome of an event, if there is one. None takes 16 bytes, and an outcome 112.
 #[derive(Drop)]
 pub struct Recorded {
     kept: Option<Box<Outcome>>,
@@ -23,14 +23,14 @@ impl Model for Recorded {
 }
 
 impl Recorded {
-    /// Nothing is recorded. Takes no memory.
+    /// No recorded outcome. Takes no memory.
     pub fn nothing() -> Recorded
         ensures { result ≡ None }
     {
         Recorded { kept: None }
     }
 
-    /// What is recorded, in memory of its own.
+    /// This recorded outcome, in memory of its own.
     pub fn of(alloc: Global, outcome: Option<Outcome>) -> Result<Recorded, OutOfMemory>
         ensures { IfOk result (λ recorded. recorded ≡ outcome) }
     {
@@ -41,7 +41,7 @@ impl Recorded {
         Ok(Recorded { kept: Some(kept) })
     }
 
-    /// What is recorded.
+    /// The recorded outcome.
     pub fn get(&self) -> Option<&Outcome>
         ensures { option_map (λ outcome. outcome.now) result ≡ self.now }
     {

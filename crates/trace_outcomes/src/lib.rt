@@ -1,4 +1,4 @@
-//! The lines of a trace that tell outcomes, as they are read and as they are written.
+//! The lines of a trace for outcomes, as they are read and as they are written.
 #![tactic(auto)]
 
 mod kept;

@@ -1,4 +1,4 @@
-//! The lines that tell recorded notices.
+//! The lines of recorded notices.
 
 ghost use Rattle.std.specs.Prelude.{◌≡◌};
 ghost use Rattle.trace_words.specs.Reader.{unread_words, Takes};
@@ -126,7 +126,7 @@ fn read_encap(words: &mut Words<'_>) -> Result<Reason, LineFault>
     Ok(Reason::Encap(status))
 }
 
-/// What follows `mismatch`: its name.
+/// What follows `mismatch`: the name of the mismatch.
 fn read_mismatch(words: &mut Words<'_>) -> Result<Reason, LineFault>
     ensures { Takes (mismatch_reader (unread_words words.old)) result (unread_words words.new) }
 {
@@ -143,7 +143,7 @@ fn read_unreadable(words: &mut Words<'_>) -> Result<Reason, LineFault>
     Ok(Reason::Unreadable)
 }
 
-/// What is amiss in a reply, by its name.
+/// The mismatch of a reply, by its name.
 #[tactic(auto, unfolding(crate::specs::Parts::mismatch_of))]
 fn mismatch_named(name: &str) -> Option<Mismatch>
     ensures { result ≡ mismatch_of name.now }

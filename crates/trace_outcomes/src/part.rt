@@ -1,4 +1,4 @@
-//! What the lines of an outcome tell.
+//! The parts of an outcome, each of which has a line.
 
 use cip_events::{Frame, Notice, OutgoingDatagram, StepFault, Verdict};
 

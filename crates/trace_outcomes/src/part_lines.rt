@@ -1,4 +1,4 @@
-//! The lines that tell a recorded outcome.
+//! The lines of a recorded outcome.
 
 ghost use Rattle.std.specs.Prelude.{◌≡◌};
 ghost use Rattle.trace_words.specs.Reader.{unread_words, Takes};

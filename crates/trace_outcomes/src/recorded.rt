@@ -10,7 +10,7 @@ use cip_types::{Items, OutOfMemory};
 use std::alloc::Global;
 use trace_words::LineFault;
 
-/// What is recorded of an outcome, with one part more.
+/// A recorded outcome with one part more.
 pub fn recorded_with(
     alloc: Global,
     recorded: Option<Outcome>,
@@ -117,8 +117,8 @@ fn with_notice(answer: Answer, notice: Notice) -> Result<Answer, LineFault>
     })
 }
 
-/// Values, and one more. The first of them takes the room of one alone, since most outcomes have one frame, one
-/// datagram or one notice; from the second on room is doubled.
+/// Values, and one more. The first value takes the memory of one alone, since most outcomes have one frame, one
+/// datagram or one notice; from the second on the capacity is doubled.
 pub fn with_item<T: Drop>(items: Items<T>, item: T) -> Result<Items<T>, OutOfMemory>
     ensures { IfOk result (λ more. more ≡ items ++ item ∷ []) }
 {

@@ -12,8 +12,8 @@ use cip_types::{ConnId, Fault, Mismatch, OutOfMemory, Triad};
 use std::alloc::Global;
 use trace_words::{push_bytes, push_last_bytes, push_node, push_nodes, push_text};
 
-/// The lines that tell the outcome of event number `number`: what became of it, and then the frames, the
-/// datagrams and the notices of its answer, each in order; or the fault.
+/// The lines for the outcome of event number `number`: the verdict, and then the frames, the datagrams and the notices
+/// of its answer, each in order; or the fault.
 pub fn write_outcome(alloc: Global, number: u64, outcome: &Outcome) -> Result<String, OutOfMemory>
     ensures { IfOk result (λ text. string_bytes text ≡ outcome_text number outcome.now) }
 {
@@ -22,7 +22,7 @@ pub fn write_outcome(alloc: Global, number: u64, outcome: &Outcome) -> Result<St
     Ok(text)
 }
 
-/// Appends the same lines. Where memory is refused, a part of them may stand there.
+/// Appends the same lines. If an allocation is refused, a part of them may be appended.
 pub fn push_outcome(
     alloc: Global,
     out: &mut String,
@@ -61,7 +61,7 @@ fn push_answer(
     push_notices(alloc, out, number, answer.notices.as_slice())
 }
 
-/// The name of a fault, as its case is spelled.
+/// The name of a fault, which is that of its case.
 fn fault_name(fault: StepFault) -> &'static str
     ensures { result.now ≡ fault_word fault }
 {
@@ -95,7 +95,7 @@ fn push_value(alloc: Global, out: &mut String, bytes: &[u8]) -> Result<(), OutOf
     push_bytes(alloc, out, bytes)
 }
 
-/// The word for what became of a datagram.
+/// The word for the delivery of a datagram.
 fn delivery_name(delivery: Delivery) -> &'static str
     ensures { result.now ≡ delivery_word delivery }
 {

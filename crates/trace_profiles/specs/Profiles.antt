@@ -1,4 +1,4 @@
--- The lines of a profile, behind their keywords: what is read there.
+-- Readers of the lines of a profile, behind their keywords.
 use Rattle.std.specs.Prelude.{List, Option}
 use Rattle.cip_types.specs.declared.names.Identity.{Identity}
 use Rattle.adapter_table.specs.declared.profile.OutputPoint.{OutputPoint}
@@ -28,7 +28,7 @@ adapter_reader = do
   identity ← identity_reader
   ends (record { incarnation = incarnation; node = node; mask = mask.0; identity = identity })
 
--- instance, length, and what happens when the owner is idle and when it is lost
+-- instance, length, and the actions when the owner is idle and when it is lost
 abbrev pub output_reader : Reader OutputPoint
 output_reader = do
   instance ← next_word (number_of 32)
@@ -51,7 +51,7 @@ heartbeat_reader = do
   listen_only ← next_word (number_of 32)
   ends (record { input_only = input_only; listen_only = listen_only })
 
--- the profile that its lines tell
+-- the profile with the values of its lines
 abbrev pub profile_with : AdapterLine → List OutputPoint → List InputPoint → Option InputPoint → HeartbeatLine → Profile
 profile_with adapter outputs inputs config heartbeat = record {
   incarnation = adapter.incarnation;

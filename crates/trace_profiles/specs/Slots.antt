@@ -1,5 +1,5 @@
--- The lines of a scanner's profile: how they are read behind their keywords, and how they are written. Their last
--- two words, on when the target produces, are left out where it produces cyclically and is not held back.
+-- The lines of a scanner's profile: how they are read behind their keywords, and how they are written. Their last two
+-- words, the trigger and the inhibit time of the target, are left out if it produces cyclically without inhibit time.
 use Rattle.std.specs.Prelude.{ℕ, ◌+◌, ◌==◌, ◌%◌, nat_le, Bool, true, false, if◌then◌else◌, List, [], ◌∷◌, ◌++◌, length, drop, get_or, codes, decimal, flat_map, Option, Some, None}
 use Rattle.std.proofs.Common.{lit<}
 use Rattle.std.proofs.Math.Nat.{mod-lt}
@@ -21,7 +21,7 @@ use Rattle.trace_words.specs.Reader.{Reader, ◌>>=◌, next_word, gives, ends, 
 
 -- WORDS THAT ARE READ
 
--- what a connection is for
+-- the kind of a connection
 abbrev pub kind_meanings : Meanings (Option Kind)
 kind_meanings =
     (codes "exclusive", Some ExclusiveOwner)
@@ -39,7 +39,7 @@ multicast_meanings = (codes "p2p", Some false) ∷ (codes "multicast", Some true
 unfoldable pub multicast_of : List ℕ → Option Bool
 multicast_of word = meaning multicast_meanings None word
 
--- when the target produces
+-- the trigger of the target's productions
 abbrev pub trigger_meanings : Meanings (Option Trigger)
 trigger_meanings = (codes "cyclic", Some Cyclic) ∷ (codes "change", Some ChangeOfState) ∷ []
 
@@ -69,7 +69,7 @@ key_of_bytes bytes = if length bytes == 0 then Some None else (if length bytes =
 
 -- LINES THAT ARE READ
 
--- incarnation, address, vendor number, serial number, the time for an answer and the time to another try
+-- incarnation, address, vendor number, serial number, the open timeout and the retry delay
 abbrev pub scanner_reader : Reader ScannerLine
 scanner_reader = do
   incarnation ← next_word (number_of 8)
@@ -85,14 +85,14 @@ key_reader = do
   bytes ← next_word bytes_of
   perhaps (key_of_bytes bytes)
 
--- when the target produces, and the least time between two productions at a change
+-- the trigger of the target's productions, and the least time between two of them at a change
 abbrev pub stated_rate : Reader Rate
 stated_rate = do
   trigger ← next_word trigger_of
   inhibit ← next_word (number_of 8)
   ends (record { trigger = trigger; inhibit = inhibit })
 
--- cyclically, where the line ends
+-- cyclic, if the line ends here
 abbrev pub rate_reader : Reader Rate
 rate_reader [] = Some (record { trigger = Cyclic; inhibit = 0 }, [])
 rate_reader (word ∷ words) = stated_rate (word ∷ words)
@@ -132,7 +132,7 @@ slot_reader = do
     inhibit = rate.inhibit;
   })
 
--- the profile that its lines tell
+-- the profile with the values of its lines
 abbrev pub scanner_with : ScannerLine → List SlotConfig → ScannerProfile
 scanner_with scanner slots = record {
   incarnation = scanner.incarnation;
@@ -164,12 +164,13 @@ abbrev pub key_word : Option ElectronicKey → List ℕ
 key_word None = codes "-"
 key_word (Some key) = encode_lower (drop 2 (key_text (view_key key)))
 
--- when the target produces, and the least time between two productions at a change
+-- the trigger of the target's productions, and the least time between two of them at a change
 abbrev pub rate_words : Trigger → ℕ → List (List ℕ)
 rate_words Cyclic inhibit = if inhibit == 0 then [] else codes "cyclic" ∷ decimal inhibit ∷ []
 rate_words ChangeOfState inhibit = codes "change" ∷ decimal inhibit ∷ []
 
--- the two points with their lengths, the packet intervals with the multiplier, and who hears the target
+-- the two points with their lengths, the packet intervals with the multiplier, and whether the target produces for a
+-- group
 abbrev pub size_words : SlotConfig → List (List ℕ) → List (List ℕ)
 size_words slot behind =
     decimal slot.consumed

@@ -1,5 +1,5 @@
--- How a profile is written: a line for the device, and a line for each of its points. One space parts the words
--- of a line, and LF ends it.
+-- How a profile is written: a line for the device, and a line for each of its points. One space separates the words of
+-- a line, and LF ends it.
 use Rattle.std.specs.Prelude.{ℕ, List, [], ◌∷◌, ◌++◌, codes, decimal, flat_map, Option, Some, None}
 use Rattle.cip_types.specs.declared.names.Identity.{Identity}
 use Rattle.adapter_table.specs.declared.profile.OutputPoint.{OutputPoint}

@@ -1,4 +1,4 @@
-//! What the lines of a profile tell.
+//! The values of the lines of a profile.
 
 ghost use Rattle.std.specs.Prelude.{◌≡◌};
 ghost use Rattle.trace_profiles.specs.Profiles.{profile_with};
@@ -9,7 +9,7 @@ use cip_netparams::Trigger;
 use cip_types::{Identity, Items, Node};
 use scanner_table::{ScannerProfile, SlotConfig};
 
-/// What the first line of a profile tells.
+/// The values of the first line of an adapter's profile.
 #[derive(Clone, Copy)]
 pub struct AdapterLine {
     pub incarnation: u8,
@@ -25,7 +25,7 @@ pub struct HeartbeatLine {
     pub listen_only: u32,
 }
 
-/// What the first line of a scanner's profile tells.
+/// The values of the first line of a scanner's profile.
 #[derive(Clone, Copy)]
 pub struct ScannerLine {
     pub incarnation: u8,
@@ -36,14 +36,14 @@ pub struct ScannerLine {
     pub retry: u64,
 }
 
-/// When a target produces, and the least number of milliseconds between two productions at a change.
+/// The trigger of a target's productions, and the least number of milliseconds between two of them at a change.
 #[derive(Clone, Copy)]
 pub struct Rate {
     pub trigger: Trigger,
     pub inhibit: u8,
 }
 
-/// The profile that its lines tell.
+/// The profile of an adapter with the values of its lines.
 pub fn profile_with(
     adapter: AdapterLine,
     outputs: Items<OutputPoint>,
@@ -66,7 +66,7 @@ pub fn profile_with(
     }
 }
 
-/// The profile of a scanner that its lines tell.
+/// The profile of a scanner with the values of its lines.
 pub fn scanner_with(scanner: ScannerLine, slots: Items<SlotConfig>) -> ScannerProfile
     ensures { result ≡ scanner_with scanner slots }
 {

@@ -1,4 +1,4 @@
-//! The lines of a trace that tell profiles, as they are read and as they are written.
+//! The lines of a trace for profiles, as they are read and as they are written.
 #![tactic(auto)]
 
 mod forms;

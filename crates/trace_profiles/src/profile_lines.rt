@@ -1,4 +1,4 @@
-//! The lines that tell an adapter's profile.
+//! The lines of an adapter's profile.
 
 ghost use Rattle.trace_words.specs.Reader.{unread_words, Takes};
 ghost use Rattle.trace_profiles.specs.Profiles.{identity_reader, adapter_reader, output_reader, point_reader, heartbeat_reader};

@@ -1,4 +1,4 @@
-//! The lines that tell a scanner's profile.
+//! The lines of a scanner's profile.
 
 ghost use Rattle.std.specs.Prelude.{◌≡◌};
 ghost use Rattle.trace_words.specs.Reader.{unread_words, Takes};
@@ -71,7 +71,7 @@ pub fn read_slot(alloc: Global, words: &mut Words<'_>) -> Result<SlotConfig, Lin
     })
 }
 
-/// What a connection is for, by its word.
+/// The kind of a connection, by its word.
 #[tactic(auto, unfolding(crate::specs::Slots::kind_of))]
 fn kind_named(word: &str) -> Option<Kind>
     ensures { result ≡ kind_of word.now }
@@ -84,7 +84,7 @@ fn kind_named(word: &str) -> Option<Kind>
     }
 }
 
-/// Whether a target produces for a group, as a word tells it.
+/// Whether a target produces for a multicast group, by its word.
 #[tactic(auto, unfolding(crate::specs::Slots::multicast_of))]
 fn is_multicast(word: &str) -> Option<bool>
     ensures { result ≡ multicast_of word.now }
@@ -96,7 +96,7 @@ fn is_multicast(word: &str) -> Option<bool>
     }
 }
 
-/// When a target produces, by its word.
+/// The trigger of a target's productions, by its word.
 #[tactic(auto, unfolding(crate::specs::Slots::trigger_of))]
 fn trigger_named(word: &str) -> Option<Trigger>
     ensures { result ≡ trigger_of word.now }
@@ -137,7 +137,7 @@ fn key_of_bytes(bytes: &[u8]) -> Option<Option<ElectronicKey>>
     }))
 }
 
-/// When the target produces: cyclically, where the line ends.
+/// The trigger of the target's productions: cyclic, if the line ends here.
 fn read_rate(words: &mut Words<'_>) -> Result<Rate, LineFault>
     ensures { Takes (rate_reader (unread_words words.old)) result (unread_words words.new) }
 {

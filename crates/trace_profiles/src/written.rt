@@ -8,7 +8,7 @@ use adapter_table::{Action, InputPoint, OutputPoint, Profile};
 use cip_types::{Identity, Node, OutOfMemory};
 use trace_words::push_node;
 
-/// Appends the lines of an adapter's profile. Where memory is refused, a part of them may stand there.
+/// Appends the lines of an adapter's profile. If an allocation is refused, a part of them may be appended.
 pub fn push_profile(out: &mut String, profile: &Profile) -> Result<(), OutOfMemory>
     ensures { OnOk result (string_bytes out.new ≡ string_bytes out.old ++ profile_text profile.now) }
 {

@@ -13,7 +13,7 @@ use scanner_table::{ScannerProfile, SlotConfig};
 use std::alloc::Global;
 use trace_words::{push_bytes, push_node, push_text};
 
-/// Appends the lines of a scanner's profile. Where memory is refused, a part of them may stand there.
+/// Appends the lines of a scanner's profile. If an allocation is refused, a part of them may be appended.
 pub fn push_scanner(
     alloc: Global,
     out: &mut String,
@@ -58,7 +58,7 @@ fn push_slot(alloc: Global, out: &mut String, slot: &SlotConfig) -> Result<(), O
     Ok(())
 }
 
-/// Appends a slot's target, what its connection is for, and the instance of its configuration.
+/// Appends a slot's target, the kind of its connection, and the instance of its configuration.
 fn push_purpose(out: &mut String, slot: &SlotConfig) -> Result<(), OutOfMemory>
     ensures { OnOk result (string_bytes out.new ≡ string_bytes out.old ++ join_with_byte 32 (codes "slot" ∷ node_word slot.now.target ∷ kind_word slot.now.kind ∷ instance_word slot.now.config ∷ [])) }
 {
@@ -94,7 +94,8 @@ fn push_instance(out: &mut String, instance: Option<u32>) -> Result<(), OutOfMem
     }
 }
 
-/// Appends a slot's points with their lengths, its intervals, and who hears its target, between spaces.
+/// Appends a slot's points with their lengths, its intervals, and whether its target produces for a group, between
+/// spaces.
 fn push_sizes(out: &mut String, slot: &SlotConfig) -> Result<(), OutOfMemory>
     ensures { OnOk result (string_bytes out.new ≡ string_bytes out.old ++ (codes " " ++ (join_with_byte 32 (size_words slot.now []) ++ codes " "))) }
 {
@@ -134,7 +135,7 @@ fn push_key(alloc: Global, out: &mut String, key: Option<ElectronicKey>) -> Resu
     push_text(out, digits.as_str())
 }
 
-/// Appends a space, a slot's configuration data, when its target produces, and the end of the line.
+/// Appends a space, a slot's configuration data, the trigger of its target's productions, and the end of the line.
 fn push_slot_end(alloc: Global, out: &mut String, slot: &SlotConfig) -> Result<(), OutOfMemory>
     ensures { OnOk result (string_bytes out.new ≡ string_bytes out.old ++ (codes " " ++ line_text (bytes_word slot.now.config_data ∷ rate_words slot.now.trigger slot.now.inhibit))) }
 {

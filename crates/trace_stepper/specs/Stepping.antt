@@ -19,8 +19,8 @@ events_of entries = map (λ entry. entry.0) entries
 abbrev pub outcomes_of_trace : Trace → List Outcome
 outcomes_of_trace trace = outcomes_of (opening_table trace.config) (events_of trace.events)
 
--- The next entry's event is taken, with the outcome of the table's step; or no entry is left; or memory is
--- wanted, and the same event is next again.
+-- The next entry's event is taken, with the outcome of the table's step; or no entry is left; or an allocation was
+-- refused, and the same event is next again.
 abbrev pub MovesOn : DeviceTable → List Entry → Result (Option Outcome) StepperFault → DeviceTable → List Entry → Type 0
 MovesOn old left (Ok (Some outcome)) new rest = (entry : Entry) × (left ≡ entry ∷ rest) × (outcome ≡ outcome_of (step old entry.0)) × (new ≡ table_of old (step old entry.0))
 MovesOn old left (Ok None) new rest = (left ≡ []) × (rest ≡ []) × (new ≡ old)
@@ -29,7 +29,7 @@ MovesOn old left (Err fault.Profile) new rest = ⊥
 MovesOn old left (Err fault.WrongKind) new rest = ⊥
 MovesOn old left (Err fault.Write) new rest = ⊥
 
--- a stepper is refused for what is wrong with the profile, or else for its kind, or else for want of memory
+-- a stepper is refused for the profile, or else for the kind of device, or else for lack of memory
 abbrev pub IsRefused : Option ProfileFault → Bool → StepperFault → Type 0
 IsRefused wrong same_kind fault.Profile = wrong ≢ None
 IsRefused wrong same_kind fault.WrongKind = (wrong ≡ None) × (same_kind ≡ false)

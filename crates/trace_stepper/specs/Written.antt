@@ -1,4 +1,4 @@
--- What a stream holds after a text was written that it may have refused.
+-- The bytes of a stream after a text was written that it may have refused.
 use Rattle.std.specs.Prelude.{ℕ, ◌≡◌, List, ◌++◌, Option, Result, Ok, Err}
 use Rattle.std.specs.Io.KnownBytes.{Appends}
 

@@ -1,4 +1,4 @@
-//! Outcomes beside those that a trace records.
+//! Outcomes compared with the recorded ones of a trace.
 
 ghost use Rattle.std.specs.Prelude.{◌≡◌, ◌↔◌, IsTrue, option_map};
 ghost use Rattle.trace_stepper.specs.Compared.{AgreesWith, IsCompared};
@@ -7,13 +7,13 @@ use cip_tables::Outcome;
 use thiserror::Error;
 use trace_text::{Recorded, Trace};
 
-/// The number, from 1, of the first event of which another outcome is recorded, or of which one is recorded
-/// and none was given.
+/// The number, from 1, of the first event whose recorded outcome is not the given one, or for which no outcome was
+/// given.
 #[derive(Clone, Copy, Debug, PartialEq, Eq, Error)]
 #[error("differs {0}")]
 pub struct Differs(pub usize);
 
-/// Whether the outcomes agree with those that the trace records. Takes no memory.
+/// Whether the outcomes agree with the recorded ones of the trace. Takes no memory.
 pub fn compare(trace: &Trace, outcomes: &[Outcome]) -> Result<(), Differs>
     ensures { IsCompared trace.now.events outcomes.now result }
 {
@@ -25,7 +25,7 @@ pub fn compare(trace: &Trace, outcomes: &[Outcome]) -> Result<(), Differs>
     Ok(())
 }
 
-/// Whether an outcome is the one that is recorded, where one is. Takes no memory.
+/// Whether an outcome is the recorded one, if one is recorded. Takes no memory.
 pub fn agrees(recorded: &Recorded, given: Option<&Outcome>) -> bool
     ensures { IsTrue result ↔ AgreesWith recorded.now (option_map (λ outcome. outcome.now) given.entry) }
 {

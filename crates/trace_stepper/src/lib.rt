@@ -1,4 +1,4 @@
-//! What a device makes of a trace, event by event, and what is recorded of that.
+//! Steps a device by the events of a trace, and compares its outcomes with the recorded ones.
 #![tactic(auto)]
 
 mod compared;

@@ -1,4 +1,4 @@
-//! The outcomes of a trace, written as they come.
+//! The outcomes of a trace, each written before the next step.
 
 ghost use Rattle.std.specs.Prelude.{◌≡◌, ◌<◌, ◌+◌, length, IfErr, OnOk, OnErr};
 ghost use Rattle.std.specs.Io.KnownBytes.{Appends};
@@ -15,8 +15,10 @@ use std::alloc::Global;
 use std::io::Write;
 use trace_text::{Trace, push_outcome};
 
-/// Writes the outcomes of a trace's events at a fresh device, each as it comes, and answers the number of the
-/// first event whose outcome is not the one that is recorded.
+/// Steps a fresh device by a trace's events, writes each outcome before the next step, and answers the number of the
+/// first event whose outcome is not the recorded one.
+///
+/// The faults, in order: `Profile`, `WrongKind`, and `OutOfMemory` and `Write` as they happen.
 pub fn play<D: Device + Drop, O: Write>(
     alloc: Global,
     trace: &Trace,
@@ -39,16 +41,17 @@ pub fn play<D: Device + Drop, O: Write>(
     Ok(differs)
 }
 
-/// The place after the one of an entry, which is the entry's number.
+/// The index behind that of an entry, which is the entry's number, from 1.
 fn place_after(trace: &Trace, place: usize) -> usize
     requires { place < length trace.now.events }
     ensures { result ≡ place + 1 }
 {
+    // (gives the prover that the index is below a length, so that the sum fits)
     let _entry = &trace.events.as_slice()[place];
     place + 1
 }
 
-/// The first difference, with one outcome more.
+/// The number of the first difference, with one outcome more.
 fn judge(trace: &Trace, place: usize, differs: Option<usize>, outcome: &Outcome) -> Option<usize>
     requires { place < length trace.now.events }
     ensures { JudgesOn trace.now.events place outcome.now differs result }

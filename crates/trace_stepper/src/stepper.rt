@@ -1,4 +1,4 @@
-//! A device that takes the events of a trace.
+//! A device that is stepped by the events of a trace.
 
 ghost use Rattle.std.specs.Prelude.{◌≡◌, ◌↔◌, true, None, Err, IsTrue, IfOk, IfErr, drop};
 ghost use Rattle.cip_tables.specs.Step.{opening_table, config_fault, makes_adapter, same_kind};
@@ -58,7 +58,7 @@ impl<T: Drop> From<AllocFailed<T>> for StepperFault {
     }
 }
 
-/// A device of a trace's configuration, and the place in the trace of the event that it takes next.
+/// A device of a trace's configuration, and the index of the trace's next event.
 #[derive(Drop)]
 pub struct Stepper<'a, D> {
     device: D,
@@ -67,7 +67,7 @@ pub struct Stepper<'a, D> {
 }
 
 impl<'a, D: Device> Stepper<'a, D> {
-    /// A fresh device that is to take the events of a trace from the first on.
+    /// A fresh device before the first event of a trace.
     ///
     /// The faults, in order: `Profile`, `WrongKind`, `OutOfMemory`.
     pub fn new(alloc: Global, trace: &'a Trace) -> Result<Stepper<'a, D>, StepperFault>
@@ -98,8 +98,8 @@ impl<'a, D: Device> Stepper<'a, D> {
         }
     }
 
-    /// The outcome of the next event, None after the last one. The one fault is `OutOfMemory`: then the same
-    /// event is next again.
+    /// Steps the device by the next event, and answers the outcome; None after the last event. The one fault is
+    /// `OutOfMemory`: then the same event is next again.
     pub fn next(&mut self) -> Result<Option<Outcome>, StepperFault>
         ensures { MovesOn (D.table self.old.device) (drop self.old.place self.old.trace.now.events) result (D.table self.new.device) (drop self.new.place self.new.trace.now.events) }
     {
@@ -135,7 +135,7 @@ fn makes_adapter(config: &Config) -> bool
     }
 }
 
-/// Whether a growth of memory was refused.
+/// Whether an allocation was refused.
 fn is_out_of_memory(outcome: &Outcome) -> bool
     ensures { IsTrue result ↔ (outcome.now ≡ Err StepFault.OutOfMemory) }
 {
@@ -145,7 +145,7 @@ fn is_out_of_memory(outcome: &Outcome) -> bool
     }
 }
 
-/// What a device makes of all events of a trace.
+/// The outcomes of all events of a trace.
 #[derive(Drop)]
 pub struct Report {
     pub outcomes: Items<Outcome>,
@@ -153,7 +153,7 @@ pub struct Report {
 
 /// The outcomes of a trace's events at a fresh device.
 ///
-/// The faults, in order: `Profile`, `WrongKind`, and `OutOfMemory` wherever a growth was refused.
+/// The faults, in order: `Profile`, `WrongKind`, and `OutOfMemory` wherever an allocation was refused.
 pub fn replay<D: Device + Drop>(alloc: Global, trace: &Trace) -> Result<Report, StepperFault>
     ensures outcomes { IfOk result (λ report. report.outcomes ≡ outcomes_of_trace trace.now) }
     ensures fault { IfErr result (IsRefused (config_fault trace.now.config) (same_kind D.ADAPTER (makes_adapter trace.now.config))) }

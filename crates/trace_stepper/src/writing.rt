@@ -1,4 +1,4 @@
-//! Texts on streams that may fail.
+//! Texts on streams that can fail.
 
 ghost use Rattle.std.specs.Prelude.{◌++◌};
 ghost use Rattle.trace_stepper.specs.Written.{IsTaken};

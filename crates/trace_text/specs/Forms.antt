@@ -1,5 +1,5 @@
--- The lines of a trace: the profile of a device, what happens at the device, and what it made of that.
--- A line is a keyword or the number of an event, and words behind it.
+-- The lines of a trace: the profile of a device, the events at the device, and their recorded outcomes. A line is a
+-- keyword or the number of an event, and words behind it.
 use Rattle.std.specs.Prelude.{ℕ, nat_lt, Bool, true, false, List, [], ◌∷◌, codes, Option, Some, None, if◌then◌else◌, option_map}
 use Rattle.std.specs.List.{list_all}
 use Rattle.cip_events.specs.declared.event.Event.{Event}
@@ -120,6 +120,6 @@ line_reader = do
 abbrev pub is_ascii : List ℕ → Bool
 is_ascii line = list_all (λ byte. nat_lt byte 128) line
 
--- what a line tells
+-- the value of a line
 unfoldable pub line_of : List ℕ → Option TraceLine
 line_of line = if is_ascii line then option_map (λ got. got.0) (line_reader (words_of line)) else None

@@ -1,5 +1,5 @@
--- What a text tells as a trace, line by line. LF ends a line. Empty lines and lines that begin with `#` are
--- skipped, and counted.
+-- How a text is read as a trace, line by line. LF ends a line. Empty lines and lines that begin with `#` are skipped,
+-- and counted.
 use Rattle.std.specs.Prelude.{ℕ, ◌+◌, ◌≡◌, ◌==◌, if◌then◌else◌, Bool, true, List, [], ◌∷◌, ◌++◌, length, option_map, option_and_then, option_to_list, ok_or, Option, Some, None, Result, Ok, Err}
 use Rattle.std.specs.List.{slice_split}
 use Rattle.adapter_table.specs.declared.profile.OutputPoint.{OutputPoint}
@@ -27,7 +27,7 @@ use Rattle.trace_outcomes.specs.Recorded.{recorded_with}
 
 -- A TRACE, LINE BY LINE
 
--- an event, and its outcome where it is recorded
+-- an event, and its outcome if it is recorded
 abbrev pub Entry : Type 0
 Entry = Event × Option Outcome
 
@@ -39,7 +39,7 @@ with_output adapter outputs inputs output = if length inputs == 0 then Some (Poi
 abbrev pub with_part : Config → List Entry → Entry → ℕ → Part → Option TraceBuilder
 with_part made_of entries last number parsed = if number == length entries + 1 then option_map (λ outcome. Events made_of entries (Some (last.0, Some outcome))) (recorded_with last.1 parsed) else None
 
--- what was read so far, with what one line more tells; None where it may not stand there
+-- the part that was read so far, with one line more; None if the line is not allowed there
 abbrev pub builder_with : TraceBuilder → TraceLine → Option TraceBuilder
 builder_with Empty (line.Adapter adapter) = Some (Points adapter [] [])
 builder_with Empty (line.Scanner scanner) = Some (Slots scanner [])
@@ -59,7 +59,7 @@ abbrev pub is_skipped : List ℕ → Bool
 is_skipped [] = true
 is_skipped (first ∷ rest) = first == 35
 
--- what was read so far, with one line more
+-- the part that was read so far, with one line more that may be skipped
 unfoldable pub builder_after : TraceBuilder → List ℕ → Option TraceBuilder
 builder_after builder text = if is_skipped text then Some builder else option_and_then (builder_with builder) (line_of text)
 
@@ -68,49 +68,49 @@ builder_after builder text = if is_skipped text then Some builder else option_an
 abbrev pub is_line_feed : ℕ → Bool
 is_line_feed byte = byte == 10
 
--- what stands between one LF and the next; the last part is what no LF ends
+-- the parts between one LF and the next; no LF ends the last part
 abbrev pub parts_of : List ℕ → List (List ℕ)
 parts_of text = slice_split is_line_feed text
 
--- What the lines so far come to: what was read, or the number of the first line that is bad. With one line
+-- The state after the lines so far: the part that was read, or the number of the first bad line. Here with one line
 -- more, of this number.
 abbrev pub state_after : ℕ → Result TraceBuilder ℕ → List ℕ → Result TraceBuilder ℕ
 state_after number (Ok builder) text = ok_or (builder_after builder text) number
 state_after number (Err bad) text = Err bad
 
--- a trace is told where its profile is a good one
+-- a trace is read if its profile is valid
 abbrev pub judged : Trace → Option ProfileFault → Result Trace TraceFault
 judged trace None = Ok trace
 judged trace (Some first) = Err (fault.BadProfile (fault_number first))
 
--- what a device is made of is judged before all that happens at it
+-- the configuration of a device is judged before its events
 abbrev pub judged_by : Config → List Entry → Result Trace TraceFault
 judged_by made_of entries = judged (record { config = made_of; events = entries }) (config_fault made_of)
 
--- what was read when the text ends; the end is a bad line where the profile is not all there
+-- the trace at the end of the text; the end is a bad line if the profile is not complete
 abbrev pub parsed : ℕ → TraceBuilder → Result Trace TraceFault
 parsed number (Slots scanner slots) = judged_by (config.Scanner (scanner_with scanner slots)) []
 parsed number (Events made_of entries last) = judged_by made_of (entries ++ option_to_list last)
 parsed number builder = Err (fault.BadLine number)
 
--- the end of the text; what no LF ends is a bad line
+-- the end of the text; a part that no LF ends is a bad line
 abbrev pub ended : ℕ → Result TraceBuilder ℕ → List ℕ → Result Trace TraceFault
 ended number (Err bad) rest = Err (fault.BadLine bad)
 ended number (Ok builder) [] = parsed number builder
 ended number (Ok builder) (byte ∷ rest) = Err (fault.BadLine number)
 
--- what the lines from this number on tell, after those before
+-- the reading of the lines from this number on, after those before
 abbrev pub parsed_from : ℕ → Result TraceBuilder ℕ → List (List ℕ) → Result Trace TraceFault
 parsed_from number state [] = ended number state []
 parsed_from number state (last ∷ []) = ended number state last
 parsed_from number state (text ∷ next ∷ parts) = parsed_from (number + 1) (state_after number state text) (next ∷ parts)
 
--- the trace that a text tells, or what is wrong with it: the number of the first bad line, or where none is
--- bad that of the first fault of the profile
+-- the reading of a text: its trace, or the number of the first bad line, or if none is bad that of the first fault of the
+-- profile
 unfoldable pub trace_reading : List ℕ → Result Trace TraceFault
 trace_reading text = parsed_from 1 (Ok Empty) (parts_of text)
 
--- A function answers what the text tells, or that a growth of memory was refused.
+-- A function answers the reading of the text, or that an allocation was refused.
 abbrev pub Answers : Result Trace TraceFault → Result Trace TraceFault → Type 0
 Answers said (Err fault.OutOfMemory) = Unit {0}
 Answers said result = result ≡ said

@@ -1,5 +1,5 @@
--- How a trace is written: the lines of its profile, and the line of each event with the outcome that is
--- recorded of it. One space parts the words of a line, and LF ends it.
+-- How a trace is written: the lines of its profile, and the line of each event with its recorded outcome. One space
+-- separates the words of a line, and LF ends it.
 use Rattle.std.specs.Prelude.{ℕ, ◌+◌, Bool, true, false, List, [], ◌∷◌, ◌++◌, codes, decimal, Option, Some, None}
 use Rattle.cip_tables.specs.declared.table.Config.{Config}
 use Rattle.cip_tables.specs.declared.table.Config.TheVariants.{Adapter, Scanner}
@@ -37,14 +37,14 @@ abbrev pub recorded_text : ℕ → Option Outcome → List ℕ
 recorded_text number None = []
 recorded_text number (Some outcome) = outcome_text number outcome
 
--- an event, the first of this number, with what is recorded of it, and those after it
+-- events with their recorded outcomes, the first event of this number
 abbrev pub entries_text : ℕ → List Entry → List ℕ
 entries_text number [] = []
 entries_text number (entry ∷ entries) = line_text (event_words entry.0) ++ (recorded_text number entry.1 ++ entries_text (number + 1) entries)
 
 -- THE TRACE
 
--- what a device is made of
+-- the configuration of a device
 abbrev pub config_lines : Config → List ℕ
 config_lines (Adapter profile) = profile_text profile
 config_lines (Scanner profile) = scanner_text profile

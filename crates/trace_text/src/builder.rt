@@ -1,4 +1,4 @@
-//! What was read of a trace so far.
+//! The part of a trace that was read so far.
 
 ghost use Rattle.std.specs.Prelude.{◌≡◌, ◌==◌, ◌+◌, length, ◌++◌, [], Some, None, IfOk, option_to_list};
 ghost use Rattle.trace_words.specs.Reader.{Finds};
@@ -15,7 +15,7 @@ use trace_outcomes::{Part, Recorded, recorded_with, with_item};
 use trace_profiles::{AdapterLine, ScannerLine, profile_with, scanner_with};
 use trace_words::LineFault;
 
-/// What the lines so far told.
+/// The part of a trace in the lines so far.
 #[derive(Drop)]
 pub enum TraceBuilder {
     /// Nothing.
@@ -38,7 +38,7 @@ pub enum TraceBuilder {
         scanner: ScannerLine,
         slots: Items<SlotConfig>,
     },
-    /// What a device is made of, and events with what is recorded of their outcomes; the last one may get more.
+    /// The configuration of a device, and events with their recorded outcomes. The last outcome may get more parts.
     Events {
         config: Config,
         entries: Items<(Event, Recorded)>,
@@ -46,9 +46,9 @@ pub enum TraceBuilder {
     },
 }
 
-/// What was read so far, with what one line more tells.
+/// The part that was read so far, with one line more.
 ///
-/// The faults: `Bad` where the line may not stand there, and `OutOfMemory`.
+/// The faults: `Bad` if the line is not allowed there, and `OutOfMemory`.
 pub fn builder_with(
     alloc: Global,
     builder: TraceBuilder,
@@ -245,14 +245,14 @@ fn after_event(
     })
 }
 
-/// Whether the event behind these has the number, from 1.
+/// Whether the next event has this number, from 1.
 fn is_next_number(entries: &[(Event, Recorded)], number: u64) -> bool
     ensures { result ≡ (number == length entries.now + 1) }
 {
     number == entries.len() as u64 + 1
 }
 
-/// Events with what is recorded of their outcomes, and the one that came last.
+/// Events with their recorded outcomes, and the last one of them.
 pub fn with_last(
     alloc: Global,
     entries: Items<(Event, Recorded)>,

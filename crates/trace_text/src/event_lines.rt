@@ -1,4 +1,4 @@
-//! The lines that tell events.
+//! The lines of events.
 
 ghost use Rattle.std.specs.Prelude.{◌≡◌};
 ghost use Rattle.trace_words.specs.Reader.{unread_words, Takes};
@@ -94,7 +94,7 @@ pub fn read_mode(words: &mut Words<'_>) -> Result<Event, LineFault>
     Ok(Event::Mode { run })
 }
 
-/// Whether the application of a scanner runs, as a word tells it.
+/// Whether the application of a scanner runs, by its word.
 #[tactic(auto, unfolding(crate::specs::Forms::mode_of))]
 fn runs(word: &str) -> Option<bool>
     ensures { result ≡ mode_of word.now }

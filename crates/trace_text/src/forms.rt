@@ -1,11 +1,11 @@
-//! What a line of a trace tells.
+//! The values of the lines of a trace.
 
 use cip_tables::{Event, InputPoint, OutputPoint};
 use scanner_table::SlotConfig;
 use trace_outcomes::Part;
 use trace_profiles::{AdapterLine, HeartbeatLine, ScannerLine};
 
-/// What a line tells, wherever it stands.
+/// The value of a line, whatever its position.
 #[derive(Drop)]
 pub enum TraceLine {
     Adapter(AdapterLine),

@@ -1,5 +1,4 @@
-//! The text of a trace: lines that tell a profile and what happens at a device, and the lines that tell
-//! what a device made of it.
+//! The text of a trace: the lines of a profile, of events, and of the recorded outcomes of these events.
 #![tactic(auto)]
 
 mod builder;

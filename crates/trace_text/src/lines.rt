@@ -18,9 +18,9 @@ use trace_profiles::{
 };
 use trace_words::{LineFault, Words, read_u64};
 
-/// What a line tells.
+/// The value of a line.
 ///
-/// The faults: `Bad` where it tells nothing, and `OutOfMemory`.
+/// The faults: `Bad` if it is no line of a trace, and `OutOfMemory`.
 #[tactic(auto, unfolding(crate::specs::Forms::line_of))]
 pub fn read_line(alloc: Global, line: &[u8]) -> Result<TraceLine, LineFault>
     ensures { Finds (line_of line.now) result }

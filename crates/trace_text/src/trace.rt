@@ -1,7 +1,6 @@
-//! The text of a trace: the profile of a device, and what happens at the device.
+//! The text of a trace: the profile of a device, and the events at the device.
 //!
-//! Lines are ended by LF, and one space parts their words. Empty lines and lines that begin with `#` are
-//! skipped.
+//! LF ends a line, and one space separates its words. Empty lines and lines that begin with `#` are skipped.
 
 ghost use Rattle.std.specs.Prelude.{◌≡◌, ◌<◌, ◌+◌, ◌∷◌, position, length, IfSome, IfNone, IfErr, IsOk, ◌↔◌, Some, None, [], Ok};
 ghost use Rattle.trace_words.specs.Reader.{Finds};
@@ -18,8 +17,7 @@ use trace_outcomes::Recorded;
 use trace_profiles::scanner_with;
 use trace_words::LineFault;
 
-/// What a trace tells: what a device is made of, and what happens at it, each event with its outcome where
-/// that is recorded.
+/// A trace: the configuration of a device, and the events at it, each with its outcome if that is recorded.
 #[derive(Drop)]
 pub struct Trace {
     pub config: Config,
@@ -29,13 +27,13 @@ pub struct Trace {
 /// Why a trace is not read.
 #[derive(Clone, Copy, Debug, PartialEq, Eq, Error)]
 pub enum TraceFault {
-    /// The line of this number, from 1, is none that may stand there. An early end counts as a line.
+    /// The line of this number, from 1, is not allowed there. An early end counts as a line.
     #[error("bad line {0}")]
     BadLine(u64),
-    /// No line is bad, and this is the number of the first thing that is wrong with the profile.
+    /// No line is bad, and this is the number of the first fault of the profile.
     #[error("bad profile {0}")]
     BadProfile(u8),
-    /// A growth of memory was refused.
+    /// An allocation was refused.
     #[error("no memory")]
     OutOfMemory,
 }
@@ -50,10 +48,10 @@ impl From<OutOfMemory> for TraceFault {
     }
 }
 
-/// The trace that a text tells.
+/// Reads the text of a trace.
 ///
-/// The faults: `BadLine` with the number of the first bad line, `BadProfile` where no line is bad, and
-/// `OutOfMemory` wherever a growth was refused.
+/// The faults: `BadLine` with the number of the first bad line, `BadProfile` if no line is bad, and `OutOfMemory` wherever
+/// an allocation was refused.
 #[tactic(auto, unfolding(crate::specs::Reading::trace_reading))]
 pub fn read_trace(alloc: Global, text: &[u8]) -> Result<Trace, TraceFault>
     ensures { Answers (trace_reading text.now) result }
@@ -76,7 +74,7 @@ pub fn read_trace(alloc: Global, text: &[u8]) -> Result<Trace, TraceFault>
     parsed(alloc, builder, number)
 }
 
-/// The first line, without the LF that ends it, and what stands behind that. None where no LF is left.
+/// The first line, without the LF that ends it, and the text behind that. None if no LF is left.
 fn first_line(text: &[u8]) -> Option<(&[u8], &[u8])>
     ensures line { IfSome result (λ got. parts_of text.now ≡ got.0.now ∷ parts_of got.1.now) }
     ensures shorter { IfSome result (λ got. length got.1.now < length text.now) }
@@ -87,14 +85,14 @@ fn first_line(text: &[u8]) -> Option<(&[u8], &[u8])>
     Some((line, &after[1..]))
 }
 
-/// How many bytes stand before the first LF.
+/// The number of bytes before the first LF.
 fn line_len(text: &[u8]) -> Option<usize>
     ensures { result ≡ position is_line_feed text.now }
 {
     text.iter().position(|byte| *byte == b'\n')
 }
 
-/// What was read so far, with one line more.
+/// The part that was read so far, with one line more.
 #[tactic(auto, unfolding(crate::specs::Reading::builder_after))]
 fn builder_after(
     alloc: Global,
@@ -110,7 +108,7 @@ fn builder_after(
     builder_with(alloc, builder, parsed)
 }
 
-/// Whether a line tells nothing.
+/// Whether a line is skipped.
 fn is_skipped(line: &[u8]) -> bool
     ensures { result ≡ is_skipped line.now }
 {
@@ -120,7 +118,7 @@ fn is_skipped(line: &[u8]) -> bool
     }
 }
 
-/// The trace that was read when the text ends, where one more line would have this number.
+/// The trace that was read at the end of the text. One more line would have this number.
 fn parsed(alloc: Global, builder: TraceBuilder, number: u64) -> Result<Trace, TraceFault>
     ensures { Answers (parsed number builder) result }
 {
@@ -143,7 +141,7 @@ fn parsed(alloc: Global, builder: TraceBuilder, number: u64) -> Result<Trace, Tr
     }
 }
 
-/// A trace, where its profile is a good one.
+/// A trace, if its profile is valid.
 fn judged(config: Config, events: Items<(Event, Recorded)>) -> Result<Trace, TraceFault>
     ensures { result ≡ judged_by config events }
 {
@@ -153,7 +151,7 @@ fn judged(config: Config, events: Items<(Event, Recorded)>) -> Result<Trace, Tra
     }
 }
 
-/// The first thing that is wrong with what a device is to be made of.
+/// The first fault of a configuration.
 fn check(config: &Config) -> Result<(), ProfileFault>
     ensures ok { IsOk result ↔ (config_fault config.now ≡ None) }
     ensures fault { IfErr result (λ first. config_fault config.now ≡ Some first) }

@@ -12,7 +12,7 @@ use trace_outcomes::{Recorded, push_outcome};
 use trace_profiles::{push_profile, push_scanner};
 use trace_words::{push_last_bytes, push_node};
 
-/// The text of a trace. What is recorded of an event stands behind its line.
+/// The text of a trace. The recorded outcome of an event follows its line.
 #[tactic(auto, unfolding(crate::specs::Written::trace_text))]
 pub fn write_trace(alloc: Global, trace: &Trace) -> Result<String, OutOfMemory>
     ensures { IfOk result (λ text. string_bytes text ≡ trace_text trace.now) }

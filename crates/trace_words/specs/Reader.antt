@@ -1,4 +1,4 @@
--- Readers of the words of a line: what they read, and the words behind it; None where they refuse.
+-- Readers of the words of a line: the value that they read, and the words behind it; None if they refuse.
 use Rattle.std.specs.Prelude.{ℕ, ◌≡◌, if◌then◌else◌, List, [], ◌∷◌, option_map, option_and_then, Option, Some, None, Result, Ok, Err}
 use Rattle.std.specs.Borrow.{Bor}
 use Rattle.trace_words.specs.declared.words.Words.{Words}
@@ -37,16 +37,16 @@ abbrev pub perhaps : {A : Type 0} → Option A → Reader A
 perhaps None = refuses
 perhaps (Some value) = gives value
 
--- words, each with what it stands for
+-- words, each with its value
 abbrev pub Meanings : Type 0 → Type 0
 Meanings A = List (List ℕ × A)
 
--- what a word stands for, or what holds of every other word
+-- the value of a word, or the value of all other words
 abbrev pub meaning : {A : Type 0} → Meanings A → A → List ℕ → A
 meaning [] otherwise word = otherwise
 meaning (entry ∷ entries) otherwise word = if is_word entry.0 word then entry.1 else meaning entries otherwise word
 
--- what a reader reads, told as another thing
+-- the value of a reader, mapped to another value
 abbrev pub mapped : {A B : Type 0} → (A → B) → Reader A → Reader B
 mapped of read = do
   value ← read
@@ -60,14 +60,14 @@ words_left (Some rest) = words_of rest.now
 abbrev pub unread_words : Words → List (List ℕ)
 unread_words words = words_left words.rest
 
--- A function read what the reading says, and left the words behind it. Where memory is refused, nothing
--- is said.
+-- A function answered the value of the reading, and left the words behind it. If an allocation was refused, nothing
+-- is promised.
 abbrev pub Takes : {A : Type 0} → Option (A × List (List ℕ)) → Result A LineFault → List (List ℕ) → Type 0
 Takes said (Ok value) rest = said ≡ Some (value, rest)
 Takes said (Err Bad) rest = said ≡ None
 Takes said (Err OutOfMemory) rest = Unit {0}
 
--- A function found what the reading says. Where memory is refused, nothing is said.
+-- A function answered the value of the reading. If an allocation was refused, nothing is promised.
 abbrev pub Finds : {A : Type 0} → Option A → Result A LineFault → Type 0
 Finds said (Ok value) = said ≡ Some value
 Finds said (Err Bad) = said ≡ None

@@ -21,7 +21,7 @@ use Rattle.adapter_table.specs.declared.profile.Action.TheVariants.{Zero, Hold}
 abbrev pub node_word : Node → List ℕ
 node_word node = ipv4_text (to_be_bytes w32 node.0)
 
--- the addresses of nodes, parted by commas; a dash for none
+-- the addresses of nodes, separated by commas; a dash for none
 abbrev pub nodes_word : List Node → List ℕ
 nodes_word [] = codes "-"
 nodes_word (node ∷ nodes) = node_word node ++ flat_map (λ other. codes "," ++ node_word other) nodes
@@ -44,7 +44,7 @@ abbrev pub extended_word : Option ℕ → List ℕ
 extended_word None = codes "-"
 extended_word (Some extended) = encode_lower (to_be_bytes w16 extended)
 
--- what happens to an output
+-- an action for an output
 abbrev pub action_word : Action → List ℕ
 action_word Zero = codes "zero"
 action_word Hold = codes "hold"
@@ -55,7 +55,7 @@ line_text words = join_with_byte 32 words ++ codes "\n"
 
 -- WHAT IS READ
 
--- the words of a line, which single spaces part
+-- the words of a line, which single spaces separate
 abbrev pub words_of : List ℕ → List (List ℕ)
 words_of line = slice_split (λ byte. byte == 32) line
 
@@ -91,7 +91,7 @@ octets_only read = if length read.1 == 0 then Some (record { 0 = from_be_bytes w
 unfoldable pub node_of : List ℕ → Option Node
 node_of word = option_and_then octets_only (read_ipv4 word)
 
--- what happens to an output, as a word tells it
+-- the action for an output that a word names
 unfoldable pub action_of : List ℕ → Option Action
 action_of word = if is_word (codes "zero") word then Some Zero else (if is_word (codes "hold") word then Some Hold else None)
 
@@ -132,6 +132,6 @@ abbrev pub all_nodes : List (List ℕ) → Option (List Node)
 all_nodes [] = Some []
 all_nodes (word ∷ words) = option_and_then (λ node. option_map (λ nodes. node ∷ nodes) (all_nodes words)) (node_of word)
 
--- the addresses that a word lists, parted by commas; none by a dash
+-- the addresses that a word lists, separated by commas; none by a dash
 unfoldable pub nodes_of : List ℕ → Option (List Node)
 nodes_of word = if is_dash word then Some [] else all_nodes (slice_split (λ byte. byte == 44) word)

@@ -55,7 +55,7 @@ impl From<FromHexError> for LineFault {
     }
 }
 
-/// The words of a line that are still to be read. One space parts two words.
+/// The words of a line that are not read yet. One space separates two words.
 #[derive(Drop)]
 pub struct Words<'a> {
     rest: Option<&'a str>,
@@ -138,7 +138,7 @@ impl<'a> Words<'a> {
         read_nodes(alloc, self.word()?)
     }
 
-    /// The next word as what happens to an output.
+    /// The next word as an action for an output.
     pub fn action(&mut self) -> Result<Action, LineFault>
         ensures { Takes (next_word action_of (unread_words self.old)) result (unread_words self.new) }
     {
@@ -192,7 +192,7 @@ impl<'a> Words<'a> {
     }
 }
 
-/// A number as it is printed: decimal digits, the first of them 0 only where it stands alone.
+/// A number as it is printed: decimal digits, the first of them 0 only if it is the only one.
 pub fn read_u64(word: &str) -> Option<u64>
     ensures { result ≡ number_of 64 word.now }
 {
@@ -246,7 +246,7 @@ fn is_short_form(word: &[u8]) -> bool
     }
 }
 
-/// An address as it is printed: four numbers below 256, parted by dots.
+/// An address as it is printed: four numbers below 256, separated by dots.
 fn read_node(word: &str) -> Option<Node>
     ensures { result ≡ node_of word.now }
 {
@@ -256,7 +256,7 @@ fn read_node(word: &str) -> Option<Node>
     }
 }
 
-/// What happens to an output, as it is printed.
+/// An action for an output, as it is printed.
 #[tactic(auto, unfolding(crate::specs::Words::action_of))]
 fn read_action(word: &str) -> Option<Action>
     ensures { result ≡ action_of word.now }
@@ -270,7 +270,7 @@ fn read_action(word: &str) -> Option<Action>
 
 /// Bytes as hexadecimal digits of either case, two a byte; `-` for no bytes.
 ///
-/// The faults: `Bad` where the word spells no bytes, and `OutOfMemory`.
+/// The faults: `Bad` if the word is no hexadecimal text, and `OutOfMemory`.
 #[tactic(auto, unfolding(crate::specs::Words::bytes_of))]
 fn read_bytes(alloc: Global, word: &str) -> Result<Items<u8>, LineFault>
     ensures { Finds (bytes_of word.now) result }
@@ -338,7 +338,7 @@ fn read_extended(alloc: Global, word: &str) -> Result<Option<u16>, LineFault>
     Ok(Some(u16::from_be_bytes([*high, *low])))
 }
 
-/// Addresses parted by commas; `-` for none.
+/// Addresses separated by commas; `-` for none.
 #[tactic(auto, unfolding(crate::specs::Words::nodes_of))]
 fn read_nodes(alloc: Global, word: &str) -> Result<Items<Node>, LineFault>
     ensures { Finds (nodes_of word.now) result }

@@ -34,7 +34,7 @@ pub fn push_last_bytes(alloc: Global, out: &mut String, bytes: &[u8]) -> Result<
     push_text(out, "\n")
 }
 
-/// Addresses parted by commas; `-` for none.
+/// Addresses separated by commas; `-` for none.
 pub fn push_nodes(out: &mut String, nodes: &[Node]) -> Result<(), OutOfMemory>
     ensures { OnOk result (string_bytes out.new ≡ string_bytes out.old ++ nodes_word nodes.now) }
 {
@@ -55,7 +55,7 @@ fn push_others(out: &mut String, nodes: &[Node]) -> Result<(), OutOfMemory>
     Ok(())
 }
 
-/// An address as four numbers parted by dots.
+/// An address as four numbers separated by dots.
 #[tactic(auto, unfolding(std::specs::Net::Addr::IsIpv4OfBits))]
 pub fn push_node(out: &mut String, node: Node) -> Result<(), OutOfMemory>
     ensures { OnOk result (string_bytes out.new ≡ string_bytes out.old ++ node_word node) }

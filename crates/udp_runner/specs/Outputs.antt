@@ -1,5 +1,5 @@
--- What an answer has sent: its frames, then its datagrams, each once to each of its nodes, then the ends of
--- the streams that it closes.
+-- The outputs of an answer: its frames, then its datagrams, each once to each of its nodes, then the ends of the
+-- streams that it closes.
 use Rattle.std.specs.Prelude.{ℕ, ◌≡◌, List, [], ◌∷◌, ◌++◌}
 use Rattle.std.specs.List.{flat_map}
 use Rattle.cip_types.specs.declared.names.Node.{Node}
@@ -22,8 +22,7 @@ view_output (output.Frame stream bytes) = sent.Frame stream bytes.now
 view_output (output.Datagram node bytes) = sent.Datagram node bytes.now
 view_output (output.Close stream) = sent.Close stream
 
--- A frame goes over its stream. One that is for a peer, as the reply to a request that came over no stream,
--- goes over none.
+-- A frame is sent over its stream. The reply to a request that came over no stream is for a peer, and is sent over none.
 abbrev pub carried : Recipient → List ℕ → List SentOutput
 carried (Stream stream) bytes = sent.Frame stream bytes ∷ []
 carried (Peer node) bytes = []
@@ -44,11 +43,11 @@ abbrev pub notice_sent : Notice → List SentOutput
 notice_sent (StreamClosed stream) = sent.Close stream ∷ []
 notice_sent _ = []
 
--- all that an answer has sent, in order
+-- all outputs of an answer, in order
 abbrev pub answer_sent : Answer → List SentOutput
 answer_sent answer = flat_map frame_sent answer.frames ++ (flat_map datagram_sent answer.datagrams ++ flat_map notice_sent answer.notices)
 
--- of what was to be sent, the first outputs were sent, and the next one was not
+-- the first of these outputs were sent, and the next one was not
 pub record SendsSome (old new : Tape) (all : List SentOutput) : Type 0 where
   pub done : List SentOutput
   pub failed : SentOutput

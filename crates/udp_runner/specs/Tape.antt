@@ -1,14 +1,14 @@
--- What a port gives and was given to send.
+-- The inputs and outputs of a scripted port.
 use Rattle.std.specs.Prelude.{List, [], ◌∷◌, ◌++◌, Option}
 use Rattle.udp_runner.specs.declared.input.Input.{Input}
 use Rattle.udp_runner.specs.declared.output.SentOutput.{SentOutput}
 
--- the answers to the next receives, and all that was sent
+-- the inputs of the next receives, and all outputs that were sent
 pub record Tape : Type 0 where
   pub coming : List (Option Input)
   pub sent : List SentOutput
 
--- the first, where a list that is used up goes on with one value
+-- the first element; a default where the list is empty
 abbrev pub first_or : {X : Type 0} → X → List X → X
 first_or default [] = default
 first_or default (x ∷ xs) = x

@@ -1,5 +1,5 @@
--- Runs of a device over a port and a clock: the events of the turns, what their answers send, and where a run
--- stands that a fault ended.
+-- Runs of a device over a port and a clock: the events of the turns, the outputs of their answers, and the state after
+-- a fault.
 use Rattle.std.specs.Prelude.{◌≡◌, ◌⊎◌, ℕ, zero, suc, ◌+◌, nat_lt, min, List, [], ◌∷◌, ◌++◌, length, Option, Some, None, Result, Ok, Err, if◌then◌else◌}
 use Rattle.cip_events.specs.declared.event.Answer.{Answer}
 use Rattle.cip_events.specs.declared.event.Event.{Event}
@@ -20,18 +20,18 @@ use Rattle.udp_runner.specs.Tape.{Tape, first_or, rest_of}
 
 -- THE EVENTS
 
--- the tick of a turn, where time passed: what is above the longest tick is dropped
+-- the tick of a turn, if time passed: the time above the longest tick is dropped
 abbrev pub ticks_of : ℕ → List Event
 ticks_of ms = if nat_lt 0 ms then event.Tick (min ms longest_tick) ∷ [] else []
 
--- what happens at the device where an input comes
+-- the event of a device that receives an input
 abbrev pub event_of : Input → Event
 event_of (input.Opened stream peer) = event.StreamOpened stream peer
 event_of (input.Frame stream bytes) = event.Frame stream bytes
 event_of (input.Cut stream) = event.StreamCut stream
 event_of (input.Datagram peer bytes) = event.Datagram peer bytes
 
--- the event of a receive, if something came
+-- the event of a receive, if an input was received
 abbrev pub inputs_of : Option Input → List Event
 inputs_of None = []
 inputs_of (Some given) = event_of given ∷ []
@@ -47,25 +47,25 @@ events_of (suc turns) times_ms coming = turn_of times_ms coming ++ events_of tur
 
 -- WHAT IS SENT
 
--- what a step has sent: a refused one nothing
+-- the outputs of a step: a refused step has none
 abbrev pub step_sent : Result (Answer × DeviceTable) StepFault → List SentOutput
 step_sent (Ok next) = answer_sent next.0
 step_sent (Err fault) = []
 
--- what the answers to the events have sent, in order
+-- the outputs of the answers to the events, in order
 abbrev pub all_sent : DeviceTable → List Event → List SentOutput
 all_sent table [] = []
 all_sent table (e ∷ es) = step_sent (step table e) ++ all_sent (table_of table (step table e)) es
 
 -- RUNS
 
--- The device took these events, so many of them, and all that their answers have sent was sent.
+-- The device took these events, whose number is the count, and all outputs of their answers were sent.
 pub record Drives (events : List Event) (count : ℕ) (old new : Tape) (before after : DeviceTable) : Type 0 where
   pub sends : new.sent ≡ old.sent ++ all_sent before events
   pub table : after ≡ table_after before events
   pub counts : count ≡ length events
 
--- The device took the next of these events, and not all that its answer has sent was sent.
+-- The device took the next of these events, and not all outputs of its answer were sent.
 pub record StopsSending (events : List Event) (old new : Tape) (before after : DeviceTable) : Type 0 where
   pub taken : Event
   pub left : List Event
@@ -86,13 +86,13 @@ pub record StopsStepping (fault : StepFault) (events : List Event) (old new : Ta
   pub follows : Follows (step before refused) before (Err fault) after
   pub sends : new ≡ old
 
--- what a fault leaves undone of these events
+-- how a run ends at a fault, with these events left
 abbrev pub Halts : RunFault → List Event → Tape → Tape → DeviceTable → DeviceTable → Type 0
 Halts (run.Port fault) events old new before after = StopsReceiving old new before after ⊎ StopsSending events old new before after
 Halts (run.Step fault) events old new before after = StopsStepping fault events old new before after
 
--- A fault ended a run of these events: the device took the first ones, and all that their answers have sent was
--- sent; what the fault left undone is of the others.
+-- A fault ended a run of these events: the device took the first ones, all outputs of their answers were sent, and the
+-- fault concerns the next one.
 pub record Stops (fault : RunFault) (events : List Event) (old new : Tape) (before after : DeviceTable) : Type 0 where
   pub done : List Event
   pub left : List Event

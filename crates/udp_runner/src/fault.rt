@@ -1,4 +1,4 @@
-//! What goes wrong at a port, and what ends a run.
+//! The faults of a port, and those that end a run.
 
 use cip_events::StepFault;
 use thiserror::Error;
@@ -12,7 +12,7 @@ pub enum PortFault {
     /// An output could not be sent.
     #[error("an output could not be sent")]
     Send,
-    /// A growth of memory was refused.
+    /// An allocation was refused.
     #[error("no memory")]
     Memory,
 }

@@ -1,4 +1,4 @@
-//! What comes from a port.
+//! Inputs of a port.
 
 ghost use Rattle.std.specs.Prelude.{◌≡◌};
 ghost use Rattle.udp_runner.specs.Turns.{event_of};
@@ -6,7 +6,7 @@ ghost use Rattle.udp_runner.specs.Turns.{event_of};
 use cip_events::Event;
 use cip_types::{Items, Node};
 
-/// One thing that comes over a port.
+/// One input of a port.
 #[derive(Drop)]
 pub enum Input {
     /// A peer opened a stream, which has this number from now on.
@@ -20,7 +20,7 @@ pub enum Input {
 }
 
 impl Input {
-    /// What happens at a device where this comes. Takes no memory.
+    /// The event of a device that receives this input. Takes no memory.
     pub fn into_event(self) -> Event
         ensures { result ≡ event_of self }
     {

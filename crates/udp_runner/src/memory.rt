@@ -1,4 +1,4 @@
-//! A port over memory, which tells all that goes through it, and a clock that is stepped.
+//! A port over memory, whose inputs and outputs contracts know, and a clock that is stepped.
 
 ghost use Rattle.std.specs.Prelude.{◌≡◌, ◌∷◌, ◌++◌, [], true, nat_eq, OnOk, OnErr};
 ghost use Rattle.udp_runner.specs.Outputs.{view_output};
@@ -11,8 +11,8 @@ use cip_types::OutOfMemory;
 use std::alloc::Global;
 use std::collections::VecDeque;
 
-/// Gives inputs from a list, and then nothing; keeps what it sends. One of its calls, receives and sends counted
-/// together from 1, can be made to fail.
+/// Receives the inputs of a list, and then nothing; keeps the outputs that it sends. One of its calls can be made to
+/// fail: receives and sends are counted together from 1.
 ///
 /// It keeps the allocator that it was made with.
 #[derive(Drop)]
@@ -26,7 +26,7 @@ pub struct MemoryPort {
 }
 
 impl MemoryPort {
-    /// A port that gives these inputs, and fails at the call of that number: at 0 it never fails.
+    /// A port with these inputs that fails at the call of this number. With 0 it never fails.
     pub fn new(alloc: Global, inputs: VecDeque<Option<Input>>, fails_at: u64) -> MemoryPort
         ensures tape { ⟦<MemoryPort as Port>⟧.tape result ≡ record { coming = inputs.items; sent = [] } }
         ensures failed { ⟦<MemoryPort as Port>⟧.failed result ≡ 0 }
@@ -43,21 +43,21 @@ impl MemoryPort {
         }
     }
 
-    /// All that was sent.
+    /// All outputs that were sent.
     pub fn sent(&self) -> &[SentOutput]
         ensures { result.now ≡ (⟦<MemoryPort as Port>⟧.tape self.now).sent }
     {
         self.sent.as_slice()
     }
 
-    /// How many calls were made, the failed ones among them.
+    /// The number of calls, failed ones included.
     pub fn calls(&self) -> u64
         ensures { result ≡ self.now.calls }
     {
         self.calls
     }
 
-    /// Counts a call. Whether it is the one that fails.
+    /// Counts a call, and answers whether it is the one that fails.
     fn is_failing(&mut self) -> bool
         ensures kept { self.new ≡ record self.old { calls = self.new.calls } }
         ensures fails { result ≡ nat_eq self.new.calls self.old.fails_at }
@@ -104,7 +104,7 @@ impl Port for MemoryPort {
     }
 }
 
-/// Keeps what is sent.
+/// Keeps an output that is sent.
 fn keep(alloc: Global, sent: &mut Vec<SentOutput>, output: &Output<'_>) -> Result<(), OutOfMemory>
     ensures ok { OnOk result (sent.new.items ≡ sent.old.items ++ view_output output.now ∷ []) }
     ensures err { OnErr result (sent.new.items ≡ sent.old.items) }
@@ -114,7 +114,7 @@ fn keep(alloc: Global, sent: &mut Vec<SentOutput>, output: &Output<'_>) -> Resul
     Ok(())
 }
 
-/// A clock that is stepped: it gives times from a list, and then 0.
+/// A clock that is stepped: it answers the times of a list, and then 0.
 #[derive(Drop)]
 pub struct SteppedClock {
     pub times_ms: VecDeque<u64>,

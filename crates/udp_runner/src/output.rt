@@ -1,4 +1,4 @@
-//! What a port is given to send.
+//! Outputs of a port.
 
 ghost use Rattle.std.specs.Prelude.{◌≡◌, IfOk};
 ghost use Rattle.udp_runner.specs.Outputs.{view_output};
@@ -6,7 +6,7 @@ ghost use Rattle.udp_runner.specs.Outputs.{view_output};
 use cip_types::{Items, Node, OutOfMemory};
 use std::alloc::Global;
 
-/// One thing that goes out over a port. Its bytes are lent.
+/// One output of a port. Its bytes are borrowed.
 #[derive(Clone, Copy)]
 pub enum Output<'a> {
     /// A message over a stream.
@@ -17,7 +17,7 @@ pub enum Output<'a> {
     Close { stream: u16 },
 }
 
-/// One thing that went out over a port, with bytes of its own.
+/// One output that was sent over a port, with bytes of its own.
 #[derive(PartialEq, Drop)]
 pub enum SentOutput {
     /// A message over a stream.

@@ -1,4 +1,4 @@
-//! Where what happens at a device comes from, and where its answers go; and the time.
+//! Ports, over which a device receives and sends, and clocks.
 
 ghost use Rattle.std.specs.Prelude.{◌≡◌, ◌<◌, ◌+◌, ◌-◌, ◌^◌, ◌∷◌, [], ℕ, List, Bool, true, None, IfOk, OnOk, OnErr};
 ghost use Rattle.udp_runner.specs.Tape.{first_or, rest_of, Tape, with_sent, with_taken};
@@ -8,10 +8,10 @@ use crate::fault::PortFault;
 use crate::input::Input;
 use crate::output::Output;
 
-/// A way in and out of a device, which counts its failures.
+/// A port of a device, which receives inputs, sends outputs and counts its failures.
 ///
-/// A port that tells has a tape: the answers to the next receives, and all that was sent over it. Contracts say
-/// of a port over sockets no more than its failures, since nobody knows what a socket will bring.
+/// A scripted port has a tape: the inputs of the next receives, and all outputs that were sent. Contracts speak only of
+/// the failures of a port over sockets, since its inputs are not known in advance.
 pub trait Port {
     ghost is_scripted: { Bool };
 
@@ -19,11 +19,11 @@ pub trait Port {
 
     ghost failed: { Self → ℕ };
 
-    /// How often a call failed.
+    /// The number of failed calls.
     fn failures(&self) -> u64
         ensures { result ≡ failed self.now };
 
-    /// The next input, or none where nothing came for a while. The faults: `Receive`, `Memory`.
+    /// The next input; None if nothing was received for a while. The faults: `Receive`, `Memory`.
     fn receive(&mut self) -> Result<Option<Input>, PortFault>
         requires { failed self.old < 2 ^ 64 - 1 }
         ensures given { IfOk result (λ input. is_scripted ≡ true → input ≡ first_or None (tape self.old).coming) }
@@ -41,13 +41,13 @@ pub trait Port {
         ensures counted { OnErr result (failed self.new ≡ failed self.old + 1) };
 }
 
-/// A clock of whole milliseconds. One that tells has a list of its next answers, and then answers 0.
+/// A clock of whole milliseconds. A scripted clock has a list of its next answers, and then answers 0.
 pub trait Clock {
     ghost is_scripted: { Bool };
 
     ghost coming: { Self → List ℕ };
 
-    /// The whole milliseconds since the last answer, at first 0. What is left of one is kept for the next answer.
+    /// The whole milliseconds since the last answer, at first 0. The remainder is kept for the next answer.
     fn passed(&mut self) -> u64
         ensures answer { is_scripted ≡ true → result ≡ first_or 0 (coming self.old) }
         ensures rest { is_scripted ≡ true → coming self.new ≡ rest_of (coming self.old) };

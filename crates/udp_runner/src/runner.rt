@@ -14,13 +14,13 @@ use cip_types::limits::LONGEST_TICK_MS;
 
 /// Drives the device for some turns, and answers the number of its events.
 ///
-/// A turn asks the clock once. Where time passed, the device takes a tick of at most 60,000 ms, what is above is
-/// dropped, and what it answers is sent. Then the turn takes at most one input, and sends what the device answers:
-/// the frames, the datagrams, each once to each of its nodes, and the ends of the streams that closed.
+/// A turn reads the clock once. If time passed, it steps the device by a tick of at most 60,000 ms, drops the time above
+/// that, and sends the answer. Then it receives at most one input, steps the device by it, and sends the answer: the
+/// frames, the datagrams, each once to each of its nodes, and the ends of the streams that closed.
 ///
-/// `Port` is answered only where the port's count of failures rose. The device then stands after the event whose
-/// answer was not wholly sent or, where nothing could be received, after its last event; after `Step` it stands
-/// after its last event.
+/// The fault is `Port` only if the port's count of failures rose. The device is then in the state after the event whose
+/// answer was not sent completely or, if the receive failed, after its last event. With the fault `Step` it is in the
+/// state after its last event.
 pub fn drive<P: Port, D: Device, C: Clock>(
     port: &mut P,
     device: &mut D,
@@ -63,7 +63,7 @@ fn turn<P: Port, D: Device, C: Clock>(
     Ok(ticked + taken)
 }
 
-/// The tick of a turn, if time passed.
+/// Steps the device by the tick of a turn, if time passed.
 fn tick<P: Port, D: Device>(port: &mut P, device: &mut D, ms: u64) -> Result<u64, RunFault>
     requires { P.failed port.old < 2 ^ 64 - 1 }
     ensures run { IfOk result (λ count. P.is_scripted ≡ true → Drives (ticks_of ms) count (P.tape port.old) (P.tape port.new) (D.table device.old) (D.table device.new)) }
@@ -81,7 +81,7 @@ fn tick<P: Port, D: Device>(port: &mut P, device: &mut D, ms: u64) -> Result<u64
     Ok(1)
 }
 
-/// The input of a turn, if something came.
+/// Steps the device by the input of a turn, if one was received.
 fn take_input<P: Port, D: Device>(port: &mut P, device: &mut D) -> Result<u64, RunFault>
     requires { P.failed port.old < 2 ^ 64 - 1 }
     ensures run { IfOk result (λ count. P.is_scripted ≡ true → Drives (inputs_of (first_or None (P.tape port.old).coming)) count (P.tape port.old) (P.tape port.new) (D.table device.old) (D.table device.new)) }
@@ -98,7 +98,7 @@ fn take_input<P: Port, D: Device>(port: &mut P, device: &mut D) -> Result<u64, R
     Ok(1)
 }
 
-/// What came, and what the device's answer has sent. A datagram goes straight to the device, which sends nothing for it.
+/// Steps the device by an input, and sends its answer. A datagram goes straight to `deliver`, whose answer sends nothing.
 fn take<P: Port, D: Device>(port: &mut P, device: &mut D, input: Input) -> Result<(), RunFault>
     requires { P.failed port.old < 2 ^ 64 - 1 }
     ensures run { OnOk result (P.is_scripted ≡ true → Drives (event_of input ∷ []) 1 (P.tape port.old) (P.tape port.new) (D.table device.old) (D.table device.new)) }
@@ -116,7 +116,7 @@ fn take<P: Port, D: Device>(port: &mut P, device: &mut D, input: Input) -> Resul
     }
 }
 
-/// One event, and what its answer has sent.
+/// Steps the device by one event, and sends its answer.
 fn act<P: Port, D: Device>(port: &mut P, device: &mut D, event: &Event) -> Result<(), RunFault>
     requires { P.failed port.old < 2 ^ 64 - 1 }
     ensures run { OnOk result (P.is_scripted ≡ true → Drives (event.now ∷ []) 1 (P.tape port.old) (P.tape port.new) (D.table device.old) (D.table device.new)) }

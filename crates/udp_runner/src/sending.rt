@@ -1,4 +1,4 @@
-//! Sends what an answer sends: its frames, then its datagrams, then the ends of streams.
+//! Sends an answer: its frames, then its datagrams, then the ends of streams.
 
 ghost use Rattle.std.specs.Prelude.{◌≡◌, ◌<◌, ◌+◌, ◌-◌, ◌^◌, true, OnOk, OnErr};
 ghost use Rattle.std.specs.List.{flat_map};
@@ -10,7 +10,7 @@ use crate::output::Output;
 use crate::port::Port;
 use cip_events::{Answer, Frame, Notice, OutgoingDatagram, Recipient};
 
-/// Sends all that an answer has sent.
+/// Sends the frames, datagrams and ends of streams of an answer, in this order.
 pub fn send_answer<P: Port>(port: &mut P, answer: &Answer) -> Result<(), PortFault>
     requires { P.failed port.old < 2 ^ 64 - 1 }
     ensures sent { OnOk result (P.is_scripted ≡ true → P.tape port.new ≡ with_sent (P.tape port.old) (answer_sent answer.now)) }
