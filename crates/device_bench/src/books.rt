@@ -57,7 +57,8 @@ impl Best {
         })
     }
 
-    /// What a copy that is kept takes: the time of a run that makes and copies events, less that of one that makes them.
+    /// What a copy that is kept takes: the time of a run that makes and copies events, less that of one that makes
+    /// them.
     fn copy(self) -> u64 {
         self.copied.saturating_sub(self.made)
     }

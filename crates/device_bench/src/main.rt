@@ -1,8 +1,8 @@
 //! The times of devices over plain lists, on one thread, with no network.
 //!
 //! With no word, or the word `check`: short runs, and their results. With the word `scanner`: datagrams and ticks at a
-//! scanner. `world`: 100,000 acts on a simulated segment of nine devices, and by how much it grows. `books`: what a book
-//! adds to a step of an adapter, beside a copy of the event.
+//! scanner. `world`: 100,000 acts on a simulated segment of nine devices, and by how much it grows. `books`: what a
+//! book adds to a step of an adapter, beside a copy of the event.
 #![tactic(auto)]
 
 mod adapter;

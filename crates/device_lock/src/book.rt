@@ -128,12 +128,7 @@ fn answered<D: Device>(alloc: Global, device: &mut D, event: &Event) -> Outcome
     match event {
         Event::Datagram { peer, bytes } => {
             let delivery = device.deliver(*peer, bytes.as_slice());
-            Ok(Answer {
-                frames: Items::new(alloc),
-                datagrams: Items::new(alloc),
-                verdict: Verdict::Delivered(delivery),
-                notices: Items::new(alloc),
-            })
+            Ok(Answer::plain(alloc, Verdict::Delivered(delivery)))
         }
         _ => device.step(event),
     }

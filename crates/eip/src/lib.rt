@@ -1,5 +1,6 @@
-//! One name for all that a maker of a device uses: devices and their profiles, events and answers, the runner that drives
-//! a device over a port and a clock, and books of events. Each item is explained in the crate that it comes from.
+//! One name for all that a maker of a device uses: devices and their profiles, events and answers, the runner that
+//! drives a device over a port and a clock, and books of events. Each item is explained in the crate that it comes
+//! from.
 #![tactic(auto)]
 
 pub use adapter_engine::FastAdapter;

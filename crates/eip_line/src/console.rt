@@ -100,8 +100,8 @@ impl From<StepperFault> for ProgramFault {
 ///   their number is printed.
 /// - 1: an outcome is not as recorded, and the last line names the first such event; or the run failed, and one line on
 ///   `err` says why, as far as the stream took it.
-/// - 2: the command line is none of the program's. Nothing is printed, and `err` gets the usage text, as far as the stream
-///   took it.
+/// - 2: the command line is none of the program's. Nothing is printed, and `err` gets the usage text, as far as the
+///   stream took it.
 pub fn program<R, S, I, O, E>(rt: &R, words: &[S], reader: &mut I, out: &mut O, err: &mut E) -> u8
 where
     R: AllocGlobal + Clock + Net<Listener = TcpListener, Stream = TcpStream>,
@@ -110,9 +110,13 @@ where
     O: Write,
     E: Write,
     ensures status { result ≤ 2 }
-    ensures done { result ≡ 0 → IsDone (map S.text words.now) (I.remaining reader.old) (O.contents out.old) (O.contents out.new) × (err.new ≡ err.old) }
-    ensures failed { result ≡ 1 → HasFailed (map S.text words.now) (I.remaining reader.old) (O.contents out.old) (O.contents out.new) (E.contents err.old) (E.contents err.new) }
-    ensures usage { result ≡ 2 → (out.new ≡ out.old) × BeginsToWrite (E.contents err.old) usage_text (E.contents err.new) }
+    ensures done { result ≡ 0
+        → IsDone (map S.text words.now) (I.remaining reader.old) (O.contents out.old) (O.contents out.new)
+        × (err.new ≡ err.old) }
+    ensures failed { result ≡ 1
+        → HasFailed (map S.text words.now) (I.remaining reader.old) (O.contents out.old) (O.contents out.new) (E.contents err.old) (E.contents err.new) }
+    ensures usage { result ≡ 2 → (out.new ≡ out.old)
+        × BeginsToWrite (E.contents err.old) usage_text (E.contents err.new) }
 {
     match read_task(rt.alloc(), words) {
         Ok(task) => perform(rt, task, reader, out, err),
@@ -139,8 +143,10 @@ where
     O: Write,
     E: Write,
     ensures status { result ≤ 1 }
-    ensures done { result ≡ 0 → Prints task (I.remaining reader.old) (O.contents out.old) (O.contents out.new) × (err.new ≡ err.old) }
-    ensures failed { result ≡ 1 → FailsTask task (I.remaining reader.old) (O.contents out.old) (O.contents out.new) (E.contents err.old) (E.contents err.new) }
+    ensures done { result ≡ 0 → Prints task (I.remaining reader.old) (O.contents out.old) (O.contents out.new)
+        × (err.new ≡ err.old) }
+    ensures failed { result ≡ 1
+        → FailsTask task (I.remaining reader.old) (O.contents out.old) (O.contents out.new) (E.contents err.old) (E.contents err.new) }
 {
     match task {
         Task::Step => step_status(rt.alloc(), reader, out, err),
@@ -155,8 +161,10 @@ where
     O: Write,
     E: Write,
     ensures status { result ≤ 1 }
-    ensures done { result ≡ 0 → PrintsRun (I.remaining reader.old) (O.contents out.old) (O.contents out.new) × (err.new ≡ err.old) }
-    ensures failed { result ≡ 1 → Fails (I.remaining reader.old) (O.contents out.old) (O.contents out.new) (E.contents err.old) (E.contents err.new) }
+    ensures done { result ≡ 0 → PrintsRun (I.remaining reader.old) (O.contents out.old) (O.contents out.new)
+        × (err.new ≡ err.old) }
+    ensures failed { result ≡ 1
+        → Fails (I.remaining reader.old) (O.contents out.old) (O.contents out.new) (E.contents err.old) (E.contents err.new) }
 {
     match step(alloc, reader, out) {
         Ok(true) => 0,
@@ -205,8 +213,8 @@ pub(crate) fn write_numbered<W: Write>(
     write_text(out, b"\n")
 }
 
-/// Steps a device by the trace that the reader has, and prints each outcome before the next step. False if an outcome is
-/// not as recorded.
+/// Steps a device by the trace that the reader has, and prints each outcome before the next step. False if an outcome
+/// is not as recorded.
 fn step<I: Read, O: Write>(alloc: Global, reader: &mut I, out: &mut O) -> Result<bool, ProgramFault>
     ensures { IsStepped (I.remaining reader.old) (O.contents out.old) (O.contents out.new) result }
 {
@@ -279,8 +287,10 @@ fn trace_of<I: Read>(alloc: Global, reader: &mut I) -> Result<Trace, ProgramFaul
 
 /// All that the reader has left, if it is no longer than the longest trace.
 fn read_text<I: Read>(alloc: Global, reader: &mut I) -> Result<Vec<u8>, ProgramFault>
-    ensures all { IfOk result (λ text. IfSome (I.remaining reader.old) (λ input. (text.items ≡ input) × (length input ≤ longest_trace))) }
-    ensures long { result ≡ Err ProgramFault.TooLong → IfSome (I.remaining reader.old) (λ input. longest_trace < length input) }
+    ensures all { IfOk result (λ text. IfSome (I.remaining reader.old) (λ input. (text.items ≡ input)
+        × (length input ≤ longest_trace))) }
+    ensures long { result ≡ Err ProgramFault.TooLong
+        → IfSome (I.remaining reader.old) (λ input. longest_trace < length input) }
     ensures fault { IfErr result IsTextFault }
 {
     let mut text = Vec::new(alloc);

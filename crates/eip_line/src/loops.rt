@@ -54,8 +54,10 @@ where
     O: Write,
     E: Write,
     ensures status { result ≤ 1 }
-    ensures done { result ≡ 0 → Appends (O.contents out.old) (O.contents out.new) (turns_line task.turns) × (err.new ≡ err.old) }
-    ensures failed { result ≡ 1 → FailsLoop task.turns (O.contents out.old) (O.contents out.new) (E.contents err.old) (E.contents err.new) }
+    ensures done { result ≡ 0 → Appends (O.contents out.old) (O.contents out.new) (turns_line task.turns)
+        × (err.new ≡ err.old) }
+    ensures failed { result ≡ 1
+        → FailsLoop task.turns (O.contents out.old) (O.contents out.new) (E.contents err.old) (E.contents err.new) }
 {
     match print_turns(rt, task, out) {
         Ok(()) => 0,

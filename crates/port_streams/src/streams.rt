@@ -33,12 +33,14 @@ impl<S: Drop> PortStreams<S> {
         Ok(PortStreams { alloc, slots })
     }
 
-    /// Adds the stream that a peer opened over this socket, with the least free number. If no number is free, the socket
-    /// is returned. Takes no memory.
+    /// Adds the stream that a peer opened over this socket, with the least free number. If no number is free, the
+    /// socket is returned. Takes no memory.
     pub fn accept(&mut self, peer: Node, socket: S) -> Result<u16, S>
         ensures least { IfOk result (λ number. position is_free self.old.slots.items ≡ Some number) }
         ensures begins { IfOk result (λ number. self.new.slots.items ≡ slice_set self.old.slots.items number (Some (begun peer socket))) }
-        ensures full { IfErr result (λ back. (back ≡ socket) × (position is_free self.old.slots.items ≡ None) × (self.new.slots.items ≡ self.old.slots.items)) }
+        ensures full { IfErr result (λ back. (back ≡ socket)
+            × (position is_free self.old.slots.items ≡ None)
+            × (self.new.slots.items ≡ self.old.slots.items)) }
     {
         let Some(index) = self.free_slot() else {
             return Err(socket);
@@ -54,8 +56,8 @@ impl<S: Drop> PortStreams<S> {
         self.slots.iter().position(|slot| slot.is_none())
     }
 
-    /// The socket to read from: that of a stream whose opening was reported, that has not ended, and of which no message
-    /// waits.
+    /// The socket to read from: that of a stream whose opening was reported, that has not ended, and of which no
+    /// message waits.
     pub fn to_read(&self, number: u16) -> Option<&S>
         ensures { option_map (λ lent. lent.now) result ≡ read_at (slot_at self.now.slots.items number) }
     {
@@ -98,8 +100,8 @@ impl<S: Drop> PortStreams<S> {
     }
 
     /// Receives bytes of the stream of this number, and cuts them into messages, which wait to be taken. A message that
-    /// is too long ends the stream. A stream that takes no bytes drops them. The only fault is a refused allocation, which
-    /// leaves all streams as they were.
+    /// is too long ends the stream. A stream that takes no bytes drops them. The only fault is a refused allocation,
+    /// which leaves all streams as they were.
     pub fn receive(&mut self, number: u16, piece: &[u8]) -> Result<(), OutOfMemory>
         ensures received { OnOk result (Receives self.old.slots.items number piece.now self.new.slots.items) }
         ensures err { OnErr result (self.new.slots.items ≡ self.old.slots.items) }
@@ -123,8 +125,8 @@ impl<S: Drop> PortStreams<S> {
         self.put(number, Some(port_stream));
     }
 
-    /// Takes the next input of the stream of this number: first its opening, then its messages, last its end, which frees
-    /// the number. Takes no memory.
+    /// Takes the next input of the stream of this number: first its opening, then its messages, last its end, which
+    /// frees the number. Takes no memory.
     pub fn next(&mut self, number: u16) -> Option<Input>
         ensures given { result ≡ given_at number (slot_at self.old.slots.items number) }
         ensures left { self.new.slots.items ≡ slice_set self.old.slots.items number (left_at (slot_at self.old.slots.items number)) }

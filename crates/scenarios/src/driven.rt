@@ -77,8 +77,8 @@ fn ends_at(part: &Driven, call: u64, whole: &Driven) -> bool {
         && whole.port.sent().starts_with(part.port.sent())
 }
 
-/// Whether a failure of each call ends the run there. The last call of a run has to be a send: the device is then in the
-/// state after the event whose answer could not be sent, as without a failure.
+/// Whether a failure of each call ends the run there. The last call of a run has to be a send: the device is then in
+/// the state after the event whose answer could not be sent, as without a failure.
 fn ends_everywhere(alloc: Global, text: &[u8], whole: &Driven) -> Result<bool, DriveFailure> {
     let mut last = false;
     for call in 1..=whole.port.calls() {

@@ -115,8 +115,8 @@ impl<R: System + Drop> SocketPort<R> {
 }
 
 impl<R: System + Net<Listener = TcpListener, Stream = TcpStream> + Drop> SocketPort<R> {
-    /// An adapter's port on 127.0.0.1, at these ports of TCP and UDP. It sends all datagrams to the UDP port of its peer
-    /// on this host.
+    /// An adapter's port on 127.0.0.1, at these ports of TCP and UDP. It sends all datagrams to the UDP port of its
+    /// peer on this host.
     pub fn adapter(alloc: Global, rt: R, tcp: u16, udp: u16, peer: u16) -> Result<Self, OpenFault>
         ensures { IfOk result (λ port. port.failures ≡ 0) }
     {
@@ -125,8 +125,8 @@ impl<R: System + Net<Listener = TcpListener, Stream = TcpStream> + Drop> SocketP
         SocketPort::listening(alloc, rt, listener, socket, to_loopback(peer))
     }
 
-    /// A scanner's port on 127.0.0.1, at this port of UDP, connected to an adapter's port of TCP. It sends all datagrams
-    /// to the UDP port of its peer on this host.
+    /// A scanner's port on 127.0.0.1, at this port of UDP, connected to an adapter's port of TCP. It sends all
+    /// datagrams to the UDP port of its peer on this host.
     pub fn scanner(alloc: Global, rt: R, tcp: u16, udp: u16, peer: u16) -> Result<Self, OpenFault>
         ensures { IfOk result (λ port. port.failures ≡ 0) }
     {

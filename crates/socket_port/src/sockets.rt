@@ -87,8 +87,8 @@ impl PortSockets {
         Ok(())
     }
 
-    /// The input that is there before the port waits. If the last poll found nothing, that was a moment ago, and no socket
-    /// is read again: a port without inputs polls once a millisecond, and a port with many does not wait.
+    /// The input that is there before the port waits. If the last poll found nothing, that was a moment ago, and no
+    /// socket is read again: a port without inputs polls once a millisecond, and a port with many does not wait.
     pub fn poll_again(&mut self) -> Result<Option<Input>, PortFault> {
         if self.idle {
             return Ok(None);

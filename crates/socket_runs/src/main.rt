@@ -1,8 +1,8 @@
 //! Devices over sockets of this host.
 //!
-//! First two lines at once, each of an adapter and a scanner, until the output of each scanner stands at its adapter; and
-//! lines at ports that are in use. Then peers that do at the sockets of an adapter what no peer should: after each of
-//! them, the adapter still serves the next one. Prints a line for each, which no timing changes.
+//! First two lines at once, each of an adapter and a scanner, until the output of each scanner stands at its adapter;
+//! and lines at ports that are in use. Then peers that do at the sockets of an adapter what no peer should: after each
+//! of them, the adapter still serves the next one. Prints a line for each, which no timing changes.
 #![tactic(auto)]
 
 mod fault;

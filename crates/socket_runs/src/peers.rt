@@ -138,8 +138,8 @@ where
     Ok(false)
 }
 
-/// Sixteen peers get a session, an extra connection is closed without reading it, and once one of them ends, another one
-/// gets a session.
+/// Sixteen peers get a session, an extra connection is closed without reading it, and once one of them ends, another
+/// one gets a session.
 pub fn seventeen<R>(host: &mut AdapterHost<R>) -> Result<bool, SocketFault>
 where
     R: AllocGlobal + Clock + Net<Listener = TcpListener, Stream = TcpStream> + Copy + Drop,

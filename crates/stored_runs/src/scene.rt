@@ -80,8 +80,8 @@ impl Scene {
         push_line(&mut self.story, "#", words)
     }
 
-    /// Does one act, which makes an event of the device at this index, if it makes one. Appends the answer of the device
-    /// behind its name, as in its trace; or the reason why the act was refused.
+    /// Does one act, which makes an event of the device at this index, if it makes one. Appends the answer of the
+    /// device behind its name, as in its trace; or the reason why the act was refused.
     pub fn act(&mut self, name: &str, place: u32, act: &Act) -> Result<(), OutOfMemory> {
         match self.world.act(act) {
             Ok(Some(answer)) => {

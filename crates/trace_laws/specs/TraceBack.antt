@@ -1,6 +1,6 @@
--- A trace that is written is read as itself: a law of the definitions alone, which `reads_back` promises. Its profile has
--- to be valid, and no recorded reason may be a mismatch that carries a refused status, which is written as that status
--- alone. The numbers are those of their types.
+-- A trace that is written is read as itself: a law of the definitions alone, which `reads_back` promises. Its profile
+-- has to be valid, and no recorded reason may be a mismatch that carries a refused status, which is written as that
+-- status alone. The numbers are those of their types.
 use Rattle.std.specs.Prelude.{◌≡◌, ◌<◌, ◌^◌, ◌-◌, List, length, None, Ok, Err, IfSome}
 use Rattle.std.specs.List.{All}
 use Rattle.hex.specs.Hex.{IsBytes}

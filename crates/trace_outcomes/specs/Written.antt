@@ -1,5 +1,5 @@
--- How the outcome of an event is printed: a line for its verdict or fault, and a line each for the frames, the datagrams
--- and the notices of its answer, in this order. A line begins with the event's number, and LF ends it.
+-- How the outcome of an event is printed: a line for its verdict or fault, and a line each for the frames, the
+-- datagrams and the notices of its answer, in this order. A line begins with the event's number, and LF ends it.
 use Rattle.std.specs.Prelude.{ℕ, ◌+◌, List, [], ◌∷◌, ◌++◌, codes, decimal, flat_map, Ok, Err}
 use Rattle.cip_types.specs.declared.names.Fault.{Fault}
 use Rattle.cip_types.specs.declared.names.Mismatch.{Mismatch}

@@ -25,8 +25,8 @@ abbrev pub IsCompared : List Entry → List Outcome → Result Unit Differs → 
 IsCompared entries outcomes (Ok done) = AgreeBefore entries outcomes (length entries)
 IsCompared entries outcomes (Err differs) = (place : ℕ) × (differs.0 ≡ place + 1) × AgreeBefore entries outcomes place × ¬ (AgreeAt entries outcomes place)
 
--- Of the first events: all recorded outcomes were given, or the event of this number is the first whose recorded outcome
--- was not.
+-- Of the first events: all recorded outcomes were given, or the event of this number is the first whose recorded
+-- outcome was not.
 abbrev pub IsJudged : List Entry → List Outcome → ℕ → Option ℕ → Type 0
 IsJudged entries outcomes count None = AgreeBefore entries outcomes count
 IsJudged entries outcomes count (Some number) = (place : ℕ) × (number ≡ place + 1) × AgreeBefore entries outcomes place × ¬ (AgreeAt entries outcomes place)

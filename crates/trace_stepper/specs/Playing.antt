@@ -15,9 +15,9 @@ use Rattle.trace_stepper.specs.Written.{BeginsToWrite}
 abbrev pub WritesFirst : Trace → Option (List ℕ) → Option (List ℕ) → Type 0
 WritesFirst trace old new = (first : List Outcome) × ((rest : List Outcome) × ((outcomes_of_trace trace ≡ first ++ rest) × Appends old new (outcomes_text 1 first)))
 
--- All outcomes are written, and the first one that differs from the recorded one is found; or an allocation was refused,
--- and the first outcomes are written; or a write failed, and a beginning of the text is written; or the profile is
--- wrong, or for a device of the other kind, and nothing is written.
+-- All outcomes are written, and the first one that differs from the recorded one is found; or an allocation was
+-- refused, and the first outcomes are written; or a write failed, and a beginning of the text is written; or the
+-- profile is wrong, or for a device of the other kind, and nothing is written.
 abbrev pub IsPlayed : Bool → Trace → Option (List ℕ) → Option (List ℕ) → Result (Option ℕ) StepperFault → Type 0
 IsPlayed same_kind trace old new (Ok differs) = Appends old new (outcomes_text 1 (outcomes_of_trace trace)) × IsJudged trace.events (outcomes_of_trace trace) (length trace.events) differs
 IsPlayed same_kind trace old new (Err fault.OutOfMemory) = WritesFirst trace old new

@@ -105,8 +105,8 @@ parsed_from number state [] = ended number state []
 parsed_from number state (last ∷ []) = ended number state last
 parsed_from number state (text ∷ next ∷ parts) = parsed_from (number + 1) (state_after number state text) (next ∷ parts)
 
--- the reading of a text: its trace, or the number of the first bad line, or if none is bad that of the first fault of the
--- profile
+-- the reading of a text: its trace, or the number of the first bad line, or if none is bad that of the first fault of
+-- the profile
 unfoldable pub trace_reading : List ℕ → Result Trace TraceFault
 trace_reading text = parsed_from 1 (Ok Empty) (parts_of text)
 

@@ -50,8 +50,8 @@ impl From<OutOfMemory> for TraceFault {
 
 /// Reads the text of a trace.
 ///
-/// The faults: `BadLine` with the number of the first bad line, `BadProfile` if no line is bad, and `OutOfMemory` wherever
-/// an allocation was refused.
+/// The faults: `BadLine` with the number of the first bad line, `BadProfile` if no line is bad, and `OutOfMemory`
+/// wherever an allocation was refused.
 #[tactic(auto, unfolding(crate::specs::Reading::trace_reading))]
 pub fn read_trace(alloc: Global, text: &[u8]) -> Result<Trace, TraceFault>
     ensures { Answers (trace_reading text.now) result }

@@ -22,7 +22,8 @@ view_output (output.Frame stream bytes) = sent.Frame stream bytes.now
 view_output (output.Datagram node bytes) = sent.Datagram node bytes.now
 view_output (output.Close stream) = sent.Close stream
 
--- A frame is sent over its stream. The reply to a request that came over no stream is for a peer, and is sent over none.
+-- A frame is sent over its stream. The reply to a request that came over no stream is for a peer, and is sent over
+-- none.
 abbrev pub carried : Recipient → List ℕ → List SentOutput
 carried (Stream stream) bytes = sent.Frame stream bytes ∷ []
 carried (Peer node) bytes = []

@@ -14,9 +14,9 @@ use cip_types::limits::LONGEST_TICK_MS;
 
 /// Drives the device for some turns, and answers the number of its events.
 ///
-/// A turn reads the clock once. If time passed, it steps the device by a tick of at most 60,000 ms, drops the time above
-/// that, and sends the answer. Then it receives at most one input, steps the device by it, and sends the answer: the
-/// frames, the datagrams, each once to each of its nodes, and the ends of the streams that closed.
+/// A turn reads the clock once. If time passed, it steps the device by a tick of at most 60,000 ms, drops the time
+/// above that, and sends the answer. Then it receives at most one input, steps the device by it, and sends the answer:
+/// the frames, the datagrams, each once to each of its nodes, and the ends of the streams that closed.
 ///
 /// The fault is `Port` only if the port's count of failures rose. The device is then in the state after the event whose
 /// answer was not sent completely or, if the receive failed, after its last event. With the fault `Step` it is in the
@@ -28,10 +28,12 @@ pub fn drive<P: Port, D: Device, C: Clock>(
     turns: u32,
 ) -> Result<u64, RunFault>
     requires { P.failed port.old < 2 ^ 64 - 1 }
-    ensures run { IfOk result (λ count. P.is_scripted ≡ true → C.is_scripted ≡ true → Drives (events_of turns (C.coming clock.old) (P.tape port.old).coming) count (P.tape port.old) (P.tape port.new) (D.table device.old) (D.table device.new)) }
+    ensures run { IfOk result (λ count. P.is_scripted ≡ true → C.is_scripted ≡ true
+        → Drives (events_of turns (C.coming clock.old) (P.tape port.old).coming) count (P.tape port.old) (P.tape port.new) (D.table device.old) (D.table device.new)) }
     ensures inputs { OnOk result (P.is_scripted ≡ true → (P.tape port.new).coming ≡ drop turns (P.tape port.old).coming) }
     ensures times_ms { OnOk result (C.is_scripted ≡ true → C.coming clock.new ≡ drop turns (C.coming clock.old)) }
-    ensures stopped { IfErr result (λ fault. P.is_scripted ≡ true → C.is_scripted ≡ true → Stops fault (events_of turns (C.coming clock.old) (P.tape port.old).coming) (P.tape port.old) (P.tape port.new) (D.table device.old) (D.table device.new)) }
+    ensures stopped { IfErr result (λ fault. P.is_scripted ≡ true → C.is_scripted ≡ true
+        → Stops fault (events_of turns (C.coming clock.old) (P.tape port.old).coming) (P.tape port.old) (P.tape port.new) (D.table device.old) (D.table device.new)) }
     ensures worked { OnOk result (P.failed port.new ≡ P.failed port.old) }
     ensures blamed { IfErr result (Blames (P.failed port.old) (P.failed port.new)) }
 {
@@ -49,11 +51,13 @@ fn turn<P: Port, D: Device, C: Clock>(
     clock: &mut C,
 ) -> Result<u64, RunFault>
     requires { P.failed port.old < 2 ^ 64 - 1 }
-    ensures run { IfOk result (λ count. P.is_scripted ≡ true → C.is_scripted ≡ true → Drives (turn_of (C.coming clock.old) (P.tape port.old).coming) count (P.tape port.old) (P.tape port.new) (D.table device.old) (D.table device.new)) }
+    ensures run { IfOk result (λ count. P.is_scripted ≡ true → C.is_scripted ≡ true
+        → Drives (turn_of (C.coming clock.old) (P.tape port.old).coming) count (P.tape port.old) (P.tape port.new) (D.table device.old) (D.table device.new)) }
     ensures times_ms { OnOk result (C.is_scripted ≡ true → C.coming clock.new ≡ rest_of (C.coming clock.old)) }
     ensures inputs { OnOk result (P.is_scripted ≡ true → (P.tape port.new).coming ≡ rest_of (P.tape port.old).coming) }
     ensures few { IfOk result (λ count. count < 3) }
-    ensures stopped { IfErr result (λ fault. P.is_scripted ≡ true → C.is_scripted ≡ true → Stops fault (turn_of (C.coming clock.old) (P.tape port.old).coming) (P.tape port.old) (P.tape port.new) (D.table device.old) (D.table device.new)) }
+    ensures stopped { IfErr result (λ fault. P.is_scripted ≡ true → C.is_scripted ≡ true
+        → Stops fault (turn_of (C.coming clock.old) (P.tape port.old).coming) (P.tape port.old) (P.tape port.new) (D.table device.old) (D.table device.new)) }
     ensures worked { OnOk result (P.failed port.new ≡ P.failed port.old) }
     ensures blamed { IfErr result (Blames (P.failed port.old) (P.failed port.new)) }
 {
@@ -66,10 +70,12 @@ fn turn<P: Port, D: Device, C: Clock>(
 /// Steps the device by the tick of a turn, if time passed.
 fn tick<P: Port, D: Device>(port: &mut P, device: &mut D, ms: u64) -> Result<u64, RunFault>
     requires { P.failed port.old < 2 ^ 64 - 1 }
-    ensures run { IfOk result (λ count. P.is_scripted ≡ true → Drives (ticks_of ms) count (P.tape port.old) (P.tape port.new) (D.table device.old) (D.table device.new)) }
+    ensures run { IfOk result (λ count. P.is_scripted ≡ true
+        → Drives (ticks_of ms) count (P.tape port.old) (P.tape port.new) (D.table device.old) (D.table device.new)) }
     ensures inputs { OnOk result (P.is_scripted ≡ true → (P.tape port.new).coming ≡ (P.tape port.old).coming) }
     ensures few { IfOk result (λ count. count < 2) }
-    ensures stopped { IfErr result (λ fault. P.is_scripted ≡ true → Stops fault (ticks_of ms) (P.tape port.old) (P.tape port.new) (D.table device.old) (D.table device.new)) }
+    ensures stopped { IfErr result (λ fault. P.is_scripted ≡ true
+        → Stops fault (ticks_of ms) (P.tape port.old) (P.tape port.new) (D.table device.old) (D.table device.new)) }
     ensures worked { OnOk result (P.failed port.new ≡ P.failed port.old) }
     ensures blamed { IfErr result (Blames (P.failed port.old) (P.failed port.new)) }
 {
@@ -84,10 +90,12 @@ fn tick<P: Port, D: Device>(port: &mut P, device: &mut D, ms: u64) -> Result<u64
 /// Steps the device by the input of a turn, if one was received.
 fn take_input<P: Port, D: Device>(port: &mut P, device: &mut D) -> Result<u64, RunFault>
     requires { P.failed port.old < 2 ^ 64 - 1 }
-    ensures run { IfOk result (λ count. P.is_scripted ≡ true → Drives (inputs_of (first_or None (P.tape port.old).coming)) count (P.tape port.old) (P.tape port.new) (D.table device.old) (D.table device.new)) }
+    ensures run { IfOk result (λ count. P.is_scripted ≡ true
+        → Drives (inputs_of (first_or None (P.tape port.old).coming)) count (P.tape port.old) (P.tape port.new) (D.table device.old) (D.table device.new)) }
     ensures inputs { OnOk result (P.is_scripted ≡ true → (P.tape port.new).coming ≡ rest_of (P.tape port.old).coming) }
     ensures few { IfOk result (λ count. count < 2) }
-    ensures stopped { IfErr result (λ fault. P.is_scripted ≡ true → Stops fault (inputs_of (first_or None (P.tape port.old).coming)) (P.tape port.old) (P.tape port.new) (D.table device.old) (D.table device.new)) }
+    ensures stopped { IfErr result (λ fault. P.is_scripted ≡ true
+        → Stops fault (inputs_of (first_or None (P.tape port.old).coming)) (P.tape port.old) (P.tape port.new) (D.table device.old) (D.table device.new)) }
     ensures worked { OnOk result (P.failed port.new ≡ P.failed port.old) }
     ensures blamed { IfErr result (Blames (P.failed port.old) (P.failed port.new)) }
 {
@@ -98,12 +106,14 @@ fn take_input<P: Port, D: Device>(port: &mut P, device: &mut D) -> Result<u64, R
     Ok(1)
 }
 
-/// Steps the device by an input, and sends its answer. A datagram goes straight to `deliver`, whose answer sends nothing.
+/// Steps the device by an input, and sends its answer. A datagram goes straight to `deliver`, whose answer sends
+/// nothing.
 fn take<P: Port, D: Device>(port: &mut P, device: &mut D, input: Input) -> Result<(), RunFault>
     requires { P.failed port.old < 2 ^ 64 - 1 }
     ensures run { OnOk result (P.is_scripted ≡ true → Drives (event_of input ∷ []) 1 (P.tape port.old) (P.tape port.new) (D.table device.old) (D.table device.new)) }
     ensures inputs { OnOk result (P.is_scripted ≡ true → (P.tape port.new).coming ≡ (P.tape port.old).coming) }
-    ensures stopped { IfErr result (λ fault. P.is_scripted ≡ true → Stops fault (event_of input ∷ []) (P.tape port.old) (P.tape port.new) (D.table device.old) (D.table device.new)) }
+    ensures stopped { IfErr result (λ fault. P.is_scripted ≡ true
+        → Stops fault (event_of input ∷ []) (P.tape port.old) (P.tape port.new) (D.table device.old) (D.table device.new)) }
     ensures worked { OnOk result (P.failed port.new ≡ P.failed port.old) }
     ensures blamed { IfErr result (Blames (P.failed port.old) (P.failed port.new)) }
 {
@@ -121,7 +131,8 @@ fn act<P: Port, D: Device>(port: &mut P, device: &mut D, event: &Event) -> Resul
     requires { P.failed port.old < 2 ^ 64 - 1 }
     ensures run { OnOk result (P.is_scripted ≡ true → Drives (event.now ∷ []) 1 (P.tape port.old) (P.tape port.new) (D.table device.old) (D.table device.new)) }
     ensures inputs { OnOk result (P.is_scripted ≡ true → (P.tape port.new).coming ≡ (P.tape port.old).coming) }
-    ensures stopped { IfErr result (λ fault. P.is_scripted ≡ true → Stops fault (event.now ∷ []) (P.tape port.old) (P.tape port.new) (D.table device.old) (D.table device.new)) }
+    ensures stopped { IfErr result (λ fault. P.is_scripted ≡ true
+        → Stops fault (event.now ∷ []) (P.tape port.old) (P.tape port.new) (D.table device.old) (D.table device.new)) }
     ensures worked { OnOk result (P.failed port.new ≡ P.failed port.old) }
     ensures blamed { IfErr result (Blames (P.failed port.old) (P.failed port.new)) }
 {
