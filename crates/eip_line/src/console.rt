@@ -130,6 +130,7 @@ pub(crate) fn misused<E: Write>(err: &mut E) -> u8
     ensures status { result ≡ 2 }
     ensures usage { BeginsToWrite (E.contents err.old) usage_text (E.contents err.new) }
 {
+    // (a stream that does not take the text changes nothing more)
     let _ = write_usage(err);
     MISUSED
 }

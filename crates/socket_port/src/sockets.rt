@@ -75,6 +75,7 @@ impl PortSockets {
         if calls::prepare(&socket).is_err() {
             return;
         }
+        // (the socket of an extra connection is returned, and closed as it is dropped)
         let _ = self.streams.accept(peer, socket);
     }
 
