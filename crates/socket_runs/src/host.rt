@@ -101,6 +101,7 @@ where
 
     /// Throws bytes at the adapter, as far as the system takes them.
     pub fn throw(&self, thrower: &UdpSocket, bytes: &[u8]) {
+        // (a datagram that the system does not take is lost, as it may be on the network)
         let _ = thrower.send_to(bytes, loopback(self.udp));
     }
 }

@@ -28,6 +28,7 @@ fn fresh(alloc: Global) -> Result<PlainScanner, StoredRunFault> {
 
 /// The same scanner with the counter at its end.
 fn used_up(alloc: Global, scanner: &PlainScanner) -> Result<PlainScanner, StoredRunFault> {
+    // (a law of each device: its table is whole, which `with_next_id` requires of the copy)
     scanner.is_whole();
     let copy = scanner.copy()?.with_next_id(IDS_PER_INCARNATION);
     Ok(PlainScanner::from_copy(alloc, &copy)?)
