@@ -44,18 +44,18 @@ one_expired clock rows point one = omega (arith, count_in_order by_deadline (dri
 
 -- what connections leave at an output as they time out
 abbrev pub LeavesAt : Profile → List Row → List PointValue → ℕ → List ℕ → Type 0
-LeavesAt profile rows values point held = bytes_at (expired_values profile rows values) point ≡ Some (unwrap_or (cond (list_any (drives point) rows) (left_lost (find (is_output_at point) profile.outputs)) None) held)
+LeavesAt profile rows values point point_bytes = bytes_at (expired_values profile rows values) point ≡ Some (unwrap_or (cond (list_any (drives point) rows) (left_lost (find (is_output_at point) profile.outputs)) None) point_bytes)
 
-leaves_step : (b : Bool) (profile : Profile) (row : Row) (rows : List Row) (values : List PointValue) (point : ℕ) (output : OutputPoint) (held : List ℕ) → drives point row ≡ b → length (cond b (row ∷ drivers point rows) (drivers point rows)) ≤ 1 → IsShaped profile values → find (is_output_at point) profile.outputs ≡ Some output → bytes_at values point ≡ Some held → ((before : List ℕ) → length (drivers point rows) ≤ 1 → bytes_at (closed_values profile row values) point ≡ Some before → LeavesAt profile rows (closed_values profile row values) point before) → bytes_at (expired_values profile rows (closed_values profile row values)) point ≡ Some (unwrap_or (cond (b || list_any (drives point) rows) (left_lost (find (is_output_at point) profile.outputs)) None) held)
-leaves_step true profile row rows values point output held drives_it one shaped is holds rest =
+leaves_step : (b : Bool) (profile : Profile) (row : Row) (rows : List Row) (values : List PointValue) (point : ℕ) (output : OutputPoint) (point_bytes : List ℕ) → drives point row ≡ b → length (cond b (row ∷ drivers point rows) (drivers point rows)) ≤ 1 → IsShaped profile values → find (is_output_at point) profile.outputs ≡ Some output → bytes_at values point ≡ Some point_bytes → ((before : List ℕ) → length (drivers point rows) ≤ 1 → bytes_at (closed_values profile row values) point ≡ Some before → LeavesAt profile rows (closed_values profile row values) point before) → bytes_at (expired_values profile rows (closed_values profile row values)) point ≡ Some (unwrap_or (cond (b || list_any (drives point) rows) (left_lost (find (is_output_at point) profile.outputs)) None) point_bytes)
+leaves_step true profile row rows values point output point_bytes drives_it one shaped is holds rest =
     let none : list_any (drives point) rows ≡ false = none_counted (drives point) rows (omega arith) in
-    let left = unwrap_or (left_lost (find (is_output_at point) profile.outputs)) held in
-    rw none at (rest left (omega arith) (closed_here profile row values point output held shaped drives_it is holds))
-leaves_step false profile row rows values point output held other one shaped is holds rest = rest held one (closed_beside profile row values point held other holds)
+    let left = unwrap_or (left_lost (find (is_output_at point) profile.outputs)) point_bytes in
+    rw none at (rest left (omega arith) (closed_here profile row values point output point_bytes shaped drives_it is holds))
+leaves_step false profile row rows values point output point_bytes other one shaped is holds rest = rest point_bytes one (closed_beside profile row values point point_bytes other holds)
 
 -- where one of them at most drives the output
-pub expired_value : (profile : Profile) (rows : List Row) (values : List PointValue) (point : ℕ) (output : OutputPoint) (held : List ℕ) → length (drivers point rows) ≤ 1 → IsShaped profile values → find (is_output_at point) profile.outputs ≡ Some output → bytes_at values point ≡ Some held → LeavesAt profile rows values point held
-expired_value profile [] values point output held one shaped is holds = holds
-expired_value profile (row ∷ rows) values point output held one shaped is holds =
-    leaves_step (drives point row) profile row rows values point output held refl one shaped is holds
+pub expired_value : (profile : Profile) (rows : List Row) (values : List PointValue) (point : ℕ) (output : OutputPoint) (point_bytes : List ℕ) → length (drivers point rows) ≤ 1 → IsShaped profile values → find (is_output_at point) profile.outputs ≡ Some output → bytes_at values point ≡ Some point_bytes → LeavesAt profile rows values point point_bytes
+expired_value profile [] values point output point_bytes one shaped is holds = holds
+expired_value profile (row ∷ rows) values point output point_bytes one shaped is holds =
+    leaves_step (drives point row) profile row rows values point output point_bytes refl one shaped is holds
     (λ before one' holds'. expired_value profile rows (closed_values profile row values) point output before one' (shaped_closed profile row values shaped) is holds')

@@ -86,29 +86,29 @@ shaped_fed profile row d Malformed values is consumes shaped = shaped
 
 -- ---- what it leaves
 
-fed_here : (profile : Profile) (point : ℕ) (output : OutputPoint) (d : DatagramFields) (delivery : Delivery) (values : List PointValue) (held : List ℕ) → IsShaped profile values → find (is_output_at point) profile.outputs ≡ Some output → bytes_at values point ≡ Some held → bytes_at (accepted_values profile point d delivery values) point ≡ Some (unwrap_or (left_accepted (find (is_output_at point) profile.outputs) d delivery) held)
-fed_here profile point output d Applied values held shaped is holds = put_at point (run_data (header_at d.payload)) values held holds
-fed_here profile point output d Idle values held shaped is holds = idle_at profile point output values held is holds (output_length profile values point output held shaped is holds)
-fed_here profile point output d Heartbeat values held shaped is holds = holds
-fed_here profile point output d Duplicate values held shaped is holds = holds
-fed_here profile point output d Old values held shaped is holds = holds
-fed_here profile point output d UnknownId values held shaped is holds = holds
-fed_here profile point output d WrongSize values held shaped is holds = holds
-fed_here profile point output d Malformed values held shaped is holds = holds
+fed_here : (profile : Profile) (point : ℕ) (output : OutputPoint) (d : DatagramFields) (delivery : Delivery) (values : List PointValue) (point_bytes : List ℕ) → IsShaped profile values → find (is_output_at point) profile.outputs ≡ Some output → bytes_at values point ≡ Some point_bytes → bytes_at (accepted_values profile point d delivery values) point ≡ Some (unwrap_or (left_accepted (find (is_output_at point) profile.outputs) d delivery) point_bytes)
+fed_here profile point output d Applied values point_bytes shaped is holds = put_at point (run_data (header_at d.payload)) values point_bytes holds
+fed_here profile point output d Idle values point_bytes shaped is holds = idle_at profile point output values point_bytes is holds (output_length profile values point output point_bytes shaped is holds)
+fed_here profile point output d Heartbeat values point_bytes shaped is holds = holds
+fed_here profile point output d Duplicate values point_bytes shaped is holds = holds
+fed_here profile point output d Old values point_bytes shaped is holds = holds
+fed_here profile point output d UnknownId values point_bytes shaped is holds = holds
+fed_here profile point output d WrongSize values point_bytes shaped is holds = holds
+fed_here profile point output d Malformed values point_bytes shaped is holds = holds
 
-fed_beside : (profile : Profile) (point other : ℕ) (d : DatagramFields) (delivery : Delivery) (values : List PointValue) (held : List ℕ) → (other == point) ≡ false → bytes_at values point ≡ Some held → bytes_at (accepted_values profile other d delivery values) point ≡ Some held
-fed_beside profile point other d Applied values held differ holds = put_beside point other (run_data (header_at d.payload)) values held differ holds
-fed_beside profile point other d Idle values held differ holds = idle_beside profile point other values held differ holds
-fed_beside profile point other d Heartbeat values held differ holds = holds
-fed_beside profile point other d Duplicate values held differ holds = holds
-fed_beside profile point other d Old values held differ holds = holds
-fed_beside profile point other d UnknownId values held differ holds = holds
-fed_beside profile point other d WrongSize values held differ holds = holds
-fed_beside profile point other d Malformed values held differ holds = holds
+fed_beside : (profile : Profile) (point other : ℕ) (d : DatagramFields) (delivery : Delivery) (values : List PointValue) (point_bytes : List ℕ) → (other == point) ≡ false → bytes_at values point ≡ Some point_bytes → bytes_at (accepted_values profile other d delivery values) point ≡ Some point_bytes
+fed_beside profile point other d Applied values point_bytes differ holds = put_beside point other (run_data (header_at d.payload)) values point_bytes differ holds
+fed_beside profile point other d Idle values point_bytes differ holds = idle_beside profile point other values point_bytes differ holds
+fed_beside profile point other d Heartbeat values point_bytes differ holds = holds
+fed_beside profile point other d Duplicate values point_bytes differ holds = holds
+fed_beside profile point other d Old values point_bytes differ holds = holds
+fed_beside profile point other d UnknownId values point_bytes differ holds = holds
+fed_beside profile point other d WrongSize values point_bytes differ holds = holds
+fed_beside profile point other d Malformed values point_bytes differ holds = holds
 
 -- what an output holds after a datagram for a connection that consumes this point
-pub fed_value : (profile : Profile) (point consumed : ℕ) (output : OutputPoint) (d : DatagramFields) (delivery : Delivery) (values : List PointValue) (held : List ℕ) → IsShaped profile values → find (is_output_at point) profile.outputs ≡ Some output → bytes_at values point ≡ Some held → bytes_at (accepted_values profile consumed d delivery values) point ≡ Some (unwrap_or (cond (consumed == point) (left_accepted (find (is_output_at point) profile.outputs) d delivery) None) held)
-fed_value profile point consumed output d delivery values held shaped is holds = value_by (consumed == point) refl where
-  value_by : (b : Bool) → (consumed == point) ≡ b → bytes_at (accepted_values profile consumed d delivery values) point ≡ Some (unwrap_or (cond b (left_accepted (find (is_output_at point) profile.outputs) d delivery) None) held)
-  value_by true here = subst (λ (n : ℕ). bytes_at (accepted_values profile n d delivery values) point ≡ Some (unwrap_or (left_accepted (find (is_output_at point) profile.outputs) d delivery) held)) (sym (eqb-true consumed point here)) (fed_here profile point output d delivery values held shaped is holds)
-  value_by false here = fed_beside profile point consumed d delivery values held here holds
+pub fed_value : (profile : Profile) (point consumed : ℕ) (output : OutputPoint) (d : DatagramFields) (delivery : Delivery) (values : List PointValue) (point_bytes : List ℕ) → IsShaped profile values → find (is_output_at point) profile.outputs ≡ Some output → bytes_at values point ≡ Some point_bytes → bytes_at (accepted_values profile consumed d delivery values) point ≡ Some (unwrap_or (cond (consumed == point) (left_accepted (find (is_output_at point) profile.outputs) d delivery) None) point_bytes)
+fed_value profile point consumed output d delivery values point_bytes shaped is holds = value_by (consumed == point) refl where
+  value_by : (b : Bool) → (consumed == point) ≡ b → bytes_at (accepted_values profile consumed d delivery values) point ≡ Some (unwrap_or (cond b (left_accepted (find (is_output_at point) profile.outputs) d delivery) None) point_bytes)
+  value_by true here = subst (λ (n : ℕ). bytes_at (accepted_values profile n d delivery values) point ≡ Some (unwrap_or (left_accepted (find (is_output_at point) profile.outputs) d delivery) point_bytes)) (sym (eqb-true consumed point here)) (fed_here profile point output d delivery values point_bytes shaped is holds)
+  value_by false here = fed_beside profile point consumed d delivery values point_bytes here holds

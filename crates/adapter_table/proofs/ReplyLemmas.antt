@@ -35,7 +35,7 @@ use Rattle.adapter_table.specs.Streams.{has_session}
 use Rattle.cip_router.specs.Frames.{ReplyHeader, FrameReply, services, registered, other_version, router_reply, protocol_text, socket_of, reply_message}
 use Rattle.adapter_table.specs.Encapsulation.{Handled, refusal, session_begun, register_session, request_replied, packet_replied, handled}
 use Rattle.cip_router.specs.Frames as frames
-use Rattle.adapter_table.specs.Limits.{held_short}
+use Rattle.adapter_table.specs.Limits.{bytes_short}
 
 -- ---- the reply to a frame
 
@@ -79,7 +79,7 @@ few_got false false false t service value few = few
 few_assembly : (t : AdapterTable) (service point : ℕ) (attribute : Option ℕ) (body : List ℕ) (found : Option (List ℕ)) → bytes_at t.values point ≡ found → IsShaped t.profile t.values → GetsFew (assembly_of t service attribute body found).reply
 few_assembly t service point attribute body None is shaped = tt
 few_assembly t service point attribute body (Some value) is shaped =
-    few_got (not (service == 0x0E)) (not (is_value_attribute attribute)) (not (length body == 0)) t service value (held_short t.profile t.values point value shaped is)
+    few_got (not (service == 0x0E)) (not (is_value_attribute attribute)) (not (length body == 0)) t service value (bytes_short t.profile t.values point value shaped is)
 
 -- what is served, where there is a request
 abbrev pub ServesFew : Option Served → Type 0

@@ -39,68 +39,68 @@ use Rattle.adapter_table.proofs.ServedLemmas.{LosesOnly, unlost, loses_nothing, 
 use Rattle.adapter_table.proofs.ExpiryLemmas.{one_expired, owner_expired, expired_value}
 
 -- what an event leaves at each output, from the bytes that it held
-abbrev LeavesHeld : AdapterTable → Event → AdapterTable → Type 0
-LeavesHeld t event next = (point : ℕ) (output : OutputPoint) (held : List ℕ) → find (is_output_at point) t.profile.outputs ≡ Some output → bytes_at t.values point ≡ Some held → bytes_at next.values point ≡ Some (unwrap_or (left_at point t event next) held)
+abbrev LeavesBytes : AdapterTable → Event → AdapterTable → Type 0
+LeavesBytes t event next = (point : ℕ) (output : OutputPoint) (point_bytes : List ℕ) → find (is_output_at point) t.profile.outputs ≡ Some output → bytes_at t.values point ≡ Some point_bytes → bytes_at next.values point ≡ Some (unwrap_or (left_at point t event next) point_bytes)
 
 -- ---- a write
 
 -- an input is no output
-leaves_written : (t : AdapterTable) (other : ℕ) (bytes : List ℕ) (input : InputPoint) → find (is_at other) t.profile.inputs ≡ Some input → IsShaped t.profile t.values → LeavesHeld t (Write other bytes) (changed_table (written_table t other bytes) other)
+leaves_written : (t : AdapterTable) (other : ℕ) (bytes : List ℕ) (input : InputPoint) → find (is_at other) t.profile.inputs ≡ Some input → IsShaped t.profile t.values → LeavesBytes t (Write other bytes) (changed_table (written_table t other bytes) other)
 unfolding written_table changed_table
-leaves_written t other bytes input there shaped = λ point output held is holds.
+leaves_written t other bytes input there shaped = λ point output point_bytes is holds.
     let rows = map (written_row other) t.rows in
     let same = any_driver_kept (changed_row t.clock other) (changed_keeps t.clock other) point rows ∙ any_driver_kept (written_row other) (written_keeps other) point t.rows in
-    unlost (is_lost point t.rows (map (changed_row t.clock other) rows)) (left_lost (find (is_output_at point) t.profile.outputs)) held (bytes_at (put_value other bytes t.values) point)
+    unlost (is_lost point t.rows (map (changed_row t.clock other) rows)) (left_lost (find (is_output_at point) t.profile.outputs)) point_bytes (bytes_at (put_value other bytes t.values) point)
     (same_owner point t.rows (map (changed_row t.clock other) rows) same)
-    (put_beside point other bytes t.values held (input_no_output t.profile point other output input shaped.faultless is there) holds)
+    (put_beside point other bytes t.values point_bytes (input_no_output t.profile point other output input shaped.faultless is there) holds)
 
-leaves_write : (t : AdapterTable) (point : ℕ) (bytes : List ℕ) (next : Next) → IsWrite t point bytes next → IsShaped t.profile t.values → LeavesHeld t (Write point bytes) next.1
-leaves_write t point bytes next is shaped = subst (λ (n : Next). LeavesHeld t (Write point bytes) n.1) is.said (leaves_written t point bytes is.input is.found shaped)
+leaves_write : (t : AdapterTable) (point : ℕ) (bytes : List ℕ) (next : Next) → IsWrite t point bytes next → IsShaped t.profile t.values → LeavesBytes t (Write point bytes) next.1
+leaves_write t point bytes next is shaped = subst (λ (n : Next). LeavesBytes t (Write point bytes) n.1) is.said (leaves_written t point bytes is.input is.found shaped)
 
 -- ---- a tick
 
-leaves_advanced : (t : AdapterTable) (ms : ℕ) → IsWhole t → LeavesHeld t (Tick ms) (produced_table (expired_table (clocked_table t ms)))
+leaves_advanced : (t : AdapterTable) (ms : ℕ) → IsWhole t → LeavesBytes t (Tick ms) (produced_table (expired_table (clocked_table t ms)))
 unfolding clocked_table expired_table produced_table
-leaves_advanced t ms whole = λ point output held is holds.
+leaves_advanced t ms whole = λ point output point_bytes is holds.
     let clock : Ms = record { 0 = t.clock.0 + ms } in
     let one = whole.sound.one_owner point in
-    rw (owner_expired clock t.rows point one) (expired_value t.profile (expired clock t.rows) t.values point output held (one_expired clock t.rows point one) whole.shaped is holds)
+    rw (owner_expired clock t.rows point one) (expired_value t.profile (expired clock t.rows) t.values point output point_bytes (one_expired clock t.rows point one) whole.shaped is holds)
 
-leaves_tick : (t : AdapterTable) (ms : ℕ) (next : Next) → IsTick t ms next → IsWhole t → LeavesHeld t (Tick ms) next.1
-leaves_tick t ms next is whole = subst (λ (n : Next). LeavesHeld t (Tick ms) n.1) is.said (leaves_advanced t ms whole)
+leaves_tick : (t : AdapterTable) (ms : ℕ) (next : Next) → IsTick t ms next → IsWhole t → LeavesBytes t (Tick ms) next.1
+leaves_tick t ms next is whole = subst (λ (n : Next). LeavesBytes t (Tick ms) n.1) is.said (leaves_advanced t ms whole)
 
 -- ---- a datagram
 
 -- what a datagram leaves at an output is what its data leave, where no owner is lost
-or_unlost : (left : Option (List ℕ)) (b : Bool) (lost : Option (List ℕ)) (held : List ℕ) (bytes : Option (List ℕ)) → b ≡ false → bytes ≡ Some (unwrap_or left held) → bytes ≡ Some (unwrap_or (or_else left (cond b lost None)) held)
-or_unlost left true lost held bytes stays holds = absurd cc
-or_unlost None false lost held bytes stays holds = holds
-or_unlost (Some first) false lost held bytes stays holds = holds
+or_unlost : (left : Option (List ℕ)) (b : Bool) (lost : Option (List ℕ)) (point_bytes : List ℕ) (bytes : Option (List ℕ)) → b ≡ false → bytes ≡ Some (unwrap_or left point_bytes) → bytes ≡ Some (unwrap_or (or_else left (cond b lost None)) point_bytes)
+or_unlost left true lost point_bytes bytes stays holds = absurd cc
+or_unlost None false lost point_bytes bytes stays holds = holds
+or_unlost (Some first) false lost point_bytes bytes stays holds = holds
 
 -- each output holds what these bytes for the points say, and each owner is there
 record Feeds (t next : AdapterTable) (left : ℕ → Option (List ℕ)) : Type 0 where
   owners : (point : ℕ) → is_lost point t.rows next.rows ≡ false
-  leaves : (point : ℕ) (output : OutputPoint) (held : List ℕ) → find (is_output_at point) t.profile.outputs ≡ Some output → bytes_at t.values point ≡ Some held → bytes_at next.values point ≡ Some (unwrap_or (left point) held)
+  leaves : (point : ℕ) (output : OutputPoint) (point_bytes : List ℕ) → find (is_output_at point) t.profile.outputs ≡ Some output → bytes_at t.values point ≡ Some point_bytes → bytes_at next.values point ≡ Some (unwrap_or (left point) point_bytes)
 
 feeds_nothing : (t : AdapterTable) → Feeds t t (λ _. None)
-feeds_nothing t = record { owners = λ point. same_owner point t.rows t.rows refl; leaves = λ point output held is holds. holds }
+feeds_nothing t = record { owners = λ point. same_owner point t.rows t.rows refl; leaves = λ point output point_bytes is holds. holds }
 
 feeds_by : (t : AdapterTable) (peer : Node) (d : DatagramFields) (row : Row) (delivery : Delivery) → IsShaped t.profile t.values → Feeds t (accepted_table t peer d row delivery) (λ point. cond (row.consumed == point) (left_accepted (find (is_output_at point) t.profile.outputs) d delivery) None)
 unfolding accepted_table
 feeds_by t peer d row delivery shaped = record {
   owners = λ point. same_owner point t.rows (map (accepted_if_for t.clock peer d) t.rows) (any_driver_kept (accepted_if_for t.clock peer d) (fed_keeps t.clock peer d) point t.rows);
-  leaves = λ point output held there holds. fed_value t.profile point row.consumed output d delivery t.values held shaped there holds;
+  leaves = λ point output point_bytes there holds. fed_value t.profile point row.consumed output d delivery t.values point_bytes shaped there holds;
 }
 
-no_left : (b : Bool) (held : List ℕ) (bytes : Option (List ℕ)) → bytes ≡ Some held → bytes ≡ Some (unwrap_or (cond b None None) held)
-no_left true held bytes holds = holds
-no_left false held bytes holds = holds
+no_left : (b : Bool) (point_bytes : List ℕ) (bytes : Option (List ℕ)) → bytes ≡ Some point_bytes → bytes ≡ Some (unwrap_or (cond b None None) point_bytes)
+no_left true point_bytes bytes holds = holds
+no_left false point_bytes bytes holds = holds
 
 -- a datagram that is not accepted leaves nothing
 feeds_none : (t : AdapterTable) (row : Row) → Feeds t t (λ point. cond (row.consumed == point) None None)
 feeds_none t row = record {
   owners = λ point. same_owner point t.rows t.rows refl;
-  leaves = λ point output held is holds. no_left (row.consumed == point) held (bytes_at t.values point) holds;
+  leaves = λ point output point_bytes is holds. no_left (row.consumed == point) point_bytes (bytes_at t.values point) holds;
 }
 
 feeds_judged : (t : AdapterTable) (peer : Node) (d : DatagramFields) (row : Row) (delivery : Delivery) → IsShaped t.profile t.values → Feeds t (judged_datagram t peer d row delivery).1 (λ point. cond (row.consumed == point) (left_accepted (find (is_output_at point) t.profile.outputs) d delivery) None)
@@ -121,56 +121,56 @@ feeds_read : (t : AdapterTable) (peer : Node) (reading : Result DatagramFields D
 feeds_read t peer (Err fault) shaped = feeds_nothing t
 feeds_read t peer (Ok d) shaped = feeds_found t peer d (find (is_for peer d.connection) t.rows) shaped
 
-leaves_datagram : (t next : AdapterTable) (peer : Node) (bytes : List ℕ) → Feeds t next (λ point. read_accepted point t peer (datagram_reading bytes)) → LeavesHeld t (Datagram peer bytes) next
-leaves_datagram t next peer bytes feeds = λ point output held is holds.
-    or_unlost (read_accepted point t peer (datagram_reading bytes)) (is_lost point t.rows next.rows) (left_lost (find (is_output_at point) t.profile.outputs)) held (bytes_at next.values point) (feeds.owners point) (feeds.leaves point output held is holds)
+leaves_datagram : (t next : AdapterTable) (peer : Node) (bytes : List ℕ) → Feeds t next (λ point. read_accepted point t peer (datagram_reading bytes)) → LeavesBytes t (Datagram peer bytes) next
+leaves_datagram t next peer bytes feeds = λ point output point_bytes is holds.
+    or_unlost (read_accepted point t peer (datagram_reading bytes)) (is_lost point t.rows next.rows) (left_lost (find (is_output_at point) t.profile.outputs)) point_bytes (bytes_at next.values point) (feeds.owners point) (feeds.leaves point output point_bytes is holds)
 
 -- ---- an event
 
-leaves_read : (t : AdapterTable) (point : ℕ) (found : Option (List ℕ)) (next : Next) → read_of t found ≡ Ok next → LeavesHeld t (Read point) next.1
+leaves_read : (t : AdapterTable) (point : ℕ) (found : Option (List ℕ)) (next : Next) → read_of t found ≡ Ok next → LeavesBytes t (Read point) next.1
 leaves_read t point None next is = absurd cc
-leaves_read t point (Some bytes) next is = subst (λ (n : Next). LeavesHeld t (Read point) n.1) (next_is _ _ is) (loses_nothing t)
+leaves_read t point (Some bytes) next is = subst (λ (n : Next). LeavesBytes t (Read point) n.1) (next_is _ _ is) (loses_nothing t)
 
-leaves_streamed : (t : AdapterTable) (number : ℕ) (peer : Node) (next : Next) → IsStreamed t number peer next → LeavesHeld t (StreamOpened number peer) next.1
-leaves_streamed t number peer next is = subst (λ (n : Next). LeavesHeld t (StreamOpened number peer) n.1) is.said (loses_with t number peer)
+leaves_streamed : (t : AdapterTable) (number : ℕ) (peer : Node) (next : Next) → IsStreamed t number peer next → LeavesBytes t (StreamOpened number peer) next.1
+leaves_streamed t number peer next is = subst (λ (n : Next). LeavesBytes t (StreamOpened number peer) n.1) is.said (loses_with t number peer)
 
 -- each event that has a step
-leaves_held : (t : AdapterTable) (event : Event) (next : Next) → adapter_step t event ≡ Ok next → IsWhole t → LeavesHeld t event next.1
+leaves_bytes : (t : AdapterTable) (event : Event) (next : Next) → adapter_step t event ≡ Ok next → IsWhole t → LeavesBytes t event next.1
 unfolding requested received read
-leaves_held t (Request peer bytes) next is whole = subst (λ (n : Next). LeavesHeld t (Request peer bytes) n.1) (next_is _ _ is) (answered_does (λ t next. IsWhole t → LosesOnly t next) requests_lose t peer (router_request_reading bytes) whole)
-leaves_held t (StreamOpened number peer) next is whole = leaves_streamed t number peer next (streamed_is t number peer next is)
-leaves_held t (Frame number bytes) next is whole = frame_does (λ t next. IsWhole t → LosesOnly t next) requests_lose t number bytes next is whole
-leaves_held t (StreamCut number) next is whole = cut_does (λ t next. IsWhole t → LosesOnly t next) requests_lose t number next is whole
-leaves_held t (Datagram peer bytes) next is whole =
-    subst (λ (n : Next). LeavesHeld t (Datagram peer bytes) n.1) (next_is _ _ is)
+leaves_bytes t (Request peer bytes) next is whole = subst (λ (n : Next). LeavesBytes t (Request peer bytes) n.1) (next_is _ _ is) (answered_does (λ t next. IsWhole t → LosesOnly t next) requests_lose t peer (router_request_reading bytes) whole)
+leaves_bytes t (StreamOpened number peer) next is whole = leaves_streamed t number peer next (streamed_is t number peer next is)
+leaves_bytes t (Frame number bytes) next is whole = frame_does (λ t next. IsWhole t → LosesOnly t next) requests_lose t number bytes next is whole
+leaves_bytes t (StreamCut number) next is whole = cut_does (λ t next. IsWhole t → LosesOnly t next) requests_lose t number next is whole
+leaves_bytes t (Datagram peer bytes) next is whole =
+    subst (λ (n : Next). LeavesBytes t (Datagram peer bytes) n.1) (next_is _ _ is)
     (leaves_datagram t (datagram_of t peer (datagram_reading bytes)).1 peer bytes (feeds_read t peer (datagram_reading bytes) whole.shaped))
-leaves_held t (Write point bytes) next is whole = leaves_write t point bytes next (write_is t point bytes next is) whole.shaped
-leaves_held t (Read point) next is whole = leaves_read t point (bytes_at t.values point) next is
-leaves_held t (Tick ms) next is whole = leaves_tick t ms next (tick_is t ms next is) whole
-leaves_held t (Mode run) next is whole = absurd cc
-leaves_held t (Start slot) next is whole = absurd cc
-leaves_held t (Stop slot) next is whole = absurd cc
+leaves_bytes t (Write point bytes) next is whole = leaves_write t point bytes next (write_is t point bytes next is) whole.shaped
+leaves_bytes t (Read point) next is whole = leaves_read t point (bytes_at t.values point) next is
+leaves_bytes t (Tick ms) next is whole = leaves_tick t ms next (tick_is t ms next is) whole
+leaves_bytes t (Mode run) next is whole = absurd cc
+leaves_bytes t (Start slot) next is whole = absurd cc
+leaves_bytes t (Stop slot) next is whole = absurd cc
 
 -- ---- from what each output held, which it does
 
-some_bytes : (found : Option (List ℕ)) (len : ℕ) → option_map (λ (bytes : List ℕ). length bytes) found ≡ Some len → (held : List ℕ) × (found ≡ Some held)
+some_bytes : (found : Option (List ℕ)) (len : ℕ) → option_map (λ (bytes : List ℕ). length bytes) found ≡ Some len → (point_bytes : List ℕ) × (found ≡ Some point_bytes)
 some_bytes None len is = absurd cc
-some_bytes (Some held) len is = (held, refl)
+some_bytes (Some point_bytes) len is = (point_bytes, refl)
 
 -- each output of a whole table holds some bytes
-output_holds : (t : AdapterTable) (point : ℕ) (output : OutputPoint) → IsShaped t.profile t.values → find (is_output_at point) t.profile.outputs ≡ Some output → (held : List ℕ) × (bytes_at t.values point ≡ Some held)
+output_holds : (t : AdapterTable) (point : ℕ) (output : OutputPoint) → IsShaped t.profile t.values → find (is_output_at point) t.profile.outputs ≡ Some output → (point_bytes : List ℕ) × (bytes_at t.values point ≡ Some point_bytes)
 output_holds t point output shaped is = some_bytes (bytes_at t.values point) output.len (length_is t.profile t.values point shaped ∙ output_fits t.profile point output output.len is refl)
 
-or_held : (left : Option (List ℕ)) (held : List ℕ) → Some (unwrap_or left held) ≡ or_else left (Some held)
-or_held None held = refl
-or_held (Some first) held = refl
+or_bytes : (left : Option (List ℕ)) (point_bytes : List ℕ) → Some (unwrap_or left point_bytes) ≡ or_else left (Some point_bytes)
+or_bytes None point_bytes = refl
+or_bytes (Some first) point_bytes = refl
 
 pub adapter_leaves : StepsLeave
 adapter_leaves t event next is whole = λ point output there.
-    let held = output_holds t point output whole.shaped there in
-    leaves_held t event next is whole point output held.0 there held.1
-    ∙ or_held (left_at point t event next.1) held.0
-    ∙ ap (or_else (left_at point t event next.1)) (sym held.1)
+    let point_bytes = output_holds t point output whole.shaped there in
+    leaves_bytes t event next is whole point output point_bytes.0 there point_bytes.1
+    ∙ or_bytes (left_at point t event next.1) point_bytes.0
+    ∙ ap (or_else (left_at point t event next.1)) (sym point_bytes.1)
 
 pub fresh_zeros : FreshOutputsAreZeros
 fresh_zeros profile point output is = zeros_at point (data_points profile) (as_point output) (output_found profile point output is)

@@ -32,34 +32,34 @@ use Rattle.adapter_table.proofs.RequestLemmas.{RequestsDo}
 
 -- each output holds what the loss of its owner leaves there
 abbrev pub LosesOnly : AdapterTable → AdapterTable → Type 0
-LosesOnly t next = (point : ℕ) (output : OutputPoint) (held : List ℕ) → find (is_output_at point) t.profile.outputs ≡ Some output → bytes_at t.values point ≡ Some held → bytes_at next.values point ≡ Some (unwrap_or (lost point t next) held)
+LosesOnly t next = (point : ℕ) (output : OutputPoint) (point_bytes : List ℕ) → find (is_output_at point) t.profile.outputs ≡ Some output → bytes_at t.values point ≡ Some point_bytes → bytes_at next.values point ≡ Some (unwrap_or (lost point t next) point_bytes)
 
 -- an output whose owner is not lost holds what it held
-pub unlost : (b : Bool) (left : Option (List ℕ)) (held : List ℕ) (bytes : Option (List ℕ)) → b ≡ false → bytes ≡ Some held → bytes ≡ Some (unwrap_or (cond b left None) held)
-unlost true left held bytes stays holds = absurd cc
-unlost false left held bytes stays holds = holds
+pub unlost : (b : Bool) (left : Option (List ℕ)) (point_bytes : List ℕ) (bytes : Option (List ℕ)) → b ≡ false → bytes ≡ Some point_bytes → bytes ≡ Some (unwrap_or (cond b left None) point_bytes)
+unlost true left point_bytes bytes stays holds = absurd cc
+unlost false left point_bytes bytes stays holds = holds
 
 pub loses_nothing : (t : AdapterTable) → LosesOnly t t
-loses_nothing t = λ point output held is holds.
-    unlost (is_lost point t.rows t.rows) (left_lost (find (is_output_at point) t.profile.outputs)) held (bytes_at t.values point) (same_owner point t.rows t.rows refl) holds
+loses_nothing t = λ point output point_bytes is holds.
+    unlost (is_lost point t.rows t.rows) (left_lost (find (is_output_at point) t.profile.outputs)) point_bytes (bytes_at t.values point) (same_owner point t.rows t.rows refl) holds
 
 -- ---- an opening
 
 -- the configuration is no output
-configured_beside : (profile : Profile) (config : Option InputPoint) (segment : Option (List ℕ)) (values : List PointValue) (point : ℕ) (output : OutputPoint) (held : List ℕ) → profile.config ≡ config → IsShaped profile values → find (is_output_at point) profile.outputs ≡ Some output → bytes_at values point ≡ Some held → bytes_at (configured config segment values) point ≡ Some held
-configured_beside profile None segment values point output held known shaped is holds = holds
-configured_beside profile (Some config) None values point output held known shaped is holds = holds
-configured_beside profile (Some config) (Some bytes) values point output held known shaped is holds =
-    put_beside point config.instance bytes values held (configuration_no_output profile point output config shaped.faultless is known) holds
+configured_beside : (profile : Profile) (config : Option InputPoint) (segment : Option (List ℕ)) (values : List PointValue) (point : ℕ) (output : OutputPoint) (point_bytes : List ℕ) → profile.config ≡ config → IsShaped profile values → find (is_output_at point) profile.outputs ≡ Some output → bytes_at values point ≡ Some point_bytes → bytes_at (configured config segment values) point ≡ Some point_bytes
+configured_beside profile None segment values point output point_bytes known shaped is holds = holds
+configured_beside profile (Some config) None values point output point_bytes known shaped is holds = holds
+configured_beside profile (Some config) (Some bytes) values point output point_bytes known shaped is holds =
+    put_beside point config.instance bytes values point_bytes (configuration_no_output profile point output config shaped.faultless is known) holds
 
 loses_opened : (t : AdapterTable) (peer : Node) (request : OpenFields) (admitted : Admitted) → admission t request ≡ Ok admitted → IsWhole t → LosesOnly t (opened_table t (opened_row t peer request admitted) admitted)
 unfolding opened_table opened_row
-loses_opened t peer request admitted e whole = λ point output held is holds.
+loses_opened t peer request admitted e whole = λ point output point_bytes is holds.
     let row = opened_row t peer request admitted in
     let free = (admitted_is t request admitted e).triad_is_free in
-    unlost (is_lost point t.rows (others (is_replaced t.rows request.triad) t.rows ++ row ∷ [])) (left_lost (find (is_output_at point) t.profile.outputs)) held (bytes_at (configured t.profile.config admitted.segment t.values) point)
+    unlost (is_lost point t.rows (others (is_replaced t.rows request.triad) t.rows ++ row ∷ [])) (left_lost (find (is_output_at point) t.profile.outputs)) point_bytes (bytes_at (configured t.profile.config admitted.segment t.values) point)
     (owner_opened (list_any (has_triad request.triad) t.rows) (nat_le 64 (length t.rows)) request.triad t.rows row point free whole.sound.producers.openings_rise)
-    (configured_beside t.profile t.profile.config admitted.segment t.values point output held refl whole.shaped is holds)
+    (configured_beside t.profile t.profile.config admitted.segment t.values point output point_bytes refl whole.shaped is holds)
 
 -- ---- a close
 
@@ -80,29 +80,29 @@ consumed_is point row is = is_step (is_established row) (is_owner row.kind) (row
   is_step false b c same all = absurd cc
 
 -- what the driver of an output leaves there
-pub closed_here : (profile : Profile) (row : Row) (values : List PointValue) (point : ℕ) (output : OutputPoint) (held : List ℕ) → IsShaped profile values → drives point row ≡ true → find (is_output_at point) profile.outputs ≡ Some output → bytes_at values point ≡ Some held → bytes_at (closed_values profile row values) point ≡ Some (unwrap_or (left_lost (find (is_output_at point) profile.outputs)) held)
-closed_here profile row values point output held shaped drives_it is holds =
+pub closed_here : (profile : Profile) (row : Row) (values : List PointValue) (point : ℕ) (output : OutputPoint) (point_bytes : List ℕ) → IsShaped profile values → drives point row ≡ true → find (is_output_at point) profile.outputs ≡ Some output → bytes_at values point ≡ Some point_bytes → bytes_at (closed_values profile row values) point ≡ Some (unwrap_or (left_lost (find (is_output_at point) profile.outputs)) point_bytes)
+closed_here profile row values point output point_bytes shaped drives_it is holds =
     let same = consumed_is point row drives_it in
-    let left = lost_at profile point output values held is holds (output_length profile values point output held shaped is holds) in
+    let left = lost_at profile point output values point_bytes is holds (output_length profile values point output point_bytes shaped is holds) in
     let own : drives row.consumed row ≡ true = subst (λ (n : ℕ). drives n row ≡ true) (sym same) drives_it in
-    rw own (subst (λ (n : ℕ). bytes_at (lost_values profile n values) point ≡ Some (unwrap_or (left_lost (find (is_output_at point) profile.outputs)) held)) (sym same) left)
+    rw own (subst (λ (n : ℕ). bytes_at (lost_values profile n values) point ≡ Some (unwrap_or (left_lost (find (is_output_at point) profile.outputs)) point_bytes)) (sym same) left)
 
 -- and who does not drive it
-pub closed_beside : (profile : Profile) (row : Row) (values : List PointValue) (point : ℕ) (held : List ℕ) → drives point row ≡ false → bytes_at values point ≡ Some held → bytes_at (closed_values profile row values) point ≡ Some held
-closed_beside profile row values point held other holds = beside_step (drives row.consumed row) refl where
-  beside_step : (b : Bool) → drives row.consumed row ≡ b → bytes_at (cond b (lost_values profile row.consumed values) values) point ≡ Some held
-  beside_step true own = lost_beside profile point row.consumed values held (drives_no_other point row own other) holds
+pub closed_beside : (profile : Profile) (row : Row) (values : List PointValue) (point : ℕ) (point_bytes : List ℕ) → drives point row ≡ false → bytes_at values point ≡ Some point_bytes → bytes_at (closed_values profile row values) point ≡ Some point_bytes
+closed_beside profile row values point point_bytes other holds = beside_step (drives row.consumed row) refl where
+  beside_step : (b : Bool) → drives row.consumed row ≡ b → bytes_at (cond b (lost_values profile row.consumed values) values) point ≡ Some point_bytes
+  beside_step true own = lost_beside profile point row.consumed values point_bytes (drives_no_other point row own other) holds
   beside_step false own = holds
 
-loses_by : (b : Bool) (t : AdapterTable) (triad : Triad) (row : Row) (point : ℕ) (output : OutputPoint) (held : List ℕ) → drives point row ≡ b → length (drivers point t.rows) ≤ 1 → IsWhole t → find (has_triad triad) t.rows ≡ Some row → find (is_output_at point) t.profile.outputs ≡ Some output → bytes_at t.values point ≡ Some held → bytes_at (closed_values t.profile row t.values) point ≡ Some (unwrap_or (cond (is_lost point t.rows (staying (without_triad row.triad t.rows))) (left_lost (find (is_output_at point) t.profile.outputs)) None) held)
-loses_by true t triad row point output held drives_it one whole found is holds =
-    rw (owner_closed triad t.rows row point found drives_it one) (closed_here t.profile row t.values point output held whole.shaped drives_it is holds)
-loses_by false t triad row point output held other one whole found is holds =
-    rw (owner_stays triad t.rows row point whole.sound.triads_differ found other) (closed_beside t.profile row t.values point held other holds)
+loses_by : (b : Bool) (t : AdapterTable) (triad : Triad) (row : Row) (point : ℕ) (output : OutputPoint) (point_bytes : List ℕ) → drives point row ≡ b → length (drivers point t.rows) ≤ 1 → IsWhole t → find (has_triad triad) t.rows ≡ Some row → find (is_output_at point) t.profile.outputs ≡ Some output → bytes_at t.values point ≡ Some point_bytes → bytes_at (closed_values t.profile row t.values) point ≡ Some (unwrap_or (cond (is_lost point t.rows (staying (without_triad row.triad t.rows))) (left_lost (find (is_output_at point) t.profile.outputs)) None) point_bytes)
+loses_by true t triad row point output point_bytes drives_it one whole found is holds =
+    rw (owner_closed triad t.rows row point found drives_it one) (closed_here t.profile row t.values point output point_bytes whole.shaped drives_it is holds)
+loses_by false t triad row point output point_bytes other one whole found is holds =
+    rw (owner_stays triad t.rows row point whole.sound.triads_differ found other) (closed_beside t.profile row t.values point point_bytes other holds)
 
 loses_closed : (t : AdapterTable) (triad : Triad) (row : Row) → find (has_triad triad) t.rows ≡ Some row → IsWhole t → LosesOnly t (closed_table t row)
 unfolding closed_table
-loses_closed t triad row found whole = λ point output held is holds. loses_by (drives point row) t triad row point output held refl (whole.sound.one_owner point) whole found is holds
+loses_closed t triad row found whole = λ point output point_bytes is holds. loses_by (drives point row) t triad row point output point_bytes refl (whole.sound.one_owner point) whole found is holds
 
 -- ---- streams
 

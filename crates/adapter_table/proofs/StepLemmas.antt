@@ -120,7 +120,7 @@ opened_sound t request admitted row is ok sound =
     let left = others (is_replaced_by b c (find is_timed_out t.rows) row.triad) t.rows in
     let stays_there : Row → Bool = λ r. not (is_replaced_by b c (find is_timed_out t.rows) row.triad r) in
     let drawn = drawn_filter stays_there t.profile t.next_id t.rows sound.ids_are_drawn in
-    let held : list_any (holds_triad row.triad) t.rows ≡ false = ap (λ (triad : Triad). list_any (holds_triad triad) t.rows) is.triad ∙ ok.triad_is_free in
+    let point_bytes : list_any (holds_triad row.triad) t.rows ≡ false = ap (λ (triad : Triad). list_any (holds_triad triad) t.rows) is.triad ∙ ok.triad_is_free in
     let alone : (is_listener row.kind && not (is_supported t.rows row.kind row.produced)) ≡ false = rw (is.kind, is.produced) ok.is_supported in
     record {
       few = simp length-append (length_opened b c row.triad t.rows refl refl sound.few ok.capacity_is_left);
@@ -131,7 +131,7 @@ opened_sound t request admitted row is ok sound =
       triads_differ = triads_append left row (triads_filter stays_there t.rows sound.triads_differ) (any_opened b c row.triad t.rows refl);
       ids_differ = ids_append left row (ids_filter stays_there t.rows sound.ids_differ) (drawn_new t.profile t.next_id left row is.drawn drawn);
       ids_are_drawn = drawn_append t.profile t.next_id (t.next_id + drawn_ids admitted.multicast admitted.group) left row (omega arith) is.drawn drawn;
-      listeners_are_supported = listeners_opened b c row.triad t.rows row held sound.producers.openings_rise alone sound.listeners_are_supported;
+      listeners_are_supported = listeners_opened b c row.triad t.rows row point_bytes sound.producers.openings_rise alone sound.listeners_are_supported;
       groups_agree = groups_opened stays_there t.rows row (joins_of t request admitted row is ok) sound.groups_agree;
       producers =
           producers_opened stays_there t.profile t.next_id (t.next_id + drawn_ids admitted.multicast admitted.group) t.rows row

@@ -42,10 +42,10 @@ removed_triad : (triad : Triad) (rows : List Row) → list_any (holds_triad tria
 removed_triad triad [] none = tt
 removed_triad triad (row ∷ rows) none =
     let parts = or_false (holds_triad triad row) (list_any (holds_triad triad) rows) none in
-    (λ has. held_not (is_established row) (has_triad triad row) parts.0 has, removed_triad triad rows parts.1) where
-      held_not : (a b : Bool) → (a && b) ≡ false → b ≡ true → a ≡ false
-      held_not true b h has = absurd cc
-      held_not false b h has = refl
+    (λ has. bytes_not (is_established row) (has_triad triad row) parts.0 has, removed_triad triad rows parts.1) where
+      bytes_not : (a b : Bool) → (a && b) ≡ false → b ≡ true → a ≡ false
+      bytes_not true b h has = absurd cc
+      bytes_not false b h has = refl
 
 -- none of an opening number that is earlier than all
 removed_later : (found row : Row) (rows : List Row) → found ≡ row → Each (OpensBefore row) rows → AreRemoved (is_opened_as (Some found)) rows

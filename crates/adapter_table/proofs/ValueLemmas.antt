@@ -44,14 +44,14 @@ found_is point [] value is = absurd cc
 found_is point (first ∷ values) value is = is_step (is_value_of point first) point first value (find (is_value_of point) values) refl is (found_is point values value)
 
 -- where the changed value of the point is known from the value
-at_found : (f : PointValue → PointValue) (point : ℕ) (found : Option PointValue) (held left : List ℕ) → option_map bytes_of found ≡ Some held → ((value : PointValue) → found ≡ Some value → value.bytes ≡ held → (f value).bytes ≡ left) → option_map bytes_of (option_map f found) ≡ Some left
-at_found f point None held left holds leaves = absurd cc
-at_found f point (Some value) held left holds leaves = let same : value.bytes ≡ held = cc in ap Some (leaves value refl same)
+at_found : (f : PointValue → PointValue) (point : ℕ) (found : Option PointValue) (point_bytes left : List ℕ) → option_map bytes_of found ≡ Some point_bytes → ((value : PointValue) → found ≡ Some value → value.bytes ≡ point_bytes → (f value).bytes ≡ left) → option_map bytes_of (option_map f found) ≡ Some left
+at_found f point None point_bytes left holds leaves = absurd cc
+at_found f point (Some value) point_bytes left holds leaves = let same : value.bytes ≡ point_bytes = cc in ap Some (leaves value refl same)
 
-bytes_mapped : (f : PointValue → PointValue) (point : ℕ) (values : List PointValue) (held left : List ℕ) → Stays f → bytes_at values point ≡ Some held → ((value : PointValue) → is_value_of point value ≡ true → value.bytes ≡ held → (f value).bytes ≡ left) → bytes_at (map f values) point ≡ Some left
-bytes_mapped f point values held left stays holds leaves =
+bytes_mapped : (f : PointValue → PointValue) (point : ℕ) (values : List PointValue) (point_bytes left : List ℕ) → Stays f → bytes_at values point ≡ Some point_bytes → ((value : PointValue) → is_value_of point value ≡ true → value.bytes ≡ point_bytes → (f value).bytes ≡ left) → bytes_at (map f values) point ≡ Some left
+bytes_mapped f point values point_bytes left stays holds leaves =
     ap (option_map bytes_of) (find_mapped f point values stays)
-    ∙ at_found f point (find (is_value_of point) values) held left holds (λ value found same. leaves value (found_is point values value found) same)
+    ∙ at_found f point (find (is_value_of point) values) point_bytes left holds (λ value found same. leaves value (found_is point values value found) same)
 
 -- ---- other bytes
 
@@ -63,9 +63,9 @@ put_stays point bytes value = stay_step (is_value_of point value) where
   stay_step false = refl
 
 -- a point holds the bytes that are put there
-pub put_at : (point : ℕ) (bytes : List ℕ) (values : List PointValue) (held : List ℕ) → bytes_at values point ≡ Some held → bytes_at (put_value point bytes values) point ≡ Some bytes
-put_at point bytes values held holds =
-    bytes_mapped (changed_value point bytes) point values held bytes (put_stays point bytes) holds (λ value here same. put_step (is_value_of point value) value here) where
+pub put_at : (point : ℕ) (bytes : List ℕ) (values : List PointValue) (point_bytes : List ℕ) → bytes_at values point ≡ Some point_bytes → bytes_at (put_value point bytes values) point ≡ Some bytes
+put_at point bytes values point_bytes holds =
+    bytes_mapped (changed_value point bytes) point values point_bytes bytes (put_stays point bytes) holds (λ value here same. put_step (is_value_of point value) value here) where
       put_step : (b : Bool) (value : PointValue) → b ≡ true → (cond b (record value { bytes = bytes }) value).bytes ≡ bytes
       put_step true value here = refl
       put_step false value here = absurd cc
@@ -74,10 +74,10 @@ apart : (point other n : ℕ) → (n == point) ≡ true → (other == point) ≡
 apart point other n here differ = grind (arith, nat_tests)
 
 -- and another one what it held
-pub put_beside : (point other : ℕ) (bytes : List ℕ) (values : List PointValue) (held : List ℕ) → (other == point) ≡ false → bytes_at values point ≡ Some held → bytes_at (put_value other bytes values) point ≡ Some held
-put_beside point other bytes values held differ holds =
-    bytes_mapped (changed_value other bytes) point values held held (put_stays other bytes) holds (λ value here same. beside_step (is_value_of other value) value (apart point other value.point here differ) same) where
-      beside_step : (b : Bool) (value : PointValue) → b ≡ false → value.bytes ≡ held → (cond b (record value { bytes = bytes }) value).bytes ≡ held
+pub put_beside : (point other : ℕ) (bytes : List ℕ) (values : List PointValue) (point_bytes : List ℕ) → (other == point) ≡ false → bytes_at values point ≡ Some point_bytes → bytes_at (put_value other bytes values) point ≡ Some point_bytes
+put_beside point other bytes values point_bytes differ holds =
+    bytes_mapped (changed_value other bytes) point values point_bytes point_bytes (put_stays other bytes) holds (λ value here same. beside_step (is_value_of other value) value (apart point other value.point here differ) same) where
+      beside_step : (b : Bool) (value : PointValue) → b ≡ false → value.bytes ≡ point_bytes → (cond b (record value { bytes = bytes }) value).bytes ≡ point_bytes
       beside_step true value there same = absurd cc
       beside_step false value there same = same
 
@@ -90,30 +90,30 @@ zeroed_stays point value = stay_step (is_value_of point value) where
   stay_step true = refl
   stay_step false = refl
 
-zeroed_at : (point : ℕ) (values : List PointValue) (held : List ℕ) → bytes_at values point ≡ Some held → bytes_at (map (zeroed_value point) values) point ≡ Some (replicate (length held) 0)
-zeroed_at point values held holds =
-    bytes_mapped (zeroed_value point) point values held (replicate (length held) 0) (zeroed_stays point) holds (λ value here same. zero_step (is_value_of point value) value here same) where
-      zero_step : (b : Bool) (value : PointValue) → b ≡ true → value.bytes ≡ held → (cond b (record value { bytes = replicate (length value.bytes) 0 }) value).bytes ≡ replicate (length held) 0
+zeroed_at : (point : ℕ) (values : List PointValue) (point_bytes : List ℕ) → bytes_at values point ≡ Some point_bytes → bytes_at (map (zeroed_value point) values) point ≡ Some (replicate (length point_bytes) 0)
+zeroed_at point values point_bytes holds =
+    bytes_mapped (zeroed_value point) point values point_bytes (replicate (length point_bytes) 0) (zeroed_stays point) holds (λ value here same. zero_step (is_value_of point value) value here same) where
+      zero_step : (b : Bool) (value : PointValue) → b ≡ true → value.bytes ≡ point_bytes → (cond b (record value { bytes = replicate (length value.bytes) 0 }) value).bytes ≡ replicate (length point_bytes) 0
       zero_step true value here same = ap (λ (bytes : List ℕ). replicate (length bytes) 0) same
       zero_step false value here same = absurd cc
 
-zeroed_beside : (point other : ℕ) (values : List PointValue) (held : List ℕ) → (other == point) ≡ false → bytes_at values point ≡ Some held → bytes_at (map (zeroed_value other) values) point ≡ Some held
-zeroed_beside point other values held differ holds =
-    bytes_mapped (zeroed_value other) point values held held (zeroed_stays other) holds (λ value here same. beside_step (is_value_of other value) value (apart point other value.point here differ) same) where
-      beside_step : (b : Bool) (value : PointValue) → b ≡ false → value.bytes ≡ held → (cond b (record value { bytes = replicate (length value.bytes) 0 }) value).bytes ≡ held
+zeroed_beside : (point other : ℕ) (values : List PointValue) (point_bytes : List ℕ) → (other == point) ≡ false → bytes_at values point ≡ Some point_bytes → bytes_at (map (zeroed_value other) values) point ≡ Some point_bytes
+zeroed_beside point other values point_bytes differ holds =
+    bytes_mapped (zeroed_value other) point values point_bytes point_bytes (zeroed_stays other) holds (λ value here same. beside_step (is_value_of other value) value (apart point other value.point here differ) same) where
+      beside_step : (b : Bool) (value : PointValue) → b ≡ false → value.bytes ≡ point_bytes → (cond b (record value { bytes = replicate (length value.bytes) 0 }) value).bytes ≡ point_bytes
       beside_step true value there same = absurd cc
       beside_step false value there same = same
 
 -- ---- an action
 
 -- what an action leaves at its output
-acted_at : (action : Action) (point len : ℕ) (values : List PointValue) (held : List ℕ) → bytes_at values point ≡ Some held → length held ≡ len → bytes_at (acted_values action point values) point ≡ Some (unwrap_or (left_by action len) held)
-acted_at Hold point len values held holds long = holds
-acted_at Zero point len values held holds long = zeroed_at point values held holds ∙ ap (λ (n : ℕ). Some (replicate n 0)) long
+acted_at : (action : Action) (point len : ℕ) (values : List PointValue) (point_bytes : List ℕ) → bytes_at values point ≡ Some point_bytes → length point_bytes ≡ len → bytes_at (acted_values action point values) point ≡ Some (unwrap_or (left_by action len) point_bytes)
+acted_at Hold point len values point_bytes holds long = holds
+acted_at Zero point len values point_bytes holds long = zeroed_at point values point_bytes holds ∙ ap (λ (n : ℕ). Some (replicate n 0)) long
 
-acted_beside : (action : Action) (point other : ℕ) (values : List PointValue) (held : List ℕ) → (other == point) ≡ false → bytes_at values point ≡ Some held → bytes_at (acted_values action other values) point ≡ Some held
-acted_beside Hold point other values held differ holds = holds
-acted_beside Zero point other values held differ holds = zeroed_beside point other values held differ holds
+acted_beside : (action : Action) (point other : ℕ) (values : List PointValue) (point_bytes : List ℕ) → (other == point) ≡ false → bytes_at values point ≡ Some point_bytes → bytes_at (acted_values action other values) point ≡ Some point_bytes
+acted_beside Hold point other values point_bytes differ holds = holds
+acted_beside Zero point other values point_bytes differ holds = zeroed_beside point other values point_bytes differ holds
 
 at_step : (b : Bool) (point : ℕ) (first output : OutputPoint) (rest : Option OutputPoint) → is_output_at point first ≡ b → cond b (Some first) rest ≡ Some output → (rest ≡ Some output → output.instance ≡ point) → output.instance ≡ point
 at_step true point first output rest here is more = let same : first ≡ output = cc in ap (λ (o : OutputPoint). o.instance) (let back : output ≡ first = cc in back) ∙ eqb-true first.instance point here
@@ -125,32 +125,32 @@ output_is point [] output is = absurd cc
 output_is point (first ∷ outputs) output is = at_step (is_output_at point first) point first output (find (is_output_at point) outputs) refl is (output_is point outputs output)
 
 -- what the fault action leaves at its output
-pub lost_at : (profile : Profile) (point : ℕ) (output : OutputPoint) (values : List PointValue) (held : List ℕ) → find (is_output_at point) profile.outputs ≡ Some output → bytes_at values point ≡ Some held → length held ≡ output.len → bytes_at (lost_values profile point values) point ≡ Some (unwrap_or (left_lost (find (is_output_at point) profile.outputs)) held)
-lost_at profile point output values held is holds long =
-    rw is (subst (λ (n : ℕ). bytes_at (acted_values output.fault n values) point ≡ Some (unwrap_or (left_by output.fault output.len) held)) (let back : point ≡ output.instance = let e = output_is point profile.outputs output is in cc in back) (acted_at output.fault point output.len values held holds long))
+pub lost_at : (profile : Profile) (point : ℕ) (output : OutputPoint) (values : List PointValue) (point_bytes : List ℕ) → find (is_output_at point) profile.outputs ≡ Some output → bytes_at values point ≡ Some point_bytes → length point_bytes ≡ output.len → bytes_at (lost_values profile point values) point ≡ Some (unwrap_or (left_lost (find (is_output_at point) profile.outputs)) point_bytes)
+lost_at profile point output values point_bytes is holds long =
+    rw is (subst (λ (n : ℕ). bytes_at (acted_values output.fault n values) point ≡ Some (unwrap_or (left_by output.fault output.len) point_bytes)) (let back : point ≡ output.instance = let e = output_is point profile.outputs output is in cc in back) (acted_at output.fault point output.len values point_bytes holds long))
 
-lost_by : (found : Option OutputPoint) (point other : ℕ) (values : List PointValue) (held : List ℕ) → ((output : OutputPoint) → found ≡ Some output → (output.instance == point) ≡ false) → bytes_at values point ≡ Some held → bytes_at (fault_values found values) point ≡ Some held
-lost_by None point other values held differ holds = holds
-lost_by (Some output) point other values held differ holds = acted_beside output.fault point output.instance values held (differ output refl) holds
+lost_by : (found : Option OutputPoint) (point other : ℕ) (values : List PointValue) (point_bytes : List ℕ) → ((output : OutputPoint) → found ≡ Some output → (output.instance == point) ≡ false) → bytes_at values point ≡ Some point_bytes → bytes_at (fault_values found values) point ≡ Some point_bytes
+lost_by None point other values point_bytes differ holds = holds
+lost_by (Some output) point other values point_bytes differ holds = acted_beside output.fault point output.instance values point_bytes (differ output refl) holds
 
 -- and at another one
-pub lost_beside : (profile : Profile) (point other : ℕ) (values : List PointValue) (held : List ℕ) → (other == point) ≡ false → bytes_at values point ≡ Some held → bytes_at (lost_values profile other values) point ≡ Some held
-lost_beside profile point other values held differ holds =
-    lost_by (find (is_output_at other) profile.outputs) point other values held (λ output is. ap (λ (n : ℕ). n == point) (output_is other profile.outputs output is) ∙ differ) holds
+pub lost_beside : (profile : Profile) (point other : ℕ) (values : List PointValue) (point_bytes : List ℕ) → (other == point) ≡ false → bytes_at values point ≡ Some point_bytes → bytes_at (lost_values profile other values) point ≡ Some point_bytes
+lost_beside profile point other values point_bytes differ holds =
+    lost_by (find (is_output_at other) profile.outputs) point other values point_bytes (λ output is. ap (λ (n : ℕ). n == point) (output_is other profile.outputs output is) ∙ differ) holds
 
 -- what the idle action leaves at its output
-pub idle_at : (profile : Profile) (point : ℕ) (output : OutputPoint) (values : List PointValue) (held : List ℕ) → find (is_output_at point) profile.outputs ≡ Some output → bytes_at values point ≡ Some held → length held ≡ output.len → bytes_at (idle_values profile point values) point ≡ Some (unwrap_or (left_idle (find (is_output_at point) profile.outputs)) held)
-idle_at profile point output values held is holds long =
-    rw is (subst (λ (n : ℕ). bytes_at (acted_values output.idle n values) point ≡ Some (unwrap_or (left_by output.idle output.len) held)) (let back : point ≡ output.instance = let e = output_is point profile.outputs output is in cc in back) (acted_at output.idle point output.len values held holds long))
+pub idle_at : (profile : Profile) (point : ℕ) (output : OutputPoint) (values : List PointValue) (point_bytes : List ℕ) → find (is_output_at point) profile.outputs ≡ Some output → bytes_at values point ≡ Some point_bytes → length point_bytes ≡ output.len → bytes_at (idle_values profile point values) point ≡ Some (unwrap_or (left_idle (find (is_output_at point) profile.outputs)) point_bytes)
+idle_at profile point output values point_bytes is holds long =
+    rw is (subst (λ (n : ℕ). bytes_at (acted_values output.idle n values) point ≡ Some (unwrap_or (left_by output.idle output.len) point_bytes)) (let back : point ≡ output.instance = let e = output_is point profile.outputs output is in cc in back) (acted_at output.idle point output.len values point_bytes holds long))
 
-idle_by : (found : Option OutputPoint) (point other : ℕ) (values : List PointValue) (held : List ℕ) → ((output : OutputPoint) → found ≡ Some output → (output.instance == point) ≡ false) → bytes_at values point ≡ Some held → bytes_at (idle_action_values found values) point ≡ Some held
-idle_by None point other values held differ holds = holds
-idle_by (Some output) point other values held differ holds = acted_beside output.idle point output.instance values held (differ output refl) holds
+idle_by : (found : Option OutputPoint) (point other : ℕ) (values : List PointValue) (point_bytes : List ℕ) → ((output : OutputPoint) → found ≡ Some output → (output.instance == point) ≡ false) → bytes_at values point ≡ Some point_bytes → bytes_at (idle_action_values found values) point ≡ Some point_bytes
+idle_by None point other values point_bytes differ holds = holds
+idle_by (Some output) point other values point_bytes differ holds = acted_beside output.idle point output.instance values point_bytes (differ output refl) holds
 
 -- and at another one
-pub idle_beside : (profile : Profile) (point other : ℕ) (values : List PointValue) (held : List ℕ) → (other == point) ≡ false → bytes_at values point ≡ Some held → bytes_at (idle_values profile other values) point ≡ Some held
-idle_beside profile point other values held differ holds =
-    idle_by (find (is_output_at other) profile.outputs) point other values held (λ output is. ap (λ (n : ℕ). n == point) (output_is other profile.outputs output is) ∙ differ) holds
+pub idle_beside : (profile : Profile) (point other : ℕ) (values : List PointValue) (point_bytes : List ℕ) → (other == point) ≡ false → bytes_at values point ≡ Some point_bytes → bytes_at (idle_values profile other values) point ≡ Some point_bytes
+idle_beside profile point other values point_bytes differ holds =
+    idle_by (find (is_output_at other) profile.outputs) point other values point_bytes (λ output is. ap (λ (n : ℕ). n == point) (output_is other profile.outputs output is) ∙ differ) holds
 
 -- ---- the beginning
 

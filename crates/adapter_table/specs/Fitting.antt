@@ -60,14 +60,14 @@ length_is profile values point shaped =
     ∙ ap (option_map len_in) (find_shape point values)
     ∙ ap (λ (points : List InputPoint). option_map len_in (find (is_at point) points)) shaped.shapes
 
-length_by : (bytes : Option (List ℕ)) (held : List ℕ) (len : ℕ) → option_map (λ (b : List ℕ). length b) bytes ≡ Some len → bytes ≡ Some held → length held ≡ len
-length_by None held len long is = absurd cc
-length_by (Some bytes) held len long is = cc
+length_by : (bytes : Option (List ℕ)) (point_bytes : List ℕ) (len : ℕ) → option_map (λ (b : List ℕ). length b) bytes ≡ Some len → bytes ≡ Some point_bytes → length point_bytes ≡ len
+length_by None point_bytes len long is = absurd cc
+length_by (Some bytes) point_bytes len long is = cc
 
 -- what an output holds is as long as it
-pub output_length : (profile : Profile) (values : List PointValue) (point : ℕ) (output : OutputPoint) (held : List ℕ) → IsShaped profile values → find (is_output_at point) profile.outputs ≡ Some output → bytes_at values point ≡ Some held → length held ≡ output.len
-output_length profile values point output held shaped is holds =
-    length_by (bytes_at values point) held output.len (length_is profile values point shaped ∙ output_fits profile point output output.len is refl) holds
+pub output_length : (profile : Profile) (values : List PointValue) (point : ℕ) (output : OutputPoint) (point_bytes : List ℕ) → IsShaped profile values → find (is_output_at point) profile.outputs ≡ Some output → bytes_at values point ≡ Some point_bytes → length point_bytes ≡ output.len
+output_length profile values point output point_bytes shaped is holds =
+    length_by (bytes_at values point) point_bytes output.len (length_is profile values point shaped ∙ output_fits profile point output output.len is refl) holds
 
 -- where no other value is the point's, none has to fit
 no_other : (point len : ℕ) (values : List PointValue) → list_any (is_at point) (map shape_of values) ≡ false → FitPoint point len values

@@ -113,6 +113,6 @@ len_short instance (point ∷ points) len short is =
     len_step (is_at instance point) point (find (is_at instance) points) len is short.0 (λ later. len_short instance points len short.1 later)
 
 -- what a point holds is short
-pub held_short : (profile : Profile) (values : List PointValue) (point : ℕ) (held : List ℕ) → IsShaped profile values → bytes_at values point ≡ Some held → length held ≤ 1400
-held_short profile values point held shaped is =
-    len_short point (data_points profile) (length held) (all_short profile shaped.faultless) (sym (length_is profile values point shaped) ∙ ap (option_map (λ (bytes : List ℕ). length bytes)) is)
+pub bytes_short : (profile : Profile) (values : List PointValue) (point : ℕ) (point_bytes : List ℕ) → IsShaped profile values → bytes_at values point ≡ Some point_bytes → length point_bytes ≤ 1400
+bytes_short profile values point point_bytes shaped is =
+    len_short point (data_points profile) (length point_bytes) (all_short profile shaped.faultless) (sym (length_is profile values point shaped) ∙ ap (option_map (λ (bytes : List ℕ). length bytes)) is)

@@ -14,7 +14,7 @@ use Rattle.adapter_table.specs.Points.{bytes_at}
 use Rattle.adapter_table.specs.Shapes.{shape_of, IsShaped, FitPoint, len_in, len_of}
 use Rattle.adapter_table.specs.Shaping.{points_differ}
 use Rattle.adapter_table.specs.Fitting.{input_fits, configuration_fits, fit_of}
-use Rattle.adapter_table.specs.Limits.{output_len_short, input_len_short, held_short}
+use Rattle.adapter_table.specs.Limits.{output_len_short, input_len_short, bytes_short}
 use Rattle.assembly_set.specs.Assemblies.{Assemblies, config_len}
 
 config_is : (config : Option InputPoint) (point : InputPoint) (len : ℕ) → config ≡ Some point → option_map len_in config ≡ Some len → point.len ≡ len
@@ -69,7 +69,7 @@ input_short profile point found none is = if_input_short found (λ input there. 
 
 lent_by : (profile : Profile) (values : List PointValue) (point : ℕ) (lent : Option (Bor (List ℕ))) (fault : PointFault) → IsShaped profile values → option_map (λ (b : Bor (List ℕ)). b.now) lent ≡ bytes_at values point → IfOk (ok_or lent fault) (λ bytes. length bytes.now ≤ 1400)
 lent_by profile values point None fault shaped is = tt
-lent_by profile values point (Some bytes) fault shaped is = held_short profile values point bytes.now shaped (sym is)
+lent_by profile values point (Some bytes) fault shaped is = bytes_short profile values point bytes.now shaped (sym is)
 
 -- what is lent of a point is short
 pub lent_short : (profile : Profile) (values lent_of : List PointValue) (point : ℕ) (lent : Option (Bor (List ℕ))) (fault : PointFault) (result : Result (Bor (List ℕ)) PointFault) → IsShaped profile values → lent_of ≡ values → option_map (λ (b : Bor (List ℕ)). b.now) lent ≡ bytes_at lent_of point → result ≡ ok_or lent fault → IfOk result (λ bytes. length bytes.now ≤ 1400)

@@ -49,7 +49,7 @@ fn is_ungot(reply: &GetReply<'_>) -> bool {
 }
 
 #[test]
-fn a_value_is_asked_for_and_answered(rt: HostRuntime) -> Result<(), Fail> {
+fn a_value_is_requested_and_answered(rt: HostRuntime) -> Result<(), Fail> {
     let text = write_get(rt.alloc(), &ATTRIBUTE)?;
     assert!(rt; text.as_slice() == GET.as_slice());
     let text = write_got(rt.alloc(), &[0x11, 0x22, 0x33, 0x44])?;

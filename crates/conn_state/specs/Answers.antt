@@ -20,7 +20,7 @@ same_triad a b = a.serial == b.serial && (a.vendor == b.vendor && a.originator =
 -- the id is the requested one, if one was requested
 abbrev pub is_requested_id : Option ConnId → ConnId → Bool
 is_requested_id None id = true
-is_requested_id (Some asked) id = asked.0 == id.0
+is_requested_id (Some requested_id) id = requested_id.0 == id.0
 
 -- both actual packet intervals are in the range of requested ones
 abbrev pub has_intervals : made.Opened → Bool

@@ -18,7 +18,7 @@ use Rattle.adapter_table.specs.declared.row.Row.{Row}
 use Rattle.adapter_table.specs.declared.table.AdapterTable.{AdapterTable}
 use Rattle.adapter_table.specs.declared.table.PointValue.{PointValue}
 use Rattle.adapter_table.specs.Closing.{stays}
-use Rattle.adapter_table.specs.Limits.{held_short, input_len_short}
+use Rattle.adapter_table.specs.Limits.{bytes_short, input_len_short}
 use Rattle.adapter_table.specs.Points.{bytes_at}
 use Rattle.adapter_table.specs.Productions.{producer_in, producers, production_of, is_due, due_producers, input_of, due_productions, produces_on_change, producers_on_change, productions_on_change}
 use Rattle.adapter_table.specs.Profiles.{is_at}
@@ -56,7 +56,7 @@ sent_few rows input short ps few =
 
 value_short : (profile : Profile) (values : List PointValue) (point : ℕ) (stored : Option (List ℕ)) → bytes_at values point ≡ stored → IsShaped profile values → length (unwrap_or stored []) ≤ 1400
 value_short profile values point None is shaped = omega arith
-value_short profile values point (Some bytes) is shaped = held_short profile values point bytes shaped is
+value_short profile values point (Some bytes) is shaped = bytes_short profile values point bytes shaped is
 
 inputs_short : (profile : Profile) (values : List PointValue) → IsShaped profile values → SendsFew (input_of values)
 inputs_short profile values shaped producer = value_short profile values producer.point (bytes_at values producer.point) refl shaped

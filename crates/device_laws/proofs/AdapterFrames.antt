@@ -27,7 +27,7 @@ use Rattle.adapter_table.specs.declared.table.Stream.{Stream}
 use Rattle.adapter_table.specs.declared.table.AdapterTable.{AdapterTable}
 use Rattle.adapter_table.specs.Checks.{Admitted, admission}
 use Rattle.adapter_table.specs.Encapsulation.{Handled, refusal, session_begun, register_session, request_replied, packet_replied, handled, framed, frame_answer, frame_of, frame}
-use Rattle.adapter_table.specs.Limits.{held_short}
+use Rattle.adapter_table.specs.Limits.{bytes_short}
 use Rattle.adapter_table.specs.Points.{bytes_at}
 use Rattle.adapter_table.specs.Requests.{Next, Served, judged_open, admitted_open, served_open, close_of, served_close, is_value_attribute, router_refusal, assembly_of, served_assembly, served, answered, requested}
 use Rattle.adapter_table.specs.Rows.{has_triad}
@@ -59,7 +59,7 @@ value_few t service point attribute body (Some value) is shaped =
     let all : Served = record { reply = got value; address = None; notices = []; table = t } in
     either (λ (s : Served). GetsFew s.reply) (not (service == 0x0E)) _ _ tt
     (either (λ (s : Served). GetsFew s.reply) (not (is_value_attribute attribute)) _ _ tt
-    (either (λ (s : Served). GetsFew s.reply) (not (length body == 0)) (router_refusal t service status.TooMuchData) all tt (held_short t.profile t.values point value shaped is)))
+    (either (λ (s : Served). GetsFew s.reply) (not (length body == 0)) (router_refusal t service status.TooMuchData) all tt (bytes_short t.profile t.values point value shaped is)))
 
 -- of what is served, if there is a request
 abbrev ServesFew : Option Served → Type 0

@@ -198,12 +198,12 @@ a_point_to_point_connection = refl
 abbrev joiner : OpeningRequest
 joiner = record gatherer { serial = 7 }
 
-a_multicast_connection_is_told_its_socket :
+a_multicast_connection_receives_its_socket :
     registered (sent 1 (opening gatherer) ∷ sent 1 (opening joiner) ∷ [])
     ≡ opens gatherer 1 0x10000002 (hex "00 00 00 00 00 00 03 00 00 00 00 00 B2 00 1E 00 D4 00 00 00 01 00 00 10 02 00 00 10 05 00 34 12 78 56 34 12 10 27 00 00 10 27 00 00 00 00 01 80 10 00 00 02 08 AE EF C0 02 20 00 00 00 00 00 00 00 00")
     ∷ opens joiner 3 0x10000002 (items_with_socket (opened_reply joiner (id 3) 0x10000002 10000 10000)) ∷ []
 unfolding computing
-a_multicast_connection_is_told_its_socket = refl
+a_multicast_connection_receives_its_socket = refl
 
 -- the peer of the connection is the stream's
 the_stream_s_peer_consumes :

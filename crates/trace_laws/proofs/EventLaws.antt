@@ -35,17 +35,17 @@ mode_clean true = refl
 mode_clean false = refl
 
 event_reads : (builder builder' : TraceBuilder) (given : Event) → EventFits given → builder_with builder (line.Event given) ≡ Some builder' → Reads builder (line_text (event_words given)) builder'
-event_reads builder builder' (event.Request peer bytes) fits drafted = line_reads builder builder' (codes "request") (node_word peer ∷ bytes_word bytes ∷ []) (line.Event (event.Request peer bytes)) refl refl (rw (node_clean peer, bytes_clean bytes fits.1) refl) (rw (node_back peer fits.0, bytes_back bytes fits.1) refl) drafted
-event_reads builder builder' (event.StreamOpened stream peer) fits drafted = line_reads builder builder' (codes "stream") (decimal stream ∷ node_word peer ∷ []) (line.Event (event.StreamOpened stream peer)) refl refl (rw (c16 stream fits.0, node_clean peer) refl) (rw (n16 stream fits.0, node_back peer fits.1) refl) drafted
-event_reads builder builder' (event.Frame stream bytes) fits drafted = line_reads builder builder' (codes "frame") (decimal stream ∷ bytes_word bytes ∷ []) (line.Event (event.Frame stream bytes)) refl refl (rw (c16 stream fits.0, bytes_clean bytes fits.1) refl) (rw (n16 stream fits.0, bytes_back bytes fits.1) refl) drafted
-event_reads builder builder' (event.StreamCut stream) fits drafted = line_reads builder builder' (codes "cut") (decimal stream ∷ []) (line.Event (event.StreamCut stream)) refl refl (rw (c16 stream fits) refl) (rw (n16 stream fits) refl) drafted
-event_reads builder builder' (event.Datagram peer bytes) fits drafted = line_reads builder builder' (codes "datagram") (node_word peer ∷ bytes_word bytes ∷ []) (line.Event (event.Datagram peer bytes)) refl refl (rw (node_clean peer, bytes_clean bytes fits.1) refl) (rw (node_back peer fits.0, bytes_back bytes fits.1) refl) drafted
-event_reads builder builder' (event.Write point bytes) fits drafted = line_reads builder builder' (codes "write") (decimal point ∷ bytes_word bytes ∷ []) (line.Event (event.Write point bytes)) refl refl (rw (c32 point fits.0, bytes_clean bytes fits.1) refl) (rw (n32 point fits.0, bytes_back bytes fits.1) refl) drafted
-event_reads builder builder' (event.Read point) fits drafted = line_reads builder builder' (codes "read") (decimal point ∷ []) (line.Event (event.Read point)) refl refl (rw (c32 point fits) refl) (rw (n32 point fits) refl) drafted
-event_reads builder builder' (event.Tick ms) fits drafted = line_reads builder builder' (codes "tick") (decimal ms ∷ []) (line.Event (event.Tick ms)) refl refl (rw (c32 ms fits) refl) (rw (n32 ms fits) refl) drafted
-event_reads builder builder' (event.Mode run) fits drafted = line_reads builder builder' (codes "mode") (mode_word run ∷ []) (line.Event (event.Mode run)) refl refl (rw (mode_clean run) refl) (rw (mode_back run) refl) drafted
-event_reads builder builder' (event.Start slot) fits drafted = line_reads builder builder' (codes "start") (decimal slot ∷ []) (line.Event (event.Start slot)) refl refl (rw (c32 slot fits) refl) (rw (n32 slot fits) refl) drafted
-event_reads builder builder' (event.Stop slot) fits drafted = line_reads builder builder' (codes "stop") (decimal slot ∷ []) (line.Event (event.Stop slot)) refl refl (rw (c32 slot fits) refl) (rw (n32 slot fits) refl) drafted
+event_reads builder builder' (event.Request peer bytes) fits built = line_reads builder builder' (codes "request") (node_word peer ∷ bytes_word bytes ∷ []) (line.Event (event.Request peer bytes)) refl refl (rw (node_clean peer, bytes_clean bytes fits.1) refl) (rw (node_back peer fits.0, bytes_back bytes fits.1) refl) built
+event_reads builder builder' (event.StreamOpened stream peer) fits built = line_reads builder builder' (codes "stream") (decimal stream ∷ node_word peer ∷ []) (line.Event (event.StreamOpened stream peer)) refl refl (rw (c16 stream fits.0, node_clean peer) refl) (rw (n16 stream fits.0, node_back peer fits.1) refl) built
+event_reads builder builder' (event.Frame stream bytes) fits built = line_reads builder builder' (codes "frame") (decimal stream ∷ bytes_word bytes ∷ []) (line.Event (event.Frame stream bytes)) refl refl (rw (c16 stream fits.0, bytes_clean bytes fits.1) refl) (rw (n16 stream fits.0, bytes_back bytes fits.1) refl) built
+event_reads builder builder' (event.StreamCut stream) fits built = line_reads builder builder' (codes "cut") (decimal stream ∷ []) (line.Event (event.StreamCut stream)) refl refl (rw (c16 stream fits) refl) (rw (n16 stream fits) refl) built
+event_reads builder builder' (event.Datagram peer bytes) fits built = line_reads builder builder' (codes "datagram") (node_word peer ∷ bytes_word bytes ∷ []) (line.Event (event.Datagram peer bytes)) refl refl (rw (node_clean peer, bytes_clean bytes fits.1) refl) (rw (node_back peer fits.0, bytes_back bytes fits.1) refl) built
+event_reads builder builder' (event.Write point bytes) fits built = line_reads builder builder' (codes "write") (decimal point ∷ bytes_word bytes ∷ []) (line.Event (event.Write point bytes)) refl refl (rw (c32 point fits.0, bytes_clean bytes fits.1) refl) (rw (n32 point fits.0, bytes_back bytes fits.1) refl) built
+event_reads builder builder' (event.Read point) fits built = line_reads builder builder' (codes "read") (decimal point ∷ []) (line.Event (event.Read point)) refl refl (rw (c32 point fits) refl) (rw (n32 point fits) refl) built
+event_reads builder builder' (event.Tick ms) fits built = line_reads builder builder' (codes "tick") (decimal ms ∷ []) (line.Event (event.Tick ms)) refl refl (rw (c32 ms fits) refl) (rw (n32 ms fits) refl) built
+event_reads builder builder' (event.Mode run) fits built = line_reads builder builder' (codes "mode") (mode_word run ∷ []) (line.Event (event.Mode run)) refl refl (rw (mode_clean run) refl) (rw (mode_back run) refl) built
+event_reads builder builder' (event.Start slot) fits built = line_reads builder builder' (codes "start") (decimal slot ∷ []) (line.Event (event.Start slot)) refl refl (rw (c32 slot fits) refl) (rw (n32 slot fits) refl) built
+event_reads builder builder' (event.Stop slot) fits built = line_reads builder builder' (codes "stop") (decimal slot ∷ []) (line.Event (event.Stop slot)) refl refl (rw (c32 slot fits) refl) (rw (n32 slot fits) refl) built
 
 -- an event behind those before it
 pub event_read : (made_of : Config) (entries : List Entry) (last : Option Entry) (given : Event) → EventFits given → Reads (Events made_of entries last) (line_text (event_words given)) (Events made_of (entries ++ option_to_list last) (Some (given, None)))
@@ -65,5 +65,5 @@ same_number a b is = grind (arith, nat_tests, is)
 -- a part of the outcome of the last event
 pub part_read : (made_of : Config) (entries : List Entry) (given : Event) (recorded : Option Outcome) (outcome : Outcome) (n : ℕ) (words : List (List ℕ)) (part : Part) → n < 2 ^ 64 → n ≡ length entries + 1 → are_clean words ≡ true → part_reader words ≡ Some (part, []) → recorded_with recorded part ≡ Some outcome → Reads (Events made_of entries (Some (given, recorded))) (line_text (decimal n ∷ words)) (Events made_of entries (Some (given, Some outcome)))
 part_read made_of entries given recorded outcome n words part fits number clean read with =
-    let drafted : builder_with (Events made_of entries (Some (given, recorded))) (line.Recorded n part) ≡ Some (Events made_of entries (Some (given, Some outcome))) = rw (same_number n (length entries + 1) number, with) refl in
-    line_reads (Events made_of entries (Some (given, recorded))) (Events made_of entries (Some (given, Some outcome))) (decimal n) words (line.Recorded n part) (decimal_begins n fits) (decimal_clean n fits) clean (recorded_read n words part fits read) drafted
+    let built : builder_with (Events made_of entries (Some (given, recorded))) (line.Recorded n part) ≡ Some (Events made_of entries (Some (given, Some outcome))) = rw (same_number n (length entries + 1) number, with) refl in
+    line_reads (Events made_of entries (Some (given, recorded))) (Events made_of entries (Some (given, Some outcome))) (decimal n) words (line.Recorded n part) (decimal_begins n fits) (decimal_clean n fits) clean (recorded_read n words part fits read) built

@@ -83,10 +83,10 @@ unfolding line_of
 line_found word words line clean all read =
     rw (line_ascii word words clean all, words_back word words clean all, read) refl
 
-pub line_drafted : (builder builder' : TraceBuilder) (c : ℕ) (cs : List ℕ) (words : List (List ℕ)) (line : TraceLine) → eqb c 35 ≡ false → is_clean (c ∷ cs) ≡ true → are_clean words ≡ true → line_reader ((c ∷ cs) ∷ words) ≡ Some (line, []) → builder_with builder line ≡ Some builder' → builder_after builder (join_with_byte 32 ((c ∷ cs) ∷ words)) ≡ Some builder'
+pub line_built : (builder builder' : TraceBuilder) (c : ℕ) (cs : List ℕ) (words : List (List ℕ)) (line : TraceLine) → eqb c 35 ≡ false → is_clean (c ∷ cs) ≡ true → are_clean words ≡ true → line_reader ((c ∷ cs) ∷ words) ≡ Some (line, []) → builder_with builder line ≡ Some builder' → builder_after builder (join_with_byte 32 ((c ∷ cs) ∷ words)) ≡ Some builder'
 unfolding builder_after
-line_drafted builder builder' c cs words line other clean all read drafted =
-    rw (kept_line c cs words other, line_found (c ∷ cs) words line clean all read) drafted
+line_built builder builder' c cs words line other clean all read built =
+    rw (kept_line c cs words other, line_found (c ∷ cs) words line clean all read) built
 
 -- ONE LINE AFTER THE OTHER
 
@@ -107,14 +107,14 @@ abbrev Parts : Type 0
 Parts = List (List ℕ)
 
 part_parsed : (number : ℕ) (builder builder' : TraceBuilder) (line : List ℕ) (parts : Parts) → parts ≢ [] → builder_after builder line ≡ Some builder' → parsed_from number (Ok builder) (line ∷ parts) ≡ parsed_from (number + 1) (Ok builder') parts
-part_parsed number builder builder' line [] some drafted = absurd (some refl)
-part_parsed number builder builder' line (next ∷ parts) some drafted = ap (λ d. parsed_from (number + 1) (ok_or d number) (next ∷ parts)) drafted
+part_parsed number builder builder' line [] some built = absurd (some refl)
+part_parsed number builder builder' line (next ∷ parts) some built = ap (λ d. parsed_from (number + 1) (ok_or d number) (next ∷ parts)) built
 
 -- a line of clean words, and LF
 pub line_leads : (builder builder' : TraceBuilder) (c : ℕ) (cs : List ℕ) (words : List (List ℕ)) (line : TraceLine) (rest : List ℕ) → eqb c 35 ≡ false → is_clean (c ∷ cs) ≡ true → are_clean words ≡ true → line_reader ((c ∷ cs) ∷ words) ≡ Some (line, []) → builder_with builder line ≡ Some builder' → Leads builder (join_with_byte 32 ((c ∷ cs) ∷ words) ++ 10 ∷ rest) builder' rest
-line_leads builder builder' c cs words line rest other clean all read drafted = λ number.
+line_leads builder builder' c cs words line rest other clean all read built = λ number.
     let parted : parts_of (join_with_byte 32 ((c ∷ cs) ∷ words) ++ 10 ∷ rest) ≡ join_with_byte 32 ((c ∷ cs) ∷ words) ∷ parts_of rest = slice_split_at is_line_feed (join_with_byte 32 ((c ∷ cs) ∷ words)) 10 rest (line_closed (c ∷ cs) words clean all) refl in
-    (number + 1, ap (parsed_from number (Ok builder)) parted ∙ part_parsed number builder builder' (join_with_byte 32 ((c ∷ cs) ∷ words)) (parts_of rest) (some_part rest) (line_drafted builder builder' c cs words line other clean all read drafted))
+    (number + 1, ap (parsed_from number (Ok builder)) parted ∙ part_parsed number builder builder' (join_with_byte 32 ((c ∷ cs) ∷ words)) (parts_of rest) (some_part rest) (line_built builder builder' c cs words line other clean all read built))
 
 -- the words of a line, right-nested, and what stands behind it
 abbrev pub spelled : List ℕ → List (List ℕ) → List ℕ → List ℕ

@@ -49,10 +49,10 @@ not_hash true h = absurd (cc)
 not_hash false h = refl
 
 pub line_reads : (builder builder' : TraceBuilder) (word : List ℕ) (words : List (List ℕ)) (line : TraceLine) → begins_line word ≡ true → is_clean word ≡ true → are_clean words ≡ true → line_reader (word ∷ words) ≡ Some (line, []) → builder_with builder line ≡ Some builder' → Reads builder (line_text (word ∷ words)) builder'
-line_reads builder builder' [] words line begins clean all read drafted = absurd (cc)
-line_reads builder builder' (c ∷ cs) words line begins clean all read drafted = record {
+line_reads builder builder' [] words line begins clean all read built = absurd (cc)
+line_reads builder builder' (c ∷ cs) words line begins clean all read built = record {
   leads = λ rest.
-      subst (λ text. Leads builder text builder' rest) (sym (append_assoc (join_with_byte 32 ((c ∷ cs) ∷ words)) (10 ∷ []) rest)) (line_leads builder builder' c cs words line rest (not_hash (eqb c 35) begins) clean all read drafted);
+      subst (λ text. Leads builder text builder' rest) (sym (append_assoc (join_with_byte 32 ((c ∷ cs) ∷ words)) (10 ∷ []) rest)) (line_leads builder builder' c cs words line rest (not_hash (eqb c 35) begins) clean all read built);
 }
 
 -- READERS

@@ -128,11 +128,11 @@ action_back Hold = refl
 
 -- ADDRESSES
 
-node_found : (word octets : List ℕ) (bits : ℕ) → IsDotted word octets → bits ≡ from_be_bytes w32 octets → Some (record { 0 = bits }) ≡ node_of word
+node_found : (word address_bytes : List ℕ) (bits : ℕ) → IsDotted word address_bytes → bits ≡ from_be_bytes w32 address_bytes → Some (record { 0 = bits }) ≡ node_of word
 unfolding node_of
-node_found word octets bits h is =
-    let read : read_ipv4 (word ++ []) ≡ Some (octets, []) = read_ipv4_complete word octets [] h (omega arith) in
-    let here : read_ipv4 word ≡ Some (octets, []) = subst (λ w. read_ipv4 w ≡ Some (octets, [])) (append-nil word) read in
+node_found word address_bytes bits h is =
+    let read : read_ipv4 (word ++ []) ≡ Some (address_bytes, []) = read_ipv4_complete word address_bytes [] h (omega arith) in
+    let here : read_ipv4 word ≡ Some (address_bytes, []) = subst (λ w. read_ipv4 w ≡ Some (address_bytes, [])) (append-nil word) read in
     rw here (ap (λ n. Some (record { 0 = n })) is)
 
 bounds_of : (bytes : List ℕ) → IsBytes bytes → (k : ℕ) → get_or bytes k 0 < 2 ^ 8

@@ -10,7 +10,7 @@ use Rattle.std.proofs.lemmas.List.{append-nil, append_assoc}
 use Rattle.std.proofs.NetLemmas.Ipv4.{read_ipv4_complete, read_ipv4_sound}
 use Rattle.cip_types.specs.declared.names.Node.{Node}
 use Rattle.std.specs.List.{slice_split}
-use Rattle.trace_words.specs.Words.{node_of, octets_only, all_nodes, nodes_of, is_dash}
+use Rattle.trace_words.specs.Words.{node_of, address_bytes_only, all_nodes, nodes_of, is_dash}
 
 pub node_found : (word octets : List ℕ) (bits : ℕ) → IsDotted word octets → bits ≡ from_be_bytes w32 octets → Some (record { 0 = bits }) ≡ node_of word
 unfolding node_of
@@ -19,10 +19,10 @@ node_found word octets bits h is =
     let here : read_ipv4 word ≡ Some (octets, []) = subst (λ w. read_ipv4 w ≡ Some (octets, [])) (append-nil word) read in
     rw here (ap (λ n. Some (record { 0 = n })) is)
 
-some_left : (octets rest : List ℕ) (b : ℕ) → octets_only (octets, b ∷ rest) ≡ None
+some_left : (octets rest : List ℕ) (b : ℕ) → address_bytes_only (octets, b ∷ rest) ≡ None
 some_left octets rest b = let above : eqb (length (b ∷ rest)) 0 ≡ false = grind (arith, nat_tests) in ap (λ c. cond c (Some (record { 0 = from_be_bytes w32 octets })) None) above
 
-refused : (word : List ℕ) → ((a : Ipv4Addr) → ¬ (IsIpv4Text word a)) → (read : Option (List ℕ × List ℕ)) → read_ipv4 word ≡ read → None ≡ option_and_then octets_only read
+refused : (word : List ℕ) → ((a : Ipv4Addr) → ¬ (IsIpv4Text word a)) → (read : Option (List ℕ × List ℕ)) → read_ipv4 word ≡ read → None ≡ option_and_then address_bytes_only read
 refused word none None is = refl
 refused word none (Some (octets, [])) is =
     let (front, split, h) = read_ipv4_sound word octets [] is in

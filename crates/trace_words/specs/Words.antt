@@ -84,12 +84,12 @@ number_of bits word = if is_numeral word && nat_lt (digits_value 10 word) (2 ^ b
 unfoldable pub instance_of : List ℕ → Option (Option ℕ)
 instance_of word = if is_dash word then Some None else option_map Some (number_of 32 word)
 
-abbrev pub octets_only : List ℕ × List ℕ → Option Node
-octets_only read = if length read.1 == 0 then Some (record { 0 = from_be_bytes w32 read.0 }) else None
+abbrev pub address_bytes_only : List ℕ × List ℕ → Option Node
+address_bytes_only read = if length read.1 == 0 then Some (record { 0 = from_be_bytes w32 read.0 }) else None
 
 -- the address that a word writes, and nothing behind it
 unfoldable pub node_of : List ℕ → Option Node
-node_of word = option_and_then octets_only (read_ipv4 word)
+node_of word = option_and_then address_bytes_only (read_ipv4 word)
 
 -- the action for an output that a word names
 unfoldable pub action_of : List ℕ → Option Action

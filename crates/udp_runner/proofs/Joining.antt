@@ -87,8 +87,8 @@ pub stops_stepping : (fault : StepFault) (e : Event) (s s' : Tape) (t t' : Devic
 stops_stepping fault e s s' t t' follows sent = stops_first (run.Step fault) (e ∷ []) s s' t t' (record { refused = e; left = []; parts = refl; follows = follows; sends = sent })
 
 -- not all that the answer has sent was sent
-pub stops_sending : (fault : PortFault) (e : Event) (a : Answer) (s s' : Tape) (t t' : DeviceTable) → step t e ≡ Ok (a, t') → SendsSome s s' (answer_sent a) → Stops (run.Port fault) (e ∷ []) s s' t t'
-stops_sending fault e a s s' t t' is some =
+pub stops_output : (fault : PortFault) (e : Event) (a : Answer) (s s' : Tape) (t t' : DeviceTable) → step t e ≡ Ok (a, t') → SendsSome s s' (answer_sent a) → Stops (run.Port fault) (e ∷ []) s s' t t'
+stops_output fault e a s s' t t' is some =
     stops_first (run.Port fault) (e ∷ []) s s' t t'
     (inr (record { taken = e; left = []; parts = refl; sends = rw is some; table = sym (ap (table_of t) is) }))
 

@@ -1,2 +1,2 @@
 mod Joining
-mod Sendings
+mod SentOutputs

@@ -66,7 +66,7 @@ pub record Drives (events : List Event) (count : ℕ) (old new : Tape) (before a
   pub counts : count ≡ length events
 
 -- The device took the next of these events, and not all outputs of its answer were sent.
-pub record StopsSending (events : List Event) (old new : Tape) (before after : DeviceTable) : Type 0 where
+pub record StopsOutput (events : List Event) (old new : Tape) (before after : DeviceTable) : Type 0 where
   pub taken : Event
   pub left : List Event
   pub parts : events ≡ taken ∷ left
@@ -88,7 +88,7 @@ pub record StopsStepping (fault : StepFault) (events : List Event) (old new : Ta
 
 -- how a run ends at a fault, with these events left
 abbrev pub Halts : RunFault → List Event → Tape → Tape → DeviceTable → DeviceTable → Type 0
-Halts (run.Port fault) events old new before after = StopsReceiving old new before after ⊎ StopsSending events old new before after
+Halts (run.Port fault) events old new before after = StopsReceiving old new before after ⊎ StopsOutput events old new before after
 Halts (run.Step fault) events old new before after = StopsStepping fault events old new before after
 
 -- A fault ended a run of these events: the device took the first ones, all outputs of their answers were sent, and the

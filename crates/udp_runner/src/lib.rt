@@ -5,10 +5,10 @@
 mod fault;
 mod input;
 mod memory;
+mod outgoing;
 mod output;
 mod port;
 mod runner;
-mod sending;
 
 pub use fault::{PortFault, RunFault};
 pub use input::Input;

@@ -6,8 +6,8 @@ ghost use Rattle.udp_runner.specs.Tape.{first_or, rest_of};
 
 use crate::fault::RunFault;
 use crate::input::Input;
+use crate::outgoing::send_answer;
 use crate::port::{Clock, Port};
-use crate::sending::send_answer;
 use cip_events::Event;
 use cip_tables::Device;
 use cip_types::limits::LONGEST_TICK_MS;

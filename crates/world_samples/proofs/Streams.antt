@@ -140,11 +140,11 @@ unregister = message 0x66 1 0 []
 abbrev closed : List QueueItem → Side → List Stream
 closed rest back = (after (over (living (knowing (Queued unregister ∷ rest)) back) in_session) (NextFrame 0 Forth ∷ [])).streams
 
-a_device_tells_that_it_closes :
+a_device_reports_that_it_closes :
     says (over (living (knowing (Queued unregister ∷ [])) (knowing [])) in_session) (NextFrame 0 Forth ∷ [])
     ≡ reports 1 (Frame 0 unregister) (record { frames = []; datagrams = []; verdict = Done; notices = StreamClosed 0 ∷ [] }) ∷ []
 unfolding playing
-a_device_tells_that_it_closes = refl
+a_device_reports_that_it_closes = refl
 
 the_other_end_alone_learns_it :
     closed (Queued register ∷ []) (knowing (Queued registered ∷ [])) ≡ ended (knowing []) (knowing (Ending ∷ [])) ∷ []

@@ -1,6 +1,6 @@
 use Rattle.std.proofs.Common.{refl}
 use Rattle.std.proofs.lemmas.Result.{err_from_is_err_and}
-use Rattle.udp_runner.proofs.Joining.{stops_sending, stops_stepping}
+use Rattle.udp_runner.proofs.Joining.{stops_output, stops_stepping}
 use Rattle.udp_runner.proofs.runner.act.Goals as goal
 
 pub returns-in_err-answer-clause-stopped : goal.returns-in_err-answer-clause-stopped
@@ -11,4 +11,4 @@ returns-in_err-answer-clause-stopped g c =
 pub returns-in_err-send_answer-clause-stopped : goal.returns-in_err-send_answer-clause-stopped
 returns-in_err-send_answer-clause-stopped g c =
     let p = err_from_is_err_and c.from_residual-in_err-send_answer.result c.from_residual-in_err-send_answer.ensures.1 in
-    rw (p.1, p.2) (λ is_scripted. stops_sending _ _ _ _ _ _ _ c.in_ok-answer.ensures.step (c.in_err-send_answer.ensures.some is_scripted))
+    rw (p.1, p.2) (λ is_scripted. stops_output _ _ _ _ _ _ _ c.in_ok-answer.ensures.step (c.in_err-send_answer.ensures.some is_scripted))

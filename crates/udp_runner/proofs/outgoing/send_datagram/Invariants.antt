@@ -2,7 +2,7 @@ use Rattle.std.proofs.Common.{◌≡◌, take, true}
 use Rattle.std.specs.List.{flat_map}
 use Rattle.udp_runner.specs.Outputs.{copy_to}
 use Rattle.udp_runner.specs.Tape.{with_sent}
-use Rattle.udp_runner.proofs.sending.send_datagram.Given as goal
+use Rattle.udp_runner.proofs.outgoing.send_datagram.Given as goal
 
 abbrev pub invariant-loop-node : goal.invariant-loop-node
 invariant-loop-node g l =

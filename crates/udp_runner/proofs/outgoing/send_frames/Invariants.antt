@@ -2,7 +2,7 @@ use Rattle.std.proofs.Common.{◌≡◌, take, true}
 use Rattle.std.specs.List.{flat_map}
 use Rattle.udp_runner.specs.Outputs.{frame_sent}
 use Rattle.udp_runner.specs.Tape.{with_sent}
-use Rattle.udp_runner.proofs.sending.send_frames.Given as goal
+use Rattle.udp_runner.proofs.outgoing.send_frames.Given as goal
 
 abbrev pub invariant-loop-frame : goal.invariant-loop-frame
 invariant-loop-frame g l =

@@ -59,22 +59,22 @@ fn send_datagrams<P: Port>(port: &mut P, datagrams: &[OutgoingDatagram]) -> Resu
     ensures worked { OnOk result (P.failed port.new ≡ P.failed port.old) }
     ensures counted { OnErr result (P.failed port.new ≡ P.failed port.old + 1) }
 {
-    for sending in datagrams {
-        send_datagram(port, sending)?;
+    for outgoing in datagrams {
+        send_datagram(port, outgoing)?;
     }
     Ok(())
 }
 
 /// Sends a copy of a datagram to each of its nodes.
-fn send_datagram<P: Port>(port: &mut P, sending: &OutgoingDatagram) -> Result<(), PortFault>
+fn send_datagram<P: Port>(port: &mut P, outgoing: &OutgoingDatagram) -> Result<(), PortFault>
     requires { P.failed port.old < 2 ^ 64 - 1 }
-    ensures sent { OnOk result (P.is_scripted ≡ true → P.tape port.new ≡ with_sent (P.tape port.old) (datagram_sent sending.now)) }
-    ensures some { OnErr result (P.is_scripted ≡ true → SendsSome (P.tape port.old) (P.tape port.new) (datagram_sent sending.now)) }
+    ensures sent { OnOk result (P.is_scripted ≡ true → P.tape port.new ≡ with_sent (P.tape port.old) (datagram_sent outgoing.now)) }
+    ensures some { OnErr result (P.is_scripted ≡ true → SendsSome (P.tape port.old) (P.tape port.new) (datagram_sent outgoing.now)) }
     ensures worked { OnOk result (P.failed port.new ≡ P.failed port.old) }
     ensures counted { OnErr result (P.failed port.new ≡ P.failed port.old + 1) }
 {
-    let bytes = sending.bytes.as_slice();
-    for node in sending.nodes.as_slice() {
+    let bytes = outgoing.bytes.as_slice();
+    for node in outgoing.nodes.as_slice() {
         port.send(&Output::Datagram { node: *node, bytes })?;
     }
     Ok(())

@@ -1,8 +1,8 @@
 use Rattle.std.proofs.Common.{arith, ◌<◌, length}
 use Rattle.std.proofs.lemmas.List.{get_or_default}
 use Rattle.udp_runner.specs.Outputs.{notice_sent}
-use Rattle.udp_runner.proofs.Sendings.{flat_map_parts, on_err_is, some_within}
-use Rattle.udp_runner.proofs.sending.send_closes.Goals as goal
+use Rattle.udp_runner.proofs.SentOutputs.{flat_map_parts, on_err_is, some_within}
+use Rattle.udp_runner.proofs.outgoing.send_closes.Goals as goal
 
 pub returns-in_err-send_close-clause-some : goal.returns-in_err-send_close-clause-some
 returns-in_err-send_close-clause-some g c =

@@ -1,7 +1,7 @@
 use Rattle.std.specs.List.{flat_map}
 use Rattle.udp_runner.specs.Outputs.{notice_sent}
-use Rattle.udp_runner.proofs.Sendings.{on_err_is, some_within}
-use Rattle.udp_runner.proofs.sending.send_answer.Goals as goal
+use Rattle.udp_runner.proofs.SentOutputs.{on_err_is, some_within}
+use Rattle.udp_runner.proofs.outgoing.send_answer.Goals as goal
 
 pub returns-in_err-send_datagrams-clause-some : goal.returns-in_err-send_datagrams-clause-some
 returns-in_err-send_datagrams-clause-some g c =

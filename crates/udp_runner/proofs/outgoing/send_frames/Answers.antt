@@ -1,7 +1,7 @@
 use Rattle.std.proofs.Common.{arith}
 use Rattle.udp_runner.specs.Outputs.{frame_sent}
-use Rattle.udp_runner.proofs.Sendings.{flat_map_parts, on_err_is, some_within}
-use Rattle.udp_runner.proofs.sending.send_frames.Goals as goal
+use Rattle.udp_runner.proofs.SentOutputs.{flat_map_parts, on_err_is, some_within}
+use Rattle.udp_runner.proofs.outgoing.send_frames.Goals as goal
 
 pub returns-in_err-send_frame-clause-some : goal.returns-in_err-send_frame-clause-some
 returns-in_err-send_frame-clause-some g c =

@@ -1,0 +1,12 @@
+use Rattle.std.proofs.Common.{◌≡◌, take, true}
+use Rattle.std.specs.List.{flat_map}
+use Rattle.udp_runner.specs.Outputs.{datagram_sent}
+use Rattle.udp_runner.specs.Tape.{with_sent}
+use Rattle.udp_runner.proofs.outgoing.send_datagrams.Given as goal
+
+abbrev pub invariant-loop-outgoing : goal.invariant-loop-outgoing
+invariant-loop-outgoing g l =
+    record {
+      counted : g.P.Port.failed l.port ≡ g.P.Port.failed l.initial.port;
+      sends : g.P.Port.is_scripted ≡ true → g.P.Port.tape l.port ≡ with_sent (g.P.Port.tape l.initial.port) (flat_map datagram_sent (take l.outgoing-index l.datagrams));
+    }
