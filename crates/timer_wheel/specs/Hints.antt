@@ -1,7 +1,7 @@
--- Where the key of a token is guessed. No public clause cites this module.
+-- The cache of tokens' keys. No public clause cites this module.
 use Rattle.std.specs.Prelude.{ℕ, ◌*◌, ◌/◌, ◌%◌, ◌^◌}
 use Rattle.timer_wheel.specs.declared.search.TheConstants.{SPREAD}
 
--- the place of a token's guess: the upper bits of a multiple of its number
+-- the index of a token's entry: the upper bits of a multiple of its number
 abbrev pub hint_index : ℕ → ℕ → ℕ
 hint_index shift token = token * SPREAD % 2 ^ 64 / 2 ^ (shift % 64)

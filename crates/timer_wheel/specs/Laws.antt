@@ -1,5 +1,5 @@
--- What follows from the definitions, for the crates above: what a map of deadlines answers, and that what fires is
--- determined.
+-- Consequences of the definitions, for the crates above: look-ups in a map of deadlines, and that the fired tokens
+-- are determined.
 pub mod MapLemmas
 pub mod LevelLemmas
 pub mod SweepLemmas

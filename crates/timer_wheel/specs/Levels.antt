@@ -1,4 +1,4 @@
--- Where a deadline waits. Slots 0 to 255 are the lowest level, a millisecond each; 256 to 511 the middle
+-- The slots of deadlines. Slots 0 to 255 are the lowest level, a millisecond each; 256 to 511 the middle
 -- one, 256 ms each; 512 to 767 the highest, 65,536 ms each. No public clause cites this module.
 use Rattle.std.specs.Prelude.{ℕ, ◌+◌, ◌/◌, ◌%◌, ◌==◌, if◌then◌else◌}
 

@@ -1,4 +1,4 @@
--- How `Slots` marks the slots that have keys. No public clause cites this module.
+-- The marks of the slots that are not empty. No public clause cites this module.
 use Rattle.std.specs.Prelude.{◌≡◌, ℕ, ◌/◌, ◌%◌, ◌<◌, ◌≤◌, List, length, Some, None, slice_index}
 use Rattle.std.specs.Int.{bit_at}
 use Rattle.futures.specs.LinkedLists.{LinkedLists, list_of, list_count, key_limit, IsEmpty}
@@ -17,7 +17,7 @@ pub record IsMarked (marks : List ℕ) (s : LinkedLists) : Type 0 where
 abbrev pub AllEmpty : LinkedLists → ℕ → ℕ → Type 0
 AllEmpty s from to = (slot : ℕ) → from ≤ slot → slot < to → IsEmpty s slot
 
--- so many keys are in the list of the free ones, and no other key is in a list
+-- this number of keys is in the list of the free ones, and no other key is in a list
 pub record AllFree (keys : ℕ) (s : LinkedLists) : Type 0 where
   pub room : keys ≤ key_limit s
   pub free : (key : ℕ) → key < keys → list_of s key ≡ Some 768

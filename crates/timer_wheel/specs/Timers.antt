@@ -1,4 +1,4 @@
--- What a contract sees of a timer `Wheel`: the time, the room, and the deadline of each armed token.
+-- A timer `Wheel` as contracts see it: the time, the capacity, and the deadline of each armed token.
 -- Times are in milliseconds. A device arms a token for each watchdog and for each production (Volume 1,
 -- chapter 3, connection timing).
 use Rattle.std.specs.Prelude.{◌≡◌, ℕ, ◌<◌, ◌≤◌, ◌⊎◌, ◌↔◌, List, ◌++◌, Some, not, nat_le, unwrap_or, Contains, AllPairs, refl}
@@ -11,7 +11,7 @@ use Rattle.timer_wheel.specs.declared.Token.{Token}
 abbrev pub Deadlines : Type 0
 Deadlines = map.FinMap nat_cmp ℕ
 
--- a wheel: its clock, how many tokens can be armed at once, and those that are
+-- a wheel: its clock, the greatest number of armed tokens, and the armed tokens
 pub record Timers : Type 0 where
   pub time : ℕ
   pub capacity : ℕ

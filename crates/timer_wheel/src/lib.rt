@@ -18,7 +18,7 @@ use std::marker::Model;
 use sweep::{Step, sweep};
 use timer::{FREE, Timer, slot_of};
 
-/// What names a timer of a wheel.
+/// The name of a timer.
 #[derive(Clone, Copy, PartialEq, Eq, PartialOrd, Ord)]
 pub struct Token(pub u64);
 
@@ -32,10 +32,10 @@ pub struct Wheel {
     slots: Slots,
     // The timer of each key.
     timers: Vec<Option<Timer>>,
-    // The token of each key that has a timer, and of any other key some token.
+    // The token of each key that has a timer. The token of any other key has no meaning.
     tokens: Vec<Token>,
     hints: Hints,
-    // What `advance` has taken out, empty between calls.
+    // The timers that `advance` removed. Empty between calls.
     due: Vec<Timer>,
 }
 
@@ -55,7 +55,7 @@ impl Model for Wheel {
 }
 
 impl Wheel {
-    /// A wheel at time 0 with no token armed and room for `capacity` tokens, or want of memory.
+    /// A wheel at time 0 with no token armed, for at most `capacity` tokens. OutOfMemory is the only fault.
     pub fn new(alloc: Global, capacity: usize) -> Result<Self, OutOfMemory>
         ensures { IfOk result (λ w. w ≡ record { time = 0; capacity = capacity; armed = map.empty }) }
     {
@@ -77,7 +77,7 @@ impl Wheel {
         self.clock
     }
 
-    /// How many tokens can be armed at once.
+    /// The greatest number of armed tokens.
     pub fn capacity(&self) -> usize
         ensures value { result ≡ self.now.capacity }
         ensures bound { map.len self.now.armed ≤ result }
@@ -93,15 +93,16 @@ impl Wheel {
         self.slots.front(FREE).is_none()
     }
 
-    /// Arms a token that is not armed, where there is room. Its deadline lies at or after the clock,
-    /// and less than 2^24 ms after it.
+    /// Arms a token that is not armed, in a wheel that is not full. Its deadline is at or after the clock, and less
+    /// than 2^24 ms after it.
     pub fn arm(&mut self, deadline: u64, token: Token)
         requires not_past { self.old.time ≤ deadline }
         requires in_reach { deadline < self.old.time + 2 ^ 24 }
         requires not_armed { map.get self.old.armed token.0 ≡ None }
-        requires room { map.len self.old.armed < self.old.capacity }
+        requires not_full { map.len self.old.armed < self.old.capacity }
         ensures { self.new ≡ record self.old { armed = map.insert self.old.armed token.0 deadline } }
     {
+        // A free key exists, since the wheel is not full.
         let key = self.slots.front(FREE).unwrap();
         self.slots.put(key, slot_of(deadline, self.clock));
         self.timers[key] = Some(Timer { deadline, token });
@@ -109,12 +110,12 @@ impl Wheel {
         self.hints.note(token, key);
     }
 
-    /// Disarms a token, and says whether it was armed.
+    /// Disarms a token, and answers whether it was armed.
     pub fn disarm(&mut self, token: Token) -> bool
         ensures armed { result ≡ map.contains_key self.old.armed token.0 }
         ensures disarmed { self.new ≡ record self.old { armed = map.remove self.old.armed token.0 } }
         ensures not_armed { map.get self.new.armed token.0 ≡ None }
-        ensures room { IsTrue result → map.len self.new.armed < self.new.capacity }
+        ensures not_full { IsTrue result → map.len self.new.armed < self.new.capacity }
     {
         let Some(key) = key_of(&self.timers, &self.tokens, &self.hints, token) else {
             return false;
@@ -124,18 +125,18 @@ impl Wheel {
         true
     }
 
-    /// Moves the clock on by at most 60,000 ms, and appends the tokens that are due then to `out`, by
-    /// deadline and then by token. They are armed no more.
+    /// Advances the clock by at most 60,000 ms, disarms the tokens that are due then, and appends them to `out`, by
+    /// deadline and then by token. `out` has the capacity for all armed tokens.
     pub fn advance(&mut self, delta: u32, out: &mut Vec<Token>)
         requires step { delta ≤ 60000 }
         requires end { self.old.time + delta ≤ 2 ^ 48 }
-        requires room { vec_len out.old + map.len self.old.armed ≤ vec_capacity out.old }
+        requires spare { vec_len out.old + map.len self.old.armed ≤ vec_capacity out.old }
         ensures clock { self.new ≡ record self.old {
           time = self.old.time + delta;
           armed = later_than (self.old.time + delta) self.old.armed;
         } }
         ensures fired { Fires self.old.armed (self.old.time + delta) out.old.items out.new.items }
-        ensures kept_room { vec_capacity out.new ≡ vec_capacity out.old }
+        ensures capacity { vec_capacity out.new ≡ vec_capacity out.old }
     {
         let before = self.clock;
         let now = before + u64::from(delta);

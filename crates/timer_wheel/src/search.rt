@@ -12,16 +12,16 @@ use std::alloc::Global;
 // 2^64 over the golden ratio: its multiples spread over the upper bits.
 const SPREAD: u64 = 0x9E37_79B9_7F4A_7C15;
 
-/// The key that each token was last armed at, as far as known: a guess, to be checked.
+/// A cache of the key that each token was last armed at. An entry may be out of date, so the caller checks it.
 #[derive(Drop)]
 pub struct Hints {
     keys: Vec<usize>,
-    // How many lower bits of a spread token are dropped.
+    // The number of dropped lower bits of a spread token.
     shift: u32,
 }
 
 impl Hints {
-    /// Room for the guesses of so many tokens, four places or more for each.
+    /// An empty cache for this number of tokens, with at least four entries for each. OutOfMemory is the only fault.
     pub fn new(alloc: Global, tokens: usize) -> Result<Self, OutOfMemory>
         ensures { IfOk result (λ hints. 4 * tokens ≤ vec_len hints.keys) }
     {
@@ -35,14 +35,14 @@ impl Hints {
         })
     }
 
-    // The place of the guess for a token.
+    // The index of a token's entry.
     fn hint_index(&self, token: Token) -> usize
         ensures { result ≡ spec.hint_index self.now.shift token.0 }
     {
         token.0.wrapping_mul(SPREAD).wrapping_shr(self.shift) as usize
     }
 
-    /// Notes where a token is armed.
+    /// Stores the key of a token.
     pub fn note(&mut self, token: Token, key: usize)
         ensures noted { let place = spec.hint_index self.old.shift token.0 in
             self.new.keys.items ≡ slice_set self.old.keys.items place key }
@@ -54,7 +54,7 @@ impl Hints {
         }
     }
 
-    /// Where the token may be armed.
+    /// The cached key of a token.
     pub fn guess(&self, token: Token) -> Option<usize>
         ensures { result ≡ slice_get self.now.keys.items (spec.hint_index self.now.shift token.0) }
     {
@@ -72,7 +72,8 @@ fn has_token(timers: &[Option<Timer>], token: Token, key: usize) -> bool
     }
 }
 
-/// The key of an armed token: mostly the one that was guessed, else a search of the tokens.
+/// The key of an armed token: the cached one if it is right, otherwise by a search of the tokens. None for a token
+/// that is not armed.
 pub fn key_of(
     timers: &[Option<Timer>],
     tokens: &[Token],
@@ -88,8 +89,8 @@ pub fn key_of(
     {
         return Some(key);
     }
-    for (key, held) in tokens.iter().enumerate() {
-        if *held == token && has_token(timers, token, key) {
+    for (key, candidate) in tokens.iter().enumerate() {
+        if *candidate == token && has_token(timers, token, key) {
             return Some(key);
         }
     }

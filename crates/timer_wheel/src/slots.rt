@@ -1,4 +1,4 @@
-//! The keys in each slot, and a mark for each slot that has some.
+//! The keys in each slot, and a mark for each slot that is not empty.
 
 ghost use Rattle.std.specs.Prelude.{◌≡◌, ◌≢◌, ℕ, ◌+◌, ◌<◌, ◌≤◌, length, Some, None, IfOk, IfSome, IfNone};
 ghost use Rattle.futures.specs.LinkedLists.{items, list_of, list_count, key_limit, IsEmpty, Moves};
@@ -10,14 +10,14 @@ use futures::util::linked_list::LinkedLists;
 use std::alloc::Global;
 use std::marker::Model;
 
-// How many words have a bit for each list.
+// The number of words with a bit for each list.
 const WORDS: usize = 13;
 
-/// The list of keys of each slot, and at `FREE` the keys with no timer.
+/// The list of keys of each slot, and at `FREE` the list of keys without a timer.
 #[derive(Drop)]
 pub struct Slots {
     lists: LinkedLists,
-    // A bit for each list, set where the list has a key.
+    // A bit for each list, set if the list is not empty.
     marks: [u64; WORDS],
 }
 
@@ -35,7 +35,7 @@ impl Model for Slots {
 }
 
 impl Slots {
-    /// So many keys, all of them free.
+    /// This number of keys, all of them free. OutOfMemory is the only fault.
     pub fn new(alloc: Global, keys: usize) -> Result<Self, OutOfMemory>
         ensures { IfOk result (AllFree keys) }
     {
@@ -59,7 +59,7 @@ impl Slots {
         self.lists.front(list)
     }
 
-    /// Takes a key from its list to the end of another.
+    /// Moves a key from its list to the end of another.
     pub fn put(&mut self, key: usize, list: usize)
         requires list_in { list ≤ FREE }
         requires key_in { key < key_limit self.old }
@@ -72,7 +72,7 @@ impl Slots {
         self.marks[list / 64] |= 1 << (list % 64);
     }
 
-    /// The first marked slot from `from` up to `to`, where all slots below it are empty.
+    /// The first marked slot from `from` up to `to`. All slots before it are empty.
     pub fn next(&self, from: usize, to: usize) -> Option<usize>
         requires { to ≤ FREE }
         ensures start { IfSome result (λ slot. from ≤ slot) }
@@ -92,7 +92,7 @@ impl Slots {
         None
     }
 
-    /// Takes the mark off an empty slot.
+    /// Clears the mark of an empty slot.
     pub fn unmark(&mut self, slot: usize)
         requires slot_in { slot < FREE }
         requires empty { IsEmpty self.old slot }

@@ -1,4 +1,4 @@
-//! The slots that time passes over.
+//! The slots between two times.
 
 ghost use Rattle.std.specs.Prelude.{◌≡◌, ◌+◌, ◌<◌, ◌≤◌, vec_len, vec_capacity};
 ghost use Rattle.timer_wheel.specs.Layout.{IsLaidOut, IsPlaced, IsAt, MovesDown, TakesDue, Clears, timer_count};
@@ -13,7 +13,7 @@ pub struct Step {
     pub now: u64,
 }
 
-// Empties a slot: what is due is taken out, and the rest goes to where it now belongs.
+// Empties a slot: its due timers are removed, and the others move to their slots at the new time.
 fn empty(
     slots: &mut Slots,
     timers: &mut [Option<Timer>],
@@ -24,7 +24,7 @@ fn empty(
     requires slot_in { slot < 768 }
     requires laid_out { IsLaidOut (IsAt step.before step.now slot) slots.old timers.old }
     requires moves_down { MovesDown step.before step.now slot (slot + 1) }
-    requires room { vec_len due.old + timer_count timers.old ≤ vec_capacity due.old }
+    requires spare { vec_len due.old + timer_count timers.old ≤ vec_capacity due.old }
     ensures laid_out { IsLaidOut (IsAt step.before step.now (slot + 1)) slots.new timers.new }
     ensures taken { TakesDue step.now due.old.items due.new.items timers.old timers.new }
     ensures cleared { Clears timers.old timers.new }
@@ -32,6 +32,7 @@ fn empty(
     ensures capacity { vec_capacity due.new ≡ vec_capacity due.old }
 {
     while let Some(key) = slots.front(slot) {
+        // A key in the list of a slot has a timer.
         let timer = timers[key].unwrap();
         if timer.deadline <= step.now {
             due.push_reserved(timer);
@@ -57,7 +58,7 @@ fn empty_all(
     requires in_order { from ≤ to }
     requires laid_out { IsLaidOut (IsAt step.before step.now from) slots.old timers.old }
     requires moves_down { MovesDown step.before step.now from to }
-    requires room { vec_len due.old + timer_count timers.old ≤ vec_capacity due.old }
+    requires spare { vec_len due.old + timer_count timers.old ≤ vec_capacity due.old }
     ensures laid_out { IsLaidOut (IsAt step.before step.now to) slots.new timers.new }
     ensures taken { TakesDue step.now due.old.items due.new.items timers.old timers.new }
     ensures cleared { Clears timers.old timers.new }
@@ -71,12 +72,12 @@ fn empty_all(
     }
 }
 
-/// Empties the slots that time passes over, in at most 60,000 ms.
+/// Empties the slots between the two times of a step of at most 60,000 ms.
 pub fn sweep(slots: &mut Slots, timers: &mut [Option<Timer>], due: &mut Vec<Timer>, step: Step)
     requires forward { step.before ≤ step.now }
     requires short { step.now ≤ step.before + 60000 }
     requires laid_out { IsLaidOut (IsPlaced step.before) slots.old timers.old }
-    requires room { vec_len due.old + timer_count timers.old ≤ vec_capacity due.old }
+    requires spare { vec_len due.old + timer_count timers.old ≤ vec_capacity due.old }
     ensures laid_out { IsLaidOut (IsPlaced step.now) slots.new timers.new }
     ensures taken { TakesDue step.now due.old.items due.new.items timers.old timers.new }
     ensures cleared { Clears timers.old timers.new }

@@ -1,18 +1,18 @@
-//! What waits in a slot, and in which.
+//! Timers, and the slots of their deadlines.
 
 ghost use Rattle.std.specs.Prelude.{◌≡◌};
 ghost use Rattle.timer_wheel.specs.Levels as spec;
 
 use crate::Token;
 
-/// A deadline, in milliseconds, and the token that fires there.
+/// A deadline, in milliseconds, and its token.
 #[derive(Clone, Copy, PartialEq, Eq, PartialOrd, Ord)]
 pub struct Timer {
     pub deadline: u64,
     pub token: Token,
 }
 
-/// The list of the keys with no timer, behind those of the slots.
+/// The list of the keys without a timer, after those of the slots.
 pub const FREE: usize = 768;
 
 /// The slot of a deadline: in the lowest level where it shares the block of `now`.

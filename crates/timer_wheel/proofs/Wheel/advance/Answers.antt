@@ -19,7 +19,7 @@ push_reserved-requires c =
     let some : length c.loop-timer.out.items ≡ length c.args.out.now.items + c.loop-timer.timer-index =
     ap length c.loop-timer.invariant.0 ∙ length-append c.args.out.now.items _
     ∙ ap (λ n. length c.args.out.now.items + n) (length-map (take c.loop-timer.timer-index c.deref-timer-items.result.now) (λ (t : Timer). t.token) ∙ length-take-le c.loop-timer.timer-index c.deref-timer-items.result.now c.loop-timer.auto.timer-index-end) in
-    omega (arith, armed, count, read, none, some, c.loop-timer.invariant.1, c.sweep.ensures.count, c.sort_unstable.ensures.len, c.deref-timer-items.ensures.len, c.requires.room, c.loop-timer-test.true, c.loop-timer.out.ok, c.args.out.now.ok, inside.due.ok)
+    omega (arith, armed, count, read, none, some, c.loop-timer.invariant.1, c.sweep.ensures.count, c.sort_unstable.ensures.len, c.deref-timer-items.ensures.len, c.requires.spare, c.loop-timer-test.true, c.loop-timer.out.ok, c.args.out.now.ok, inside.due.ok)
 
 pub invariant_of-self : goal.invariant_of-self
 invariant_of-self c =

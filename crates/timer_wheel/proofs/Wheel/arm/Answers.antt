@@ -11,7 +11,7 @@ unwrap-key-requires c =
     let inside = c.self.inside in
     let count : len (armed_of inside.timers.items) ≡ len c.args.self.now.armed = ap (λ (w : Timers). len w.armed) c.self.view_is in
     let room : length inside.timers.items ≡ c.args.self.now.capacity = ap (λ (w : Timers). w.capacity) c.self.view_is in
-    some_free _ _ _ _ c.self.invariant.laid_out (omega (arith, c.requires.room)) c.front.ensures.empty
+    some_free _ _ _ _ c.self.invariant.laid_out (omega (arith, c.requires.not_full)) c.front.ensures.empty
 
 pub put-requires-clause-list_in : goal.put-requires-clause-list_in
 put-requires-clause-list_in c = omega (arith, c.slot_of.ensures, slot_of-bound c.args.deadline c.self.inside.clock)

@@ -48,8 +48,8 @@ pub returns-clause-not_armed : goal.returns-clause-not_armed
 returns-clause-not_armed c =
     ap (λ (w : Timers). get w.armed c.args.token.0) (returns-clause-disarmed c) ∙ get-remove_same c.args.self.now.armed c.args.token.0 c.args.token.0 refl
 
-pub returns-clause-room : goal.returns-clause-room
-returns-clause-room c was =
+pub returns-clause-not_full : goal.returns-clause-not_full
+returns-clause-not_full c was =
     let has = rw c.deref.ensures.value at c.in-Some.ensures.found in
     let found = token_timer c.self.inside.timers.items c.args.token.0 c.in-Some.key has in
     len-clear c.self.inside.timers.items c.in-Some.key found.0 c.self.invariant.laid_out.unique found.1
