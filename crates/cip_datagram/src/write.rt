@@ -43,7 +43,7 @@ fn put(out: &mut Vec<u8>, bytes: &[u8])
 ///
 /// Volume 2, chapter 2, common packet format.
 pub fn write_datagram(datagram: &Datagram<'_>, out: &mut Vec<u8>)
-    requires room { vec_len out.old + length (datagram_text (view_datagram datagram.now)) ≤ vec_capacity out.old }
+    requires spare { vec_len out.old + length (datagram_text (view_datagram datagram.now)) ≤ vec_capacity out.old }
     // The second length counts the sequence count and the data.
     requires short { length datagram.now.«data».now ≤ 65533 }
     ensures text { out.new.items ≡ out.old.items ++ datagram_text (view_datagram datagram.now) }

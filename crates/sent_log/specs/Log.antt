@@ -1,13 +1,13 @@
--- What was sent, and the room for more.
+-- The log of sent datagrams, and its spare capacity.
 use Rattle.std.specs.Prelude.{ℕ, List}
 use Rattle.cip_types.specs.declared.names.Node.{Node}
 
--- a datagram, and the node of the device that sent it
+-- a datagram, and the node of its sender
 pub record Sent : Type 0 where
   pub from : Node
   pub bytes : List ℕ
 
--- the datagrams in order, and for how many more of them, and of their bytes, there is room
+-- the datagrams in order, and the spare capacity in datagrams and in bytes
 pub record Log : Type 0 where
   pub sent : List Sent
   pub texts : ℕ

@@ -1,5 +1,5 @@
-//! Datagrams that were sent, each with its sender's node, in order. Their bytes lie one after another in one
-//! buffer, so that memory grows with what was sent alone.
+//! A log of sent datagrams, each with its sender's node, in order. Their bytes share one buffer, so memory grows only
+//! with the bytes that were sent.
 #![tactic(auto)]
 
 ghost use Rattle.std.specs.Prelude.{◌≡◌, ◌≤◌, ◌<◌, ◌++◌, ◌∷◌, [], ◌+◌, length, slice_get, slice_range, OnOk};
@@ -9,7 +9,7 @@ use cip_types::{Node, OutOfMemory};
 use std::alloc::Global;
 use std::marker::Model;
 
-/// Whose datagram it is, and where its bytes lie in the buffer.
+/// The sender of a datagram, and the range of its bytes in the buffer.
 #[derive(Clone, Copy)]
 struct SentSpan {
     from: Node,
@@ -17,7 +17,7 @@ struct SentSpan {
     end: usize,
 }
 
-/// Datagrams in the order in which they were sent, which contracts see as their list, with the room for more.
+/// Datagrams in the order of sending. Contracts see their list and the spare capacity.
 #[derive(Drop)]
 pub struct SentLog {
     spans: Vec<SentSpan>,
@@ -33,12 +33,16 @@ impl Model for SentLog {
 
     ghost use Rattle.sent_log.specs.Spans.{sent_in, AreWithin};
 
-    ghost view = { λ l. record { sent = sent_in l.bytes.items l.spans.items; texts = vec_capacity l.spans - vec_len l.spans; bytes = vec_capacity l.bytes - vec_len l.bytes } };
+    ghost view = { λ l. record {
+      sent = sent_in l.bytes.items l.spans.items;
+      texts = vec_capacity l.spans - vec_len l.spans;
+      bytes = vec_capacity l.bytes - vec_len l.bytes;
+    } };
 
     ghost invariant = { λ l. AreWithin (length l.bytes.items) l.spans.items };
 }
 
-/// The bytes of a place that lies within the buffer.
+/// The bytes of a range within the buffer.
 fn part<'a>(bytes: &'a [u8], span: &SentSpan) -> &'a [u8]
     requires start { span.now.start ≤ span.now.end }
     requires end { span.now.end ≤ length bytes.now }
@@ -48,7 +52,7 @@ fn part<'a>(bytes: &'a [u8], span: &SentSpan) -> &'a [u8]
 }
 
 impl SentLog {
-    /// Nothing was sent. Takes no memory.
+    /// An empty log. Takes no memory.
     pub fn new(alloc: Global) -> SentLog
         ensures { result.sent ≡ [] }
     {
@@ -58,23 +62,24 @@ impl SentLog {
         }
     }
 
-    /// How many datagrams were sent.
+    /// The number of sent datagrams.
     pub fn len(&self) -> usize
         ensures { result ≡ length self.now.sent }
     {
         self.spans.len()
     }
 
-    /// The datagram of this index, with its sender's node.
+    /// The sender's node and the bytes of the datagram of this index.
     pub fn get(&self, index: usize) -> Option<(Node, &[u8])>
-        ensures { option_map (λ found. record { from = found.0; bytes = found.1.now }) result ≡ slice_get self.now.sent index }
+        ensures { option_map (λ found. record { from = found.0; bytes = found.1.now }) result
+            ≡ slice_get self.now.sent index }
     {
         let span = self.spans.get(index)?;
         Some((span.from, part(&self.bytes, span)))
     }
 
-    /// Makes room for so many datagrams that have so many bytes together. After want of memory nothing was
-    /// sent either.
+    /// Reserves capacity for this number of further datagrams and of their bytes in all. OutOfMemory is the only
+    /// fault. The datagrams are the same in either case.
     pub fn reserve(&mut self, texts: usize, bytes: usize) -> Result<(), OutOfMemory>
         ensures sent { self.new.sent ≡ self.old.sent }
         ensures texts { OnOk result (texts ≤ self.new.texts) }
@@ -85,15 +90,16 @@ impl SentLog {
         Ok(())
     }
 
-    /// Appends a datagram, for which there is room. Takes no memory, and no more room than the datagram needs.
+    /// Appends a datagram within the reserved capacity. Takes no memory, and no more capacity than the datagram needs.
     pub fn push_reserved(&mut self, from: Node, bytes: &[u8])
         requires text { 0 < self.old.texts }
-        requires room { length bytes.now ≤ self.old.bytes }
+        requires spare { length bytes.now ≤ self.old.bytes }
         ensures sent { self.new.sent ≡ self.old.sent ++ (record { from = from; bytes = bytes.now }) ∷ [] }
         ensures texts { self.old.texts ≤ self.new.texts + 1 }
         ensures bytes { self.old.bytes ≤ self.new.bytes + length bytes.now }
     {
         let start = self.bytes.len();
+        // The capacity was reserved, so this does not allocate.
         let Ok(()) = self.bytes.extend_from_slice(bytes) else {
             unreachable!()
         };
