@@ -9,7 +9,7 @@ use Rattle.std.specs.Str.Parse.{digits_value}
 use Rattle.std.proofs.lemmas.Bool.Decides.{nat_tests}
 use Rattle.std.proofs.lemmas.Fmt.{digits_decimal}
 use Rattle.std.proofs.lemmas.List.Sums.{list_all-from_AllPass}
-use Rattle.std.proofs.lemmas.Str.Parse.{IsNumeralModel, numerals_by_value, reads_all_ascii_digits}
+use Rattle.std.proofs.lemmas.Str.Parse.{IsNumeralModel, numerals_by_value, tells_all_ascii_digits}
 use Rattle.std.proofs.NetLemmas.Alphabet.{All-ipv4_text, IsDigitOrDot}
 use Rattle.hex.specs.Hex.{IsBytes, encode_lower, encode_with, lower_digits}
 use Rattle.cip_types.specs.declared.names.Node.{Node}
@@ -18,7 +18,7 @@ use Rattle.trace_words.specs.Words.{node_word, bytes_word, id_word, general_word
 use Rattle.trace_laws.proofs.LineLaws.{is_plain, is_clean, both, and_both}
 
 own : IsNumeralModel (λ word. all_ascii_digits word ≡ true) (digits_value 10)
-own = numerals_by_value _ reads_all_ascii_digits
+own = numerals_by_value _ tells_all_ascii_digits
 
 plain_within : (byte : ℕ) → 32 < byte → byte < 128 → is_plain byte ≡ true
 plain_within byte above below = and_both (nat_lt 32 byte) (nat_lt byte 128) (grind (arith, nat_tests, above)) (grind (arith, nat_tests, below))

@@ -11,7 +11,7 @@ use Rattle.std.proofs.lemmas.Bool.Decides.{nat_tests}
 use Rattle.std.proofs.lemmas.Fmt.{digits_decimal, decimal_nonempty}
 use Rattle.std.proofs.lemmas.List.{append-nil}
 use Rattle.std.proofs.lemmas.List.Splits.{slice_split_at, slice_split_none}
-use Rattle.std.proofs.lemmas.Str.Parse.{IsNumeralModel, numerals_by_value, reads_all_ascii_digits}
+use Rattle.std.proofs.lemmas.Str.Parse.{IsNumeralModel, numerals_by_value, tells_all_ascii_digits}
 use Rattle.std.proofs.NetLemmas.Alphabet.{All-ipv4_text, IsDigitOrDot}
 use Rattle.cip_types.specs.declared.names.Node.{Node}
 use Rattle.trace_words.specs.Words.{node_word, nodes_word, nodes_of, all_nodes, is_dash}
@@ -21,7 +21,7 @@ use Rattle.trace_laws.proofs.TextLaws.{first_of, rest_of}
 use Rattle.trace_laws.proofs.WordLaws.{node_back}
 
 own : IsNumeralModel (λ word. all_ascii_digits word ≡ true) (digits_value 10)
-own = numerals_by_value _ reads_all_ascii_digits
+own = numerals_by_value _ tells_all_ascii_digits
 
 fit_4 : (n k : ℕ) → get_or (to_be_bytes w32 n) k 0 < 2 ^ 8
 fit_4 n zero = omega arith

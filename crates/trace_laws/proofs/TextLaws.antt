@@ -7,7 +7,7 @@ use Rattle.std.specs.Str.Parse.{digits_value}
 use Rattle.std.specs.Char.{is_ascii_digit}
 use Rattle.std.proofs.lemmas.Bool.Decides.{nat_tests}
 use Rattle.std.proofs.lemmas.Fmt.{digits_decimal, decimal_nonempty}
-use Rattle.std.proofs.lemmas.Str.Parse.{IsNumeralModel, numerals_by_value, reads_all_ascii_digits}
+use Rattle.std.proofs.lemmas.Str.Parse.{IsNumeralModel, numerals_by_value, tells_all_ascii_digits}
 use Rattle.trace_words.specs.Words.{line_text, is_word}
 use Rattle.trace_words.specs.Reader.{Reader, ◌>>=◌, next_word, Meanings, meaning}
 use Rattle.trace_text.specs.declared.forms.TraceLine.{TraceLine}
@@ -91,7 +91,7 @@ none_meant (entry ∷ entries) otherwise word high low =
     rw (other_word entry.0 word parts.0 low) (none_meant entries otherwise word parts.1 low)
 
 own : IsNumeralModel (λ word. all_ascii_digits word ≡ true) (digits_value 10)
-own = numerals_by_value _ reads_all_ascii_digits
+own = numerals_by_value _ tells_all_ascii_digits
 
 digits_low : (word : List ℕ) → 0 < length word → all_ascii_digits word ≡ true → (begins_low word ≡ true) × (begins_line word ≡ true)
 digits_low [] some digits = absurd (omega (arith, some))

@@ -9,7 +9,7 @@ use Rattle.std.specs.Str.Parse.{digits_value}
 use Rattle.std.proofs.lemmas.Bool.Decides.{nat_tests}
 use Rattle.std.proofs.lemmas.Nat.{from_be_bytes-to_be_bytes_2, from_be_bytes-to_be_bytes_4}
 use Rattle.std.proofs.lemmas.Fmt.{digits_decimal, digits_value-decimal, decimal_nonempty, first_decimal, decimal_digit}
-use Rattle.std.proofs.lemmas.Str.Parse.{IsNumeralModel, numerals_by_value, reads_all_ascii_digits}
+use Rattle.std.proofs.lemmas.Str.Parse.{IsNumeralModel, numerals_by_value, tells_all_ascii_digits}
 use Rattle.std.specs.Net.Grammar.{IsDotted}
 use Rattle.std.specs.Net.Reader.{read_ipv4}
 use Rattle.std.proofs.lemmas.List.{append-nil}
@@ -26,7 +26,7 @@ use Rattle.trace_words.specs.Words.{number_of, is_short_form, node_word, node_of
 -- NUMBERS
 
 own : IsNumeralModel (λ word. all_ascii_digits word ≡ true) (digits_value 10)
-own = numerals_by_value _ reads_all_ascii_digits
+own = numerals_by_value _ tells_all_ascii_digits
 
 below : (m n : ℕ) → m < n → nat_lt m n ≡ true
 below m n less = grind (arith, nat_tests)

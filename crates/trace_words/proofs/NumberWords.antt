@@ -5,11 +5,11 @@ use Rattle.std.specs.Result.{result_ok, OkIff}
 use Rattle.std.specs.Str.{all_ascii_digits}
 use Rattle.std.specs.Str.Parse.{ParsesUnsigned, digits_value}
 use Rattle.std.proofs.lemmas.Bool.Decides.{nat_tests}
-use Rattle.std.proofs.lemmas.Str.Parse.{IsNumeralModel, numerals_by_value, reads_all_ascii_digits, parse_plain}
+use Rattle.std.proofs.lemmas.Str.Parse.{IsNumeralModel, numerals_by_value, tells_all_ascii_digits, parse_plain}
 use Rattle.trace_words.specs.Words.{number_of, is_short_form, is_numeral}
 
 own : IsNumeralModel (λ word. all_ascii_digits word ≡ true) (digits_value 10)
-own = numerals_by_value _ reads_all_ascii_digits
+own = numerals_by_value _ tells_all_ascii_digits
 
 no_plus : (word : List ℕ) → is_short_form word ≡ true → get_or word 0 0 ≢ 43
 no_plus [] s = omega arith
