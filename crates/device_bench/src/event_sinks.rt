@@ -1,7 +1,7 @@
 //! Sinks of events.
 
-use crate::adapter::{adapter, numbered, open};
 use crate::fault::BenchFault;
+use crate::plain_adapter::{adapter, numbered, open};
 use cip_tables::{Answer, Delivery, Device, Event, Verdict};
 use cip_types::{ConnId, Items, OutOfMemory};
 use device_lock::Book;

@@ -5,12 +5,12 @@
 //! book adds to a step of an adapter, beside a copy of the event.
 #![tactic(auto)]
 
-mod adapter;
 mod books;
 mod clock;
 mod event_sinks;
 mod fault;
 mod line;
+mod plain_adapter;
 mod profiles;
 mod scanner;
 mod world;

@@ -1,6 +1,6 @@
 //! A segment with as many events as one holds.
 
-use crate::adapter::{book, rotated, step, take, tick};
+use crate::adapter_book::{book, rotated, step, take, tick};
 use crate::fault::StoredRunFault;
 use cip_tables::Device;
 use device_lock::{Book, MOST_EVENTS, Segment};

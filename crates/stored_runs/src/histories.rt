@@ -1,6 +1,6 @@
 //! Segments that follow on one another, and some that do not.
 
-use crate::adapter::{book, config, datagram, opening, rotated, take, tick};
+use crate::adapter_book::{book, config, datagram, opening, rotated, take, tick};
 use crate::fault::StoredRunFault;
 use adapter_engine::FastAdapter;
 use cip_tables::{Device, Event};

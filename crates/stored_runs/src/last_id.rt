@@ -1,6 +1,6 @@
 //! A scanner whose counter of connection ids is at its end.
 
-use crate::adapter::print_answer;
+use crate::adapter_book::print_answer;
 use crate::devices::{FIRST, config};
 use crate::fault::StoredRunFault;
 use cip_tables::{Device, Event};

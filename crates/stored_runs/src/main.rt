@@ -9,7 +9,7 @@
 //! threads step.
 #![tactic(auto)]
 
-mod adapter;
+mod adapter_book;
 mod devices;
 mod fault;
 mod full;

@@ -1,6 +1,6 @@
 //! A book that is rotated twice: its segments, and the replay of the first.
 
-use crate::adapter::{book, datagram, opening, rotated, step, tick};
+use crate::adapter_book::{book, datagram, opening, rotated, step, tick};
 use crate::fault::StoredRunFault;
 use adapter_engine::FastAdapter;
 use cip_tables::{Device, Event, TableCopy, run};

@@ -1,6 +1,6 @@
 //! One adapter that two threads step.
 
-use crate::adapter::{book, rotated};
+use crate::adapter_book::{book, rotated};
 use crate::fault::StoredRunFault;
 use cip_tables::{Device, Event};
 use cip_types::{Items, OutOfMemory};
