@@ -1,4 +1,4 @@
-//! Processor time, the plain copy, and numbers with a point.
+//! Processor time, a plain copy to compare with, and quotients.
 
 ghost use Rattle.std.specs.Prelude.{◌<◌};
 
@@ -7,7 +7,7 @@ use std::fmt::{Display, Formatter, Write};
 use std::rt::CpuClock;
 use std::{fmt, io};
 
-/// How often each time is taken; the best counts.
+/// The number of rounds of each measurement. The best round counts.
 pub const ROUNDS: u32 = 7;
 
 /// The processor time of this thread so far, in nanoseconds.
@@ -15,7 +15,7 @@ pub fn cpu_nanos(rt: &impl CpuClock) -> io::Result<u64> {
     Ok(u64::try_from(rt.thread_cpu_time()?.as_nanos()).unwrap_or(u64::MAX))
 }
 
-/// Copies data in pieces of so many bytes.
+/// Copies data in pieces of this length.
 fn copy_pieces(out: &mut Vec<u8>, data: &[u8], piece_len: usize) -> Result<(), BenchFault>
     requires { 0 < piece_len }
 {
@@ -26,7 +26,7 @@ fn copy_pieces(out: &mut Vec<u8>, data: &[u8], piece_len: usize) -> Result<(), B
     Ok(())
 }
 
-/// The time of copying data in pieces of so many bytes, so many times.
+/// The time of copying data in pieces of this length, this number of times, in nanoseconds.
 pub fn copy_nanos(
     rt: &impl CpuClock,
     out: &mut Vec<u8>,
@@ -43,7 +43,7 @@ pub fn copy_nanos(
     Ok(cpu_nanos(rt)?.wrapping_sub(start))
 }
 
-/// The first number divided by the second, which is shown with three places behind the point.
+/// The first number divided by the second, shown with three decimal places.
 #[derive(Clone, Copy)]
 pub struct Quotient(pub u64, pub u64);
 

@@ -1,4 +1,4 @@
-//! Writing datagrams, beside a copy of their data.
+//! Writing datagrams, compared with a copy of their data.
 
 ghost use Rattle.std.specs.Prelude.{◌<◌, ◌≤◌, length};
 
@@ -9,13 +9,13 @@ use cip_types::ConnId;
 use std::alloc::Global;
 use std::rt::CpuClock;
 
-/// So many are written behind one another, so that each byte of each stays.
+/// The number of datagrams that one buffer holds, so that no byte is overwritten.
 const DATAGRAMS: u32 = 10_000;
 
-/// The bytes in front of the data.
+/// The bytes before the data.
 const FRONT: usize = 20;
 
-/// Writes a datagram behind `out`, where there is room.
+/// Appends a datagram to `out`, if its capacity suffices.
 fn append(out: &mut Vec<u8>, sequence: u32, data: &[u8])
     requires { length «data».now ≤ 65533 }
 {
@@ -52,7 +52,7 @@ fn write_nanos(rt: &impl CpuClock, out: &mut Vec<u8>, data: &[u8]) -> Result<u64
     Ok(nanos)
 }
 
-/// Writes a datagram with so many bytes of data.
+/// Writes a datagram with data of this length.
 fn print_len(rt: &impl Print, alloc: Global, len: usize) -> Result<(), BenchFault>
     requires { len ≤ 1400 }
 {
@@ -70,7 +70,7 @@ pub fn check(rt: &impl Print, alloc: Global) -> Result<(), BenchFault> {
     print_len(rt, alloc, 1_400)
 }
 
-/// A line on datagrams of so many bytes of data, the best of some rounds.
+/// A line on datagrams with data of this length: the best of the rounds.
 fn report(rt: &(impl Print + CpuClock), alloc: Global, len: usize) -> Result<(), BenchFault>
     requires some { 0 < len }
     requires short { len ≤ 1400 }

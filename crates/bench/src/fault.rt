@@ -1,4 +1,4 @@
-//! Why a run ends early.
+//! The faults of a run.
 
 use cip_encap::SplitFault;
 use cip_types::OutOfMemory;
@@ -6,7 +6,7 @@ use std::alloc::AllocError;
 use std::io;
 use thiserror::Error;
 
-/// Why a run ends early.
+/// The fault of a run.
 #[derive(Debug, Drop, Error)]
 pub enum BenchFault {
     #[error("the one word that may follow is check, wheel, splitter or datagrams")]

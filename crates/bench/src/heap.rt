@@ -6,14 +6,14 @@ use std::cmp::Reverse;
 use std::collections::BinaryHeap;
 use timer_wheel::Token;
 
-/// Deadlines with their tokens in a heap, the earliest at its top. A timer that was disarmed stays in
-/// the heap, stale, until it comes to the top or the heap is built anew.
+/// Deadlines with their tokens in a heap, the earliest at its top. A disarmed timer stays in the heap, stale, until
+/// it reaches the top or the heap is rebuilt.
 #[derive(Drop)]
 pub struct Heap {
     time: u64,
     alloc: Global,
     queue: BinaryHeap<Reverse<(u64, Token)>>,
-    // The deadline of each token that is armed. Tokens are small numbers here, and their own indices.
+    // The deadline of each armed token. Tokens are small numbers here, and their own indices.
     armed: Vec<Option<u64>>,
 }
 
@@ -31,7 +31,7 @@ impl Heap {
         self.armed.get(token.0 as usize).copied().flatten()
     }
 
-    // Leaves out what is stale, once that is most of the heap.
+    // Removes stale entries, once they are most of the heap.
     fn tidy(&mut self) -> Result<(), AllocError> {
         if self.queue.len() / 3 > self.armed.len() {
             let mut live = BinaryHeap::with_capacity(self.alloc, self.queue.capacity())?;

@@ -1,8 +1,8 @@
-//! How long the codecs and the wheel take, each beside a plain way of the same work.
+//! The times of the codecs and of the timer wheel, each compared with a plain way to do the same work.
 //!
-//! With no word, or the word `check`: short runs, and what they came to. With the word `wheel`: the wheel
-//! beside a sorted list and a binary heap. `splitter`: a stream of messages that comes in pieces beside a
-//! copy of the pieces. `datagrams`: writing datagrams beside a copy of their data.
+//! Without a word, or with `check`: short runs, and their results. `wheel`: the wheel, a sorted list and a binary
+//! heap. `splitter`: a stream of messages in pieces, and a copy of the pieces. `datagrams`: writing datagrams, and a
+//! copy of their data.
 #![tactic(auto)]
 
 mod clock;
@@ -27,7 +27,7 @@ fn check(rt: &(impl Print + CpuClock), alloc: Global) -> Result<(), BenchFault> 
     datagrams::check(rt, alloc)
 }
 
-/// Does what the word asks for.
+/// Runs the measurement of the word.
 fn bench(
     rt: &(impl Print + CpuClock),
     alloc: Global,

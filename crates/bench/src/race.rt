@@ -1,13 +1,5 @@
-//! The wheel beside a sorted list and a binary heap, on the same work.
-//!
-//! Seen on one machine, in percent of the list's time and of the heap's, each the best of five rounds,
-//! with tokens numbered from 0, which the heap has as indices and the wheel looks up by number:
-//!
-//! | timers | busy | idle, 1 ms | idle, 60 ms |
-//! |---|---|---|---|
-//! | 8 | 79, 109 | 97, 135 | 137, 194 |
-//! | 128 | 23, 53 | 55, 142 | 79, 197 |
-//! | 1,024 | 6, 60 | 41, 134 | 61, 203 |
+//! The wheel, a sorted list and a binary heap on the same work. Tokens are numbered from 0: the heap has them as
+//! indices, and the wheel looks them up by number.
 
 use crate::clock::{Quotient, ROUNDS, cpu_nanos};
 use crate::fault::BenchFault;
@@ -37,7 +29,7 @@ fn agree(alloc: Global, count: u64, work: Work, ticks: u32) -> Result<bool, Benc
     Ok(true)
 }
 
-/// Short runs, in the last steps of which idle timers fire too.
+/// Short runs. In their last steps idle timers fire too.
 pub fn check(rt: &impl Print, alloc: Global) -> Result<(), BenchFault> {
     for count in [8, 128, 1_024] {
         if !agree(alloc, count, Work::Busy, 2_000)?
@@ -50,7 +42,7 @@ pub fn check(rt: &impl Print, alloc: Global) -> Result<(), BenchFault> {
     Ok(())
 }
 
-/// Takes all ticks.
+/// Runs all ticks.
 fn tick_all<T: Timers>(load: &mut Load<T>) -> Result<(), BenchFault> {
     for _ in 0..TICKS {
         load.step()?;
@@ -58,7 +50,7 @@ fn tick_all<T: Timers>(load: &mut Load<T>) -> Result<(), BenchFault> {
     Ok(())
 }
 
-/// The nanoseconds of all ticks.
+/// The time of all ticks, in nanoseconds.
 fn tick_nanos<T: Timers>(rt: &impl CpuClock, load: &mut Load<T>) -> Result<u64, BenchFault> {
     let start = cpu_nanos(rt)?;
     tick_all(load)?;
@@ -95,7 +87,7 @@ fn heap_nanos(
     tick_nanos(rt, &mut Load::new(alloc, heap, count, work)?)
 }
 
-/// A line on the three, each the best of some rounds.
+/// A line on the three, each the best of the rounds.
 fn report(
     rt: &(impl Print + CpuClock),
     alloc: Global,

@@ -1,4 +1,4 @@
-//! A stream of encapsulation messages that comes in pieces, beside a plain copy of the same pieces.
+//! Splitting a stream of encapsulation messages in pieces, compared with a plain copy of the pieces.
 
 ghost use Rattle.std.specs.Prelude.{◌<◌};
 
@@ -8,17 +8,17 @@ use cip_encap::{MessageView, Splitter, write_message};
 use std::alloc::Global;
 use std::rt::CpuClock;
 
-/// How often each length of a message comes in a long run, which makes 4.5 million bytes.
+/// The number of messages of each length in a long run, which has 4.5 million bytes.
 const TIMES: u32 = 4;
 
-/// How many lengths of data there are, from none on, so that a message has at most 1,500 bytes.
+/// The number of lengths of data, from 0 on, so that a message has at most 1,500 bytes.
 const LENGTHS: u32 = 1_477;
 
-/// From one message to the next the data is so much longer, in the circle of the lengths. It has no
-/// common divisor with their number, so each of them comes.
+/// The growth of the data from one message to the next, in the circle of the lengths. It has no common divisor with
+/// their number, so each length occurs.
 const STEP: u32 = 389;
 
-/// The message of a number, which is its session handle.
+/// The message with this number as its session handle.
 fn message_of(alloc: Global, number: u32) -> Result<Vec<u8>, BenchFault> {
     let len = number.wrapping_mul(STEP) % LENGTHS;
     let data = [7; 1_476];
@@ -33,7 +33,7 @@ fn message_of(alloc: Global, number: u32) -> Result<Vec<u8>, BenchFault> {
     Ok(write_message(alloc, &message)?)
 }
 
-/// A message of each length from 24 to 1,500 bytes, mixed, so many times over.
+/// Messages of each length from 24 to 1,500 bytes, mixed, this number of times.
 fn stream(alloc: Global, times: u32) -> Result<Vec<u8>, BenchFault> {
     let mut stream = Vec::new(alloc);
     for number in 0..times.wrapping_mul(LENGTHS) {
@@ -42,7 +42,7 @@ fn stream(alloc: Global, times: u32) -> Result<Vec<u8>, BenchFault> {
     Ok(stream)
 }
 
-/// Feeds a splitter with the whole stream in pieces of so many bytes: the time, and how many messages came.
+/// Feeds a splitter with the whole stream in pieces of this length: the time, and the number of messages.
 fn feed(
     rt: &impl CpuClock,
     alloc: Global,
@@ -80,7 +80,7 @@ pub fn check(rt: &(impl Print + CpuClock), alloc: Global) -> Result<(), BenchFau
     Ok(())
 }
 
-/// Prints the nanoseconds of a byte that is fed and of one that is copied, the best of some rounds.
+/// Prints the nanoseconds of a byte that is fed and of one that is copied: the best of the rounds.
 pub fn print_times(rt: &(impl Print + CpuClock), alloc: Global) -> Result<(), BenchFault> {
     let stream = stream(alloc, TIMES)?;
     let mut copied = Vec::with_capacity(alloc, stream.len())?;

@@ -1,4 +1,4 @@
-//! What is asked of timers.
+//! The interface of timers, and their loads.
 
 ghost use Rattle.std.specs.Prelude.{◌^◌, ◌<◌, ◌≤◌};
 
@@ -7,19 +7,19 @@ use timer_wheel::Token;
 
 /// A set of timers, with a clock in milliseconds.
 pub trait Timers: Drop {
-    /// Arms a token that is not armed, so many milliseconds from now.
+    /// Arms a token that is not armed, this number of milliseconds from now.
     fn start(&mut self, token: Token, after: u64) -> Result<(), AllocError>
         requires { after < 2 ^ 24 };
 
-    /// Sets the deadline of an armed token anew, so many milliseconds from now.
+    /// Moves the deadline of an armed token to this number of milliseconds from now.
     fn refresh(&mut self, token: Token, after: u64) -> Result<(), AllocError>
         requires { after < 2 ^ 24 };
 
-    /// Moves the clock on, and writes what is due over `out`.
+    /// Advances the clock, and overwrites `out` with the due tokens.
     fn tick(&mut self, delta: u32, out: &mut Vec<Token>) -> Result<(), AllocError>
         requires { delta ≤ 60000 };
 
-    /// The same by a millisecond, where each token that was due is armed again after its period.
+    /// The same by a millisecond. Each due token is armed again after its period.
     fn turn(&mut self, count: u64, out: &mut Vec<Token>) -> Result<(), AllocError> {
         self.tick(1, out)?;
         for token in &*out {
@@ -29,8 +29,8 @@ pub trait Timers: Drop {
     }
 }
 
-/// From one firing of a token to the next, in milliseconds, where there are so many tokens: the first
-/// half are watchdogs, which are refreshed before they fire, and the others productions.
+/// The period of a token among this number of tokens, in milliseconds. The first half are watchdogs, which are
+/// refreshed before they fire, and the others are productions.
 pub fn period(count: u64, token: Token) -> u64
     ensures { result < 2 ^ 24 }
 {
@@ -48,7 +48,7 @@ pub fn period(count: u64, token: Token) -> u64
     }
 }
 
-/// A steady load, or ticks of so many milliseconds in which nothing is due for 16,000 s.
+/// A steady load, or ticks of this number of milliseconds with nothing due for 16,000 s.
 #[derive(Clone, Copy)]
 pub enum Work {
     Busy,
@@ -62,13 +62,13 @@ pub struct Load<T: Timers> {
     fired: Vec<Token>,
     count: u64,
     work: Work,
-    // How many 64ths of a refresh are owed, and whose turn it is.
+    // The refreshes that are owed, in 64ths, and the next token to refresh.
     owed: u64,
     next: u64,
 }
 
 impl<T: Timers> Load<T> {
-    /// So many tokens, all armed.
+    /// This number of tokens, all armed.
     pub fn new(alloc: Global, mut timers: T, count: u64, work: Work) -> Result<Self, AllocError> {
         for token in 0..count {
             let after = match work {
@@ -105,7 +105,7 @@ impl<T: Timers> Load<T> {
         Ok(())
     }
 
-    /// What fired in the last step.
+    /// The tokens that fired in the last step.
     pub fn fired(&self) -> &[Token] {
         &self.fired
     }

@@ -8,10 +8,10 @@ use crate::timers::{Timers, period};
 use std::alloc::AllocError;
 use timer_wheel::{Token, Wheel};
 
-// No step is taken after this time.
+// The time of the last step.
 const END: u64 = 1 << 47;
 
-// Moves the clock on, and writes what is due over `out`.
+// Advances the clock, and overwrites `out` with the due tokens.
 fn advance_over(wheel: &mut Wheel, delta: u32, out: &mut Vec<Token>)
     requires step { delta ≤ 60000 }
     requires end { wheel.old.time + delta ≤ 2 ^ 48 }
