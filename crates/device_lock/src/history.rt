@@ -1,12 +1,12 @@
 //! All segments of one device.
 
 ghost use Rattle.std.specs.Prelude.{◌≡◌, ◌↔◌, ◌<◌, ◌^◌, [], ◌∷◌, true, None, sum, IfOk, IfSome, IsTrue, slice_get, option_copied};
-ghost use Rattle.cip_tables.specs.Step.{opening_table, config_fault, makes_adapter, same_kind};
-ghost use Rattle.cip_tables.specs.Run.{table_after};
+ghost use Rattle.cip_tables.specs.Step.{opening_table, config_fault, makes_adapter, same_kind, step};
+ghost use Rattle.cip_tables.specs.Run.{outcome_of, outcomes_of, table_after, table_of};
 ghost use Rattle.device_lock.specs.Histories.{history_of, place_in, Follow};
 
 use crate::segment::Segment;
-use cip_tables::{Config, Device, Event, NewFault, StepFault};
+use cip_tables::{Config, Device, Event, NewFault, Outcome, StepFault};
 use cip_types::OutOfMemory;
 use std::alloc::Global;
 use std::marker::Model;
@@ -93,6 +93,19 @@ impl History {
         self.events.get(place)
     }
 
+    /// What the device answered to each of the events, in order: a fresh device is run over them.
+    pub fn outcomes<D: Device + Drop>(&self, alloc: Global) -> Result<Vec<Outcome>, OutOfMemory>
+        requires valid { config_fault self.now.config ≡ None }
+        requires kind { same_kind D.ADAPTER (makes_adapter self.now.config) ≡ true }
+        ensures { IfOk result (λ outcomes. outcomes.items ≡ outcomes_of (opening_table self.now.config) self.now.events) }
+    {
+        outcomes_at(
+            alloc,
+            fresh::<D>(alloc, &self.config)?,
+            self.events.as_slice(),
+        )
+    }
+
     /// The place of the event that has a segment and an index in a receipt; None where there is no such segment,
     /// or it has no such event. Takes no memory.
     pub fn place_of(&self, segment: u16, index: u32) -> Option<usize>
@@ -141,6 +154,35 @@ fn repeat<D: Device>(device: &mut D, event: &Event) -> Result<(), OutOfMemory>
         Ok(_) => Ok(()),
         Err(StepFault::OutOfMemory) => Err(OutOfMemory),
         Err(_) => Ok(()),
+    }
+}
+
+// What a device answers to events, one after another.
+fn outcomes_at<D: Device + Drop>(
+    alloc: Global,
+    device: D,
+    events: &[Event],
+) -> Result<Vec<Outcome>, OutOfMemory>
+    ensures { IfOk result (λ outcomes. outcomes.items ≡ outcomes_of (D.table device) events.now) }
+{
+    let mut device = device;
+    let mut outcomes = Vec::new(alloc);
+    for event in events {
+        let outcome = outcome_at(&mut device, event)?;
+        outcomes.push(outcome)?;
+    }
+    Ok(outcomes)
+}
+
+// What a device answers to an event. Want of memory is a fault of the call, and no outcome.
+fn outcome_at<D: Device>(device: &mut D, event: &Event) -> Result<Outcome, OutOfMemory>
+    ensures outcome { IfOk result (λ outcome. outcome ≡ outcome_of (step (D.table device.old) event.now)) }
+    ensures table { IfOk result (λ _. D.table device.new ≡ table_of (D.table device.old) (step (D.table device.old) event.now)) }
+{
+    match device.step(event) {
+        Ok(answer) => Ok(Ok(answer)),
+        Err(StepFault::OutOfMemory) => Err(OutOfMemory),
+        Err(fault) => Ok(Err(fault)),
     }
 }
 

@@ -13,6 +13,7 @@ mod world;
 mod world_device;
 
 pub use act::{Act, ActFault, Call};
+pub use configs::world_fault;
 pub use fault::WorldFault;
 pub use stream_queues::{Direction, Endpoints, QueueFront};
 pub use world::World;

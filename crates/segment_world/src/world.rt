@@ -4,7 +4,7 @@ ghost use Rattle.std.specs.Prelude.{◌≡◌, true, false, Err, None, Some, IfO
 ghost use Rattle.segment_world.specs.World.{World as Segment, comes, event_of_call, delivered, taken_at, happens, are_two, opened_if, cut_at, most_stream_numbers};
 ghost use Rattle.segment_world.specs.Follows.{ActFollows, takes_no_memory, NeverOutOfMemory};
 ghost use Rattle.std.specs.Option.{option_map};
-ghost use Rattle.stream_queues.specs.Fronts.{endpoints_of, view_front, front_of};
+ghost use Rattle.stream_queues.specs.Fronts.{endpoints_of, view_front, front_of, has_taken};
 ghost use Rattle.segment_world.specs.Arrivals.{IsArrival};
 ghost use Rattle.segment_world.specs.Configs.{opening_world, world_fault, IsRefused};
 
@@ -288,6 +288,14 @@ impl<A: Device, S: Device> World<A, S> {
         ensures { result ≡ option_map endpoints_of (slice_get self.now.streams stream) }
     {
         self.streams.endpoints(stream)
+    }
+
+    /// Returns whether the device that takes from a direction of a stream has taken the mark that the stream opens. False
+    /// where no stream has the number. Takes no memory.
+    pub fn has_taken(&self, stream: u16, direction: Direction) -> bool
+        ensures { result ≡ has_taken direction (slice_get self.now.streams stream) }
+    {
+        self.streams.has_taken(stream, direction)
     }
 
     /// Returns the front of a direction of a stream, if anything waits there.

@@ -24,3 +24,8 @@ view_front front.Ending = Ending
 abbrev pub front_of : Direction → Option Stream → Option QueueItem
 front_of direction None = None
 front_of direction (Some s) = slice_get (side_of direction s).queue 0
+
+-- the end that takes from a direction has taken the mark that the stream opens
+abbrev pub has_taken : Direction → Option Stream → Bool
+has_taken direction None = false
+has_taken direction (Some s) = (side_of direction s).taken

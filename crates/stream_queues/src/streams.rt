@@ -4,7 +4,7 @@ ghost use Rattle.std.specs.Prelude.{◌≡◌, ◌≤◌, ◌<◌, ◌+◌, ◌�
 ghost use Rattle.std.specs.Option.{option_map};
 ghost use Rattle.stream_queues.specs.Streams.{fresh_stream, with_stream, sent_over, frame_sent, frames_sent, closed_by, notice_applied, notices_applied, cut_stream, taken_from};
 ghost use Rattle.stream_queues.specs.Queues.{AreShort};
-ghost use Rattle.stream_queues.specs.Fronts.{endpoints_of, is_open, view_front, front_of};
+ghost use Rattle.stream_queues.specs.Fronts.{endpoints_of, is_open, view_front, front_of, has_taken};
 
 use crate::buffers::{Buffers, MOST_FRAMES};
 use crate::direction::Direction;
@@ -69,6 +69,17 @@ impl Streams {
             to: link.to,
             ended: link.ended,
         })
+    }
+
+    /// Returns whether the end that takes from a direction has taken the mark that the stream opens. False where no
+    /// stream has the number. Takes no memory.
+    pub fn has_taken(&self, number: u16, direction: Direction) -> bool
+        ensures { result ≡ has_taken direction (slice_get self.now.streams number) }
+    {
+        let Some(link) = link_at(&self.links, number) else {
+            return false;
+        };
+        link.end(direction).taken
     }
 
     /// Reserves memory for the frames of any answer: 64 frames of 2,048 bytes. `OutOfMemory` is the only error, and
