@@ -9,3 +9,4 @@ pub mod Joining
 pub mod Rounds
 pub mod Lowering
 pub mod Receiving
+pub mod Counting

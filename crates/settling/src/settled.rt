@@ -8,7 +8,7 @@ ghost use Rattle.settling.specs.Receipts.{AllGood, AreMarks, Covered};
 ghost use Rattle.settling.specs.Schedules.{Settles};
 ghost use Rattle.settling.specs.Settlings.{AllAnswered, IsWrong, OpensFirst, SettlesAll, WhyNot, WhyUnplaced};
 
-use crate::histories::byte_at;
+use crate::histories::{byte_at, byte_of};
 use crate::marks::Marks;
 use crate::place::{Unplaced, place_histories};
 use crate::receipts::{first_foreign, first_missing, outcomes_of_all};
@@ -105,6 +105,17 @@ fn copy_configs(alloc: Global, histories: &[History]) -> Result<Vec<Config>, Out
     Ok(configs)
 }
 
+// How many devices there are. No two have one incarnation byte, so 32 bits suffice.
+fn count_devices(histories: &[History]) -> u32
+    requires valid { world_fault (configs_of histories.now) ≡ None }
+    ensures { result ≡ length histories.now }
+{
+    for history in histories {
+        let _byte = byte_of(history); // gives the prover that it is below 256
+    }
+    histories.len() as u32
+}
+
 // Opens the streams that the histories name.
 fn open_first<A: Device + Drop, S: Device + Drop>(
     world: &mut World<A, S>,
@@ -199,10 +210,7 @@ pub fn settle<A: Device + Drop, S: Device + Drop>(
         let byte = byte_at(histories, device);
         return Err(Unsettled::Missing(byte, place as u64));
     }
-    let Ok(devices) = u32::try_from(histories.len()) else {
-        return Err(Unsettled::OutOfMemory);
-    };
-    match settle_events::<A, S>(alloc, histories, devices) {
+    match settle_events::<A, S>(alloc, histories, count_devices(histories)) {
         Ok(acts) => Ok(Settled {
             schedule: Items::from_vec(acts),
         }),

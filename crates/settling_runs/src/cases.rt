@@ -1,7 +1,7 @@
 //! Accounts of lines, some of which were changed.
 
 use crate::devices::ADAPTER;
-use crate::line::{Account, account};
+use crate::line::{Account, account_of};
 use crate::script::{line_of, turns};
 use adapter_engine::FastAdapter;
 use cip_tables::{Event, Verdict};
@@ -36,7 +36,7 @@ pub fn print_outcome(
 }
 
 fn whole(alloc: Global) -> anyhow::Result<Account> {
-    account(alloc, line_of(alloc, SCANNERS, TURNS)?)
+    account_of(alloc, line_of(alloc, SCANNERS, TURNS)?)
 }
 
 // The books begin a new segment in the middle.
@@ -44,7 +44,7 @@ fn rotated(alloc: Global) -> anyhow::Result<Account> {
     let mut line = line_of(alloc, SCANNERS, TURNS)?;
     line.rotate()?;
     turns(alloc, &mut line, TURNS)?;
-    account(alloc, line)
+    account_of(alloc, line)
 }
 
 // A device tells another answer than it gave.
@@ -84,7 +84,7 @@ fn unsent(alloc: Global) -> anyhow::Result<Account> {
     };
     line.step(1, datagram)?;
     turns(alloc, &mut line, 1)?;
-    account(alloc, line)
+    account_of(alloc, line)
 }
 
 /// Prints what comes of each account.

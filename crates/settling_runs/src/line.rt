@@ -192,7 +192,7 @@ pub struct Account {
 }
 
 /// Ends a line.
-pub fn account(alloc: Global, mut line: Line) -> anyhow::Result<Account> {
+pub fn account_of(alloc: Global, mut line: Line) -> anyhow::Result<Account> {
     line.rotate()?;
     let Line {
         alloc: _,
