@@ -10,3 +10,4 @@ pub mod Rounds
 pub mod Lowering
 pub mod Receiving
 pub mod Counting
+pub mod Samples

@@ -72,14 +72,6 @@ fn place_more(placed: &mut Vec<usize>, device: u32, most: usize)
     placed[device as usize] += 1;
 }
 
-// The place behind the datagram that an act delivers.
-fn behind(act: &Act) -> Option<usize> {
-    match act {
-        Act::Deliver { index, .. } => Some(index.saturating_add(1)),
-        _ => None,
-    }
-}
-
 fn set_place(places: &mut Vec<usize>, device: u32, place: usize) {
     if let Some(known) = places.get_mut(device as usize) {
         *known = place;
@@ -163,17 +155,15 @@ impl<A: Device + Drop, S: Device + Drop> Placement<A, S> {
         Search::Near(placed_at(&self.search_from, device))
     }
 
-    // Notes where the next datagram of a device is to be looked for first: behind the last one, or, where there was
-    // none, among those that are still to be sent.
-    fn note_search(&mut self, device: u32, act: Option<&Act>)
+    // Notes where the next datagram of a device is to be looked for first: behind the one that an act delivers, or, where
+    // a search found none, among those that are still to be sent.
+    fn note_search(&mut self, device: u32, event: &Event, act: Option<&Act>)
         ensures { self.new ≡ self.old }
     {
-        let place = match act {
-            None => self.world.sent_count(),
-            Some(act) => match behind(act) {
-                None => return,
-                Some(place) => place,
-            },
+        let place = match (event, act) {
+            (_, Some(Act::Deliver { index, .. })) => index.saturating_add(1),
+            (Event::Datagram { .. }, None) => self.world.sent_count(),
+            _ => return,
         };
         set_place(&mut self.search_from, device, place);
     }
@@ -233,7 +223,7 @@ impl<A: Device + Drop, S: Device + Drop> Placement<A, S> {
             return Ok(false);
         };
         let found = self.cause_of(alloc, device, event, self.search_near(device))?;
-        self.note_search(device, found.as_ref());
+        self.note_search(device, event, found.as_ref());
         let Some(act) = found else {
             return Ok(false);
         };
@@ -258,7 +248,7 @@ impl<A: Device + Drop, S: Device + Drop> Placement<A, S> {
             return Ok(false);
         };
         if let Some(act) = self.cause_of(alloc, device, event, Search::All)? {
-            self.note_search(device, Some(&act));
+            self.note_search(device, event, Some(&act));
             self.place_event(histories, device, act)?;
             return Ok(true);
         }

@@ -113,7 +113,14 @@ fn count_devices(histories: &[History]) -> u32
     for history in histories {
         let _byte = byte_of(history); // gives the prover that it is below 256
     }
-    histories.len() as u32
+    in_32_bits(histories.len())
+}
+
+fn in_32_bits(count: usize) -> u32
+    requires { count < 2 ^ 32 }
+    ensures { result ≡ count }
+{
+    count as u32
 }
 
 // Opens the streams that the histories name.

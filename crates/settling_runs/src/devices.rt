@@ -49,7 +49,12 @@ fn listening_slot(alloc: Global) -> SlotConfig {
 }
 
 fn profile(alloc: Global, number: u8) -> Result<ScannerProfile, OutOfMemory> {
-    let owner = scanner(alloc, 0x20_u8.wrapping_add(number), address(number), ADAPTER)?;
+    let owner = scanner(
+        alloc,
+        0x20_u8.wrapping_add(number),
+        address(number),
+        ADAPTER,
+    )?;
     if number == 0 {
         return Ok(owner);
     }

@@ -54,7 +54,11 @@ fn hand_out(
     for frame in answer.frames.as_slice() {
         if let Recipient::Stream(stream) = frame.to {
             let bytes = Items::copy_of(alloc, frame.bytes.as_slice())?;
-            put(waiting, other_end(device, stream), Event::Frame { stream, bytes })?;
+            put(
+                waiting,
+                other_end(device, stream),
+                Event::Frame { stream, bytes },
+            )?;
         }
     }
     for datagram in answer.datagrams.as_slice() {
@@ -76,7 +80,10 @@ fn taken(alloc: Global, waiting: &mut Vec<Vec<Event>>, device: usize) -> Vec<Eve
     }
 }
 
-fn stepped<D: Device + Drop>(book: Option<&mut Book<D>>, event: Event) -> Result<Receipt, BookFault> {
+fn stepped<D: Device + Drop>(
+    book: Option<&mut Book<D>>,
+    event: Event,
+) -> Result<Receipt, BookFault> {
     match book {
         None => Err(BookFault::TraceFull),
         Some(book) => book.step(event),
@@ -90,7 +97,11 @@ fn rotated<D: Device + Drop>(book: &mut Book<D>) -> anyhow::Result<Segment> {
     Ok(book.rotate()?)
 }
 
-fn keep(segments: &mut Vec<Vec<Segment>>, device: usize, segment: Segment) -> Result<(), OutOfMemory> {
+fn keep(
+    segments: &mut Vec<Vec<Segment>>,
+    device: usize,
+    segment: Segment,
+) -> Result<(), OutOfMemory> {
     if let Some(kept) = segments.get_mut(device) {
         kept.push(segment)?;
     }
@@ -131,7 +142,11 @@ impl Line {
         let peer = address(number);
         put(&mut self.waiting, 0, Event::StreamOpened { stream, peer })?;
         let peer = ADAPTER;
-        put(&mut self.waiting, device, Event::StreamOpened { stream, peer })?;
+        put(
+            &mut self.waiting,
+            device,
+            Event::StreamOpened { stream, peer },
+        )?;
         Ok(())
     }
 

@@ -20,10 +20,7 @@ fn print_place(rt: &impl Print, receipt: Option<Receipt>) -> anyhow::Result<()> 
     Ok(())
 }
 
-fn print_ticks<R: Print + Wait>(
-    rt: &R,
-    device: &LockedDevice<FastAdapter>,
-) -> anyhow::Result<()> {
+fn print_ticks<R: Print + Wait>(rt: &R, device: &LockedDevice<FastAdapter>) -> anyhow::Result<()> {
     print_place(rt, Some(device.step(rt, Event::Tick { ms: 1 })?))?;
     print_place(rt, device.step_if(rt, Event::Tick { ms: 1 }, || false)?)?;
     print_place(rt, device.step_if(rt, Event::Tick { ms: 1 }, || true)?)

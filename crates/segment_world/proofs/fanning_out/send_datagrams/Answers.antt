@@ -2,8 +2,8 @@ use Rattle.std.proofs.Common.{arith}
 use Rattle.segment_world.proofs.Logging.{short_more, sent_more}
 use Rattle.segment_world.proofs.fanning_out.send_datagrams.Goals as goal
 
-pub push_reserved-requires-clause-space : goal.push_reserved-requires-clause-space
-push_reserved-requires-clause-space c =
+pub push_reserved-requires-clause-spare : goal.push_reserved-requires-clause-spare
+push_reserved-requires-clause-spare c =
     let inv = c.loop-datagram.invariant in
     let short = (short_more c.args.datagrams.now c.loop-datagram.datagram-index c.datagram-item.result c.loop-datagram-test.true c.datagram-item.is inv.short).0 in
     rw c.as_slice.ensures (omega (arith, short, inv.bytes, c.loop-datagram-test.true))

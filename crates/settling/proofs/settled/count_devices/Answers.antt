@@ -10,7 +10,7 @@ loop-history-preserved c =
     let here = byte_here hs c.loop-history.history-index c.history-item.result c.loop-history-test.true c.history-item.is in
     below_more (λ (i : ℕ). slice_index (bytes_of hs) i < 256) c.loop-history.history-index c.loop-history.invariant (omega (arith, fits, here, c.byte_of-_byte.ensures))
 
-pub returns : goal.returns
-returns c =
+pub in_32_bits-requires : goal.in_32_bits-requires
+in_32_bits-requires c =
     let few : length c.args.histories.now ≤ 256 = few_devices c.args.histories.now c.requires.valid (λ i lt. c.loop-history.invariant i (omega (arith, lt, c.loop-history-test.false))) in
-    ?
+    omega (arith, few)
