@@ -172,7 +172,6 @@ pub fn staying(alloc: Global, rows: &[Row]) -> Result<Vec<Row>, OutOfMemory>
 
 /// The notices of a close of the connection of a triad: it is closed, and then the listen-only connections that lose
 /// their support with it are dropped. Out of memory is the only fault.
-#[tactic(auto, using(crate::proofs::Without::left_alone))]
 pub fn closed_notices(alloc: Global, rows: &[Row], triad: Triad) -> Result<Vec<Notice>, OutOfMemory>
     ensures { IfOk result (λ notices. notices.items
         ≡ Notice.Closed triad ∷ map dropped_notice (unsupported (without_triad triad rows.now))) }
