@@ -1,8 +1,8 @@
-mod SlotLookups
-mod Moves
+pub mod SlotLookups
+pub mod Moves
 mod Events
 mod CounterSteps
-mod Slotwise
+pub mod Slotwise
 mod DrawnSteps
 mod OwnSteps
 mod ProducerSteps

@@ -198,7 +198,7 @@ pub ready_leads : (R : ScannerTable → ScannerTable → Type 0) → Kept R → 
 unfolding ready_opened
 ready_leads R kept t = each_does R kept IsClosedSlot opened (opened_does R kept) (ready_slots t) t (ready_stand t) (ready_apart t) (ready_rest t)
 
-target_leads : (R : ScannerTable → ScannerTable → Type 0) → Kept R → (target : Node) (t : ScannerTable) → R t (target_opened target t).table
+pub target_leads : (R : ScannerTable → ScannerTable → Type 0) → Kept R → (target : Node) (t : ScannerTable) → R t (target_opened target t).table
 unfolding target_opened
 target_leads R kept target t =
     each_does R kept IsClosedSlot opened (opened_does R kept) (filter (is_with target) (ready_slots t)) t
