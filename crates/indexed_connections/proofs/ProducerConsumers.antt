@@ -14,23 +14,23 @@ use Rattle.adapter_table.specs.declared.row.State.{State}
 use Rattle.adapter_table.specs.declared.row.State.TheVariants.{Established, TimedOut}
 use Rattle.adapter_table.specs.Rows.{written_state, written_row}
 use Rattle.adapter_table.specs.Datagrams.{is_for, row_delivery, accepted_row, accepted_if_for}
-use Rattle.adapter_table.specs.Productions.{produced_state, produced_row, changed_state, changed_row}
+use Rattle.adapter_table.specs.Productions.{producer_number, produced_state, produced_row, changed_state, changed_row}
 use Rattle.conn_slab.specs.Reception.{reception}
-use Rattle.due_datagrams.specs.ConsumerTables.{state_number, consumers_by_producer}
+use Rattle.due_datagrams.specs.ConsumerTables.{consumers_by_producer}
 use Rattle.due_datagrams.specs.ConsumerLaws.{KeepsProducer, consumers_kept}
 
-produced_number : (clock : Ms) (api : ℕ) (state : State) → state_number (produced_state clock api state) ≡ state_number state
+produced_number : (clock : Ms) (api : ℕ) (state : State) → producer_number (produced_state clock api state) ≡ producer_number state
 produced_number clock api TimedOut = refl
 produced_number clock api (Established production) = split (is_production_due clock production)
   where
-    split : (b : Bool) → state_number (cond b (Established (produced clock api production)) (Established production)) ≡ Some production.producer
+    split : (b : Bool) → producer_number (cond b (Established (produced clock api production)) (Established production)) ≡ Some production.producer
     split true = refl
     split false = refl
 
 pub produced_served : (clock : Ms) (rows : List Row) → consumers_by_producer (map (produced_row clock) rows) ≡ consumers_by_producer rows
 produced_served clock rows = consumers_kept (produced_row clock) (λ row. record { peer = refl; number = produced_number clock row.t_o_api_ms row.state }) rows
 
-written_number : (state : State) → state_number (written_state state) ≡ state_number state
+written_number : (state : State) → producer_number (written_state state) ≡ producer_number state
 written_number TimedOut = refl
 written_number (Established production) = refl
 
@@ -46,7 +46,7 @@ trigger_number : (trigger : Trigger) (clock : Ms) (api : ℕ) (production : Prod
 trigger_number Cyclic clock api production = refl
 trigger_number ChangeOfState clock api production = free_number (is_free clock production) clock api production
 
-changed_number : (clock : Ms) (api : ℕ) (state : State) → state_number (changed_state clock api state) ≡ state_number state
+changed_number : (clock : Ms) (api : ℕ) (state : State) → producer_number (changed_state clock api state) ≡ producer_number state
 changed_number clock api TimedOut = refl
 changed_number clock api (Established production) = ap (λ (n : ℕ). Some n) (trigger_number production.trigger clock api production)
 

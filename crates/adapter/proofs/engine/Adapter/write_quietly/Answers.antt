@@ -6,4 +6,4 @@ use Rattle.adapter.proofs.engine.Adapter.write_quietly.Goals as goal
 pub returns-clause-answer : goal.returns-clause-answer
 unfolding written_table
 returns-clause-answer g c =
-    rw (c.plain_answer.ensures, nothing_on_change c.args.self.now.clock c.args.point c.args.bytes.now c.args.self.now.rows c.requires.quiet) refl
+    rw (c.plain.ensures, nothing_on_change c.args.self.now.clock c.args.point c.args.bytes.now c.args.self.now.rows c.requires.quiet) refl
