@@ -1,0 +1,4 @@
+pub mod Made
+pub mod Inputs
+pub mod Productions
+pub mod Runs

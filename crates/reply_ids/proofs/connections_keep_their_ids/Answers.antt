@@ -1,0 +1,5 @@
+use Rattle.reply_ids.proofs.Rows.{connections_keep}
+use Rattle.reply_ids.proofs.connections_keep_their_ids.Goals as goal
+
+pub returns : goal.returns
+returns c = connections_keep

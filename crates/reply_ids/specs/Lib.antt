@@ -1,0 +1,4 @@
+pub mod Frames
+pub mod Replies
+pub mod Slots
+pub mod Rows

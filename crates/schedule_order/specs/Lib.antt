@@ -1,0 +1,5 @@
+pub mod Chronicle
+pub mod Order
+pub mod Indexes
+pub mod Names
+pub mod Streams

@@ -1,0 +1,116 @@
+-- Connection ids name openings: each connection of an adapter, each open slot of a scanner and each datagram that a scanner
+-- produced has its entry in the chronicle, that of the slot's opening whose Forward_Open opened the connection (Volume 1,
+-- chapter 3, network connection ids and Forward_Open service).
+use Rattle.std.specs.Prelude.{ℕ, ◌≡◌, ◌<◌, true, List, find, slice_get, Some}
+use Rattle.std.specs.List.{AllByRecursion, Contains}
+use Rattle.adapter_table.specs.declared.row.Row.{Row}
+use Rattle.adapter_table.specs.declared.table.AdapterTable.{AdapterTable}
+use Rattle.adapter_table.specs.Opening.{connection_id}
+use Rattle.adapter_table.specs.Productions.{producer_of}
+use Rattle.adapter_table.specs.Rows.{is_established}
+use Rattle.scanner_table.specs.declared.slot.SlotState.{SlotState}
+use Rattle.scanner_table.specs.declared.slot.SlotState.TheVariants.{Idle, Opening, Established, TimedOut, Closing}
+use Rattle.scanner_table.specs.declared.table.ScannerTable.{ScannerTable}
+use Rattle.scanner_table.specs.Slots.{IndexedSlot, indexed_slots}
+use Rattle.cip_tables.specs.declared.table.Config.{Config}
+use Rattle.cip_tables.specs.declared.table.DeviceTable.TheVariants.{Adapter, Scanner}
+use Rattle.segment_world.specs.declared.act.Act.{Act}
+use Rattle.segment_world.specs.World.{World, node_at}
+use Rattle.made_productions.specs.Productions.{End, end_at, Production}
+use Rattle.schedule_order.specs.Chronicle.{Opened, opens_row, Acceptance, Chronicle}
+use Rattle.schedule_order.specs.Order.{IsChronicle, IsAdapterAt, IsScannerAt}
+
+-- the device of this place is a scanner, or an adapter
+pub record IsScannerIn (w : World) (device : ℕ) : Type 0 where
+  pub table : ScannerTable
+  pub is : slice_get w.tables device ≡ Some (Scanner table)
+
+pub record IsAdapterIn (w : World) (device : ℕ) : Type 0 where
+  pub table : AdapterTable
+  pub is : slice_get w.tables device ≡ Some (Adapter table)
+
+-- ENTRIES
+
+-- An entry of the chronicle: the adapter drew its O->T id for this connection alone, and a slot of a scanner requested it.
+pub record IsEntry (w : World) (opened : List Opened) (e : Opened) : Type 0 where
+  pub table : AdapterTable
+  pub there : slice_get w.tables e.row.device ≡ Some (Adapter table)
+  pub drawn : e.row.number < table.next_id
+  pub id : e.o_t_id ≡ connection_id table.profile e.row.number
+  pub scanner : IsScannerIn w e.slot.device
+  pub first : find (opens_row e.row) opened ≡ Some e
+
+-- the entry of an adapter's connection: its ids, its peer, and the producer of its T->O data
+pub record HasEntry (w : World) (opened : List Opened) (device : ℕ) (row : Row) : Type 0 where
+  pub entry : Opened
+  pub found : find (opens_row (end_at device row.opening)) opened ≡ Some entry
+  pub o_t : entry.o_t_id ≡ row.o_t_id
+  pub t_o : entry.t_o_id ≡ row.t_o_id
+  pub peer : row.peer ≡ node_at w entry.slot.device
+  pub producer : is_established row ≡ true → entry.producer ≡ end_at device (producer_of row.state)
+
+-- an entry of the slot's opening, with this O->T id
+pub record IsOpenedFor (opened : List Opened) (slot : End) (o_t : ℕ) : Type 0 where
+  pub entry : Opened
+  pub there : Contains opened entry
+  pub slot_is : entry.slot ≡ slot
+  pub o_t_is : entry.o_t_id.0 ≡ o_t
+
+-- an entry of the slot's opening, with these ids
+pub record IsOpenedWith (opened : List Opened) (slot : End) (o_t t_o : ℕ) : Type 0 where
+  pub entry : Opened
+  pub there : Contains opened entry
+  pub slot_is : entry.slot ≡ slot
+  pub o_t_is : entry.o_t_id.0 ≡ o_t
+  pub t_o_is : entry.t_o_id.0 ≡ t_o
+
+abbrev pub StateHasEntry : List Opened → ℕ → SlotState → Type 0
+StateHasEntry opened device Idle = Unit {0}
+StateHasEntry opened device (Opening o) = Unit {0}
+StateHasEntry opened device (Established c) = IsOpenedWith opened (end_at device c.opening) c.link.o_t_id.0 c.link.t_o_id.0
+StateHasEntry opened device (TimedOut link) = Unit {0}
+StateHasEntry opened device (Closing c) = Unit {0}
+
+-- the entry of an open slot's opening
+abbrev pub SlotHasEntry : List Opened → ℕ → IndexedSlot → Type 0
+SlotHasEntry opened device place = StateHasEntry opened device place.slot.state
+
+-- where a scanner made the production, the entry of its own opening has the production's id
+abbrev pub ProductionHasEntry : World → List Opened → Production → Type 0
+ProductionHasEntry w opened p = IsScannerIn w p.producer.device → IsOpenedFor opened p.producer p.made.datagram.connection
+
+-- Each connection of an adapter, each open slot of a scanner, and each datagram that a scanner produced has its entry.
+pub record IdsNameOpenings (c : Chronicle) : Type 0 where
+  pub entries : AllByRecursion (IsEntry c.story.world c.opened) c.opened
+  pub rows : (device : ℕ) (t : AdapterTable) → IsAdapterAt c device t → AllByRecursion (HasEntry c.story.world c.opened device) t.rows
+  pub slots : (device : ℕ) (t : ScannerTable) → IsScannerAt c device t → AllByRecursion (SlotHasEntry c.opened device) (indexed_slots t)
+  pub productions : AllByRecursion (ProductionHasEntry c.story.world c.opened) c.produced
+
+-- So it is in every schedule.
+abbrev pub SchedulesNameOpenings : Type 0
+SchedulesNameOpenings = (configs : List Config) (acts : List Act) (c : Chronicle) → IsChronicle configs acts c → IdsNameOpenings c
+
+-- WHOSE DATA ARE ACCEPTED
+
+-- the opening whose Forward_Open opened the connection made the production
+pub record IsOfItsOpening (opened : List Opened) (a : Acceptance) : Type 0 where
+  pub entry : Opened
+  pub found : find (opens_row a.consumer) opened ≡ Some entry
+  pub producer : a.production.producer ≡ entry.slot
+
+-- What is accepted through one connection of an adapter are productions of the one slot opening whose Forward_Open opened
+-- the connection.
+abbrev pub OneOpeningIsAccepted : Chronicle → Type 0
+OneOpeningIsAccepted c = (a : Acceptance) (t : AdapterTable) → Contains c.accepted a → IsAdapterAt c a.consumer.device t → IsOfItsOpening c.opened a
+
+abbrev pub SchedulesAcceptOneOpening : Type 0
+SchedulesAcceptOneOpening = (configs : List Config) (acts : List Act) (c : Chronicle) → IsChronicle configs acts c → OneOpeningIsAccepted c
+
+-- Two datagrams that scanners produced with one connection id are of one slot's opening.
+abbrev pub OneOpeningHasTheId : Chronicle → Type 0
+OneOpeningHasTheId c =
+    (p q : Production) → Contains c.produced p → Contains c.produced q → IsScannerIn c.story.world p.producer.device → IsScannerIn c.story.world q.producer.device →
+    p.made.datagram.connection ≡ q.made.datagram.connection → p.producer ≡ q.producer
+
+abbrev pub AnIdNamesOneOpening : Type 0
+AnIdNamesOneOpening = (configs : List Config) (acts : List Act) (c : Chronicle) → IsChronicle configs acts c → OneOpeningHasTheId c
