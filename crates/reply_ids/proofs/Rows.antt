@@ -80,7 +80,7 @@ all_contained all before (x ∷ rest) is = (
 same_row : (row : Row) → IsSameRow row row
 same_row row = record { opening = refl; peer = refl; kind = refl; consumed = refl; produced = refl; o_t = refl; t_o = refl; established = λ is. is; producer = λ is. refl }
 
-same_then : (a b c : Row) → IsSameRow a b → IsSameRow b c → IsSameRow a c
+pub same_then : (a b c : Row) → IsSameRow a b → IsSameRow b c → IsSameRow a c
 same_then a b c first next = record {
   opening = next.opening ∙ first.opening;
   peer = next.peer ∙ first.peer;
@@ -122,7 +122,7 @@ changed_same clock api (Established p) = record { living = λ is. refl; producer
 timed_same : (state : State) → IsSameState state TimedOut
 timed_same state = record { living = λ is. absurd (let e : false ≡ true = is in cc); producer = λ is. absurd (let e : false ≡ true = is in cc) }
 
-written_row_same : (point : ℕ) (row : Row) → IsSameRow row (written_row point row)
+pub written_row_same : (point : ℕ) (row : Row) → IsSameRow row (written_row point row)
 written_row_same point row = either (IsSameRow row) (row.produced == point) (record row { state = written_state row.state }) row (same_state row (written_state row.state) (written_same row.state)) (same_row row)
 
 changed_row_same : (clock : Ms) (point : ℕ) (row : Row) → IsSameRow row (changed_row clock point row)
@@ -131,7 +131,7 @@ changed_row_same clock point row = either (IsSameRow row) (row.produced == point
 produced_row_same : (clock : Ms) (row : Row) → IsSameRow row (produced_row clock row)
 produced_row_same clock row = same_state row (produced_state clock row.t_o_api_ms row.state) (produced_same clock row.t_o_api_ms row.state)
 
-expired_row_same : (clock : Ms) (row : Row) → IsSameRow row (expired_row clock row)
+pub expired_row_same : (clock : Ms) (row : Row) → IsSameRow row (expired_row clock row)
 expired_row_same clock row = either (IsSameRow row) (has_expired clock row) (record row { state = TimedOut }) row (same_state row TimedOut (timed_same row.state)) (same_row row)
 
 accepted_row_same : (clock : Ms) (peer : Node) (d : DatagramFields) (row : Row) → IsSameRow row (accepted_if_for clock peer d row)

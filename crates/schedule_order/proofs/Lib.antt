@@ -18,3 +18,4 @@ pub mod NameActs
 pub mod Addresses
 pub mod AcceptedOpenings
 pub mod OpeningActs
+pub mod AdapterProducers

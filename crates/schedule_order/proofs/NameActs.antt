@@ -29,13 +29,14 @@ use Rattle.schedule_laws.specs.Ids.{is_drawn, any_opening, IdsAreDrawn}
 use Rattle.schedule_laws.proofs.Drawing.{StepLaws}
 use Rattle.schedule_laws.proofs.Lists.{set_own}
 use Rattle.schedule_laws.proofs.Tests.{drawn_parts, set_cases}
-use Rattle.made_productions.specs.Made.{Made, makes}
+use Rattle.made_productions.specs.Made.{Made, makes, adapter_makes}
 use Rattle.made_productions.specs.Productions.{Production, numbered, produced_more}
 use Rattle.schedule_order.specs.Chronicle.{Opened, frame_opens, Chronicle}
-use Rattle.schedule_order.specs.Names.{IsScannerIn, IsEntry, SlotHasEntry, ProductionHasEntry}
+use Rattle.schedule_order.specs.Names.{IsScannerIn, IsEntry, SlotHasEntry, ProductionHasEntry, IsAdapterIn, ProducerHasEntry}
 use Rattle.schedule_order.specs.Streams.{Ends, ends_of, Waiting, StreamsWait}
 use Rattle.schedule_order.proofs.AdapterNames.{adapter_named}
-use Rattle.schedule_order.proofs.Entries.{DeviceStays, step_stays, Later, same_later, set_later, entry_later, production_later, Waits, waits_later, TableIsNamed, table_later}
+use Rattle.schedule_order.proofs.AdapterProducers.{MadeByEntry, adapter_makes_named, producer_later, made_later}
+use Rattle.schedule_order.proofs.Entries.{AdapterIsNamed, DeviceStays, step_stays, Later, same_later, set_later, entry_later, production_later, Waits, waits_later, TableIsNamed, table_later}
 use Rattle.schedule_order.proofs.ScannerNames.{slots_named, frames_named, MadeHasEntry, makes_named}
 use Rattle.schedule_order.proofs.StreamActs.{same_ends, FrameSent, EventArrives, OneEvent, StreamsOnly, AfterAnswer, answered_waits, streams_more}
 
@@ -45,6 +46,7 @@ pub record NamedAt (w : World) (opened : List Opened) (produced : List Productio
   pub entries : AllByRecursion (IsEntry w opened) opened
   pub tables : (device : ℕ) (t : DeviceTable) → slice_get w.tables device ≡ Some t → TableIsNamed w opened device t
   pub productions : AllByRecursion (ProductionHasEntry w opened) produced
+  pub producers : AllByRecursion (ProducerHasEntry w opened) produced
   pub streams : StreamsWait (Waits w opened) w.streams
 
 abbrev pub Named : Chronicle → Type 0
@@ -67,6 +69,7 @@ streams_named w new opened produced passes named =
       entries = subst (AllByRecursion (IsEntry new (opened ++ []))) (sym (append-nil opened)) (all_more (IsEntry w opened) (IsEntry new (opened ++ [])) (λ e is. entry_later w new opened [] e later is) opened named.entries);
       tables = λ device t at. table_later w new opened [] device t later (named.tables device t (subst (λ (ts : List DeviceTable). slice_get ts device ≡ Some t) passes.tables at));
       productions = all_more (ProductionHasEntry w opened) (ProductionHasEntry new (opened ++ [])) (λ p is. production_later w new opened [] p later is) produced named.productions;
+      producers = all_more (ProducerHasEntry w opened) (ProducerHasEntry new (opened ++ [])) (λ p is. producer_later w new opened [] p later is) produced named.producers;
       streams = streams_more (Waits w opened) (Waits new (opened ++ [])) (λ giver taker bytes is. waits_later w new opened [] later giver taker bytes is) new.streams passes.waits;
     })
 
@@ -91,6 +94,7 @@ pub record EventLeaves (w new : World) (opened more : List Opened) (device : ℕ
   pub table : TableIsNamed new (opened ++ more) device u
   pub frames : AllByRecursion (FrameSent (Waits new (opened ++ more)) (map ends_of w.streams) device) answer.frames
   pub made : IsScannerIn new device → AllByRecursion (MadeHasEntry (opened ++ more) device) (makes t happens)
+  pub made_by : IsAdapterIn new device → AllByRecursion (MadeByEntry (opened ++ more) device) (makes t happens)
 
 ids_fit : (tables : List DeviceTable) (rows : List Row) → AllByRecursion (RowIds (Passing (is_drawn tables)) (Passing any_opening)) rows → AllByRecursion (λ (row : Row). (row.o_t_id.0 < 2 ^ 32) × (row.t_o_id.0 < 2 ^ 32)) rows
 ids_fit tables rows all =
@@ -138,6 +142,13 @@ scanner_result (Ok n) a u is = ok_of n a u is where
 never_scanner : (new : World) (device : ℕ) (u : AdapterTable) → slice_get new.tables device ≡ Some (Adapter u) → IsScannerIn new device → ⊥
 never_scanner new device u at is = absurd (let e = sym is.is ∙ at in cc)
 
+never_adapter : (new : World) (device : ℕ) (u : ScannerTable) → slice_get new.tables device ≡ Some (Scanner u) → IsAdapterIn new device → ⊥
+never_adapter new device u at is = absurd (let e = sym is.is ∙ at in cc)
+
+adapter_makes_later : (w : World) (opened more : List Opened) (device : ℕ) (t : AdapterTable) (happens : Event) → AdapterIsNamed w opened device t → AllByRecursion (MadeByEntry (opened ++ more) device) (adapter_makes t happens)
+adapter_makes_later w opened more device t happens named =
+    all_more (MadeByEntry opened device) (MadeByEntry (opened ++ more) device) (λ m is. made_later opened more device m is) (adapter_makes t happens) (adapter_makes_named w opened device t happens named.rows)
+
 event_leaves : NameLaws → (w new : World) (opened : List Opened) (device : ℕ) (t u : DeviceTable) (happens : Event) (answer : Answer) → step t happens ≡ Ok (answer, u) → DeviceStays t u → slice_get w.tables device ≡ Some t → slice_get new.tables device ≡ Some u → Later w new → IdsAreDrawn w → IdsAreDrawn new → AllByRecursion (IsEntry w opened) opened → TableIsNamed w opened device t → EventArrives (Waits w opened) w device happens → EventLeaves w new opened (frame_opens w device t happens u) device t u happens answer
 unfolding step
 event_leaves laws w new opened device (Adapter t) (Adapter u) happens answer is stays at after later drawn next_drawn entries named comes =
@@ -147,7 +158,7 @@ event_leaves laws w new opened device (Adapter t) (Adapter u) happens answer is 
     let leaves = adapter_named w new opened device t u happens answer
     (record { at = at; after = after; later = later; entries = entries; named = named; drawn = whole.sound.ids_are_drawn; next_drawn = next_whole.sound.ids_are_drawn; fits = ids_fit new.tables u.rows (next_drawn.tables device (Adapter u) after) })
     comes (laws.rows t happens answer u stepped whole) (laws.replies t happens answer u stepped whole) in
-    record { entries = leaves.entries; table = leaves.table; frames = leaves.frames; made = λ scanner. absurd (never_scanner new device u after scanner) }
+    record { entries = leaves.entries; table = leaves.table; frames = leaves.frames; made = λ scanner. absurd (never_scanner new device u after scanner); made_by = λ adapter. adapter_makes_later w opened (frame_opens w device (Adapter t) happens (Adapter u)) device t happens named }
 event_leaves laws w new opened device (Scanner t) (Scanner u) happens answer is stays at after later drawn next_drawn entries named comes =
     let stepped = scanner_result (scanner_step t happens) answer u is in
     let whole = drawn.whole device (Scanner t) at in
@@ -157,6 +168,7 @@ event_leaves laws w new opened device (Scanner t) (Scanner u) happens answer is 
       table = subst (λ (l : List Opened). AllByRecursion (SlotHasEntry l device) (indexed_slots u)) (sym (append-nil opened)) (slots_named w opened device t happens (indexed_slots u) named comes (laws.slots t happens answer u stepped whole));
       frames = frames_named w new (opened ++ []) device u answer.frames after (laws.requests t happens answer u stepped whole);
       made = λ scanner. subst (λ (l : List Opened). AllByRecursion (MadeHasEntry l device) (makes (Scanner t) happens)) (sym (append-nil opened)) (makes_named w opened device t happens named);
+      made_by = λ adapter. absurd (never_adapter new device u after adapter);
     })
 event_leaves laws w new opened device (Adapter t) (Scanner u) happens answer is stays at after later drawn next_drawn entries named comes = absurd stays
 event_leaves laws w new opened device (Scanner t) (Adapter u) happens answer is stays at after later drawn next_drawn entries named comes = absurd stays
@@ -168,6 +180,12 @@ produced_named new opened device [] sent made all = all
 produced_named new opened device (m ∷ ms) sent made all =
     produced_named new opened device ms (sent ++ numbered device sent m ∷ []) (λ scanner. (made scanner).1)
     (all_both (ProductionHasEntry new opened) sent (numbered device sent m ∷ []) all ((λ scanner. (made scanner).0), tt))
+
+producers_named : (new : World) (opened : List Opened) (device : ℕ) (ms : List Made) (sent : List Production) → (IsAdapterIn new device → AllByRecursion (MadeByEntry opened device) ms) → AllByRecursion (ProducerHasEntry new opened) sent → AllByRecursion (ProducerHasEntry new opened) (produced_more device sent ms)
+producers_named new opened device [] sent made all = all
+producers_named new opened device (m ∷ ms) sent made all =
+    producers_named new opened device ms (sent ++ numbered device sent m ∷ []) (λ adapter. (made adapter).1)
+    (all_both (ProducerHasEntry new opened) sent (numbered device sent m ∷ []) all ((λ adapter. (made adapter).0), tt))
 
 -- ---- an event
 
@@ -205,5 +223,7 @@ event_named laws w new opened produced reported m drawn next_drawn named =
       tables = λ device v at. table_at w new opened more d t u device v later named.tables leaves.table (set_cases w.tables d device t u v m.is (ap (λ (ts : List DeviceTable). slice_get ts device) (sym tables) ∙ at));
       productions = produced_named new (opened ++ more) d (makes t reported.event) produced leaves.made
           (all_more (ProductionHasEntry w opened) (ProductionHasEntry new (opened ++ more)) (λ p is. production_later w new opened more p later is) produced named.productions);
+      producers = producers_named new (opened ++ more) d (makes t reported.event) produced leaves.made_by
+          (all_more (ProducerHasEntry w opened) (ProducerHasEntry new (opened ++ more)) (λ p is. producer_later w new opened more p later is) produced named.producers);
       streams = subst (StreamsWait (Waits new (opened ++ more))) (sym streams) sent.waits;
     }

@@ -113,7 +113,7 @@ schedule_openings sends keep opens laws configs acts c is =
     (record {
       produced = blank_produced opens configs acts c is;
       openings = record {
-        named = record { entries = tt; tables = λ device t at. all_fresh (opening_world configs) configs device device t at; productions = tt; streams = tt };
+        named = record { entries = tt; tables = λ device t at. all_fresh (opening_world configs) configs device device t at; productions = tt; producers = tt; streams = tt };
         apart = opening_apart configs is.faultless;
         of_openings = tt;
       };
@@ -131,6 +131,7 @@ schedules_name sends keep opens laws configs acts c is =
       rows = λ device t at. rows_of device t (named.tables device (Adapter t) at);
       slots = λ device t at. named.tables device (Scanner t) at;
       productions = named.productions;
+      producers = named.producers;
     }
   where
     rows_of : (device : ℕ) (t : AdapterTable) → AdapterIsNamed c.story.world c.opened device t → AllByRecursion (HasEntry c.story.world c.opened device) t.rows

@@ -79,12 +79,24 @@ SlotHasEntry opened device place = StateHasEntry opened device place.slot.state
 abbrev pub ProductionHasEntry : World → List Opened → Production → Type 0
 ProductionHasEntry w opened p = IsScannerIn w p.producer.device → IsOpenedFor opened p.producer p.made.datagram.connection
 
--- Each connection of an adapter, each open slot of a scanner, and each datagram that a scanner produced has its entry.
+-- an entry of the producer, with this T->O id
+pub record IsOpenedBy (opened : List Opened) (producer : End) (t_o : ℕ) : Type 0 where
+  pub entry : Opened
+  pub there : Contains opened entry
+  pub producer_is : entry.producer ≡ producer
+  pub t_o_is : entry.t_o_id.0 ≡ t_o
+
+-- where an adapter made the production, an entry of its producer has the production's id
+abbrev pub ProducerHasEntry : World → List Opened → Production → Type 0
+ProducerHasEntry w opened p = IsAdapterIn w p.producer.device → IsOpenedBy opened p.producer p.made.datagram.connection
+
+-- Each connection of an adapter, each open slot of a scanner, and each datagram that a device produced has its entry.
 pub record IdsNameOpenings (c : Chronicle) : Type 0 where
   pub entries : AllByRecursion (IsEntry c.story.world c.opened) c.opened
   pub rows : (device : ℕ) (t : AdapterTable) → IsAdapterAt c device t → AllByRecursion (HasEntry c.story.world c.opened device) t.rows
   pub slots : (device : ℕ) (t : ScannerTable) → IsScannerAt c device t → AllByRecursion (SlotHasEntry c.opened device) (indexed_slots t)
   pub productions : AllByRecursion (ProductionHasEntry c.story.world c.opened) c.produced
+  pub producers : AllByRecursion (ProducerHasEntry c.story.world c.opened) c.produced
 
 -- So it is in every schedule.
 abbrev pub SchedulesNameOpenings : Type 0
