@@ -12,3 +12,4 @@ pub mod DeviceBooks
 pub mod Steps
 pub mod Runs
 pub mod Reading
+pub mod Values

@@ -2,3 +2,4 @@ pub mod Made
 pub mod Inputs
 pub mod Productions
 pub mod Runs
+pub mod Values

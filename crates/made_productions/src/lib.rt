@@ -6,6 +6,7 @@
 ghost use Rattle.made_productions.specs.Inputs.{FreshInputsAreZeros, StepsWriteInputs};
 ghost use Rattle.made_productions.specs.Made.{AnswersSendWhatIsMade};
 ghost use Rattle.made_productions.specs.Runs.{RunsProduceInOrder, SlotsHaveOpeningsOfTheirOwn};
+ghost use Rattle.made_productions.specs.Values.{SlotsProduceTheirOutputs};
 
 use adapter_table::laws::tables_are_whole as adapters_are_whole;
 use cip_tables::laws::tables_are_whole as devices_are_whole;
@@ -24,6 +25,14 @@ pub fn answers_send_what_is_made()
 pub fn inputs_hold_what_is_written()
     ensures fresh { FreshInputsAreZeros }
     ensures steps { StepsWriteInputs }
+{}
+
+/// A scanner's production carries what the output of its slot held just before the event, and the mode that the application
+/// was in; its slot's connection came from the opening that the production names.
+///
+/// Volume 1, chapter 3, class 1 transport, real time formats.
+pub fn slots_produce_their_outputs()
+    ensures { SlotsProduceTheirOutputs }
 {}
 
 /// Over every run of a fresh device the sequence number of a datagram is its production index modulo 2^32, its count is its

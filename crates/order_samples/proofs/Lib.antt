@@ -1,0 +1,5 @@
+mod Playing
+mod OwnerSamples
+mod GroupSamples
+mod OrderSamples
+mod CircleSamples
