@@ -1,0 +1,135 @@
+//! What adapters are made of, whose memory is taken as it is made.
+
+use crate::attempt::{Attempt, Difference, refuse_all};
+use adapter_table::{Row, State};
+use app_rules::Rules;
+use assembly_set::AssemblySet;
+use cip_netparams::Trigger;
+use cip_productions::{Kind, Production};
+use cip_tables::Profile;
+use cip_types::{ConnId, Ms, Node, OutOfMemory, Triad};
+use conn_slab::Connections;
+use mcast_pool::Pool;
+use std::alloc::Global;
+use timer_wheel::Wheel;
+
+const PEER: Node = Node(0xC0A8_0114);
+
+/// An owner with a producer of its own.
+const OWNER: Row = Row {
+    triad: Triad {
+        serial: 1,
+        vendor: 0x1234,
+        originator: 0x1234_5678,
+    },
+    peer: PEER,
+    kind: Kind::ExclusiveOwner,
+    consumed: 150,
+    produced: 100,
+    o_t_id: ConnId(0x1000_0001),
+    t_o_id: ConnId(0x2000_0001),
+    o_t_api_ms: 10,
+    t_o_api_ms: 10,
+    multiplier: 2,
+    multicast: false,
+    opening: 1,
+    last: None,
+    deadline: Ms(10_000),
+    state: State::Established(Production {
+        producer: 1,
+        sequence: 1,
+        count: 0,
+        written: true,
+        due: Ms(0),
+        address: PEER,
+        trigger: Trigger::Cyclic,
+        inhibit: 0,
+        last: None,
+    }),
+};
+
+/// What is made.
+#[derive(Clone, Copy)]
+enum Part {
+    Wheel,
+    Counts,
+    Producers,
+    Connections,
+}
+
+const PARTS: [Part; 4] = [
+    Part::Wheel,
+    Part::Counts,
+    Part::Producers,
+    Part::Connections,
+];
+
+/// The number of connections in a slab into which one was put, and of the rows of its copy.
+fn connections(alloc: Global) -> Result<usize, OutOfMemory> {
+    let mut connections = Connections::new(alloc)?;
+    connections.open(None, OWNER)?;
+    Ok(connections.to_vec(alloc)?.len())
+}
+
+/// Parts of all kinds.
+#[derive(Drop)]
+struct Made;
+
+impl Attempt for Made {
+    type Input = Part;
+
+    type Given = usize;
+
+    fn call(&mut self, alloc: Global, part: &Part) -> Result<usize, OutOfMemory> {
+        match part {
+            Part::Wheel => Ok(Wheel::new(alloc, 8)?.capacity()),
+            Part::Counts => Ok(Rules::new(alloc)?.owners(150) as usize),
+            Part::Producers => Ok(Pool::new(alloc)?.len()),
+            Part::Connections => connections(alloc),
+        }
+    }
+
+    fn is_same(given: &usize, wanted: &usize) -> Result<bool, OutOfMemory> {
+        Ok(given == wanted)
+    }
+
+    fn is_like(&self, _twin: &Self) -> Result<bool, OutOfMemory> {
+        Ok(true)
+    }
+}
+
+/// The points of a profile.
+#[derive(Drop)]
+struct Points;
+
+impl Attempt for Points {
+    type Input = Profile;
+
+    type Given = AssemblySet;
+
+    fn call(&mut self, alloc: Global, profile: &Profile) -> Result<AssemblySet, OutOfMemory> {
+        if profile.check().is_err() {
+            return Err(OutOfMemory);
+        }
+        AssemblySet::new(alloc, profile)
+    }
+
+    fn is_same(given: &AssemblySet, wanted: &AssemblySet) -> Result<bool, OutOfMemory> {
+        let points = given.profile().outputs.as_slice();
+        Ok(points.iter().all(|point| given.read(point.instance) == wanted.read(point.instance)))
+    }
+
+    fn is_like(&self, _twin: &Self) -> Result<bool, OutOfMemory> {
+        Ok(true)
+    }
+}
+
+/// How many allocations are refused where the parts of an adapter are made.
+pub fn parts(alloc: Global) -> Result<u64, Difference> {
+    refuse_all(alloc, &mut Made, &mut Made, &PARTS)
+}
+
+/// How many allocations are refused where the points of a profile are made.
+pub fn points(alloc: Global, profile: &Profile) -> Result<u64, Difference> {
+    crate::attempt::refuse(alloc, &mut Points, &mut Points, profile)
+}
