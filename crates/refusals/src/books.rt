@@ -83,7 +83,7 @@ fn book<D: Device + Drop>(alloc: Global, config: &Config) -> Result<Book<D>, Dif
 }
 
 /// How many allocations are refused in a book of a kind of device, and where its segment is handed out.
-pub fn booked<D: Device + Drop>(
+pub fn book_refusals<D: Device + Drop>(
     alloc: Global,
     config: &Config,
     events: &[Event],

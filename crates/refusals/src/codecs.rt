@@ -227,7 +227,7 @@ impl Attempt for Fed {
 }
 
 /// How many allocations are refused where texts are written and a stream is cut.
-pub fn codecs(alloc: Global) -> Result<u64, Difference> {
+pub fn codec_refusals(alloc: Global) -> Result<u64, Difference> {
     let written = refuse_all(alloc, &mut Written, &mut Written, &TEXTS)?;
     let (splitter, twin) = (Splitter::new(alloc), Splitter::new(alloc));
     let fed = refuse_all(alloc, &mut Fed(splitter), &mut Fed(twin), &PIECES)?;

@@ -93,17 +93,17 @@ impl<D: Device + Drop> Attempt for Made<D> {
 /// A device that can be made of a copy of its table.
 pub trait Restore {
     /// The device whose table is the copied one.
-    fn restored(alloc: Global, copy: &TableCopy) -> Result<Self, NewFault>;
+    fn of_copy(alloc: Global, copy: &TableCopy) -> Result<Self, NewFault>;
 }
 
 impl<T: connection_table::ConnectionTable> Restore for adapter::Adapter<T> {
-    fn restored(alloc: Global, copy: &TableCopy) -> Result<Self, NewFault> {
+    fn of_copy(alloc: Global, copy: &TableCopy) -> Result<Self, NewFault> {
         adapter::Adapter::<T>::from_copy(alloc, copy)
     }
 }
 
 impl Restore for PlainScanner {
-    fn restored(alloc: Global, copy: &TableCopy) -> Result<Self, NewFault> {
+    fn of_copy(alloc: Global, copy: &TableCopy) -> Result<Self, NewFault> {
         PlainScanner::from_copy(alloc, copy)
     }
 }
@@ -118,7 +118,7 @@ impl<D: Device + Restore + Drop> Attempt for Restored<D> {
     type Given = TableCopy;
 
     fn call(&mut self, alloc: Global, copy: &TableCopy) -> Result<TableCopy, OutOfMemory> {
-        let Ok(device) = D::restored(alloc, copy) else {
+        let Ok(device) = D::of_copy(alloc, copy) else {
             return Err(OutOfMemory);
         };
         device.copy()
@@ -139,23 +139,23 @@ pub fn fresh<D: Device>(alloc: Global, config: &Config) -> Result<D, Difference>
 }
 
 /// How many allocations are refused where a device is made of a configuration.
-fn made<D: Device + Drop>(alloc: Global, config: &Config) -> Result<u64, Difference> {
+fn making_refusals<D: Device + Drop>(alloc: Global, config: &Config) -> Result<u64, Difference> {
     let mut device = Made(fresh::<D>(alloc, config)?);
     let mut twin = Made(fresh::<D>(alloc, config)?);
     refuse(alloc, &mut device, &mut twin, config)
 }
 
 /// How many allocations are refused where a device is made of a copy of another.
-fn restored<D: Device + Restore + Drop>(alloc: Global, device: D) -> Result<u64, Difference> {
+fn copy_refusals<D: Device + Restore + Drop>(alloc: Global, device: D) -> Result<u64, Difference> {
     let copy = device.copy()?;
-    let Ok(twin) = D::restored(alloc, &copy) else {
+    let Ok(twin) = D::of_copy(alloc, &copy) else {
         return Err(Difference::NoDevice);
     };
     refuse(alloc, &mut Restored(device), &mut Restored(twin), &copy)
 }
 
 /// How many allocations are refused in the steps of a device, and in copies of it at the end.
-fn stepped<D: Device + Restore + Drop>(
+fn step_refusals<D: Device + Restore + Drop>(
     alloc: Global,
     config: &Config,
     events: &[Event],
@@ -163,12 +163,12 @@ fn stepped<D: Device + Restore + Drop>(
     let mut device = Stepped(fresh::<D>(alloc, config)?);
     let mut twin = Stepped(fresh::<D>(alloc, config)?);
     let steps = refuse_all(alloc, &mut device, &mut twin, events)?;
-    let copies = restored(alloc, device.0)?;
+    let copies = copy_refusals(alloc, device.0)?;
     Ok(steps.saturating_add(copies))
 }
 
 /// How many allocations are refused in the calls of a device.
-fn called<D: Device + Drop>(
+fn call_refusals<D: Device + Drop>(
     alloc: Global,
     config: &Config,
     events: &[Event],
@@ -179,13 +179,13 @@ fn called<D: Device + Drop>(
 }
 
 /// How many allocations are refused over a kind of device, by itself.
-pub fn alone<D: Device + Restore + Drop>(
+pub fn device_refusals<D: Device + Restore + Drop>(
     alloc: Global,
     config: &Config,
     events: &[Event],
 ) -> Result<u64, Difference> {
-    let made = made::<D>(alloc, config)?;
-    let stepped = stepped::<D>(alloc, config, events)?;
-    let called = called::<D>(alloc, config, events)?;
+    let made = making_refusals::<D>(alloc, config)?;
+    let stepped = step_refusals::<D>(alloc, config, events)?;
+    let called = call_refusals::<D>(alloc, config, events)?;
     Ok(made.saturating_add(stepped).saturating_add(called))
 }

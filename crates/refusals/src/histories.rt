@@ -26,7 +26,7 @@ impl Attempt for Recalled {
 
     fn call(&mut self, alloc: Global, input: &Happening) -> Result<usize, OutOfMemory> {
         let segments = segments_of(alloc, &input.profile, input.events.as_slice())?;
-        recalled(alloc, &input.profile, segments)
+        event_count(alloc, &input.profile, segments)
     }
 
     fn is_same(given: &usize, wanted: &usize) -> Result<bool, OutOfMemory> {
@@ -73,7 +73,7 @@ fn rotated(book: &mut Book<FastAdapter>) -> Result<Segment, OutOfMemory> {
 }
 
 /// How many events the history of these segments has.
-fn recalled(
+fn event_count(
     alloc: Global,
     profile: &Profile,
     segments: Vec<Segment>,
@@ -89,6 +89,6 @@ fn recalled(
 }
 
 /// How many allocations are refused where an adapter's history is made.
-pub fn histories(alloc: Global, happening: &Happening) -> Result<u64, Difference> {
+pub fn history_refusals(alloc: Global, happening: &Happening) -> Result<u64, Difference> {
     refuse(alloc, &mut Recalled, &mut Recalled, happening)
 }

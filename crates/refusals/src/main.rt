@@ -23,13 +23,13 @@ mod traces;
 mod worlds;
 
 use attempt::Difference;
-use codecs::codecs;
+use codecs::codec_refusals;
 use std::env;
 use std::fs::Files;
 use std::process::ExitCode;
-use tables::parts;
+use tables::part_refusals;
 use traces::trace_refusals;
-use worlds::worlds;
+use worlds::world_refusals;
 
 /// Prints how many allocations were refused in each part and in each trace.
 fn main(rt: HostRuntime) -> ExitCode {
@@ -40,9 +40,9 @@ fn main(rt: HostRuntime) -> ExitCode {
     let Ok(words) = words.collect::<Vec<String>>(alloc) else {
         return ExitCode::from(2);
     };
-    let mut good = is_printed(&rt, "codecs", codecs(alloc));
-    good &= is_printed(&rt, "parts of an adapter", parts(alloc));
-    good &= is_printed(&rt, "devices on a segment", worlds(alloc));
+    let mut good = is_printed(&rt, "codecs", codec_refusals(alloc));
+    good &= is_printed(&rt, "parts of an adapter", part_refusals(alloc));
+    good &= is_printed(&rt, "devices on a segment", world_refusals(alloc));
     good &= are_traces_printed(&rt, words.as_slice());
     ExitCode::from(if good { 0 } else { 1 })
 }

@@ -61,7 +61,7 @@ impl<D: Device + Drop> Attempt for Replayed<D> {
 }
 
 /// How many allocations are refused where a stepper takes the events of a trace.
-fn stepped<D: Device + Drop>(alloc: Global, trace: &Trace) -> Result<u64, Difference> {
+fn stepper_refusals<D: Device + Drop>(alloc: Global, trace: &Trace) -> Result<u64, Difference> {
     let (Ok(stepper), Ok(twin)) = (
         Stepper::<'_, D>::new(alloc, trace),
         Stepper::<'_, D>::new(alloc, trace),
@@ -77,11 +77,11 @@ fn stepped<D: Device + Drop>(alloc: Global, trace: &Trace) -> Result<u64, Differ
 }
 
 /// How many allocations are refused in a whole trace, and where a stepper takes its events.
-pub fn replayed<D: Device + Drop>(alloc: Global, trace: &Trace) -> Result<u64, Difference> {
+pub fn replay_refusals<D: Device + Drop>(alloc: Global, trace: &Trace) -> Result<u64, Difference> {
     let mut whole = Replayed(fresh::<D>(alloc, &trace.config)?);
     let mut twin = Replayed(fresh::<D>(alloc, &trace.config)?);
     let count = refuse(alloc, &mut whole, &mut twin, trace)?;
-    Ok(count.saturating_add(stepped::<D>(alloc, trace)?))
+    Ok(count.saturating_add(stepper_refusals::<D>(alloc, trace)?))
 }
 
 /// Whether an outcome is that of refused memory.
@@ -128,7 +128,7 @@ fn is_run<D: Device + Drop>(
 }
 
 /// How many allocations are refused where a device runs through a list of events.
-pub fn runs<D: Device + Drop>(
+pub fn run_refusals<D: Device + Drop>(
     alloc: Global,
     config: &Config,
     events: &[Event],

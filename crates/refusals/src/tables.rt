@@ -125,11 +125,11 @@ impl Attempt for Points {
 }
 
 /// How many allocations are refused where the parts of an adapter are made.
-pub fn parts(alloc: Global) -> Result<u64, Difference> {
+pub fn part_refusals(alloc: Global) -> Result<u64, Difference> {
     refuse_all(alloc, &mut Made, &mut Made, &PARTS)
 }
 
 /// How many allocations are refused where the points of a profile are made.
-pub fn points(alloc: Global, profile: &Profile) -> Result<u64, Difference> {
+pub fn point_refusals(alloc: Global, profile: &Profile) -> Result<u64, Difference> {
     crate::attempt::refuse(alloc, &mut Points, &mut Points, profile)
 }

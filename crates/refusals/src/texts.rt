@@ -55,11 +55,11 @@ impl Attempt for Lines {
 }
 
 /// How many allocations are refused where the text of a trace is read and written again.
-pub fn rewritten(alloc: Global, text: &Vec<u8>) -> Result<u64, Difference> {
+pub fn text_refusals(alloc: Global, text: &Vec<u8>) -> Result<u64, Difference> {
     refuse(alloc, &mut Rewritten, &mut Rewritten, text)
 }
 
 /// How many allocations are refused where outcomes are written.
-pub fn lines(alloc: Global, outcomes: &[Outcome]) -> Result<u64, Difference> {
+pub fn line_refusals(alloc: Global, outcomes: &[Outcome]) -> Result<u64, Difference> {
     refuse_all(alloc, &mut Lines, &mut Lines, outcomes)
 }

@@ -1,12 +1,12 @@
 //! Traces, with each allocation refused in turn.
 
 use crate::attempt::Difference;
-use crate::books::booked;
-use crate::devices::{Restore, alone};
-use crate::histories::{Happening, histories};
-use crate::steppers::{replayed, runs};
-use crate::tables::points;
-use crate::texts::{lines, rewritten};
+use crate::books::book_refusals;
+use crate::devices::{Restore, device_refusals};
+use crate::histories::{Happening, history_refusals};
+use crate::steppers::{replay_refusals, run_refusals};
+use crate::tables::point_refusals;
+use crate::texts::{line_refusals, text_refusals};
 use adapter_engine::FastAdapter;
 use cip_events::Event;
 use cip_tables::{Config, Device, Profile};
@@ -29,7 +29,7 @@ pub fn trace_refusals<R: AllocGlobal + Files>(rt: &R, name: &str) -> Result<u64,
     let Ok(trace) = read_trace(alloc, text.as_slice()) else {
         return Err(Difference::NoTrace);
     };
-    let texts = rewritten(alloc, &text)?;
+    let texts = text_refusals(alloc, &text)?;
     let devices = of_kind(alloc, &trace)?;
     Ok(texts.saturating_add(devices))
 }
@@ -62,15 +62,15 @@ fn of_profile(alloc: Global, trace: &Trace, profile: &Profile) -> Result<u64, Di
         profile: profile.copy(alloc)?,
         events: events_of(alloc, trace, FIRST_EVENTS)?,
     };
-    let points = points(alloc, profile)?;
-    Ok(points.saturating_add(histories(alloc, &happening)?))
+    let points = point_refusals(alloc, profile)?;
+    Ok(points.saturating_add(history_refusals(alloc, &happening)?))
 }
 
 /// How many allocations were refused over a kind of device: alone, in a book, and through the stepper and `run`.
 fn over<D: Device + Restore + Drop>(alloc: Global, trace: &Trace) -> Result<u64, Difference> {
     let events = events_of(alloc, trace, usize::MAX)?;
-    let alone = alone::<D>(alloc, &trace.config, events.as_slice())?;
-    let booked = booked::<D>(alloc, &trace.config, events.as_slice())?;
+    let alone = device_refusals::<D>(alloc, &trace.config, events.as_slice())?;
+    let booked = book_refusals::<D>(alloc, &trace.config, events.as_slice())?;
     let through = through::<D>(alloc, trace)?;
     Ok(alone.saturating_add(booked).saturating_add(through))
 }
@@ -81,8 +81,8 @@ fn through<D: Device + Drop>(alloc: Global, trace: &Trace) -> Result<u64, Differ
     let Ok(report) = replay::<D>(alloc, trace) else {
         return Err(Difference::NoDevice);
     };
-    let lines = lines(alloc, report.outcomes.as_slice())?;
-    let runs = runs::<D>(alloc, &trace.config, events.as_slice())?;
-    let replayed = replayed::<D>(alloc, trace)?;
+    let lines = line_refusals(alloc, report.outcomes.as_slice())?;
+    let runs = run_refusals::<D>(alloc, &trace.config, events.as_slice())?;
+    let replayed = replay_refusals::<D>(alloc, trace)?;
     Ok(lines.saturating_add(runs).saturating_add(replayed))
 }

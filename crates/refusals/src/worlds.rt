@@ -116,7 +116,7 @@ fn is_front_like(front: Option<QueueFront<'_>>, other: Option<QueueFront<'_>>) -
 }
 
 /// How many allocations are refused in the acts of a world.
-fn acted<A: Device + Drop, S: Device + Drop>(
+fn act_refusals<A: Device + Drop, S: Device + Drop>(
     alloc: Global,
     world: World<A, S>,
     twin: World<A, S>,
@@ -134,7 +134,7 @@ fn over_plain(alloc: Global) -> Result<u64, Difference> {
     let first = World::<PlainAdapter, PlainScanner>::new(alloc, configs(alloc)?);
     let second = World::<PlainAdapter, PlainScanner>::new(alloc, configs(alloc)?);
     match (first, second) {
-        (Ok(world), Ok(twin)) => acted(alloc, world, twin),
+        (Ok(world), Ok(twin)) => act_refusals(alloc, world, twin),
         _ => Err(Difference::NoDevice),
     }
 }
@@ -144,13 +144,13 @@ fn over_fast(alloc: Global) -> Result<u64, Difference> {
     let first = World::<FastAdapter, PlainScanner>::new(alloc, configs(alloc)?);
     let second = World::<FastAdapter, PlainScanner>::new(alloc, configs(alloc)?);
     match (first, second) {
-        (Ok(world), Ok(twin)) => acted(alloc, world, twin),
+        (Ok(world), Ok(twin)) => act_refusals(alloc, world, twin),
         _ => Err(Difference::NoDevice),
     }
 }
 
 /// How many allocations are refused where worlds are made, and in their acts.
-pub fn worlds(alloc: Global) -> Result<u64, Difference> {
+pub fn world_refusals(alloc: Global) -> Result<u64, Difference> {
     let founded = refuse(alloc, &mut Founded, &mut Founded, &())?;
     let plain = over_plain(alloc)?;
     let fast = over_fast(alloc)?;

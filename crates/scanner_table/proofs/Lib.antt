@@ -6,6 +6,7 @@ mod OpeningSamples
 mod ReplySamples
 mod DataSamples
 mod CheckSamples
+mod MeaningSamples
 mod WholeLemmas
 mod WholeSteps
 mod WholeTicks
