@@ -49,7 +49,7 @@ pub trait Attempt {
     fn call(&mut self, alloc: Global, input: &Self::Input) -> Result<Self::Given, OutOfMemory>;
 
     /// Whether two calls gave the same.
-    fn is_same(given: &Self::Given, wanted: &Self::Given) -> Result<bool, OutOfMemory>;
+    fn is_same(given: &Self::Given, expected: &Self::Given) -> Result<bool, OutOfMemory>;
 
     /// Whether what the call is made on is as that of a twin.
     fn is_like(&self, twin: &Self) -> Result<bool, OutOfMemory>;
@@ -72,8 +72,8 @@ pub fn refuse<A: Attempt>(
         let given = attempt.call(alloc, input);
         arm(alloc, 0);
         if let Ok(given) = given {
-            let wanted = twin.call(alloc, input)?;
-            compare::<A>(&given, &wanted)?;
+            let expected = twin.call(alloc, input)?;
+            compare::<A>(&given, &expected)?;
             return Ok(nth as u64);
         }
         if !attempt.is_like(twin)? {
@@ -84,8 +84,8 @@ pub fn refuse<A: Attempt>(
 }
 
 /// Compares what two calls gave.
-fn compare<A: Attempt>(given: &A::Given, wanted: &A::Given) -> Result<(), Difference> {
-    if A::is_same(given, wanted)? {
+fn compare<A: Attempt>(given: &A::Given, expected: &A::Given) -> Result<(), Difference> {
+    if A::is_same(given, expected)? {
         return Ok(());
     }
     Err(Difference::Result)

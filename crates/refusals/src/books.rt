@@ -25,8 +25,8 @@ impl<D: Device + Drop> Attempt for Booked<D> {
         }
     }
 
-    fn is_same(given: &Outcome, wanted: &Outcome) -> Result<bool, OutOfMemory> {
-        Ok(given == wanted)
+    fn is_same(given: &Outcome, expected: &Outcome) -> Result<bool, OutOfMemory> {
+        Ok(given == expected)
     }
 
     fn is_like(&self, twin: &Self) -> Result<bool, OutOfMemory> {
@@ -56,10 +56,10 @@ impl<D: Device + Drop> Attempt for Rotated<D> {
         self.0.rotate()
     }
 
-    fn is_same(given: &Segment, wanted: &Segment) -> Result<bool, OutOfMemory> {
+    fn is_same(given: &Segment, expected: &Segment) -> Result<bool, OutOfMemory> {
         Ok(
-            given.opening.same(&wanted.opening)
-                && are_same(given.events.as_slice(), wanted.events.as_slice()),
+            given.opening.same(&expected.opening)
+                && are_same(given.events.as_slice(), expected.events.as_slice()),
         )
     }
 

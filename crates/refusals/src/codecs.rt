@@ -176,8 +176,8 @@ impl Attempt for Written {
         }
     }
 
-    fn is_same(given: &Vec<u8>, wanted: &Vec<u8>) -> Result<bool, OutOfMemory> {
-        Ok(given.as_slice() == wanted.as_slice())
+    fn is_same(given: &Vec<u8>, expected: &Vec<u8>) -> Result<bool, OutOfMemory> {
+        Ok(given.as_slice() == expected.as_slice())
     }
 
     fn is_like(&self, _twin: &Self) -> Result<bool, OutOfMemory> {
@@ -210,12 +210,12 @@ impl Attempt for Fed {
         }
     }
 
-    fn is_same(given: &Self::Given, wanted: &Self::Given) -> Result<bool, OutOfMemory> {
+    fn is_same(given: &Self::Given, expected: &Self::Given) -> Result<bool, OutOfMemory> {
         Ok(
-            given.len() == wanted.len()
+            given.len() == expected.len()
                 && given
                     .iter()
-                    .zip(wanted.iter())
+                    .zip(expected.iter())
                     .all(|(message, other)| message.as_slice() == other.as_slice()),
         )
     }

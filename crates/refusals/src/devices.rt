@@ -28,8 +28,8 @@ impl<D: Device + Drop> Attempt for Stepped<D> {
         answered(self.0.step(event))
     }
 
-    fn is_same(given: &Outcome, wanted: &Outcome) -> Result<bool, OutOfMemory> {
-        Ok(given == wanted)
+    fn is_same(given: &Outcome, expected: &Outcome) -> Result<bool, OutOfMemory> {
+        Ok(given == expected)
     }
 
     fn is_like(&self, twin: &Self) -> Result<bool, OutOfMemory> {
@@ -55,8 +55,8 @@ impl<D: Device + Drop> Attempt for Called<D> {
         }
     }
 
-    fn is_same(given: &Outcome, wanted: &Outcome) -> Result<bool, OutOfMemory> {
-        Ok(given == wanted)
+    fn is_same(given: &Outcome, expected: &Outcome) -> Result<bool, OutOfMemory> {
+        Ok(given == expected)
     }
 
     fn is_like(&self, twin: &Self) -> Result<bool, OutOfMemory> {
@@ -81,8 +81,8 @@ impl<D: Device + Drop> Attempt for Made<D> {
         self.0.copy()
     }
 
-    fn is_same(given: &TableCopy, wanted: &TableCopy) -> Result<bool, OutOfMemory> {
-        Ok(given.same(wanted))
+    fn is_same(given: &TableCopy, expected: &TableCopy) -> Result<bool, OutOfMemory> {
+        Ok(given.same(expected))
     }
 
     fn is_like(&self, twin: &Self) -> Result<bool, OutOfMemory> {
@@ -124,8 +124,8 @@ impl<D: Device + Restore + Drop> Attempt for Restored<D> {
         device.copy()
     }
 
-    fn is_same(given: &TableCopy, wanted: &TableCopy) -> Result<bool, OutOfMemory> {
-        Ok(given.same(wanted))
+    fn is_same(given: &TableCopy, expected: &TableCopy) -> Result<bool, OutOfMemory> {
+        Ok(given.same(expected))
     }
 
     fn is_like(&self, twin: &Self) -> Result<bool, OutOfMemory> {

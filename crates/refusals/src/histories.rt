@@ -29,8 +29,8 @@ impl Attempt for Recalled {
         event_count(alloc, &input.profile, segments)
     }
 
-    fn is_same(given: &usize, wanted: &usize) -> Result<bool, OutOfMemory> {
-        Ok(given == wanted)
+    fn is_same(given: &usize, expected: &usize) -> Result<bool, OutOfMemory> {
+        Ok(given == expected)
     }
 
     fn is_like(&self, _twin: &Self) -> Result<bool, OutOfMemory> {

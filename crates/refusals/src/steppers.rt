@@ -26,8 +26,8 @@ impl<'a, D: Device + Drop> Attempt for Next<'a, D> {
         Ok(outcome)
     }
 
-    fn is_same(given: &Option<Outcome>, wanted: &Option<Outcome>) -> Result<bool, OutOfMemory> {
-        Ok(given == wanted)
+    fn is_same(given: &Option<Outcome>, expected: &Option<Outcome>) -> Result<bool, OutOfMemory> {
+        Ok(given == expected)
     }
 
     fn is_like(&self, _twin: &Self) -> Result<bool, OutOfMemory> {
@@ -51,8 +51,8 @@ impl<D: Device + Drop> Attempt for Replayed<D> {
         Ok(report.outcomes)
     }
 
-    fn is_same(given: &Items<Outcome>, wanted: &Items<Outcome>) -> Result<bool, OutOfMemory> {
-        Ok(given.as_slice() == wanted.as_slice())
+    fn is_same(given: &Items<Outcome>, expected: &Items<Outcome>) -> Result<bool, OutOfMemory> {
+        Ok(given.as_slice() == expected.as_slice())
     }
 
     fn is_like(&self, _twin: &Self) -> Result<bool, OutOfMemory> {

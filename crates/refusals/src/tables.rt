@@ -89,8 +89,8 @@ impl Attempt for Made {
         }
     }
 
-    fn is_same(given: &usize, wanted: &usize) -> Result<bool, OutOfMemory> {
-        Ok(given == wanted)
+    fn is_same(given: &usize, expected: &usize) -> Result<bool, OutOfMemory> {
+        Ok(given == expected)
     }
 
     fn is_like(&self, _twin: &Self) -> Result<bool, OutOfMemory> {
@@ -114,9 +114,9 @@ impl Attempt for Points {
         AssemblySet::new(alloc, profile)
     }
 
-    fn is_same(given: &AssemblySet, wanted: &AssemblySet) -> Result<bool, OutOfMemory> {
+    fn is_same(given: &AssemblySet, expected: &AssemblySet) -> Result<bool, OutOfMemory> {
         let points = given.profile().outputs.as_slice();
-        Ok(points.iter().all(|point| given.read(point.instance) == wanted.read(point.instance)))
+        Ok(points.iter().all(|point| given.read(point.instance) == expected.read(point.instance)))
     }
 
     fn is_like(&self, _twin: &Self) -> Result<bool, OutOfMemory> {

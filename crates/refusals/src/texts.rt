@@ -23,8 +23,8 @@ impl Attempt for Rewritten {
         write_trace(alloc, &trace)
     }
 
-    fn is_same(given: &String, wanted: &String) -> Result<bool, OutOfMemory> {
-        Ok(given.as_str() == wanted.as_str())
+    fn is_same(given: &String, expected: &String) -> Result<bool, OutOfMemory> {
+        Ok(given.as_str() == expected.as_str())
     }
 
     fn is_like(&self, _twin: &Self) -> Result<bool, OutOfMemory> {
@@ -45,8 +45,8 @@ impl Attempt for Lines {
         write_outcome(alloc, 1, outcome)
     }
 
-    fn is_same(given: &String, wanted: &String) -> Result<bool, OutOfMemory> {
-        Ok(given.as_str() == wanted.as_str())
+    fn is_same(given: &String, expected: &String) -> Result<bool, OutOfMemory> {
+        Ok(given.as_str() == expected.as_str())
     }
 
     fn is_like(&self, _twin: &Self) -> Result<bool, OutOfMemory> {

@@ -26,8 +26,8 @@ impl<A: Device + Drop, S: Device + Drop> Attempt for Acted<A, S> {
         }
     }
 
-    fn is_same(given: &Self::Given, wanted: &Self::Given) -> Result<bool, OutOfMemory> {
-        Ok(given == wanted)
+    fn is_same(given: &Self::Given, expected: &Self::Given) -> Result<bool, OutOfMemory> {
+        Ok(given == expected)
     }
 
     fn is_like(&self, twin: &Self) -> Result<bool, OutOfMemory> {
@@ -51,8 +51,8 @@ impl Attempt for Founded {
         Ok(world)
     }
 
-    fn is_same(given: &Self::Given, wanted: &Self::Given) -> Result<bool, OutOfMemory> {
-        is_world_like(given, wanted)
+    fn is_same(given: &Self::Given, expected: &Self::Given) -> Result<bool, OutOfMemory> {
+        is_world_like(given, expected)
     }
 
     fn is_like(&self, _twin: &Self) -> Result<bool, OutOfMemory> {
