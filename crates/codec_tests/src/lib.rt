@@ -8,3 +8,5 @@ mod of_epath;
 mod of_fwdopen;
 #[cfg(test)]
 mod of_states;
+#[cfg(test)]
+mod of_streams;

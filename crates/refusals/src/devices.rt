@@ -1,10 +1,11 @@
 //! Devices: their steps, their making, and their copies.
 
 use crate::attempt::{Attempt, Difference, refuse, refuse_all};
+use adapter_engine::FastAdapter;
 use cip_events::{Event, NewFault, Outcome, StepFault};
 use cip_tables::{Config, Device, TableCopy};
 use cip_types::OutOfMemory;
-use plain_engine::PlainScanner;
+use plain_engine::{PlainAdapter, PlainScanner};
 use std::alloc::Global;
 
 /// The outcome of a step, or that it was refused memory.
@@ -96,9 +97,15 @@ pub trait Restore {
     fn of_copy(alloc: Global, copy: &TableCopy) -> Result<Self, NewFault>;
 }
 
-impl<T: connection_table::ConnectionTable> Restore for adapter::Adapter<T> {
+impl Restore for PlainAdapter {
     fn of_copy(alloc: Global, copy: &TableCopy) -> Result<Self, NewFault> {
-        adapter::Adapter::<T>::from_copy(alloc, copy)
+        PlainAdapter::from_copy(alloc, copy)
+    }
+}
+
+impl Restore for FastAdapter {
+    fn of_copy(alloc: Global, copy: &TableCopy) -> Result<Self, NewFault> {
+        FastAdapter::from_copy(alloc, copy)
     }
 }
 

@@ -9,3 +9,4 @@ pub mod Times
 pub mod Requests
 pub mod Profiles
 pub mod Frames
+pub mod Meanings
