@@ -6,7 +6,6 @@ mod OpeningSamples
 mod ReplySamples
 mod DataSamples
 mod CheckSamples
-mod MeaningSamples
 mod WholeLemmas
 mod WholeSteps
 mod WholeTicks

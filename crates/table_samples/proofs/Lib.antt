@@ -9,4 +9,3 @@ pub mod Times
 pub mod Requests
 pub mod Profiles
 pub mod Frames
-pub mod Meanings

@@ -31,7 +31,7 @@ use Rattle.scanner_table.specs.Profiles.{profile_fault}
 use Rattle.scanner_table.specs.Ticks.{all_expired, all_given_up, tick}
 use Rattle.scanner_table.specs.Points.{write, read, mode, start, stop}
 use Rattle.scanner_table.specs.Step.{scanner_table}
-use Rattle.scanner_table.proofs.SmallScanner.{target, other_target, owner, gatherer, profile, reported, after, quiet, only, reports_notices, becomes, refuses, sends_request, registration, registered, items, opening_frame, opened_frame, success, ownership, registers, connected}
+use Rattle.meaning_samples.proofs.SmallScanner.{target, other_target, owner, gatherer, profile, reported, after, quiet, only, reports_notices, becomes, refuses, sends_request, registration, registered, items, opening_frame, opened_frame, success, ownership, registers, connected}
 
 -- `unfolding computing` lets `refl` compute a step on events that are written out
 unfoldable computing : Unit {0}

@@ -1,0 +1,3 @@
+mod SmallScanner
+mod Scanners
+mod Adapters
