@@ -6,9 +6,9 @@ use Rattle.settling.proofs.settled.count_devices.Goals as goal
 pub loop-history-preserved : goal.loop-history-preserved
 loop-history-preserved c =
     let hs = c.args.histories.now in
-    let fits : Fits w8 c.byte_of-_byte.result = search rules in
+    let fits : Fits w8 c.byte_of-byte.result = search rules in
     let here = byte_here hs c.loop-history.history-index c.history-item.result c.loop-history-test.true c.history-item.is in
-    below_more (λ (i : ℕ). slice_index (bytes_of hs) i < 256) c.loop-history.history-index c.loop-history.invariant (omega (arith, fits, here, c.byte_of-_byte.ensures))
+    below_more (λ (i : ℕ). slice_index (bytes_of hs) i < 256) c.loop-history.history-index c.loop-history.invariant (omega (arith, fits, here, c.byte_of-byte.ensures))
 
 pub in_32_bits-requires : goal.in_32_bits-requires
 in_32_bits-requires c =

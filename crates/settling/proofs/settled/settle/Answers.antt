@@ -7,10 +7,10 @@ settle_events-requires-clause-answered g c =
     let rs = c.args.receipts.now in
     all_answered hs rs c.in_ok-marks.ensures.good (covered_all hs rs c.in_ok-marks.marks c.in_ok-marks.ensures.marks c.in_default.ensures)
 
-pub returns-in-Ok-settle_events-clause-settled : goal.returns-in-Ok-settle_events-clause-settled
-returns-in-Ok-settle_events-clause-settled g c =
+pub returns-in-Ok-clause-settled : goal.returns-in-Ok-clause-settled
+returns-in-Ok-clause-settled g c =
     let hs = c.args.histories.now in
     let rs = c.args.receipts.now in
     rw c.from_vec.ensures
-    (settles_receipts hs rs c.in-Ok-settle_events.acts.items c.in-Ok-settle_events.ensures.settled c.in-Ok-settle_events.ensures.opens c.in_ok-marks.ensures.good
+    (settles_receipts hs rs c.in-Ok.acts.items c.in-Ok.ensures.settled c.in-Ok.ensures.opens c.in_ok-marks.ensures.good
     (covered_all hs rs c.in_ok-marks.marks c.in_ok-marks.ensures.marks c.in_default.ensures))
