@@ -1,6 +1,5 @@
 use cip_encap::{Message, SplitFault, Splitter};
 use std::test::*;
-use timer_wheel::{Token, Wheel};
 
 /// RegisterSession with a sender context.
 const REGISTRATION: [u8; 28] = [
@@ -31,17 +30,4 @@ fn a_message_is_too_long(rt: HostRuntime) {
     let mut splitter = Splitter::new(rt.alloc());
     let fed = splitter.feed(&TOO_LONG);
     assert!(rt; matches!(fed, Err(SplitFault::TooLong)));
-}
-
-#[test]
-fn a_token_is_due_at_its_deadline(rt: HostRuntime) -> Result<(), Fail> {
-    let mut wheel = Wheel::new(rt.alloc(), 1)?;
-    let mut due = Vec::with_capacity(rt.alloc(), 1)?;
-    wheel.arm(256, Token(7));
-    wheel.advance(255, &mut due);
-    let early = due.len();
-    wheel.advance(1, &mut due);
-    assert!(rt; early == 0 && due.as_slice() == [Token(7)].as_slice());
-    assert!(rt; !wheel.disarm(Token(7)));
-    Ok(())
 }
