@@ -1,7 +1,7 @@
 //! The field device, and the network between it and a scanner: in a product these are sockets.
 
 use crate::gateway::GATEWAY_NODE;
-use eip::{Answer, Config, Device, Event, FastAdapter, Items, Node, StepFault};
+use eip::{Answer, Config, Device, Event, FastAdapter, Items, NewFault, Node, StepFault};
 use example_profiles::adapter;
 use std::alloc::Global;
 
@@ -15,9 +15,9 @@ const STREAM: u16 = 0;
 const EXCHANGES: u32 = 2;
 
 /// A fresh field device.
-pub fn device(alloc: Global) -> anyhow::Result<FastAdapter> {
+pub fn device(alloc: Global) -> Result<FastAdapter, NewFault> {
     let profile = adapter(alloc, 0x30, FIELD_NODE, 0xFFFF_FF00)?;
-    Ok(FastAdapter::new(alloc, Config::Adapter(profile))?)
+    FastAdapter::new(alloc, Config::Adapter(profile))
 }
 
 /// Opens the stream, and carries requests and replies until the scanner's slot is established.

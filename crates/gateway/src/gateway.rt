@@ -14,24 +14,26 @@ const SLOT: u32 = 0;
 /// A scanner towards the field, and an adapter towards the controller.
 #[derive(Drop)]
 pub struct Gateway {
-    alloc: Global,
     pub scanner: PlainScanner,
     pub adapter: FastAdapter,
 }
 
 impl Gateway {
-    /// Fresh devices. The scanner's slot is to be opened, and it is in run mode.
-    pub fn new(alloc: Global) -> anyhow::Result<Gateway> {
+    /// Fresh devices.
+    pub fn new(alloc: Global) -> Result<Gateway, NewFault> {
         let upper = adapter(alloc, 0x10, GATEWAY_NODE, 0xFFFF_FF00)?;
         let lower = scanner(alloc, 0x20, GATEWAY_NODE, FIELD_NODE)?;
-        let mut gateway = Gateway {
-            alloc,
+        Ok(Gateway {
             scanner: PlainScanner::new(alloc, Config::Scanner(lower))?,
             adapter: FastAdapter::new(alloc, Config::Adapter(upper))?,
-        };
-        let _running = gateway.scanner.step(&Event::Mode { run: true })?;
-        let _started = gateway.scanner.step(&Event::Start { slot: SLOT })?;
-        Ok(gateway)
+        })
+    }
+
+    /// The scanner goes to run mode, and opens its slot as soon as it has a session with the field device.
+    pub fn start(&mut self) -> Result<(), StepFault> {
+        let _running = self.scanner.step(&Event::Mode { run: true })?;
+        let _started = self.scanner.step(&Event::Start { slot: SLOT })?;
+        Ok(())
     }
 
     /// The slot's image becomes the adapter's input, and the adapter's output becomes the slot's.

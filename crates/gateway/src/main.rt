@@ -12,13 +12,24 @@ use gateway::Gateway;
 use std::alloc::Global;
 
 fn main(rt: HostRuntime) -> anyhow::Result<()> {
-    let alloc = rt.alloc();
-    let mut gateway = Gateway::new(alloc)?;
-    let mut device = field::device(alloc)?;
-    connect(alloc, &mut gateway.scanner, &mut device)?;
-    println!(rt; "{}", upwards(alloc, &mut gateway, &mut device)?)?;
-    println!(rt; "{}", downwards(alloc, &mut gateway, &mut device)?)?;
+    let mut gateway = Gateway::new(rt.alloc())?;
+    let mut device = field::device(rt.alloc())?;
+    let story = story(rt.alloc(), &mut gateway, &mut device)?;
+    println!(rt; "{story}")?;
     Ok(())
+}
+
+/// The scanner connects to the field device, and data go both ways.
+fn story(
+    alloc: Global,
+    gateway: &mut Gateway,
+    device: &mut FastAdapter,
+) -> Result<String, StepFault> {
+    gateway.start()?;
+    connect(alloc, &mut gateway.scanner, device)?;
+    let input = upwards(alloc, gateway, device)?;
+    let output = downwards(alloc, gateway, device)?;
+    Ok(joined(alloc, &input, &output)?)
 }
 
 /// The field device's application sets its input, which arrives at the gateway's own input.
@@ -49,6 +60,11 @@ fn downwards(
     exchange(&mut gateway.scanner, device, 10)?;
     let output = device.read_point(OUTPUT)?;
     Ok(holds(alloc, "the field device's output", output)?)
+}
+
+/// Two lines.
+fn joined(alloc: Global, first: &str, second: &str) -> Result<String, OutOfMemory> {
+    Ok(format!(in alloc; "{first}\n{second}")?)
 }
 
 /// What a point holds, in words.

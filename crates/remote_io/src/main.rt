@@ -4,23 +4,34 @@
 
 mod words;
 
-use eip::{Config, Device, Event, FastAdapter, Items, Node, StepFault};
+use eip::{Config, Device, Event, FastAdapter, Items, NewFault, Node, StepFault};
 use example_profiles::{CONTROLLER, FORWARD_OPEN, INPUT, OUTPUT, RUN_DATA, adapter};
 use std::alloc::Global;
-use words::{describe, holds, joined};
+use words::{describe, holds, lines};
 
 /// The address of this remote I/O, 192.168.1.10.
 const ADDRESS: Node = Node(0xC0A8_010A);
 
 fn main(rt: HostRuntime) -> anyhow::Result<()> {
-    let alloc = rt.alloc();
-    let profile = adapter(alloc, 0x10, ADDRESS, 0xFFFF_FF00)?;
-    let mut device = FastAdapter::new(alloc, Config::Adapter(profile))?;
-    println!(rt; "{}", opened(alloc, &mut device)?)?;
-    println!(rt; "{}", received(alloc, &mut device)?)?;
-    println!(rt; "{}", sent(alloc, &mut device)?)?;
-    println!(rt; "{}", timed_out(alloc, &mut device)?)?;
+    let mut device = made(rt.alloc())?;
+    let story = story(rt.alloc(), &mut device)?;
+    println!(rt; "{story}")?;
     Ok(())
+}
+
+/// The device, made from its profile.
+fn made(alloc: Global) -> Result<FastAdapter, NewFault> {
+    let profile = adapter(alloc, 0x10, ADDRESS, 0xFFFF_FF00)?;
+    FastAdapter::new(alloc, Config::Adapter(profile))
+}
+
+/// The life of one connection, in words.
+fn story(alloc: Global, device: &mut FastAdapter) -> Result<String, StepFault> {
+    let opened = opened(alloc, device)?;
+    let received = received(alloc, device)?;
+    let sent = sent(alloc, device)?;
+    let timed_out = timed_out(alloc, device)?;
+    Ok(lines(alloc, &[&opened, &received, &sent, &timed_out])?)
 }
 
 /// The controller opens a connection that owns the output and consumes the input.
@@ -49,5 +60,5 @@ fn timed_out(alloc: Global, device: &mut FastAdapter) -> Result<String, StepFaul
     let answer = device.step(&Event::Tick { ms: 160 })?;
     let notices = describe(alloc, &answer)?;
     let output = holds(alloc, OUTPUT, device.read_point(OUTPUT)?)?;
-    Ok(joined(alloc, &notices, &output)?)
+    Ok(lines(alloc, &[&notices, &output])?)
 }

@@ -3,9 +3,13 @@
 use eip::{Answer, ConnId, Node, Notice, OutOfMemory, Recipient};
 use std::alloc::Global;
 
-/// Two lines.
-pub fn joined(alloc: Global, first: &str, second: &str) -> Result<String, OutOfMemory> {
-    Ok(format!(in alloc; "{first}\n{second}")?)
+/// Lines, one below the other.
+pub fn lines(alloc: Global, parts: &[&str]) -> Result<String, OutOfMemory> {
+    let mut text = String::new(alloc);
+    for part in parts {
+        push_line(&mut text, part)?;
+    }
+    Ok(text)
 }
 
 /// What a point holds.
