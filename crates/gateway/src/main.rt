@@ -5,18 +5,43 @@
 mod field;
 mod gateway;
 
-use eip::{Device, Event, FastAdapter, Items, OutOfMemory, StepFault};
+use eip::{Device, Event, FastAdapter, Items, NewFault, OutOfMemory, StepFault};
 use example_profiles::{CONTROLLER, FORWARD_OPEN, INPUT, OUTPUT, RUN_DATA};
 use field::{connect, exchange};
 use gateway::Gateway;
 use std::alloc::Global;
+use std::process::ExitCode;
 
-fn main(rt: HostRuntime) -> anyhow::Result<()> {
-    let mut gateway = Gateway::new(rt.alloc())?;
-    let mut device = field::device(rt.alloc())?;
-    let story = story(rt.alloc(), &mut gateway, &mut device)?;
-    println!(rt; "{story}")?;
-    Ok(())
+/// The gateway, and a field device on the same network.
+#[derive(Drop)]
+struct Installation {
+    gateway: Gateway,
+    device: FastAdapter,
+}
+
+fn main(rt: HostRuntime) -> ExitCode {
+    match described(rt.alloc()) {
+        Some(story) if println!(rt; "{story}").is_ok() => ExitCode::SUCCESS,
+        _ => ExitCode::FAILURE,
+    }
+}
+
+/// What happens between fresh devices; none if memory is refused.
+fn described(alloc: Global) -> Option<String> {
+    let mut installation = installed(alloc).ok()?;
+    happenings(alloc, &mut installation).ok()
+}
+
+/// Fresh devices.
+fn installed(alloc: Global) -> Result<Installation, NewFault> {
+    let gateway = Gateway::new(alloc)?;
+    let device = field::device(alloc)?;
+    Ok(Installation { gateway, device })
+}
+
+/// What happens there, in words.
+fn happenings(alloc: Global, installation: &mut Installation) -> Result<String, StepFault> {
+    story(alloc, &mut installation.gateway, &mut installation.device)
 }
 
 /// The scanner connects to the field device, and data go both ways.
