@@ -1,10 +1,11 @@
 -- Two scanners that gather one input from its group.
-use Rattle.std.proofs.Common.{◌≡◌, List, [], ◌∷◌, ◌++◌, map, Some, refl}
+use Rattle.std.proofs.Common.{◌≡◌, true, false, List, [], ◌∷◌, ◌++◌, map, Some, refl}
 use Rattle.cip_events.specs.declared.event.Delivery.TheVariants.{Applied}
 use Rattle.segment_world.specs.declared.act.Act.{Act}
 use Rattle.segment_world.specs.declared.act.Act.TheVariants.{Deliver}
 use Rattle.made_productions.specs.Productions.{end_at}
-use Rattle.order_samples.specs.Schedules.{shared, meets, opens, writes, ticks, played, observed, seen, accepted_at}
+use Rattle.order_samples.specs.Oracle.{has_connection}
+use Rattle.order_samples.specs.Schedules.{shared, meets, opens, closes, writes, ticks, played, observed, seen, accepted_at}
 use Rattle.order_samples.proofs.Playing.{playing}
 
 -- The first scanner opens a connection, and its producer makes 7. The second joins the group after that, and the producer
@@ -31,3 +32,12 @@ a_joiner_accepts_what_is_older_than_its_opening : observed (accepted_at 2 0) (pl
     ≡ Some ((1, 0, 1, 2, Applied) ∷ (1, 0, 1, 2, Applied) ∷ (1, 0, 1, 1, Applied) ∷ [], Some (9 ∷ 9 ∷ 9 ∷ 9 ∷ []))
 unfolding playing
 a_joiner_accepts_what_is_older_than_its_opening = refl
+
+-- the producer has a connection until the last of its group is closed
+a_group_outlives_its_first_connection : observed (has_connection (end_at 0 1)) (played shared (joined ++ closes 1 0)) ≡ Some true
+unfolding playing
+a_group_outlives_its_first_connection = refl
+
+a_group_ends_with_its_last_connection : observed (has_connection (end_at 0 1)) (played shared (joined ++ closes 1 0 ++ closes 2 1)) ≡ Some false
+unfolding playing
+a_group_ends_with_its_last_connection = refl

@@ -3,3 +3,4 @@ mod OwnerSamples
 mod GroupSamples
 mod OrderSamples
 mod CircleSamples
+mod OnceSamples

@@ -8,6 +8,7 @@ use Rattle.cip_productions.specs.Kinds.{is_owner}
 use Rattle.adapter_table.specs.declared.row.Row.{Row}
 use Rattle.adapter_table.specs.declared.table.AdapterTable.{AdapterTable}
 use Rattle.adapter_table.specs.Points.{bytes_at}
+use Rattle.adapter_table.specs.Productions.{is_produced_by}
 use Rattle.adapter_table.specs.Rows.{is_established}
 use Rattle.scanner_table.specs.Slots.{IndexedSlot, indexed_slots}
 use Rattle.cip_tables.specs.declared.table.DeviceTable.{DeviceTable}
@@ -90,6 +91,17 @@ device_holds c device (Scanner t) = list_all (slot_holds c device) (indexed_slot
 abbrev pub devices_hold : Chronicle → ℕ → List DeviceTable → Bool
 devices_hold c device [] = true
 devices_hold c device (t ∷ rest) = device_holds c device t && devices_hold c (device + 1) rest
+
+-- ---- who has a producer
+
+abbrev pub has_producer : ℕ → Option DeviceTable → Bool
+has_producer number None = false
+has_producer number (Some (Adapter t)) = list_any (is_produced_by number) t.rows
+has_producer number (Some (Scanner t)) = false
+
+-- an adapter's connection is open that has the producer
+abbrev pub has_connection : End → Chronicle → Bool
+has_connection producer c = has_producer producer.number (slice_get c.story.world.tables producer.device)
 
 -- ---- all of it
 

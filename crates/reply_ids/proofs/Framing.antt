@@ -37,12 +37,12 @@ use Rattle.std.specs.Int.{w64}
 use Rattle.reply_ids.specs.Frames.{again, SuccessIs, SuccessesAre, OpensNothing, IsNoOpening}
 use Rattle.reply_ids.specs.Replies.{IsSuccessOf}
 use Rattle.reply_ids.proofs.Texts.{PayloadSays, ReplyHolds, reply_says, MessageBack, message_back}
-use Rattle.reply_ids.proofs.Serving.{HasRowIds, ServedHas, served_has}
+use Rattle.reply_ids.proofs.Serving.{IsOfRow, ServedHas, served_has}
 
 -- ---- what becomes of a message
 
 abbrev pub ReplyHas : AdapterTable → AdapterTable → FrameReply → Type 0
-ReplyHas t next (router_reply reply address) = ReplyHolds (HasRowIds t next) reply
+ReplyHas t next (router_reply reply address) = ReplyHolds (IsOfRow t next) reply
 ReplyHas t next services = Unit {0}
 ReplyHas t next (registered session) = Unit {0}
 ReplyHas t next other_version = Unit {0}
@@ -109,10 +109,10 @@ pub written_packet : ItemsReadBack → (Q : Opened → Type 0) (payload : List �
 written_packet back Q payload socket some few says =
     subst (PacketSays Q) (sym (back payload socket some few)) (record { opens_nothing = says.no_opening; successes = says.successes })
 
-reply_packet : ItemsReadBack → (t next : AdapterTable) (Q : Opened → Type 0) → ((o : Opened) → HasRowIds t next o → Q o) → (echo : ReplyHeader) (reply : FrameReply) → ReplyHas t next reply → length (message_text (reply_message echo reply)) ≤ 2048 → PacketSays Q (packet_reading (reply_message echo reply).payload)
+reply_packet : ItemsReadBack → (t next : AdapterTable) (Q : Opened → Type 0) → ((o : Opened) → IsOfRow t next o → Q o) → (echo : ReplyHeader) (reply : FrameReply) → ReplyHas t next reply → length (message_text (reply_message echo reply)) ≤ 2048 → PacketSays Q (packet_reading (reply_message echo reply).payload)
 reply_packet back t next Q more echo (router_reply reply address) says short =
     written_packet back Q (reply_text reply) (option_map socket_of address) (some_bytes reply) (few_bytes (reply_message echo (router_reply reply address)) (reply_text reply) (option_map socket_of address) refl short)
-    (reply_says Q reply (reply_weaker (HasRowIds t next) Q more reply says))
+    (reply_says Q reply (reply_weaker (IsOfRow t next) Q more reply says))
 reply_packet back t next Q more echo services says short = none_packet Q services_text plain_services
 reply_packet back t next Q more echo (registered session) says short = none_packet Q protocol_text plain_protocol
 reply_packet back t next Q more echo other_version says short = none_packet Q protocol_text plain_protocol
@@ -137,7 +137,7 @@ reply_says_so back t next bytes request reply reads says short m is =
     let same : MessageBack m0 m = message_back m0 m is in
     subst (λ (payload : List ℕ). PacketSays (IsSuccessOf t next bytes m.context) (packet_reading payload)) (sym same.payload)
     (reply_packet back t next (IsSuccessOf t next bytes m.context)
-    (λ o row. record { message = request; reads = reads; context_is = same.context ∙ ap (again w64) (context_same request reply); row = row.row; new = row.new; o_t = row.o_t; t_o = row.t_o })
+    (λ o row. record { message = request; reads = reads; context_is = same.context ∙ ap (again w64) (context_same request reply); row = row.row; new = row.new; o_t = row.o_t; t_o = row.t_o; o_t_api = row.o_t_api; t_o_api = row.t_o_api })
     (reply_header_of request) reply says short)
 
 -- a frame that says so of each success is no request to open

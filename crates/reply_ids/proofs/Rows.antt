@@ -61,9 +61,9 @@ use Rattle.adapter_table.specs.Streams.{is_stream, is_other_stream, is_taken, ne
 use Rattle.adapter_table.specs.Ticks.{has_expired, expired_row, expired_rows, clocked_table, expired_table, produced_table, advanced, tick}
 use Rattle.device_laws.proofs.Lists.{all_both, all_more, all_filtered, all_mapped}
 use Rattle.device_laws.proofs.Texts.{either}
-use Rattle.device_laws.specs.Ids.{RequestIds}
-use Rattle.reply_ids.specs.Frames.{OpensNothing, IsNoOpening}
-use Rattle.reply_ids.specs.Rows.{IsSameRow, WasThere, IsNewOf, RowCame, WasOpen, StreamCame, Came, ConnectionsKeepTheirIds}
+use Rattle.reply_ids.specs.Frames.{IsOpening}
+use Rattle.reply_ids.specs.Rows.{IsSameRow, WasThere, IsNewOf, IsProduced, RowCame, WasOpen, StreamCame, Came, ConnectionsKeepTheirIds}
+use Rattle.reply_ids.proofs.Admissions.{opening_produced}
 use Rattle.reply_ids.proofs.Serving.{new_row_found}
 
 -- ---- a list and its elements
@@ -151,21 +151,23 @@ were_open t = all_more (λ (s : Stream). Contains t.streams s) (WasOpen t) (λ s
 
 -- a table after a request of a peer
 -- what holds where a request opened a connection
-record Opens (t next : AdapterTable) (peer : Node) (O : Type 0) (row : Row) : Type 0 where
+record Opens (t next : AdapterTable) (peer : Node) (O : OpenFields → Type 0) (row : Row) : Type 0 where
   new : IsNewOf t next peer row
-  so : O
+  request : OpenFields
+  so : O request
+  produced : IsProduced t next request row
 
-abbrev RowAfter : Type 0 → AdapterTable → AdapterTable → Node → Row → Type 0
+abbrev RowAfter : (OpenFields → Type 0) → AdapterTable → AdapterTable → Node → Row → Type 0
 RowAfter O t next peer row = WasThere t row ⊎ Opens t next peer O row
 
-record TableAfter (O : Type 0) (t : AdapterTable) (peer : Node) (next : AdapterTable) : Type 0 where
+record TableAfter (O : OpenFields → Type 0) (t : AdapterTable) (peer : Node) (next : AdapterTable) : Type 0 where
   rows : AllByRecursion (RowAfter O t next peer) next.rows
   streams : AllByRecursion (WasOpen t) next.streams
 
-old_rows : (O : Type 0) (t next : AdapterTable) (peer : Node) (rows : List Row) → AllByRecursion (WasThere t) rows → AllByRecursion (RowAfter O t next peer) rows
+old_rows : (O : OpenFields → Type 0) (t next : AdapterTable) (peer : Node) (rows : List Row) → AllByRecursion (WasThere t) rows → AllByRecursion (RowAfter O t next peer) rows
 old_rows O t next peer rows all = all_more (WasThere t) (RowAfter O t next peer) (λ row was. inl was) rows all
 
-stays_so : (O : Type 0) (t : AdapterTable) (peer : Node) → TableAfter O t peer t
+stays_so : (O : OpenFields → Type 0) (t : AdapterTable) (peer : Node) → TableAfter O t peer t
 stays_so O t peer = record { rows = old_rows O t t peer t.rows (were_there t); streams = were_open t }
 
 -- ---- requests
@@ -174,21 +176,22 @@ new_peer : (t : AdapterTable) (peer : Node) (request : OpenFields) (admitted : A
 unfolding opened_row
 new_peer t peer request admitted = refl
 
-opened_rows : (O : Type 0) (t : AdapterTable) (peer : Node) (row : Row) (admitted : Admitted) → O → find (was_opened_as t.next_id) (opened_table t row admitted).rows ≡ Some row → row.peer ≡ peer → TableAfter O t peer (opened_table t row admitted)
+opened_rows : (O : OpenFields → Type 0) (t : AdapterTable) (peer : Node) (request : OpenFields) (row : Row) (admitted : Admitted) → O request → IsProduced t (opened_table t row admitted) request row → find (was_opened_as t.next_id) (opened_table t row admitted).rows ≡ Some row → row.peer ≡ peer → TableAfter O t peer (opened_table t row admitted)
 unfolding opened_table
-opened_rows O t peer row admitted so new is = record {
+opened_rows O t peer request row admitted so produced new is = record {
   rows = all_both (RowAfter O t (opened_table t row admitted) peer) _ (row ∷ []) (old_rows O t (opened_table t row admitted) peer _ (all_filtered (WasThere t) _ t.rows (were_there t)))
-      (inr (record { new = record { new = new; peer_is = is }; so = so }), tt);
+      (inr (record { new = record { new = new; peer_is = is }; request = request; so = so; produced = produced }), tt);
   streams = were_open t;
 }
 
-open_after : (O : Type 0) (t : AdapterTable) (peer : Node) (large : Bool) (request : OpenFields) (said : Result Admitted Refusal) → O → IdsAreDrawn t.profile t.next_id t.rows → TableAfter O t peer (judged_open t peer large request said).table
+open_after : (O : OpenFields → Type 0) (t : AdapterTable) (peer : Node) (large : Bool) (request : OpenFields) (said : Result Admitted Refusal) → admission t request ≡ said → O request → IdsAreDrawn t.profile t.next_id t.rows → TableAfter O t peer (judged_open t peer large request said).table
 unfolding admitted_open
-open_after O t peer large request (Err why) so drawn = stays_so O t peer
-open_after O t peer large request (Ok admitted) so drawn =
-    opened_rows O t peer (opened_row t peer request admitted) admitted so (new_row_found t peer request admitted drawn) (new_peer t peer request admitted)
+open_after O t peer large request (Err why) is so drawn = stays_so O t peer
+open_after O t peer large request (Ok admitted) is so drawn =
+    opened_rows O t peer request (opened_row t peer request admitted) admitted so (opening_produced t peer request admitted (all_contained t.rows [] t.rows refl) is)
+    (new_row_found t peer request admitted drawn) (new_peer t peer request admitted)
 
-close_after : (O : Type 0) (t : AdapterTable) (peer : Node) (request : CloseFields) (found : Option Row) → TableAfter O t peer (close_of t request found).table
+close_after : (O : OpenFields → Type 0) (t : AdapterTable) (peer : Node) (request : CloseFields) (found : Option Row) → TableAfter O t peer (close_of t request found).table
 unfolding closed_table
 close_after O t peer request None = stays_so O t peer
 close_after O t peer request (Some row) = record {
@@ -196,10 +199,10 @@ close_after O t peer request (Some row) = record {
   streams = were_open t;
 }
 
-abbrev ServedAfter : Type 0 → AdapterTable → Node → Served → Type 0
+abbrev ServedAfter : (OpenFields → Type 0) → AdapterTable → Node → Served → Type 0
 ServedAfter O t peer s = TableAfter O t peer s.table
 
-assembly_after : (O : Type 0) (t : AdapterTable) (peer : Node) (service : ℕ) (attribute : Option ℕ) (body : List ℕ) (found : Option (List ℕ)) → ServedAfter O t peer (assembly_of t service attribute body found)
+assembly_after : (O : OpenFields → Type 0) (t : AdapterTable) (peer : Node) (service : ℕ) (attribute : Option ℕ) (body : List ℕ) (found : Option (List ℕ)) → ServedAfter O t peer (assembly_of t service attribute body found)
 assembly_after O t peer service attribute body None = stays_so O t peer
 assembly_after O t peer service attribute body (Some value) =
     let all : Served = record { reply = got value; address = None; notices = []; table = t } in
@@ -207,52 +210,52 @@ assembly_after O t peer service attribute body (Some value) =
     (either (ServedAfter O t peer) (not (is_value_attribute attribute)) _ _ (stays_so O t peer)
     (either (ServedAfter O t peer) (not (length body == 0)) (router_refusal t service status.TooMuchData) all (stays_so O t peer) (stays_so O t peer)))
 
-served_after : (O : Type 0) (t : AdapterTable) (peer : Node) (requested : RouterRequestFields) → ((large : Bool) (request : OpenFields) → requested ≡ opening large request → O) → IdsAreDrawn t.profile t.next_id t.rows → IfSome (served t peer requested) (ServedAfter O t peer)
+served_after : (O : OpenFields → Type 0) (t : AdapterTable) (peer : Node) (requested : RouterRequestFields) → ((large : Bool) (request : OpenFields) → requested ≡ opening large request → O request) → IdsAreDrawn t.profile t.next_id t.rows → IfSome (served t peer requested) (ServedAfter O t peer)
 unfolding served_open served_close served_assembly
 served_after O t peer nothing asks drawn = tt
 served_after O t peer (refused service why) asks drawn = stays_so O t peer
 served_after O t peer (closing request) asks drawn = close_after O t peer request (find (has_triad request.triad) t.rows)
 served_after O t peer (assembly service instance attribute body) asks drawn = assembly_after O t peer service attribute body (bytes_at t.values instance)
-served_after O t peer (opening large request) asks drawn = open_after O t peer large request (admission t request) (asks large request refl) drawn
+served_after O t peer (opening large request) asks drawn = open_after O t peer large request (admission t request) refl (asks large request refl) drawn
 
 -- ---- messages
 
-abbrev HandledAfter : Type 0 → AdapterTable → Node → Handled → Type 0
+abbrev HandledAfter : (OpenFields → Type 0) → AdapterTable → Node → Handled → Type 0
 HandledAfter O t peer done = TableAfter O t peer done.table
 
-registered_after : (O : Type 0) (t : AdapterTable) (peer : Node) (number : ℕ) → TableAfter O t peer (registered_table t number)
+registered_after : (O : OpenFields → Type 0) (t : AdapterTable) (peer : Node) (number : ℕ) → TableAfter O t peer (registered_table t number)
 unfolding registered_table
 registered_after O t peer number = record {
   rows = old_rows O t (registered_table t number) peer t.rows (were_there t);
   streams = all_mapped (WasOpen t) (WasOpen t) (registered_stream number) (λ s was. either (WasOpen t) (is_stream number s) (record s { registered = true }) s (record { old = was.old; there = was.there; number = was.number; peer = was.peer }) was) t.streams (were_open t);
 }
 
-without_after : (O : Type 0) (t : AdapterTable) (peer : Node) (number : ℕ) → TableAfter O t peer (without_stream t number)
+without_after : (O : OpenFields → Type 0) (t : AdapterTable) (peer : Node) (number : ℕ) → TableAfter O t peer (without_stream t number)
 unfolding without_stream
 without_after O t peer number = record {
   rows = old_rows O t (without_stream t number) peer t.rows (were_there t);
   streams = all_filtered (WasOpen t) (is_other_stream number) t.streams (were_open t);
 }
 
-register_after : (O : Type 0) (t : AdapterTable) (stream : Stream) (body : List ℕ) → HandledAfter O t stream.peer (register_session t stream body)
+register_after : (O : OpenFields → Type 0) (t : AdapterTable) (stream : Stream) (body : List ℕ) → HandledAfter O t stream.peer (register_session t stream body)
 register_after O t stream body =
     either (HandledAfter O t stream.peer) (not (length body == 4)) _ _ (stays_so O t stream.peer)
     (either (HandledAfter O t stream.peer) (not (bytes_eq body protocol_text)) _ _ (stays_so O t stream.peer)
     (either (HandledAfter O t stream.peer) stream.registered (refusal t encap.InvalidCommand) (session_begun t stream) (stays_so O t stream.peer) (registered_after O t stream.peer stream.number)))
 
-replied_after : (O : Type 0) (t : AdapterTable) (peer : Node) (s : Option Served) → IfSome s (ServedAfter O t peer) → HandledAfter O t peer (request_replied t s)
+replied_after : (O : OpenFields → Type 0) (t : AdapterTable) (peer : Node) (s : Option Served) → IfSome s (ServedAfter O t peer) → HandledAfter O t peer (request_replied t s)
 replied_after O t peer None goes = stays_so O t peer
 replied_after O t peer (Some s) goes = goes
 
 -- what holds where the packet is a request to open
-abbrev PacketRequests : Type 0 → Result PacketFields ItemFault → Type 0
-PacketRequests O reading = (packet : PacketFields) → reading ≡ Ok packet → (large : Bool) (request : OpenFields) → router_request_reading packet.payload ≡ opening large request → O
+abbrev PacketRequests : (OpenFields → Type 0) → Result PacketFields ItemFault → Type 0
+PacketRequests O reading = (packet : PacketFields) → reading ≡ Ok packet → (large : Bool) (request : OpenFields) → router_request_reading packet.payload ≡ opening large request → O request
 
-packet_after : (O : Type 0) (t : AdapterTable) (peer : Node) (reading : Result PacketFields ItemFault) → PacketRequests O reading → IdsAreDrawn t.profile t.next_id t.rows → HandledAfter O t peer (packet_replied t peer reading)
+packet_after : (O : OpenFields → Type 0) (t : AdapterTable) (peer : Node) (reading : Result PacketFields ItemFault) → PacketRequests O reading → IdsAreDrawn t.profile t.next_id t.rows → HandledAfter O t peer (packet_replied t peer reading)
 packet_after O t peer (Err fault) asks drawn = stays_so O t peer
 packet_after O t peer (Ok packet) asks drawn = replied_after O t peer (served t peer (router_request_reading packet.payload)) (served_after O t peer (router_request_reading packet.payload) (asks packet refl) drawn)
 
-handled_after : (O : Type 0) (t : AdapterTable) (stream : Stream) (echo : ReplyHeader) (body : List ℕ) (requested : Command) → PacketRequests O (packet_reading body) → IdsAreDrawn t.profile t.next_id t.rows → HandledAfter O t stream.peer (handled t stream echo body requested)
+handled_after : (O : OpenFields → Type 0) (t : AdapterTable) (stream : Stream) (echo : ReplyHeader) (body : List ℕ) (requested : Command) → PacketRequests O (packet_reading body) → IdsAreDrawn t.profile t.next_id t.rows → HandledAfter O t stream.peer (handled t stream echo body requested)
 unfolding handled
 handled_after O t stream echo body command.Nop asks drawn = stays_so O t stream.peer
 handled_after O t stream echo body command.ListServices asks drawn = stays_so O t stream.peer
@@ -263,33 +266,29 @@ handled_after O t stream echo body command.SendRrData asks drawn =
     either (HandledAfter O t stream.peer) (has_session stream echo.session) _ _ (packet_after O t stream.peer (packet_reading body) asks drawn) (stays_so O t stream.peer)
 handled_after O t stream echo body command.Other asks drawn = stays_so O t stream.peer
 
-abbrev NextAfter : Type 0 → AdapterTable → Node → Next → Type 0
+abbrev NextAfter : (OpenFields → Type 0) → AdapterTable → Node → Next → Type 0
 NextAfter O t peer next = TableAfter O t peer next.1
 
-misfit_after : (O : Type 0) (t : AdapterTable) (stream : Stream) (header : Option Tailed) → NextAfter O t stream.peer (frame_answer t stream (misfit_of header))
+misfit_after : (O : OpenFields → Type 0) (t : AdapterTable) (stream : Stream) (header : Option Tailed) → NextAfter O t stream.peer (frame_answer t stream (misfit_of header))
 misfit_after O t stream None = stays_so O t stream.peer
 misfit_after O t stream (Some h) =
     either (NextAfter O t stream.peer) (is_silent (command_of (reply_header_in h.0).command)) (plain_answer BadFrame, t) (framed stream.number (reply_header_in h.0) (refusal t encap.InvalidLength)) (stays_so O t stream.peer) (stays_so O t stream.peer)
 
 -- what holds where the message is a request to open
-abbrev MessageRequests : Type 0 → Result MessageFields EncapFault → Type 0
+abbrev MessageRequests : (OpenFields → Type 0) → Result MessageFields EncapFault → Type 0
 MessageRequests O reading = (m : MessageFields) → reading ≡ Ok m → PacketRequests O (packet_reading m.payload)
 
-message_after : (O : Type 0) (t : AdapterTable) (stream : Stream) (header : Option Tailed) (reading : Result MessageFields EncapFault) → MessageRequests O reading → IdsAreDrawn t.profile t.next_id t.rows → NextAfter O t stream.peer (frame_answer t stream (frame_fields header reading))
+message_after : (O : OpenFields → Type 0) (t : AdapterTable) (stream : Stream) (header : Option Tailed) (reading : Result MessageFields EncapFault) → MessageRequests O reading → IdsAreDrawn t.profile t.next_id t.rows → NextAfter O t stream.peer (frame_answer t stream (frame_fields header reading))
 message_after O t stream header (Err why) asks drawn = misfit_after O t stream header
 message_after O t stream header (Ok m) asks drawn = handled_after O t stream (reply_header_of m) m.payload (command_of m.command) (asks m refl) drawn
 
-frame_after : (O : Type 0) (t : AdapterTable) (stream : Stream) (bytes : List ℕ) → MessageRequests O (message_reading bytes) → IdsAreDrawn t.profile t.next_id t.rows → NextAfter O t stream.peer (frame_answer t stream (frame_reading bytes))
+frame_after : (O : OpenFields → Type 0) (t : AdapterTable) (stream : Stream) (bytes : List ℕ) → MessageRequests O (message_reading bytes) → IdsAreDrawn t.profile t.next_id t.rows → NextAfter O t stream.peer (frame_answer t stream (frame_reading bytes))
 unfolding frame_reading
 frame_after O t stream bytes asks drawn = message_after O t stream _ (message_reading bytes) asks drawn
 
--- a frame that opens a connection can be read as a request to open
-abbrev IsRequest : List ℕ → Type 0
-IsRequest bytes = IsNoOpening bytes → ⊥
-
-frame_requests : (bytes : List ℕ) → MessageRequests (IsRequest bytes) (message_reading bytes)
-frame_requests bytes m reads packet is large request opens none =
-    subst (RequestIds (λ id. ⊥)) opens (subst OpensNothing is (none m reads))
+-- a frame that opens a connection can be read as the request to open it
+frame_requests : (bytes : List ℕ) → MessageRequests (IsOpening bytes) (message_reading bytes)
+frame_requests bytes m reads packet is large request opens = record { message = m; reads = reads; packet = packet; packet_is = is; large = large; opens = opens }
 
 -- ---- events
 
@@ -313,18 +312,22 @@ frame_of_came : (t : AdapterTable) (number : ℕ) (bytes : List ℕ) (found : Op
 frame_of_came t number bytes None is drawn = tt
 frame_of_came t number bytes (Some stream) is drawn =
     let next = (frame_answer t stream (frame_reading bytes)).1 in
-    let goes : TableAfter (IsRequest bytes) t stream.peer next = frame_after (IsRequest bytes) t stream bytes (frame_requests bytes) drawn in
-    record { rows = all_more (RowAfter (IsRequest bytes) t next stream.peer) (RowCame t next (event.Frame number bytes)) news next.rows goes.rows; streams = old_streams t (event.Frame number bytes) next.streams goes.streams }
+    let goes : TableAfter (IsOpening bytes) t stream.peer next = frame_after (IsOpening bytes) t stream bytes (frame_requests bytes) drawn in
+    record { rows = all_more (RowAfter (IsOpening bytes) t next stream.peer) (RowCame t next (event.Frame number bytes)) news next.rows goes.rows; streams = old_streams t (event.Frame number bytes) next.streams goes.streams }
   where
-    news : (row : Row) → RowAfter (IsRequest bytes) t (frame_answer t stream (frame_reading bytes)).1 stream.peer row → RowCame t (frame_answer t stream (frame_reading bytes)).1 (event.Frame number bytes) row
+    news : (row : Row) → RowAfter (IsOpening bytes) t (frame_answer t stream (frame_reading bytes)).1 stream.peer row → RowCame t (frame_answer t stream (frame_reading bytes)).1 (event.Frame number bytes) row
     news row (inl was) = inl was
-    news row (inr new) = inr (record { stream = stream; found = is; new = new.new; requested = new.so })
+    news row (inr new) = inr (record { stream = stream; found = is; new = new.new; request = new.request; requested = new.so; produced = new.produced })
 
-request_came : (t : AdapterTable) (peer : Node) (bytes : List ℕ) (s : Option Served) → IfSome s (ServedAfter (Unit {0}) t peer) → OkCame t (event.Request peer bytes) (Ok (answered t peer s))
+-- nothing need hold of a request
+abbrev Anything : OpenFields → Type 0
+Anything request = Unit {0}
+
+request_came : (t : AdapterTable) (peer : Node) (bytes : List ℕ) (s : Option Served) → IfSome s (ServedAfter Anything t peer) → OkCame t (event.Request peer bytes) (Ok (answered t peer s))
 request_came t peer bytes None goes = table_stays t (event.Request peer bytes)
-request_came t peer bytes (Some s) goes = record { rows = all_more (RowAfter (Unit {0}) t s.table peer) (RowCame t s.table (event.Request peer bytes)) news s.table.rows goes.rows; streams = old_streams t (event.Request peer bytes) s.table.streams goes.streams }
+request_came t peer bytes (Some s) goes = record { rows = all_more (RowAfter Anything t s.table peer) (RowCame t s.table (event.Request peer bytes)) news s.table.rows goes.rows; streams = old_streams t (event.Request peer bytes) s.table.streams goes.streams }
   where
-    news : (row : Row) → RowAfter (Unit {0}) t s.table peer row → RowCame t s.table (event.Request peer bytes) row
+    news : (row : Row) → RowAfter Anything t s.table peer row → RowCame t s.table (event.Request peer bytes) row
     news row (inl was) = inl was
     news row (inr new) = inr new.new
 
@@ -391,7 +394,7 @@ tick_came t ms =
 
 step_came : (t : AdapterTable) (happens : Event) → IdsAreDrawn t.profile t.next_id t.rows → OkCame t happens (adapter_step t happens)
 unfolding requested received write read frame stream_cut stream_opened
-step_came t (event.Request peer bytes) drawn = request_came t peer bytes (served t peer (router_request_reading bytes)) (served_after (Unit {0}) t peer (router_request_reading bytes) (λ large request is. tt) drawn)
+step_came t (event.Request peer bytes) drawn = request_came t peer bytes (served t peer (router_request_reading bytes)) (served_after Anything t peer (router_request_reading bytes) (λ large request is. tt) drawn)
 step_came t (event.StreamOpened number peer) drawn =
     either (OkCame t (event.StreamOpened number peer)) (is_taken t.streams number) (Err NotAllowedNow) (Ok (plain_answer Done, with_stream t number peer)) tt (opened_came t number peer)
 step_came t (event.Frame number bytes) drawn = frame_of_came t number bytes (find (is_stream number) t.streams) refl drawn

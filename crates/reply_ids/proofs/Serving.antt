@@ -1,5 +1,5 @@
 -- What an adapter serves: the reply of a success is that of the connection which the request opened.
-use Rattle.std.proofs.Common.{◌≡◌, ◌<◌, ℕ, ◌==◌, not, Bool, true, false, List, [], ◌∷◌, ◌++◌, length, find, Option, Some, None, Result, Ok, Err, refl, arith}
+use Rattle.std.proofs.Common.{◌≡◌, ◌<◌, ℕ, ◌*◌, ◌==◌, not, Bool, true, false, List, [], ◌∷◌, ◌++◌, length, find, Option, Some, None, Result, Ok, Err, refl, arith}
 use Rattle.std.specs.Int.{w32}
 use Rattle.std.specs.List.{AllByRecursion}
 use Rattle.std.specs.Option.{IfSome}
@@ -29,15 +29,17 @@ use Rattle.device_laws.proofs.Texts.{either}
 use Rattle.reply_ids.specs.Frames.{again}
 use Rattle.reply_ids.proofs.Texts.{ReplyHolds}
 
--- the success has the ids of the connection that is new in the next table
-pub record HasRowIds (t next : AdapterTable) (opened : Opened) : Type 0 where
+-- the success has the ids and the packet intervals of the connection that is new in the next table
+pub record IsOfRow (t next : AdapterTable) (opened : Opened) : Type 0 where
   pub row : Row
   pub new : find (was_opened_as t.next_id) next.rows ≡ Some row
   pub o_t : opened.o_t_id.0 ≡ again w32 row.o_t_id.0
   pub t_o : opened.t_o_id.0 ≡ again w32 row.t_o_id.0
+  pub o_t_api : opened.o_t_api_us ≡ again w32 (1000 * row.o_t_api_ms)
+  pub t_o_api : opened.t_o_api_us ≡ again w32 (1000 * row.t_o_api_ms)
 
 abbrev pub ServedHas : AdapterTable → Served → Type 0
-ServedHas t s = ReplyHolds (HasRowIds t s.table) s.reply
+ServedHas t s = ReplyHolds (IsOfRow t s.table) s.reply
 
 -- ---- the new connection stands behind all others
 
@@ -81,6 +83,8 @@ open_has t peer large request (Ok admitted) drawn = λ read ids. record {
   new = new_row_found t peer request admitted drawn;
   o_t = ids.o_t_is;
   t_o = ids.t_o_is;
+  o_t_api = ids.o_t_api_is;
+  t_o_api = ids.t_o_api_is;
 }
 
 close_has : (t : AdapterTable) (request : CloseFields) (found : Option Row) → ServedHas t (close_of t request found)

@@ -5,6 +5,7 @@ use Rattle.std.proofs.lemmas.List.Elements.{Contains-append_left, Contains-appen
 use Rattle.cip_encap.specs.ReadsBack.{ItemsReadBack}
 use Rattle.cip_events.specs.declared.event.Event.{Event}
 use Rattle.conn_state.specs.declared.names.Link.{Link}
+use Rattle.scanner_table.specs.declared.profile.SlotConfig.{SlotConfig}
 use Rattle.scanner_table.specs.declared.slot.Connection.{Connection}
 use Rattle.scanner_table.specs.declared.slot.SlotState.{SlotState}
 use Rattle.scanner_table.specs.declared.slot.SlotState.TheVariants.{Idle, Opening, Established, TimedOut, Closing}
@@ -19,30 +20,30 @@ use Rattle.device_laws.proofs.ScannerIds.{scanner_holds}
 use Rattle.reply_ids.specs.Slots.{WasEstablished, IsEstablishedBy, StateHasItsIds, SlotHasItsIds, SlotsHaveTheIdsOfTheirSuccess}
 
 abbrev pub HasItsIds : ScannerTable → Event → OfSlots
-HasItsIds t happens number config state = StateHasItsIds t happens number state
+HasItsIds t happens number config state = StateHasItsIds t happens number config state
 
-same_on : (t : ScannerTable) (happens : Event) (number : ℕ) (c d : Connection) → d.opening ≡ c.opening → d.link ≡ c.link → WasEstablished t number c ⊎ IsEstablishedBy t happens number c → WasEstablished t number d ⊎ IsEstablishedBy t happens number d
-same_on t happens number c d opening link (inl was) =
+same_on : (t : ScannerTable) (happens : Event) (number : ℕ) (config : SlotConfig) (c d : Connection) → d.opening ≡ c.opening → d.link ≡ c.link → WasEstablished t number config c ⊎ IsEstablishedBy t happens number config c → WasEstablished t number config d ⊎ IsEstablishedBy t happens number config d
+same_on t happens number config c d opening link (inl was) =
     let same = was.same in
-    inl (record { place = was.place; there = was.there; number_is = was.number_is; before = was.before; state = was.state; same = record { opening = opening ∙ same.opening; link = link ∙ same.link } })
-same_on t happens number c d opening link (inr by) =
-    inr (record { config = by.config; opening = by.opening; waits = by.waits; request_is = opening ∙ by.request_is; success = by.success; replied = by.replied; o_t = ap (λ (l : Link). l.o_t_id) link ∙ by.o_t; t_o = ap (λ (l : Link). l.t_o_id) link ∙ by.t_o })
+    inl (record { place = was.place; there = was.there; number_is = was.number_is; config_is = was.config_is; before = was.before; state = was.state; same = record { opening = opening ∙ same.opening; link = link ∙ same.link } })
+same_on t happens number config c d opening link (inr by) =
+    inr (record { opening = by.opening; waits = by.waits; request_is = opening ∙ by.request_is; success = by.success; replied = by.replied; o_t = ap (λ (l : Link). l.o_t_id) link ∙ by.o_t; t_o = ap (λ (l : Link). l.t_o_id) link ∙ by.t_o })
 
 pub ids_kept : (t : ScannerTable) (to : ℕ) (happens : Event) → Kept (HasItsIds t happens) t to happens
 ids_kept t to happens = record {
   rests = λ number config. tt;
   times_out = λ number config c is. tt;
   closes = λ number config c close same is. tt;
-  goes_on = λ number config c d opening link is. same_on t happens number c d opening link is;
+  goes_on = λ number config c d opening link is. same_on t happens number config c d opening link is;
   opens = λ number config now o can requested by. tt;
   establishes = λ number config o success c waits replied requested opening link is.
-      inr (record { config = config; opening = o; waits = waits; request_is = opening; success = success; replied = replied; o_t = ap (λ (l : Link). l.o_t_id) link; t_o = ap (λ (l : Link). l.t_o_id) link });
+      inr (record { opening = o; waits = waits; request_is = opening; success = success; replied = replied; o_t = ap (λ (l : Link). l.o_t_id) link; t_o = ap (λ (l : Link). l.t_o_id) link });
 }
 
-was_so : (t : ScannerTable) (happens : Event) (place : IndexedSlot) (state : SlotState) → Contains (indexed_slots t) place → place.slot.state ≡ state → StateHasItsIds t happens place.number state
+was_so : (t : ScannerTable) (happens : Event) (place : IndexedSlot) (state : SlotState) → Contains (indexed_slots t) place → place.slot.state ≡ state → StateHasItsIds t happens place.number place.config state
 was_so t happens place Idle there is = tt
 was_so t happens place (Opening o) there is = tt
-was_so t happens place (Established c) there is = inl (record { place = place; there = there; number_is = refl; before = c; state = is; same = record { opening = refl; link = refl } })
+was_so t happens place (Established c) there is = inl (record { place = place; there = there; number_is = refl; config_is = refl; before = c; state = is; same = record { opening = refl; link = refl } })
 was_so t happens place (TimedOut link) there is = tt
 was_so t happens place (Closing c) there is = tt
 

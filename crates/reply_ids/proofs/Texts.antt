@@ -98,19 +98,21 @@ payload_none Q payload ids = record {
 pub success_none : (Q : Opened → Type 0) (said : Result OpenAnswer Reason) → ReplyIds (λ id. ⊥) said → SuccessIs Q said
 success_none Q said ids = none_said Q said ids
 
--- ids that come back as they were written
-pub record HasIds (o_t t_o : ℕ) (o : Opened) : Type 0 where
-  pub o_t_is : o.o_t_id.0 ≡ o_t
-  pub t_o_is : o.t_o_id.0 ≡ t_o
+-- ids and packet intervals that come back as they were written
+pub record IsReadBack (o read : Opened) : Type 0 where
+  pub o_t_is : read.o_t_id.0 ≡ again w32 o.o_t_id.0
+  pub t_o_is : read.t_o_id.0 ≡ again w32 o.t_o_id.0
+  pub o_t_api_is : read.o_t_api_us ≡ again w32 o.o_t_api_us
+  pub t_o_api_is : read.t_o_api_us ≡ again w32 o.t_o_api_us
 
 opened_found : (Q : Opened → Type 0) (service : ℕ) (large : Bool) (found : Found Tailed) (p : Tailed) → found ≡ is_whole p → Q (opened_of p) → SuccessIs Q (reply_answer large (seen (with_answer service) (seen answer.Opened (answer_of (found_image opened_of found)))))
 opened_found Q service large found p is holds = rw is (either (SuccessIs Q) (service == opened_service large) _ _ holds tt)
 
-success_read : (Q : Opened → Type 0) (service : ℕ) (large : Bool) (o : Opened) → ((read : Opened) → HasIds (again w32 o.o_t_id.0) (again w32 o.t_o_id.0) read → Q read) → SuccessIs Q (reply_answer large (seen (with_answer service) (seen answer.Opened (opened_reading (fields_text opened_widths (opened_numbers o 0 0))))))
+success_read : (Q : Opened → Type 0) (service : ℕ) (large : Bool) (o : Opened) → ((read : Opened) → IsReadBack o read → Q read) → SuccessIs Q (reply_answer large (seen (with_answer service) (seen answer.Opened (opened_reading (fields_text opened_widths (opened_numbers o 0 0))))))
 success_read Q service large o holds =
     let numbers = cut opened_widths (opened_numbers o 0 0) in
     subst (λ (found : Option Tailed). SuccessIs Q (reply_answer large (seen (with_answer service) (seen answer.Opened (answer_of (found_image opened_of (fixed_found application_len found))))))) (sym (all_cut opened_widths (opened_numbers o 0 0) refl))
-    (opened_found Q service large (tail_found (application_len numbers) (numbers, [])) (numbers, []) refl (holds (opened_of (numbers, [])) (record { o_t_is = refl; t_o_is = refl })))
+    (opened_found Q service large (tail_found (application_len numbers) (numbers, [])) (numbers, []) refl (holds (opened_of (numbers, [])) (record { o_t_is = refl; t_o_is = refl; o_t_api_is = refl; t_o_api_is = refl })))
 
 first_byte : (n : ℕ) (rest : List ℕ) → field_at w8 (n ∷ rest) ≡ Some (n, rest)
 first_byte n rest =
@@ -121,7 +123,7 @@ first_byte n rest =
 front_bytes : (a b c d : ℕ) (rest : List ℕ) → fields_at reply_widths (a ∷ b ∷ c ∷ d ∷ rest) ≡ Some (a ∷ b ∷ c ∷ d ∷ [], rest)
 front_bytes a b c d rest = rw (first_byte a (b ∷ c ∷ d ∷ rest), first_byte b (c ∷ d ∷ rest), first_byte c (d ∷ rest), first_byte d rest) refl
 
-success_front : (Q : Opened → Type 0) (service : ℕ) (large : Bool) (o : Opened) → ((read : Opened) → HasIds (again w32 o.o_t_id.0) (again w32 o.t_o_id.0) read → Q read) → SuccessIs Q (reply_answer large (open_reply_reading (service ∷ 0 ∷ 0 ∷ 0 ∷ fields_text opened_widths (opened_numbers o 0 0))))
+success_front : (Q : Opened → Type 0) (service : ℕ) (large : Bool) (o : Opened) → ((read : Opened) → IsReadBack o read → Q read) → SuccessIs Q (reply_answer large (open_reply_reading (service ∷ 0 ∷ 0 ∷ 0 ∷ fields_text opened_widths (opened_numbers o 0 0))))
 unfolding open_reply_reading unread_reading
 success_front Q service large o holds =
     subst (λ (found : Option Tailed). SuccessIs Q (reply_answer large (reply_of with_answer answer_reading (option_map unread (parted extended_len found)))))
@@ -131,8 +133,8 @@ opened_requests_none : (large : Bool) → OpensNone (opened_service large)
 opened_requests_none true = record { small = refl; large = refl }
 opened_requests_none false = record { small = refl; large = refl }
 
--- the success of an opening has its two ids, each in its place
-pub opened_says : (Q : Opened → Type 0) (large : Bool) (o : Opened) → ((read : Opened) → HasIds (again w32 o.o_t_id.0) (again w32 o.t_o_id.0) read → Q read) → PayloadSays Q (opened_text large o)
+-- the success of an opening has its two ids and its two packet intervals, each in its place
+pub opened_says : (Q : Opened → Type 0) (large : Bool) (o : Opened) → ((read : Opened) → IsReadBack o read → Q read) → PayloadSays Q (opened_text large o)
 unfolding opened_text
 opened_says Q large o holds = record {
   no_opening = requests_none (λ id. ⊥) (opened_service large) _ (opened_requests_none large);
@@ -141,9 +143,9 @@ opened_says Q large o holds = record {
 
 -- ---- what is replied to a request
 
--- a reply of a success is that of a connection with its ids
+-- a reply of a success is that of a connection with its ids and packet intervals
 abbrev pub ReplyHolds : (Opened → Type 0) → ReplyFields → Type 0
-ReplyHolds Q (opened large o) = (read : Opened) → HasIds (again w32 o.o_t_id.0) (again w32 o.t_o_id.0) read → Q read
+ReplyHolds Q (opened large o) = (read : Opened) → IsReadBack o read → Q read
 ReplyHolds Q (closed triad) = Unit {0}
 ReplyHolds Q (got value) = Unit {0}
 ReplyHolds Q (replies.refused service fault triad) = (fault.general == 0) ≡ false

@@ -11,7 +11,8 @@ use Rattle.cip_events.specs.declared.event.Reason.{Reason}
 use Rattle.cip_fwdopen.specs.declared.reply.Opened.{Opened}
 use Rattle.cip_fwdopen.specs.declared.reply.OpenAnswer.{OpenAnswer}
 use Rattle.cip_fwdopen.specs.declared.reply.OpenAnswer.TheVariants as answer
-use Rattle.cip_router.specs.Requests.{router_request_reading}
+use Rattle.cip_fwdopen.specs.Open.{OpenFields}
+use Rattle.cip_router.specs.Requests.{opening, router_request_reading}
 use Rattle.scanner_table.specs.Replies.{open_answer}
 use Rattle.device_laws.specs.Ids.{RequestIds}
 
@@ -41,3 +42,16 @@ IsNoOpening bytes = (m : MessageFields) → message_reading bytes ≡ Ok m → O
 -- the sender context of the message, as it is read, is a number of 64 bits
 abbrev pub ContextFits : List ℕ → Type 0
 ContextFits bytes = (m : MessageFields) → message_reading bytes ≡ Ok m → again w64 m.context ≡ m.context
+
+-- the bytes can be read as this request to open a connection
+pub record IsOpening (bytes : List ℕ) (request : OpenFields) : Type 0 where
+  pub message : MessageFields
+  pub reads : message_reading bytes ≡ Ok message
+  pub packet : PacketFields
+  pub packet_is : packet_reading message.payload ≡ Ok packet
+  pub large : Bool
+  pub opens : router_request_reading packet.payload ≡ opening large request
+
+-- it holds of each request to open that the bytes can be read as
+abbrev pub OpeningsAre : (OpenFields → Type 0) → List ℕ → Type 0
+OpeningsAre Q bytes = (request : OpenFields) → IsOpening bytes request → Q request

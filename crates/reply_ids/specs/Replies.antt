@@ -1,6 +1,6 @@
--- What the frames of an adapter and of a scanner are: an adapter's replies carry the ids of the connection that the event
--- opened, and a scanner sends requests alone (Volume 1, chapter 3, Forward_Open service; Volume 2, chapter 2, sender context).
-use Rattle.std.specs.Prelude.{ℕ, ◌≡◌, List, find, Some, Ok}
+-- What the frames of an adapter and of a scanner are: an adapter's replies carry the ids and the actual packet intervals of the
+-- connection that the event opened, and a scanner sends requests alone (Volume 1, chapter 3, Forward_Open service; Volume 2, chapter 2, sender context).
+use Rattle.std.specs.Prelude.{ℕ, ◌≡◌, ◌*◌, List, find, Some, Ok}
 use Rattle.std.specs.Int.{w32, w64}
 use Rattle.std.specs.List.{AllByRecursion}
 use Rattle.cip_encap.specs.Message.{MessageFields}
@@ -25,7 +25,8 @@ use Rattle.reply_ids.specs.Frames.{again, SuccessesAre, IsNoOpening, ContextFits
 
 -- AN ADAPTER
 
--- the success answers the request of this message, which opened a connection, and has the connection's ids
+-- The success answers the request of this message, which opened a connection. It has the connection's ids and its actual packet
+-- intervals, in microseconds, as their fields bring them back.
 pub record IsSuccessOf (t next : AdapterTable) (bytes : List ℕ) (context : ℕ) (opened : Opened) : Type 0 where
   pub message : MessageFields
   pub reads : message_reading bytes ≡ Ok message
@@ -34,6 +35,8 @@ pub record IsSuccessOf (t next : AdapterTable) (bytes : List ℕ) (context : ℕ
   pub new : find (was_opened_as t.next_id) next.rows ≡ Some row
   pub o_t : opened.o_t_id.0 ≡ again w32 row.o_t_id.0
   pub t_o : opened.t_o_id.0 ≡ again w32 row.t_o_id.0
+  pub o_t_api : opened.o_t_api_us ≡ again w32 (1000 * row.o_t_api_ms)
+  pub t_o_api : opened.t_o_api_us ≡ again w32 (1000 * row.t_o_api_ms)
 
 -- the frame goes back over the stream of the request; each success in it is of the connection that the request opened
 pub record IsReplyTo (t next : AdapterTable) (number : ℕ) (bytes : List ℕ) (frame : Frame) : Type 0 where

@@ -23,18 +23,18 @@ pub record IsSameConnection (c d : Connection) : Type 0 where
   pub opening : d.opening ≡ c.opening
   pub link : d.link ≡ c.link
 
--- the slot of this number had the connection already
-pub record WasEstablished (t : ScannerTable) (number : ℕ) (c : Connection) : Type 0 where
+-- the slot of this number and configuration had the connection already
+pub record WasEstablished (t : ScannerTable) (number : ℕ) (config : SlotConfig) (c : Connection) : Type 0 where
   pub place : IndexedSlot
   pub there : Contains (indexed_slots t) place
   pub number_is : place.number ≡ number
+  pub config_is : place.config ≡ config
   pub before : Connection
   pub state : place.slot.state ≡ Established before
   pub same : IsSameConnection before c
 
 -- it waited for the connection's opening, and the event is the success that answers the opening's request, with these ids
-pub record IsEstablishedBy (t : ScannerTable) (event : Event) (number : ℕ) (c : Connection) : Type 0 where
-  pub config : SlotConfig
+pub record IsEstablishedBy (t : ScannerTable) (event : Event) (number : ℕ) (config : SlotConfig) (c : Connection) : Type 0 where
   pub opening : pending.PendingOpen
   pub waits : Waits t number config opening
   pub request_is : c.opening ≡ opening.request
@@ -43,15 +43,15 @@ pub record IsEstablishedBy (t : ScannerTable) (event : Event) (number : ℕ) (c 
   pub o_t : c.link.o_t_id ≡ success.o_t_id
   pub t_o : c.link.t_o_id ≡ success.t_o_id
 
-abbrev pub StateHasItsIds : ScannerTable → Event → ℕ → SlotState → Type 0
-StateHasItsIds t event number Idle = Unit {0}
-StateHasItsIds t event number (Opening o) = Unit {0}
-StateHasItsIds t event number (Established c) = WasEstablished t number c ⊎ IsEstablishedBy t event number c
-StateHasItsIds t event number (TimedOut link) = Unit {0}
-StateHasItsIds t event number (Closing c) = Unit {0}
+abbrev pub StateHasItsIds : ScannerTable → Event → ℕ → SlotConfig → SlotState → Type 0
+StateHasItsIds t event number config Idle = Unit {0}
+StateHasItsIds t event number config (Opening o) = Unit {0}
+StateHasItsIds t event number config (Established c) = WasEstablished t number config c ⊎ IsEstablishedBy t event number config c
+StateHasItsIds t event number config (TimedOut link) = Unit {0}
+StateHasItsIds t event number config (Closing c) = Unit {0}
 
 abbrev pub SlotHasItsIds : ScannerTable → Event → IndexedSlot → Type 0
-SlotHasItsIds t event place = StateHasItsIds t event place.number place.slot.state
+SlotHasItsIds t event place = StateHasItsIds t event place.number place.config place.slot.state
 
 -- A slot that is established after a step was so before it, by the same opening and with the same ids; or the event is the
 -- success of its request, and its ids are those of the success.

@@ -2,15 +2,23 @@
 //! a connection keeps, and who sends requests to open. The calls do nothing: their contracts are the laws.
 #![tactic(auto)]
 
+ghost use Rattle.reply_ids.specs.OwnIds.{ScannersAskOwnIds};
 ghost use Rattle.reply_ids.specs.Replies.{RepliesCarryOpenedIds, ScannersSendNoSuccess};
 ghost use Rattle.reply_ids.specs.Rows.{ConnectionsKeepTheirIds};
 ghost use Rattle.reply_ids.specs.Slots.{SlotsHaveTheIdsOfTheirSuccess};
+ghost use Rattle.reply_ids.specs.TargetStreams.{StreamsComeWithEvents};
 
+mod asking;
+mod sending;
+
+pub use asking::{new_connections_are_requested, scanners_ask_once};
 use cip_encap::reads_back;
 use device_laws::answers_are_small;
+pub use sending::devices_send_over_their_streams;
 
 /// A success in a frame of an adapter is of the connection that the event opened: it answers the request of the event, over
-/// the same stream, and has both ids of the connection. No frame of an adapter can be read as a request to open one.
+/// the same stream, and has both ids of the connection and both of its actual packet intervals, in microseconds. No frame of an
+/// adapter can be read as a request to open one.
 ///
 /// Volume 1, chapter 3, Forward_Open service; Volume 2, chapter 2, sender context.
 pub fn replies_carry_opened_ids()
@@ -41,10 +49,30 @@ pub fn slots_have_the_ids_of_their_success()
     answers_are_small();
 }
 
-/// A connection of an adapter keeps its ids, its peer and its producer, and a new one has the peer whose request opened it.
-/// A stream of the table was opened by its event.
+/// A connection of an adapter keeps its ids, its peer and its producer. A new one has the peer whose request opened it; it joins
+/// a group, starts one with the second id that the opening draws, or is point to point with the requested id. A stream of the
+/// table was opened by its event.
 ///
 /// Volume 1, chapter 3, Forward_Open service, network connection ids.
 pub fn connections_keep_their_ids()
     ensures { ConnectionsKeepTheirIds }
 {}
+
+/// A request to open in a frame of a scanner, whoever reads it, is multicast, or asks for a T->O id that the scanner drew.
+///
+/// Volume 1, chapter 3, Forward_Open service, network connection ids.
+pub fn scanners_ask_for_their_own_ids()
+    ensures { ScannersAskOwnIds }
+{
+    reads_back();
+    answers_are_small();
+}
+
+/// A stream of a scanner's table was opened by its event: its number and its peer are those of a `StreamOpened`.
+///
+/// Volume 2, chapter 2, encapsulation sessions over TCP.
+pub fn a_scanners_streams_come_with_events()
+    ensures { StreamsComeWithEvents }
+{
+    reads_back();
+}

@@ -1,6 +1,6 @@
 -- What an event of an adapter adds to the chronicle's entries, and that the adapter's connections, its streams and its frames
 -- have theirs.
-use Rattle.std.proofs.Common.{◌≡◌, ◌≢◌, ◌≤◌, ◌<◌, ◌⊎◌, inl, inr, ℕ, ◌^◌, Bool, true, false, List, [], ◌∷◌, ◌++◌, find, map, slice_get, Option, Some, None, Result, Ok, Err, refl, sym, ◌∙◌, ap, subst, arith}
+use Rattle.std.proofs.Common.{◌≡◌, ◌≢◌, ◌≤◌, ◌<◌, ◌⊎◌, inl, inr, ℕ, ◌+◌, ◌^◌, Bool, true, false, List, [], ◌∷◌, ◌++◌, find, map, slice_get, Option, Some, None, Result, Ok, Err, refl, sym, ◌∙◌, ap, subst, arith}
 use Rattle.std.specs.List.{AllByRecursion, Contains}
 use Rattle.std.specs.Int.{w32}
 use Rattle.std.proofs.lemmas.List.Elements.{Contains-push}
@@ -14,29 +14,36 @@ use Rattle.cip_events.specs.declared.event.Event.TheVariants as event
 use Rattle.cip_events.specs.declared.event.Frame.{Frame}
 use Rattle.cip_events.specs.declared.event.Recipient.TheVariants as recipient
 use Rattle.cip_fwdopen.specs.declared.reply.Opened as made
+use Rattle.cip_fwdopen.specs.Open.{OpenFields}
+use Rattle.adapter_table.specs.declared.profile.Profile.{Profile}
 use Rattle.adapter_table.specs.declared.row.Row.{Row}
 use Rattle.adapter_table.specs.declared.table.AdapterTable.{AdapterTable}
 use Rattle.adapter_table.specs.declared.table.Stream as adapter_stream
+use Rattle.adapter_table.specs.Checks.{is_multicast}
 use Rattle.adapter_table.specs.Newest.{was_opened_as}
 use Rattle.adapter_table.specs.Opening.{connection_id}
 use Rattle.adapter_table.specs.Productions.{producer_of}
-use Rattle.adapter_table.specs.Sound.{IdsAreDrawn}
+use Rattle.adapter_table.specs.Rows.{Each}
+use Rattle.adapter_table.specs.Sound.{IdsAreDrawn, MulticastIdIsDrawn, MulticastIdsAreDrawn}
 use Rattle.adapter_table.specs.Streams.{is_stream}
+use Rattle.scanner_table.specs.declared.profile.ScannerProfile.{ScannerProfile}
 use Rattle.cip_tables.specs.declared.table.DeviceTable.{DeviceTable}
 use Rattle.cip_tables.specs.declared.table.DeviceTable.TheVariants.{Adapter, Scanner}
 use Rattle.segment_world.specs.World.{World, node_at}
 use Rattle.stream_queues.specs.Streams.{Stream}
 use Rattle.device_laws.proofs.Lists.{all_more}
 use Rattle.device_laws.proofs.Texts.{same_again}
-use Rattle.reply_ids.specs.Frames.{again, IsNoOpening, ContextFits}
+use Rattle.device_laws.specs.Ids.{RequestIds}
+use Rattle.reply_ids.specs.OwnIds.{IsDrawnId, AsksOwnId}
+use Rattle.reply_ids.specs.Frames.{again, OpensNothing, IsNoOpening, ContextFits, IsOpening}
 use Rattle.reply_ids.specs.Replies.{IsSuccessOf, IsReplyTo, IsAnswerTo}
-use Rattle.reply_ids.specs.Rows.{WasThere, IsNewOver, IsNewRow, RowCame, WasOpen, StreamCame, Came}
+use Rattle.reply_ids.specs.Rows.{WasThere, IsSingle, IsProduced, IsNewOver, IsNewRow, RowCame, WasOpen, StreamCame, Came}
 use Rattle.made_productions.specs.Productions.{End, end_at}
 use Rattle.schedule_order.specs.Chronicle.{Opened, opens_row, other_end, requester, opened_so, frame_opens}
-use Rattle.schedule_order.specs.Names.{IsScannerIn, IsEntry, HasEntry, IsOpenedWith}
+use Rattle.schedule_order.specs.Names.{IsScannerIn, IsOfGroup, IsOwn, IsEntry, HasEntry, IsOpenedWith}
 use Rattle.schedule_order.specs.Streams.{Ends, ends_of, Waiting, IsBetween, IsOver}
 use Rattle.made_productions.proofs.Books.{is_other, is_the_end}
-use Rattle.schedule_order.proofs.Entries.{Later, scanner_later, node_later, has_later, over_later, Waits, IsKnown, known_later, AdapterIsNamed, successes_more}
+use Rattle.schedule_order.proofs.Entries.{AdapterStays, own_later, Later, scanner_later, node_later, has_later, over_later, Waits, IsKnown, known_later, AdapterIsNamed, successes_more}
 use Rattle.schedule_order.proofs.Found.{find_last, found_passes, found_holds, all_contains, seen_at}
 use Rattle.made_productions.proofs.Lists.{is_equal, equal_is, differ_is}
 use Rattle.schedule_order.proofs.StreamActs.{SentOver, FrameSent, FrameArrives, OpeningArrives, EventArrives}
@@ -57,7 +64,7 @@ other_same e device a b apart (inr one) (inr two) = sym one.first ∙ two.first
 some_ends : (a b : Ends) → Some a ≡ Some b → a ≡ b
 some_ends a b e = cc
 
-over_same : (w : World) (device a b n m : ℕ) → n ≡ m → IsOver w device a n → IsOver w device b m → a ≡ b
+pub over_same : (w : World) (device a b n m : ℕ) → n ≡ m → IsOver w device a n → IsOver w device b m → a ≡ b
 over_same w device a b n m same one two =
     let ends : one.ends ≡ two.ends = some_ends one.ends two.ends (sym one.there ∙ ap (slice_get (map ends_of w.streams)) same ∙ two.there) in
     other_same two.ends device a b two.apart (subst (λ (e : Ends). IsBetween e device a) ends one.between) two.between
@@ -77,7 +84,9 @@ pub record OpensOne (w : World) (device : ℕ) (t u : AdapterTable) (n : ℕ) (b
   pub o_t : entry.o_t_id ≡ row.o_t_id
   pub t_o : entry.t_o_id ≡ row.t_o_id
   pub producer : entry.producer ≡ end_at device (producer_of row.state)
-  pub requested : IsNoOpening bytes → ⊥
+  pub request : OpenFields
+  pub requested : IsOpening bytes request
+  pub produced : IsProduced t u request row
 
 -- or none
 pub record OpensNone (t u : AdapterTable) (more : List Opened) : Type 0 where
@@ -97,7 +106,7 @@ drawn_below t drawn = below t.rows drawn where
   below (row ∷ rows) drawn = (drawn.1, below rows drawn.2)
 
 -- what is new was requested in the event's frame
-requested_by : (t u : AdapterTable) (n : ℕ) (bytes : List ℕ) (row : Row) → IdsAreDrawn t.profile t.next_id t.rows → was_opened_as t.next_id row ≡ true → RowCame t u (event.Frame n bytes) row → IsNewOver t u n bytes row
+pub requested_by : (t u : AdapterTable) (n : ℕ) (bytes : List ℕ) (row : Row) → IdsAreDrawn t.profile t.next_id t.rows → was_opened_as t.next_id row ≡ true → RowCame t u (event.Frame n bytes) row → IsNewOver t u n bytes row
 requested_by t u n bytes row drawn passes (inl was) =
     let below = opening_below t.rows t.next_id was.old (drawn_below t drawn) was.there in
     let same = was.same in
@@ -105,10 +114,11 @@ requested_by t u n bytes row drawn passes (inl was) =
     absurd (omega (arith, below, is, same.opening))
 requested_by t u n bytes row drawn passes (inr new) = new
 
-opens_read : (w : World) (device : ℕ) (t u : AdapterTable) (n : ℕ) (bytes : List ℕ) (other : ℕ) (s : Stream) (row : Row) (reading : Result MessageFields EncapFault) → message_reading bytes ≡ reading → other_end device s ≡ other → find (was_opened_as t.next_id) u.rows ≡ Some row → (IsNoOpening bytes → ⊥) → OpensOne w device t u n bytes other (opened_so device (Some row) (requester device (Some s) reading))
-opens_read w device t u n bytes other s row (Err why) reads is found requested =
-    absurd (requested (λ m so. absurd (let e = sym reads ∙ so in cc)))
-opens_read w device t u n bytes other s row (Ok m) reads is found requested = record {
+opens_read : (w : World) (device : ℕ) (t u : AdapterTable) (n : ℕ) (bytes : List ℕ) (other : ℕ) (s : Stream) (row : Row) (reading : Result MessageFields EncapFault) → message_reading bytes ≡ reading → other_end device s ≡ other → find (was_opened_as t.next_id) u.rows ≡ Some row → IsNewOver t u n bytes row → OpensOne w device t u n bytes other (opened_so device (Some row) (requester device (Some s) reading))
+opens_read w device t u n bytes other s row (Err why) reads is found new =
+    let requested = new.requested in
+    absurd (let e = sym reads ∙ requested.reads in cc)
+opens_read w device t u n bytes other s row (Ok m) reads is found new = record {
   row = row;
   found = found;
   message = m;
@@ -120,14 +130,16 @@ opens_read w device t u n bytes other s row (Ok m) reads is found requested = re
   o_t = refl;
   t_o = refl;
   producer = refl;
-  requested = requested;
+  request = new.request;
+  requested = new.requested;
+  produced = new.produced;
 }
 
 opens_found : (w : World) (device : ℕ) (t u : AdapterTable) (n : ℕ) (bytes : List ℕ) (other : ℕ) (s : Stream) (found : Option Row) → find (was_opened_as t.next_id) u.rows ≡ found → other_end device s ≡ other → IdsAreDrawn t.profile t.next_id t.rows → AllByRecursion (RowCame t u (event.Frame n bytes)) u.rows → Opens w device t u n bytes other (opened_so device found (requester device (Some s) (message_reading bytes)))
 opens_found w device t u n bytes other s None is end drawn rows = inl (record { none = refl; found = is })
 opens_found w device t u n bytes other s (Some row) is end drawn rows =
     let new = requested_by t u n bytes row drawn (found_passes (was_opened_as t.next_id) u.rows row is) (found_holds (RowCame t u (event.Frame n bytes)) (was_opened_as t.next_id) u.rows row rows is) in
-    inr (opens_read w device t u n bytes other s row (message_reading bytes) refl end is new.requested)
+    inr (opens_read w device t u n bytes other s row (message_reading bytes) refl end is new)
 
 pub frame_opening : (w : World) (device : ℕ) (t u : AdapterTable) (n : ℕ) (bytes : List ℕ) (other : ℕ) → IsOver w device other n → IdsAreDrawn t.profile t.next_id t.rows → AllByRecursion (RowCame t u (event.Frame n bytes)) u.rows → Opens w device t u n bytes other (frame_opens w device (Adapter t) (event.Frame n bytes) (Adapter u))
 frame_opening w device t u n bytes other over drawn rows =
@@ -170,16 +182,63 @@ pub record AdapterStep (w new : World) (opened : List Opened) (device : ℕ) (t 
   pub drawn : IdsAreDrawn t.profile t.next_id t.rows
   pub next_drawn : IdsAreDrawn u.profile u.next_id u.rows
   pub fits : AllByRecursion (λ (row : Row). (row.o_t_id.0 < 2 ^ 32) × (row.t_o_id.0 < 2 ^ 32)) u.rows
+  pub stays : AdapterStays t u
+  pub groups : MulticastIdsAreDrawn t.profile t.next_id t.rows
 
-drawn_found : (u : AdapterTable) (p : Row → Bool) (row : Row) → find p u.rows ≡ Some row → IdsAreDrawn u.profile u.next_id u.rows → (row.o_t_id ≡ connection_id u.profile row.opening) × (row.opening < u.next_id)
+pub drawn_found : (u : AdapterTable) (p : Row → Bool) (row : Row) → find p u.rows ≡ Some row → IdsAreDrawn u.profile u.next_id u.rows → (row.o_t_id ≡ connection_id u.profile row.opening) × (row.opening < u.next_id)
 drawn_found u p row found drawn = found_holds (λ (r : Row). (r.o_t_id ≡ connection_id u.profile r.opening) × (r.opening < u.next_id)) p u.rows row (all u.rows drawn) found where
   all : (rows : List Row) → IdsAreDrawn u.profile u.next_id rows → AllByRecursion (λ (r : Row). (r.o_t_id ≡ connection_id u.profile r.opening) × (r.opening < u.next_id)) rows
   all [] drawn = tt
   all (r ∷ rows) drawn = ((drawn.0, drawn.1), all rows drawn.2)
 
-requester_is : (w : World) (opened : List Opened) (other device : ℕ) (bytes : List ℕ) (table : DeviceTable) → slice_get w.tables other ≡ Some table → Waits w opened other device bytes → (IsNoOpening bytes → ⊥) → IsScannerIn w other
-requester_is w opened other device bytes (Adapter x) at waits requested = absurd (requested (waits.opens_nothing (record { table = x; is = at })))
-requester_is w opened other device bytes (Scanner x) at waits requested = record { table = x; is = at }
+-- the bytes are no request and one
+never_opens : (bytes : List ℕ) (request : OpenFields) → IsNoOpening bytes → IsOpening bytes request → ⊥
+never_opens bytes request none is = subst (RequestIds (λ id. ⊥)) is.opens (subst OpensNothing is.packet_is (none is.message is.reads))
+
+pub requester_is : (w : World) (opened : List Opened) (other device : ℕ) (bytes : List ℕ) (request : OpenFields) (table : DeviceTable) → slice_get w.tables other ≡ Some table → Waits w opened other device bytes → IsOpening bytes request → IsScannerIn w other
+requester_is w opened other device bytes request (Adapter x) at waits requested = absurd (never_opens bytes request (waits.opens_nothing (record { table = x; is = at })) requested)
+requester_is w opened other device bytes request (Scanner x) at waits requested = record { table = x; is = at }
+
+each_all : (P : Row → Type 0) (rows : List Row) → Each P rows → AllByRecursion P rows
+each_all P [] all = tt
+each_all P (row ∷ rows) all = (all.0, each_all P rows all.1)
+
+own_id : (profile : ScannerProfile) (request : OpenFields) → is_multicast request.t_o_params.kind ≡ false → AsksOwnId profile request → IsDrawnId profile request.t_o_id.0
+own_id profile request single (inl many) = absurd (let e = sym single ∙ many in cc)
+own_id profile request single (inr own) = own
+
+-- a point to point connection has the id that the scanner asked for
+pub single_own : (w : World) (opened : List Opened) (device : ℕ) (t u : AdapterTable) (n : ℕ) (bytes : List ℕ) (other : ℕ) (more : List Opened) → Waits w opened other device bytes → IsScannerIn w other → (one : OpensOne w device t u n bytes other more) → IsSingle t one.request one.row → IsOwn w one.entry
+single_own w opened device t u n bytes other more waits scanner one single =
+    let row = one.row in
+    let opening : row.opening ≡ t.next_id = is_equal row.opening t.next_id (found_passes (was_opened_as t.next_id) u.rows row one.found) in
+    let at : one.entry.slot.device ≡ other = ap (λ (x : End). x.device) one.slot_is in
+    record {
+      scanner = record { table = scanner.table; is = ap (slice_get w.tables) at ∙ scanner.is };
+      id = subst (λ (x : ConnId). IsDrawnId scanner.table.profile x.0) (sym (one.t_o ∙ single.t_o)) (own_id scanner.table.profile one.request single.single (waits.asks scanner.table scanner.is one.request one.requested));
+      producer = one.producer ∙ ap (end_at device) (single.producer ∙ sym opening) ∙ sym one.row_is;
+    }
+
+-- where a new entry has its T->O id from
+new_t_o : (w new : World) (opened : List Opened) (device : ℕ) (t u : AdapterTable) (n : ℕ) (bytes : List ℕ) (other : ℕ) (more : List Opened) → AdapterStep w new opened device t u → Waits w opened other device bytes → IsScannerIn w other → (one : OpensOne w device t u n bytes other more) → IsProduced t u one.request one.row → IsOfGroup u one.entry ⊎ IsOwn new one.entry
+new_t_o w new opened device t u n bytes other more step waits scanner one (inl joins) =
+    let stays = step.stays in
+    let ids : MulticastIdIsDrawn t.profile t.next_id joins.member = all_contains (MulticastIdIsDrawn t.profile t.next_id) t.rows joins.member (each_all (MulticastIdIsDrawn t.profile t.next_id) t.rows step.groups) joins.there in
+    let id = ids joins.established joins.multicast in
+    let number : one.entry.producer.number ≡ producer_of joins.member.state = ap (λ (x : End). x.number) one.producer ∙ joins.producer in
+    inl (record {
+      id = one.t_o ∙ joins.t_o ∙ id.0 ∙ ap (λ (p : Profile). connection_id p (producer_of joins.member.state + 1)) (sym stays.profile) ∙ ap (λ (k : ℕ). connection_id u.profile (k + 1)) (sym number);
+      drawn = omega (arith, number, id.1, stays.ids);
+    })
+new_t_o w new opened device t u n bytes other more step waits scanner one (inr (inl starts)) =
+    let stays = step.stays in
+    let number : one.entry.producer.number ≡ t.next_id = ap (λ (x : End). x.number) one.producer ∙ starts.producer in
+    inl (record {
+      id = one.t_o ∙ starts.t_o ∙ ap (λ (p : Profile). connection_id p (t.next_id + 1)) (sym stays.profile) ∙ ap (λ (k : ℕ). connection_id u.profile (k + 1)) (sym number);
+      drawn = omega (arith, number, starts.drawn);
+    })
+new_t_o w new opened device t u n bytes other more step waits scanner one (inr (inr single)) =
+    inr (own_later w new one.entry step.later (single_own w opened device t u n bytes other more waits scanner one single))
 
 new_entry : (w new : World) (opened : List Opened) (device : ℕ) (t u : AdapterTable) (n : ℕ) (bytes : List ℕ) (other : ℕ) (more : List Opened) → AdapterStep w new opened device t u → Waits w opened other device bytes → (one : OpensOne w device t u n bytes other more) → IsEntry new (opened ++ more) one.entry
 new_entry w new opened device t u n bytes other more step waits one =
@@ -189,7 +248,7 @@ new_entry w new opened device t u n bytes other more step waits one =
     let own : one.entry.row.device ≡ device = ap (λ (x : End). x.device) one.row_is in
     let number : one.entry.row.number ≡ row.opening = ap (λ (x : End). x.number) one.row_is in
     let sender = waits.sender in
-    let scanner : IsScannerIn w other = requester_is w opened other device bytes sender.table sender.is waits one.requested in
+    let scanner : IsScannerIn w other = requester_is w opened other device bytes one.request sender.table sender.is waits one.requested in
     record {
       table = u;
       there = ap (slice_get new.tables) own ∙ step.after;
@@ -199,6 +258,8 @@ new_entry w new opened device t u n bytes other more step waits one =
       first = subst (λ (l : List Opened). find (opens_row one.entry.row) (opened ++ l) ≡ Some one.entry) (sym one.more_is)
           (subst (λ (x : End). find (opens_row x) (opened ++ one.entry ∷ []) ≡ Some one.entry) (sym one.row_is)
           (new_found w opened device t row.opening one.entry step.at (omega (arith, is)) step.entries one.row_is));
+      maker = ap (λ (x : End). x.device) one.producer ∙ sym own;
+      t_o = new_t_o w new opened device t u n bytes other more step waits scanner one one.produced;
     }
 
 -- ---- connections
@@ -268,7 +329,7 @@ stream_named Q w new device t happens s later known comes (inr is) = opened_stre
 
 -- ---- frames
 
-success_named : (w new : World) (opened : List Opened) (device : ℕ) (t u : AdapterTable) (n : ℕ) (bytes : List ℕ) (other : ℕ) (more : List Opened) (number : ℕ) (o : made.Opened) → AdapterStep w new opened device t u → ContextFits bytes → Opens w device t u n bytes other more → IsSuccessOf t u bytes number o → IsOpenedWith (opened ++ more) (end_at other number) o.o_t_id.0 o.t_o_id.0
+success_named : (w new : World) (opened : List Opened) (device : ℕ) (t u : AdapterTable) (n : ℕ) (bytes : List ℕ) (other : ℕ) (more : List Opened) (number : ℕ) (o : made.Opened) → AdapterStep w new opened device t u → ContextFits bytes → Opens w device t u n bytes other more → IsSuccessOf t u bytes number o → IsOpenedWith (opened ++ more) device (end_at other number) o.o_t_id.0 o.t_o_id.0
 success_named w new opened device t u n bytes other more number o step fits (inl none) is = absurd (let e = sym none.found ∙ is.new in cc)
 success_named w new opened device t u n bytes other more number o step fits (inr one) is =
     let same : one.row ≡ is.row = some_row one.row is.row (sym one.found ∙ is.new) in
@@ -278,6 +339,7 @@ success_named w new opened device t u n bytes other more number o step fits (inr
     record {
       entry = one.entry;
       there = subst (λ (l : List Opened). Contains (opened ++ l) one.entry) (sym one.more_is) (Contains-push opened one.entry);
+      adapter_is = ap (λ (x : End). x.device) one.row_is;
       slot_is = one.slot_is ∙ ap (end_at other) context;
       o_t_is = ap (λ (id : ConnId). id.0) one.o_t ∙ sym (same_again one.row.o_t_id.0 narrow.0) ∙ ap (λ (r : Row). again w32 r.o_t_id.0) same ∙ sym is.o_t;
       t_o_is = ap (λ (id : ConnId). id.0) one.t_o ∙ sym (same_again one.row.t_o_id.0 narrow.1) ∙ ap (λ (r : Row). again w32 r.t_o_id.0) same ∙ sym is.t_o;
@@ -308,9 +370,10 @@ reply_named w new opened device t u n bytes other more frame step over fits open
     (record {
       sender = record { table = Adapter u; is = step.after };
       context = reply.context;
-      successes = successes_more (IsSuccessOf t u bytes) (λ number o. IsOpenedWith (opened ++ more) (end_at other number) o.o_t_id.0 o.t_o_id.0)
+      successes = successes_more (IsSuccessOf t u bytes) (λ number o. IsOpenedWith (opened ++ more) device (end_at other number) o.o_t_id.0 o.t_o_id.0)
           (λ number o is. success_named w new opened device t u n bytes other more number o step fits opens is) frame.bytes reply.successes;
       opens_nothing = λ adapter. reply.opens_nothing;
+      asks = λ scanner there. absurd (let e = sym step.after ∙ there in cc);
     })
 
 -- ---- an event

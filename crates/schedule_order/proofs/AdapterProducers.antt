@@ -1,11 +1,10 @@
 -- What an adapter produces is of a producer that has an entry, with its T->O id.
-use Rattle.std.proofs.Common.{◌≡◌, ◌∙◌, ℕ, ◌+◌, Bool, true, false, List, [], ◌∷◌, ◌++◌, map, filter, find, filter_map, Option, Some, None, refl, sym, ap, subst}
+use Rattle.std.proofs.Common.{◌≡◌, ◌∙◌, ℕ, ◌+◌, List, [], ◌++◌, filter, find, filter_map, refl, sym, ap}
 use Rattle.std.specs.List.{AllByRecursion, Contains}
 use Rattle.std.specs.Option.{IfSome}
 use Rattle.std.proofs.lemmas.List.Elements.{Contains-append_left}
 use Rattle.cip_types.specs.declared.names.ConnId.{ConnId}
 use Rattle.cip_types.specs.declared.names.Ms.{Ms}
-use Rattle.cip_types.specs.Order.{in_order}
 use Rattle.cip_events.specs.declared.event.Event.{Event}
 use Rattle.cip_events.specs.declared.event.Event.TheVariants as event
 use Rattle.cip_productions.specs.declared.production.Producer.{Producer}
@@ -14,7 +13,6 @@ use Rattle.adapter_table.specs.declared.row.Row.{Row}
 use Rattle.adapter_table.specs.declared.row.State.{State}
 use Rattle.adapter_table.specs.declared.row.State.TheVariants.{Established, TimedOut}
 use Rattle.adapter_table.specs.declared.table.AdapterTable.{AdapterTable}
-use Rattle.adapter_table.specs.declared.table.PointValue.{PointValue}
 use Rattle.adapter_table.specs.Closing.{stays}
 use Rattle.adapter_table.specs.Productions.{state_producer, producer_in, producers, producer_of, is_due, due_producers, produces_on_change, producers_on_change}
 use Rattle.adapter_table.specs.Rows.{is_established, written_row}
@@ -27,7 +25,7 @@ use Rattle.made_productions.specs.Productions.{End, end_at, Production}
 use Rattle.reply_ids.specs.Rows.{IsSameRow}
 use Rattle.reply_ids.proofs.Rows.{all_contained, written_row_same, expired_row_same}
 use Rattle.schedule_order.specs.Chronicle.{Opened, opens_row}
-use Rattle.schedule_order.specs.Names.{IsAdapterIn, HasEntry, IsOpenedBy, ProducerHasEntry}
+use Rattle.schedule_order.specs.Names.{HasEntry, IsOpenedBy, IsMadeBy, ProducerHasEntry}
 use Rattle.schedule_order.proofs.Entries.{Later, adapter_back}
 use Rattle.schedule_order.proofs.Found.{found_holds}
 
@@ -65,17 +63,17 @@ producers_named w opened device rows all =
 -- ---- what is produced
 
 abbrev pub MadeByEntry : List Opened → ℕ → Made → Type 0
-MadeByEntry opened device made = IsOpenedBy opened (end_at device made.number) made.datagram.connection
+MadeByEntry opened device made = IsMadeBy opened (end_at device made.number) made
 
 due_named : (w : World) (opened : List Opened) (device : ℕ) (clocked : AdapterTable) (rows : List Row) → AllByRecursion (HasEntry w opened device) rows → AllByRecursion (MadeByEntry opened device) (advanced_made clocked rows)
 due_named w opened device clocked rows all =
-    all_mapped (ProducerNamed opened device) (MadeByEntry opened device) (due_made clocked.values) (λ x named. named) (due_producers clocked.clock rows)
+    all_mapped (ProducerNamed opened device) (MadeByEntry opened device) (due_made clocked.values) (λ x named. record { by = named; value = refl }) (due_producers clocked.clock rows)
     (all_ordered (ProducerNamed opened device) by_due (producers (filter (is_due clocked.clock) rows))
     (producers_named w opened device (filter (is_due clocked.clock) rows) (all_filtered (HasEntry w opened device) (is_due clocked.clock) rows all)))
 
 changed_named : (w : World) (opened : List Opened) (device : ℕ) (t : AdapterTable) (point : ℕ) (bytes : List ℕ) → AllByRecursion (HasEntry w opened device) t.rows → AllByRecursion (MadeByEntry opened device) (changed_made t point bytes)
 changed_named w opened device t point bytes all =
-    all_mapped (ProducerNamed opened device) (MadeByEntry opened device) (adapter_made bytes) (λ x named. named) (producers_on_change t.clock point t.rows)
+    all_mapped (ProducerNamed opened device) (MadeByEntry opened device) (adapter_made bytes) (λ x named. record { by = named; value = refl }) (producers_on_change t.clock point t.rows)
     (all_ordered (ProducerNamed opened device) by_number (producers (filter (produces_on_change t.clock point) t.rows))
     (producers_named w opened device (filter (produces_on_change t.clock point) t.rows) (all_filtered (HasEntry w opened device) (produces_on_change t.clock point) t.rows all)))
 
@@ -109,8 +107,11 @@ adapter_makes_named w opened device t (event.Stop slot) all = tt
 by_later : (opened more : List Opened) (producer : End) (t_o : ℕ) → IsOpenedBy opened producer t_o → IsOpenedBy (opened ++ more) producer t_o
 by_later opened more producer t_o is = record { entry = is.entry; there = Contains-append_left opened more is.entry is.there; producer_is = is.producer_is; t_o_is = is.t_o_is }
 
+made_by_later : (opened more : List Opened) (producer : End) (made : Made) → IsMadeBy opened producer made → IsMadeBy (opened ++ more) producer made
+made_by_later opened more producer made is = record { by = by_later opened more producer made.datagram.connection is.by; value = is.value }
+
 pub producer_later : (w new : World) (opened more : List Opened) (p : Production) → Later w new → ProducerHasEntry w opened p → ProducerHasEntry new (opened ++ more) p
-producer_later w new opened more p later is = λ adapter. by_later opened more p.producer p.made.datagram.connection (is (adapter_back w new p.producer.device later adapter))
+producer_later w new opened more p later is = λ adapter. made_by_later opened more p.producer p.made (is (adapter_back w new p.producer.device later adapter))
 
 pub made_later : (opened more : List Opened) (device : ℕ) (made : Made) → MadeByEntry opened device made → MadeByEntry (opened ++ more) device made
-made_later opened more device made is = by_later opened more (end_at device made.number) made.datagram.connection is
+made_later opened more device made is = made_by_later opened more (end_at device made.number) made is

@@ -1,5 +1,5 @@
 -- Entries of the chronicle stay true as it goes on: tables keep their kind and their profile, and entries are added behind.
-use Rattle.std.proofs.Common.{◌≡◌, ◌≢◌, ◌≤◌, ◌<◌, ◌⊎◌, inl, inr, ℕ, ◌==◌, Bool, true, false, List, ◌++◌, find, set, slice_get, slice_index_or, Some, Result, Ok, Err, refl, sym, ◌∙◌, ap, subst, arith}
+use Rattle.std.proofs.Common.{◌≡◌, ◌≢◌, ◌≤◌, ◌⊎◌, inl, inr, ℕ, ◌+◌, ◌==◌, Bool, true, false, List, ◌++◌, set, slice_get, slice_index_or, Some, Result, Ok, Err, refl, sym, ◌∙◌, ap, subst, arith}
 use Rattle.std.specs.List.{AllByRecursion}
 use Rattle.std.proofs.lemmas.List.Elements.{Contains-append_left}
 use Rattle.cip_types.specs.declared.names.Node.{Node}
@@ -34,11 +34,13 @@ use Rattle.cip_fwdopen.specs.declared.reply.Opened as made
 use Rattle.cip_fwdopen.specs.declared.reply.OpenAnswer.{OpenAnswer}
 use Rattle.cip_fwdopen.specs.declared.reply.OpenAnswer.TheVariants as answer
 use Rattle.scanner_table.specs.Replies.{open_answer}
-use Rattle.reply_ids.specs.Frames.{SuccessIs, SuccessesAre, IsNoOpening, ContextFits}
+use Rattle.scanner_table.specs.declared.table.TargetStream.{TargetStream}
+use Rattle.reply_ids.specs.OwnIds.{IsDrawnId, AsksOwnId}
+use Rattle.reply_ids.specs.Frames.{SuccessIs, SuccessesAre, IsNoOpening, ContextFits, OpeningsAre}
 use Rattle.made_productions.specs.Productions.{End, end_at, Production}
 use Rattle.schedule_order.specs.Chronicle.{Opened, opens_row}
-use Rattle.schedule_order.specs.Names.{IsScannerIn, IsAdapterIn, IsEntry, HasEntry, IsOpenedFor, IsOpenedWith, StateHasEntry, SlotHasEntry, ProductionHasEntry}
-use Rattle.schedule_order.specs.Streams.{IsOver}
+use Rattle.schedule_order.specs.Names.{IsScannerIn, IsAdapterIn, IsOfGroup, IsOwn, IsEntry, HasEntry, IsOpenedFor, IsOpenedWith, IsOpenedAt, StateHasEntry, SlotHasEntry, ProductionHasEntry}
+use Rattle.schedule_order.specs.Streams.{IsOver, IsOpenTo}
 use Rattle.schedule_order.proofs.Found.{find_more}
 use Rattle.made_productions.proofs.Lists.{is_equal, not_equal}
 use Rattle.schedule_order.proofs.StreamActs.{EndsStay}
@@ -168,21 +170,50 @@ adapter_off w device u (Scanner t) at stays = absurd stays
 pub adapter_back : (w new : World) (device : ℕ) → Later w new → IsAdapterIn new device → IsAdapterIn w device
 adapter_back w new device later is = let before = later.back device (Adapter is.table) is.is in adapter_off w device is.table before.0 before.1 before.2
 
-entry_on : (new : World) (opened more : List Opened) (e : Opened) (t : AdapterTable) (u : DeviceTable) → slice_get new.tables e.row.device ≡ Some u → DeviceStays (Adapter t) u → e.row.number < t.next_id → e.o_t_id ≡ connection_id t.profile e.row.number → IsScannerIn new e.slot.device → find (opens_row e.row) (opened ++ more) ≡ Some e → IsEntry new (opened ++ more) e
-entry_on new opened more e t (Scanner u) at stays drawn id scanner first = absurd stays
-entry_on new opened more e t (Adapter u) at stays drawn id scanner first = record {
+-- a scanner of a later world, with the profile that it had
+pub record ScannerNow (new : World) (device : ℕ) (t : ScannerTable) : Type 0 where
+  pub table : ScannerTable
+  pub is : slice_get new.tables device ≡ Some (Scanner table)
+  pub profile : table.profile ≡ t.profile
+
+scanner_now_on : (new : World) (device : ℕ) (t : ScannerTable) (u : DeviceTable) → slice_get new.tables device ≡ Some u → DeviceStays (Scanner t) u → ScannerNow new device t
+scanner_now_on new device t (Adapter u) at stays = absurd stays
+scanner_now_on new device t (Scanner u) at stays = record { table = u; is = at; profile = stays }
+
+pub scanner_now : (w new : World) (device : ℕ) (t : ScannerTable) → Later w new → slice_get w.tables device ≡ Some (Scanner t) → ScannerNow new device t
+scanner_now w new device t later at = let after = later.tables device (Scanner t) at in scanner_now_on new device t after.table after.there after.stays
+
+drawn_later : (a b : ScannerProfile) (id : ℕ) → b ≡ a → IsDrawnId a id → IsDrawnId b id
+drawn_later a b id same is = subst (λ (p : ScannerProfile). IsDrawnId p id) (sym same) is
+
+pub own_later : (w new : World) (e : Opened) → Later w new → IsOwn w e → IsOwn new e
+own_later w new e later own =
+    let was = own.scanner in
+    let now = scanner_now w new e.slot.device was.table later was.is in
+    record { scanner = record { table = now.table; is = now.is }; id = drawn_later was.table.profile now.table.profile e.t_o_id.0 now.profile own.id; producer = own.producer }
+
+t_o_later : (w new : World) (t u : AdapterTable) (e : Opened) → Later w new → AdapterStays t u → IsOfGroup t e ⊎ IsOwn w e → IsOfGroup u e ⊎ IsOwn new e
+t_o_later w new t u e later stays (inl group) =
+    inl (record { id = group.id ∙ ap (λ (p : Profile). connection_id p (e.producer.number + 1)) (sym stays.profile); drawn = omega (arith, group.drawn, stays.ids) })
+t_o_later w new t u e later stays (inr own) = inr (own_later w new e later own)
+
+entry_on : (w new : World) (opened more : List Opened) (e : Opened) (u : DeviceTable) → Later w new → (is : IsEntry w opened e) → slice_get new.tables e.row.device ≡ Some u → DeviceStays (Adapter is.table) u → IsEntry new (opened ++ more) e
+entry_on w new opened more e (Scanner u) later is at stays = absurd stays
+entry_on w new opened more e (Adapter u) later is at stays = record {
   table = u;
   there = at;
-  drawn = omega (arith, drawn, stays.ids);
-  id = id ∙ ap (λ (p : Profile). connection_id p e.row.number) (sym stays.profile);
-  scanner = scanner;
-  first = first;
+  drawn = omega (arith, is.drawn, stays.ids);
+  id = is.id ∙ ap (λ (p : Profile). connection_id p e.row.number) (sym stays.profile);
+  scanner = scanner_later w new e.slot.device later is.scanner;
+  first = find_more (opens_row e.row) opened more e is.first;
+  maker = is.maker;
+  t_o = t_o_later w new is.table u e later stays is.t_o;
 }
 
 pub entry_later : (w new : World) (opened more : List Opened) (e : Opened) → Later w new → IsEntry w opened e → IsEntry new (opened ++ more) e
 entry_later w new opened more e later is =
     let after = later.tables e.row.device (Adapter is.table) is.there in
-    entry_on new opened more e is.table after.table after.there after.stays is.drawn is.id (scanner_later w new e.slot.device later is.scanner) (find_more (opens_row e.row) opened more e is.first)
+    entry_on w new opened more e after.table later is after.there after.stays
 
 pub node_later : (w new : World) (device : ℕ) → Later w new → node_at new device ≡ node_at w device
 node_later w new device later = ap (λ (nodes : List Node). slice_index_or nodes device (record { 0 = 0 })) later.nodes
@@ -200,18 +231,26 @@ has_later w new opened more device row later is = record {
 pub for_later : (opened more : List Opened) (slot : End) (o_t : ℕ) → IsOpenedFor opened slot o_t → IsOpenedFor (opened ++ more) slot o_t
 for_later opened more slot o_t is = record { entry = is.entry; there = Contains-append_left opened more is.entry is.there; slot_is = is.slot_is; o_t_is = is.o_t_is }
 
-pub with_later : (opened more : List Opened) (slot : End) (o_t t_o : ℕ) → IsOpenedWith opened slot o_t t_o → IsOpenedWith (opened ++ more) slot o_t t_o
-with_later opened more slot o_t t_o is = record { entry = is.entry; there = Contains-append_left opened more is.entry is.there; slot_is = is.slot_is; o_t_is = is.o_t_is; t_o_is = is.t_o_is }
+pub with_later : (opened more : List Opened) (adapter : ℕ) (slot : End) (o_t t_o : ℕ) → IsOpenedWith opened adapter slot o_t t_o → IsOpenedWith (opened ++ more) adapter slot o_t t_o
+with_later opened more adapter slot o_t t_o is = record { entry = is.entry; there = Contains-append_left opened more is.entry is.there; adapter_is = is.adapter_is; slot_is = is.slot_is; o_t_is = is.o_t_is; t_o_is = is.t_o_is }
 
-state_later : (opened more : List Opened) (device : ℕ) (state : SlotState) → StateHasEntry opened device state → StateHasEntry (opened ++ more) device state
-state_later opened more device Idle is = tt
-state_later opened more device (Opening o) is = tt
-state_later opened more device (Established c) is = with_later opened more (end_at device c.opening) c.link.o_t_id.0 c.link.t_o_id.0 is
-state_later opened more device (TimedOut link) is = tt
-state_later opened more device (Closing c) is = tt
+at_later : (w new : World) (opened more : List Opened) (target : Node) (slot : End) (o_t t_o : ℕ) → Later w new → IsOpenedAt w opened target slot o_t t_o → IsOpenedAt new (opened ++ more) target slot o_t t_o
+at_later w new opened more target slot o_t t_o later is = record {
+  adapter = is.adapter;
+  target_is = is.target_is ∙ sym (ap (λ (n : Node). n.0) (node_later w new is.adapter later));
+  opening = with_later opened more is.adapter slot o_t t_o is.opening;
+}
 
-pub slots_later : (opened more : List Opened) (device : ℕ) (all : List IndexedSlot) → AllByRecursion (SlotHasEntry opened device) all → AllByRecursion (SlotHasEntry (opened ++ more) device) all
-slots_later opened more device all are = all_more (SlotHasEntry opened device) (SlotHasEntry (opened ++ more) device) (λ place is. state_later opened more device place.slot.state is) all are
+state_later : (w new : World) (opened more : List Opened) (device : ℕ) (target : Node) (state : SlotState) → Later w new → StateHasEntry w opened device target state → StateHasEntry new (opened ++ more) device target state
+state_later w new opened more device target Idle later is = tt
+state_later w new opened more device target (Opening o) later is = tt
+state_later w new opened more device target (Established c) later is = at_later w new opened more target (end_at device c.opening) c.link.o_t_id.0 c.link.t_o_id.0 later is
+state_later w new opened more device target (TimedOut link) later is = tt
+state_later w new opened more device target (Closing c) later is = tt
+
+pub slots_later : (w new : World) (opened more : List Opened) (device : ℕ) (all : List IndexedSlot) → Later w new → AllByRecursion (SlotHasEntry w opened device) all → AllByRecursion (SlotHasEntry new (opened ++ more) device) all
+slots_later w new opened more device all later are =
+    all_more (SlotHasEntry w opened device) (SlotHasEntry new (opened ++ more) device) (λ place is. state_later w new opened more device place.config.target place.slot.state later is) all are
 
 pub production_later : (w new : World) (opened more : List Opened) (p : Production) → Later w new → ProductionHasEntry w opened p → ProductionHasEntry new (opened ++ more) p
 production_later w new opened more p later is = λ scanner. for_later opened more p.producer p.made.datagram.connection (is (scanner_back w new p.producer.device later scanner))
@@ -222,13 +261,14 @@ pub record IsDeviceIn (w : World) (device : ℕ) : Type 0 where
   pub table : DeviceTable
   pub is : slice_get w.tables device ≡ Some table
 
--- A frame that waits was sent by a device. Each success in it has its entry, that of an opening of the device which takes
--- it; and an adapter sends no request to open.
+-- A frame that waits was sent by a device. Each success in it has its entry at that device, which is of an opening of the device
+-- that takes it; an adapter sends no request to open, and a scanner asks for its own ids.
 pub record Waits (w : World) (opened : List Opened) (giver taker : ℕ) (bytes : List ℕ) : Type 0 where
   pub sender : IsDeviceIn w giver
   pub context : ContextFits bytes
-  pub successes : SuccessesAre (λ number o. IsOpenedWith opened (end_at taker number) o.o_t_id.0 o.t_o_id.0) bytes
+  pub successes : SuccessesAre (λ number o. IsOpenedWith opened giver (end_at taker number) o.o_t_id.0 o.t_o_id.0) bytes
   pub opens_nothing : IsAdapterIn w giver → IsNoOpening bytes
+  pub asks : (s : ScannerTable) → slice_get w.tables giver ≡ Some (Scanner s) → OpeningsAre (AsksOwnId s.profile) bytes
 
 pub device_later : (w new : World) (device : ℕ) → Later w new → IsDeviceIn w device → IsDeviceIn new device
 device_later w new device later is = let after = later.tables device is.table is.is in record { table = after.table; is = after.there }
@@ -236,10 +276,8 @@ device_later w new device later is = let after = later.tables device is.table is
 -- ---- streams of an adapter's table
 
 -- the stream goes to another device, whose node is its peer
-pub record IsKnown (w : World) (device : ℕ) (s : adapter_stream.Stream) : Type 0 where
-  pub other : ℕ
-  pub over : IsOver w device other s.number
-  pub peer_is : s.peer ≡ node_at w other
+abbrev pub IsKnown : World → ℕ → adapter_stream.Stream → Type 0
+IsKnown w device s = IsOpenTo w device s.number s.peer
 
 pub over_later : (w new : World) (device other n : ℕ) → Later w new → IsOver w device other n → IsOver new device other n
 over_later w new device other n later is = let stay = later.ends in record { ends = is.ends; there = stay.there n is.ends is.there; apart = is.apart; between = is.between }
@@ -247,22 +285,37 @@ over_later w new device other n later is = let stay = later.ends in record { end
 pub known_later : (w new : World) (device : ℕ) (s : adapter_stream.Stream) → Later w new → IsKnown w device s → IsKnown new device s
 known_later w new device s later is = record { other = is.other; over = over_later w new device is.other s.number later is.over; peer_is = is.peer_is ∙ sym (node_later w new is.other later) }
 
+-- ---- streams of a scanner's table
+
+abbrev pub IsKnownTo : World → ℕ → TargetStream → Type 0
+IsKnownTo w device s = IsOpenTo w device s.number s.peer
+
+pub known_to_later : (w new : World) (device : ℕ) (s : TargetStream) → Later w new → IsKnownTo w device s → IsKnownTo new device s
+known_to_later w new device s later is = record { other = is.other; over = over_later w new device is.other s.number later is.over; peer_is = is.peer_is ∙ sym (node_later w new is.other later) }
+
 -- ---- what holds of a device's table
 
 pub record AdapterIsNamed (w : World) (opened : List Opened) (device : ℕ) (t : AdapterTable) : Type 0 where
   pub rows : AllByRecursion (HasEntry w opened device) t.rows
   pub streams : AllByRecursion (IsKnown w device) t.streams
 
+pub record ScannerIsNamed (w : World) (opened : List Opened) (device : ℕ) (t : ScannerTable) : Type 0 where
+  pub slots : AllByRecursion (SlotHasEntry w opened device) (indexed_slots t)
+  pub streams : AllByRecursion (IsKnownTo w device) t.streams
+
 abbrev pub TableIsNamed : World → List Opened → ℕ → DeviceTable → Type 0
 TableIsNamed w opened device (Adapter t) = AdapterIsNamed w opened device t
-TableIsNamed w opened device (Scanner t) = AllByRecursion (SlotHasEntry opened device) (indexed_slots t)
+TableIsNamed w opened device (Scanner t) = ScannerIsNamed w opened device t
 
 pub table_later : (w new : World) (opened more : List Opened) (device : ℕ) (t : DeviceTable) → Later w new → TableIsNamed w opened device t → TableIsNamed new (opened ++ more) device t
 table_later w new opened more device (Adapter t) later is = record {
   rows = all_more (HasEntry w opened device) (HasEntry new (opened ++ more) device) (λ row. has_later w new opened more device row later) t.rows is.rows;
   streams = all_more (IsKnown w device) (IsKnown new device) (λ s. known_later w new device s later) t.streams is.streams;
 }
-table_later w new opened more device (Scanner t) later is = slots_later opened more device (indexed_slots t) is
+table_later w new opened more device (Scanner t) later is = record {
+  slots = slots_later w new opened more device (indexed_slots t) later is.slots;
+  streams = all_more (IsKnownTo w device) (IsKnownTo new device) (λ s. known_to_later w new device s later) t.streams is.streams;
+}
 
 success_more : (P Q : made.Opened → Type 0) → ((o : made.Opened) → P o → Q o) → (said : Result OpenAnswer Reason) → SuccessIs P said → SuccessIs Q said
 success_more P Q more (Err why) is = tt
@@ -272,11 +325,21 @@ success_more P Q more (Ok (answer.Opened o)) is = more o is
 pub successes_more : (P Q : ℕ → made.Opened → Type 0) → ((number : ℕ) (o : made.Opened) → P number o → Q number o) → (bytes : List ℕ) → SuccessesAre P bytes → SuccessesAre Q bytes
 successes_more P Q more bytes are = λ m is large. success_more (P m.context) (Q m.context) (more m.context) (open_answer large m) (are m is large)
 
+asks_on : (new : World) (giver : ℕ) (bytes : List ℕ) (s : ScannerTable) (t : DeviceTable) → ((x : ScannerTable) → t ≡ Scanner x → OpeningsAre (AsksOwnId x.profile) bytes) → DeviceStays t (Scanner s) → OpeningsAre (AsksOwnId s.profile) bytes
+asks_on new giver bytes s (Adapter t) asks stays = absurd stays
+asks_on new giver bytes s (Scanner t) asks stays = subst (λ (p : ScannerProfile). OpeningsAre (AsksOwnId p) bytes) (sym stays) (asks t refl)
+
+asks_later : (w new : World) (giver : ℕ) (bytes : List ℕ) → Later w new → ((s : ScannerTable) → slice_get w.tables giver ≡ Some (Scanner s) → OpeningsAre (AsksOwnId s.profile) bytes) → (s : ScannerTable) → slice_get new.tables giver ≡ Some (Scanner s) → OpeningsAre (AsksOwnId s.profile) bytes
+asks_later w new giver bytes later asks s at =
+    let before = later.back giver (Scanner s) at in
+    asks_on new giver bytes s before.0 (λ x is. asks x (before.1 ∙ ap Some is)) before.2
+
 pub waits_later : (w new : World) (opened more : List Opened) → Later w new → (giver taker : ℕ) (bytes : List ℕ) → Waits w opened giver taker bytes → Waits new (opened ++ more) giver taker bytes
 waits_later w new opened more later giver taker bytes is = record {
   sender = device_later w new giver later is.sender;
   context = is.context;
-  successes = successes_more (λ number o. IsOpenedWith opened (end_at taker number) o.o_t_id.0 o.t_o_id.0) (λ number o. IsOpenedWith (opened ++ more) (end_at taker number) o.o_t_id.0 o.t_o_id.0)
-      (λ number o. with_later opened more (end_at taker number) o.o_t_id.0 o.t_o_id.0) bytes is.successes;
+  successes = successes_more (λ number o. IsOpenedWith opened giver (end_at taker number) o.o_t_id.0 o.t_o_id.0) (λ number o. IsOpenedWith (opened ++ more) giver (end_at taker number) o.o_t_id.0 o.t_o_id.0)
+      (λ number o. with_later opened more giver (end_at taker number) o.o_t_id.0 o.t_o_id.0) bytes is.successes;
   opens_nothing = λ adapter. is.opens_nothing (adapter_back w new giver later adapter);
+  asks = asks_later w new giver bytes later is.asks;
 }

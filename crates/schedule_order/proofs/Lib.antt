@@ -19,3 +19,13 @@ pub mod Addresses
 pub mod AcceptedOpenings
 pub mod OpeningActs
 pub mod AdapterProducers
+pub mod OneProducer
+pub mod EndedProducers
+pub mod LaterConnections
+pub mod Numbers
+pub mod ApartIds
+pub mod WaitingCounts
+pub mod UsedOnce
+pub mod OneConnection
+pub mod StandingStreams
+pub mod MarkedStreams

@@ -10,6 +10,7 @@ use Rattle.adapter_table.specs.declared.row.Row.{Row}
 use Rattle.adapter_table.specs.declared.table.AdapterTable.{AdapterTable}
 use Rattle.adapter_table.specs.Requests.{Next}
 use Rattle.adapter_table.specs.Step.{adapter_step}
+use Rattle.scanner_table.specs.declared.profile.ScannerProfile.{ScannerProfile}
 use Rattle.scanner_table.specs.declared.table.ScannerTable.{ScannerTable}
 use Rattle.scanner_table.specs.Effects.{Next as ScannerNext}
 use Rattle.scanner_table.specs.Slots.{indexed_slots}
@@ -22,9 +23,11 @@ use Rattle.stream_queues.specs.Streams.{Stream, answered}
 use Rattle.device_laws.specs.Ids.{RowIds}
 use Rattle.device_laws.specs.Carrying.{Passes as Passing}
 use Rattle.device_laws.proofs.Lists.{all_both, all_more}
+use Rattle.reply_ids.specs.OwnIds.{FrameAsks, ScannersAskOwnIds}
 use Rattle.reply_ids.specs.Replies.{RepliesCarryOpenedIds, ScannersSendNoSuccess}
 use Rattle.reply_ids.specs.Rows.{ConnectionsKeepTheirIds}
 use Rattle.reply_ids.specs.Slots.{SlotsHaveTheIdsOfTheirSuccess}
+use Rattle.reply_ids.specs.TargetStreams.{StreamsComeWithEvents}
 use Rattle.schedule_laws.specs.Ids.{is_drawn, any_opening, IdsAreDrawn}
 use Rattle.schedule_laws.proofs.Drawing.{StepLaws}
 use Rattle.schedule_laws.proofs.Lists.{set_own}
@@ -32,18 +35,20 @@ use Rattle.schedule_laws.proofs.Tests.{drawn_parts, set_cases}
 use Rattle.made_productions.specs.Made.{Made, makes, adapter_makes}
 use Rattle.made_productions.specs.Productions.{Production, numbered, produced_more}
 use Rattle.schedule_order.specs.Chronicle.{Opened, frame_opens, Chronicle}
-use Rattle.schedule_order.specs.Names.{IsScannerIn, IsEntry, SlotHasEntry, ProductionHasEntry, IsAdapterIn, ProducerHasEntry}
+use Rattle.schedule_order.specs.Names.{IsScannerIn, IsEntry, ProductionHasEntry, IsAdapterIn, ProducerHasEntry}
 use Rattle.schedule_order.specs.Streams.{Ends, ends_of, Waiting, StreamsWait}
-use Rattle.schedule_order.proofs.AdapterNames.{adapter_named}
+use Rattle.schedule_order.proofs.AdapterNames.{AdapterStep, adapter_named}
+use Rattle.schedule_order.proofs.ApartIds.{IdsAreApart, adapter_apart}
 use Rattle.schedule_order.proofs.AdapterProducers.{MadeByEntry, adapter_makes_named, producer_later, made_later}
-use Rattle.schedule_order.proofs.Entries.{AdapterIsNamed, DeviceStays, step_stays, Later, same_later, set_later, entry_later, production_later, Waits, waits_later, TableIsNamed, table_later}
-use Rattle.schedule_order.proofs.ScannerNames.{slots_named, frames_named, MadeHasEntry, makes_named}
+use Rattle.schedule_order.proofs.Entries.{AdapterIsNamed, DeviceStays, step_stays, Later, same_later, set_later, entry_later, production_later, Waits, waits_later, IsKnownTo, known_to_later, slots_later, TableIsNamed, table_later}
+use Rattle.schedule_order.proofs.ScannerNames.{slots_named, streams_named as scanner_streams, frames_named, MadeHasEntry, makes_named}
 use Rattle.schedule_order.proofs.StreamActs.{same_ends, FrameSent, EventArrives, OneEvent, StreamsOnly, AfterAnswer, answered_waits, streams_more}
 
 -- ---- what holds
 
 pub record NamedAt (w : World) (opened : List Opened) (produced : List Production) : Type 0 where
   pub entries : AllByRecursion (IsEntry w opened) opened
+  pub apart : IdsAreApart opened
   pub tables : (device : ℕ) (t : DeviceTable) → slice_get w.tables device ≡ Some t → TableIsNamed w opened device t
   pub productions : AllByRecursion (ProductionHasEntry w opened) produced
   pub producers : AllByRecursion (ProducerHasEntry w opened) produced
@@ -59,6 +64,8 @@ pub record NameLaws : Type 0 where
   pub rows : ConnectionsKeepTheirIds
   pub slots : SlotsHaveTheIdsOfTheirSuccess
   pub requests : ScannersSendNoSuccess
+  pub asks : ScannersAskOwnIds
+  pub streams : StreamsComeWithEvents
 
 -- ---- no event
 
@@ -67,6 +74,7 @@ streams_named w new opened produced passes named =
     let later = same_later w new passes.tables passes.nodes passes.ends in
     subst (λ (l : List Opened). NamedAt new l produced) (append-nil opened) (record {
       entries = subst (AllByRecursion (IsEntry new (opened ++ []))) (sym (append-nil opened)) (all_more (IsEntry w opened) (IsEntry new (opened ++ [])) (λ e is. entry_later w new opened [] e later is) opened named.entries);
+      apart = subst IdsAreApart (sym (append-nil opened)) named.apart;
       tables = λ device t at. table_later w new opened [] device t later (named.tables device t (subst (λ (ts : List DeviceTable). slice_get ts device ≡ Some t) passes.tables at));
       productions = all_more (ProductionHasEntry w opened) (ProductionHasEntry new (opened ++ [])) (λ p is. production_later w new opened [] p later is) produced named.productions;
       producers = all_more (ProducerHasEntry w opened) (ProducerHasEntry new (opened ++ [])) (λ p is. producer_later w new opened [] p later is) produced named.producers;
@@ -91,6 +99,7 @@ answered_ends Q device answer streams waits =
 
 pub record EventLeaves (w new : World) (opened more : List Opened) (device : ℕ) (t u : DeviceTable) (happens : Event) (answer : Answer) : Type 0 where
   pub entries : AllByRecursion (IsEntry new (opened ++ more)) more
+  pub apart : IdsAreApart (opened ++ more)
   pub table : TableIsNamed new (opened ++ more) device u
   pub frames : AllByRecursion (FrameSent (Waits new (opened ++ more)) (map ends_of w.streams) device) answer.frames
   pub made : IsScannerIn new device → AllByRecursion (MadeHasEntry (opened ++ more) device) (makes t happens)
@@ -101,7 +110,7 @@ ids_fit tables rows all =
     all_more (RowIds (Passing (is_drawn tables)) (Passing any_opening)) (λ (row : Row). (row.o_t_id.0 < 2 ^ 32) × (row.t_o_id.0 < 2 ^ 32))
     (λ row ids. ((drawn_parts tables row.o_t_id.0 ids.o_t).0, (drawn_parts tables row.t_o_id.0 ids.t_o).0)) rows all
 
-adapter_result : (said : Result Next StepFault) (a : Answer) (u : AdapterTable) → as_adapter said ≡ Ok (a, Adapter u) → said ≡ Ok (a, u)
+pub adapter_result : (said : Result Next StepFault) (a : Answer) (u : AdapterTable) → as_adapter said ≡ Ok (a, Adapter u) → said ≡ Ok (a, u)
 adapter_result (Err why) a u is = absurd (let e = is in cc)
 adapter_result (Ok n) a u is = ok_of n a u is where
   ok_two : (x y : DeviceNext) → ◌≡◌ {A = Result DeviceNext StepFault} (Ok x) (Ok y) → x ≡ y
@@ -120,7 +129,7 @@ adapter_result (Ok n) a u is = ok_of n a u is where
       ok_pair : Answer → AdapterTable → Result Next StepFault
       ok_pair x y = Ok (x, y)
 
-scanner_result : (said : Result ScannerNext StepFault) (a : Answer) (u : ScannerTable) → as_scanner said ≡ Ok (a, Scanner u) → said ≡ Ok (a, u)
+pub scanner_result : (said : Result ScannerNext StepFault) (a : Answer) (u : ScannerTable) → as_scanner said ≡ Ok (a, Scanner u) → said ≡ Ok (a, u)
 scanner_result (Err why) a u is = absurd (let e = is in cc)
 scanner_result (Ok n) a u is = ok_of n a u is where
   ok_two : (x y : DeviceNext) → ◌≡◌ {A = Result DeviceNext StepFault} (Ok x) (Ok y) → x ≡ y
@@ -149,29 +158,35 @@ adapter_makes_later : (w : World) (opened more : List Opened) (device : ℕ) (t 
 adapter_makes_later w opened more device t happens named =
     all_more (MadeByEntry opened device) (MadeByEntry (opened ++ more) device) (λ m is. made_later opened more device m is) (adapter_makes t happens) (adapter_makes_named w opened device t happens named.rows)
 
-event_leaves : NameLaws → (w new : World) (opened : List Opened) (device : ℕ) (t u : DeviceTable) (happens : Event) (answer : Answer) → step t happens ≡ Ok (answer, u) → DeviceStays t u → slice_get w.tables device ≡ Some t → slice_get new.tables device ≡ Some u → Later w new → IdsAreDrawn w → IdsAreDrawn new → AllByRecursion (IsEntry w opened) opened → TableIsNamed w opened device t → EventArrives (Waits w opened) w device happens → EventLeaves w new opened (frame_opens w device t happens u) device t u happens answer
+event_leaves : NameLaws → (w new : World) (opened : List Opened) (device : ℕ) (t u : DeviceTable) (happens : Event) (answer : Answer) → step t happens ≡ Ok (answer, u) → DeviceStays t u → slice_get w.tables device ≡ Some t → slice_get new.tables device ≡ Some u → Later w new → IdsAreDrawn w → IdsAreDrawn new → AllByRecursion (IsEntry w opened) opened → IdsAreApart opened → TableIsNamed w opened device t → EventArrives (Waits w opened) w device happens → EventLeaves w new opened (frame_opens w device t happens u) device t u happens answer
 unfolding step
-event_leaves laws w new opened device (Adapter t) (Adapter u) happens answer is stays at after later drawn next_drawn entries named comes =
+event_leaves laws w new opened device (Adapter t) (Adapter u) happens answer is stays at after later drawn next_drawn entries apart named comes =
     let stepped = adapter_result (adapter_step t happens) answer u is in
     let whole = drawn.whole device (Adapter t) at in
     let next_whole = next_drawn.whole device (Adapter u) after in
-    let leaves = adapter_named w new opened device t u happens answer
-    (record { at = at; after = after; later = later; entries = entries; named = named; drawn = whole.sound.ids_are_drawn; next_drawn = next_whole.sound.ids_are_drawn; fits = ids_fit new.tables u.rows (next_drawn.tables device (Adapter u) after) })
-    comes (laws.rows t happens answer u stepped whole) (laws.replies t happens answer u stepped whole) in
-    record { entries = leaves.entries; table = leaves.table; frames = leaves.frames; made = λ scanner. absurd (never_scanner new device u after scanner); made_by = λ adapter. adapter_makes_later w opened (frame_opens w device (Adapter t) happens (Adapter u)) device t happens named }
-event_leaves laws w new opened device (Scanner t) (Scanner u) happens answer is stays at after later drawn next_drawn entries named comes =
+    let info : AdapterStep w new opened device t u = record { at = at; after = after; later = later; entries = entries; named = named; drawn = whole.sound.ids_are_drawn; next_drawn = next_whole.sound.ids_are_drawn; fits = ids_fit new.tables u.rows (next_drawn.tables device (Adapter u) after); stays = stays; groups = whole.sound.producers.multicast } in
+    let came = laws.rows t happens answer u stepped whole in
+    let leaves = adapter_named w new opened device t u happens answer info comes came (laws.replies t happens answer u stepped whole) in
+    record { entries = leaves.entries; apart = adapter_apart w new opened device t u happens drawn next_whole.sound.ids_are_left info apart comes came; table = leaves.table; frames = leaves.frames; made = λ scanner. absurd (never_scanner new device u after scanner); made_by = λ adapter. adapter_makes_later w opened (frame_opens w device (Adapter t) happens (Adapter u)) device t happens named }
+event_leaves laws w new opened device (Scanner t) (Scanner u) happens answer is stays at after later drawn next_drawn entries apart named comes =
     let stepped = scanner_result (scanner_step t happens) answer u is in
     let whole = drawn.whole device (Scanner t) at in
     subst (λ (l : List Opened). EventLeaves w new opened [] device (Scanner t) (Scanner u) happens answer) (append-nil opened)
     (record {
       entries = tt;
-      table = subst (λ (l : List Opened). AllByRecursion (SlotHasEntry l device) (indexed_slots u)) (sym (append-nil opened)) (slots_named w opened device t happens (indexed_slots u) named comes (laws.slots t happens answer u stepped whole));
-      frames = frames_named w new (opened ++ []) device u answer.frames after (laws.requests t happens answer u stepped whole);
+      apart = subst IdsAreApart (sym (append-nil opened)) apart;
+      table = record {
+        slots = slots_later w new opened [] device (indexed_slots u) later (slots_named w opened device t happens (indexed_slots u) named comes (laws.slots t happens answer u stepped whole));
+        streams = all_more (IsKnownTo w device) (IsKnownTo new device) (λ s. known_to_later w new device s later) u.streams
+            (scanner_streams w opened device t happens u.streams named.streams comes (laws.streams t happens answer u stepped whole));
+      };
+      frames = frames_named w new (opened ++ []) device u answer.frames after (laws.requests t happens answer u stepped whole)
+          (subst (λ (p : ScannerProfile). AllByRecursion (FrameAsks p) answer.frames) (sym stays) (laws.asks t happens answer u stepped whole (drawn.apart.ends device (Scanner t) at)));
       made = λ scanner. subst (λ (l : List Opened). AllByRecursion (MadeHasEntry l device) (makes (Scanner t) happens)) (sym (append-nil opened)) (makes_named w opened device t happens named);
       made_by = λ adapter. absurd (never_adapter new device u after adapter);
     })
-event_leaves laws w new opened device (Adapter t) (Scanner u) happens answer is stays at after later drawn next_drawn entries named comes = absurd stays
-event_leaves laws w new opened device (Scanner t) (Adapter u) happens answer is stays at after later drawn next_drawn entries named comes = absurd stays
+event_leaves laws w new opened device (Adapter t) (Scanner u) happens answer is stays at after later drawn next_drawn entries apart named comes = absurd stays
+event_leaves laws w new opened device (Scanner t) (Adapter u) happens answer is stays at after later drawn next_drawn entries apart named comes = absurd stays
 
 -- ---- what is produced
 
@@ -214,12 +229,13 @@ event_named laws w new opened produced reported m drawn next_drawn named =
     let streams : new.streams ≡ answered d reported.answer m.streams = ap (λ (x : World). x.streams) m.leaves in
     let later = event_later laws.steps (Waits w opened) w new reported m in
     let after : slice_get new.tables d ≡ Some u = ap (λ (ts : List DeviceTable). slice_get ts d) tables ∙ set_own w.tables d t u m.is in
-    let leaves = event_leaves laws w new opened d t u reported.event reported.answer m.stepped stays m.is after later drawn next_drawn named.entries (named.tables d t m.is) m.event in
+    let leaves = event_leaves laws w new opened d t u reported.event reported.answer m.stepped stays m.is after later drawn next_drawn named.entries named.apart (named.tables d t m.is) m.event in
     let waits = streams_more (Waits w opened) (Waits new (opened ++ more)) (λ giver taker bytes is. waits_later w new opened more later giver taker bytes is) m.streams m.waits in
     let frames : AllByRecursion (FrameSent (Waits new (opened ++ more)) (map ends_of m.streams) d) reported.answer.frames = subst (λ (es : List Ends). AllByRecursion (FrameSent (Waits new (opened ++ more)) es d) reported.answer.frames) (sym m.ends) leaves.frames in
     let sent : AfterAnswer (Waits new (opened ++ more)) m.streams (answered d reported.answer m.streams) = answered_waits (Waits new (opened ++ more)) d reported.answer m.streams frames waits in
     record {
       entries = all_both (IsEntry new (opened ++ more)) opened more (all_more (IsEntry w opened) (IsEntry new (opened ++ more)) (λ e is. entry_later w new opened more e later is) opened named.entries) leaves.entries;
+      apart = leaves.apart;
       tables = λ device v at. table_at w new opened more d t u device v later named.tables leaves.table (set_cases w.tables d device t u v m.is (ap (λ (ts : List DeviceTable). slice_get ts device) (sym tables) ∙ at));
       productions = produced_named new (opened ++ more) d (makes t reported.event) produced leaves.made
           (all_more (ProductionHasEntry w opened) (ProductionHasEntry new (opened ++ more)) (λ p is. production_later w new opened more p later is) produced named.productions);

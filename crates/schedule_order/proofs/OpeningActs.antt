@@ -1,9 +1,11 @@
 -- Over every schedule ids name openings, and what an adapter accepts through a connection is of the connection's opening.
 use Rattle.std.proofs.Common.{◌≡◌, ◌∙◌, ℕ, zero, suc, List, [], ◌∷◌, ◌++◌, map, slice_get, Option, Some, None, Result, Ok, Err, IfOk, refl, sym, ap, subst, append-nil}
-use Rattle.std.specs.List.{AllByRecursion}
+use Rattle.std.specs.List.{AllByRecursion, Contains}
+use Rattle.std.proofs.lemmas.List.Elements.{Contains-append_left}
 use Rattle.adapter_table.specs.declared.table.AdapterTable.{AdapterTable}
 use Rattle.scanner_table.specs.declared.profile.SlotConfig.{SlotConfig}
-use Rattle.scanner_table.specs.Slots.{indexed_from}
+use Rattle.scanner_table.specs.declared.table.ScannerTable.{ScannerTable}
+use Rattle.scanner_table.specs.Slots.{indexed_from, indexed_slots}
 use Rattle.scanner_table.specs.Step.{fresh_slot}
 use Rattle.cip_tables.specs.declared.table.Config.{Config}
 use Rattle.cip_tables.specs.declared.table.Config.TheVariants as config
@@ -15,19 +17,20 @@ use Rattle.segment_world.specs.declared.act.Act.{Act}
 use Rattle.segment_world.specs.declared.act.ActFault.{ActFault}
 use Rattle.segment_world.specs.Configs.{opening_world}
 use Rattle.segment_world.specs.World.{World, ReportedEvent, Happened, happens}
-use Rattle.made_productions.specs.Made.{AnswersSendWhatIsMade, makes}
-use Rattle.made_productions.specs.Productions.{Production, produced_more}
+use Rattle.device_laws.proofs.Lists.{all_more}
+use Rattle.made_productions.specs.Made.{Made, AnswersSendWhatIsMade, makes}
+use Rattle.made_productions.specs.Productions.{Production, numbered, produced_more}
 use Rattle.schedule_laws.specs.Ids.{IdsAreDrawn, SchedulesKeepIdsDrawn, OpeningWorldsHaveIdsDrawn}
 use Rattle.schedule_laws.proofs.Lists.{some_is}
 use Rattle.schedule_order.specs.Chronicle.{Opened, frame_opens, Acceptance, accepted_by_act, Chronicle, with_event, with_event_at, recorded, blank}
-use Rattle.schedule_order.specs.Names.{IsAdapterIn, HasEntry, SlotHasEntry, SchedulesNameOpenings, IsOfItsOpening, SchedulesAcceptOneOpening, IsEntry, IsOpenedFor, ProductionHasEntry, AnIdNamesOneOpening}
+use Rattle.schedule_order.specs.Names.{HasEntry, SlotHasEntry, SlotAcceptsByEntry, WasProduced, SchedulesNameOpenings, IsOfItsOpening, SchedulesAcceptOneOpening, IsEntry, IsOpenedFor, ProductionHasEntry, AnIdNamesOneOpening}
 use Rattle.schedule_order.specs.Order.{IsChronicle}
-use Rattle.schedule_order.proofs.AcceptedOpenings.{AreOfOpenings, openings_later, event_of_opening, entries_same}
-use Rattle.schedule_order.proofs.Entries.{Later, same_later, Waits, AdapterIsNamed, TableIsNamed}
+use Rattle.schedule_order.proofs.AcceptedOpenings.{IsAccepted, AreOfOpenings, openings_later, event_of_opening, entries_same}
+use Rattle.schedule_order.proofs.Entries.{Later, same_later, Waits, AdapterIsNamed, ScannerIsNamed, TableIsNamed}
 use Rattle.schedule_order.proofs.Found.{all_contains}
 use Rattle.schedule_order.proofs.NameActs.{NamedAt, NameLaws, streams_named, event_later, event_named}
 use Rattle.schedule_order.proofs.Addresses.{AreNodesApart, apart_later, apart_more, opening_apart}
-use Rattle.schedule_order.proofs.Beginning.{blank_produced}
+use Rattle.schedule_order.proofs.Beginning.{blank_produced, schedule_produced}
 use Rattle.schedule_order.proofs.ProducedActs.{ActsKeep, chronicles_keep, cases_keep, Produced, produced_cases}
 use Rattle.schedule_order.proofs.StreamActs.{StreamsOnly, OneEvent, ActCases, act_acts}
 
@@ -36,7 +39,7 @@ use Rattle.schedule_order.proofs.StreamActs.{StreamsOnly, OneEvent, ActCases, ac
 pub record OpeningsAt (w : World) (opened : List Opened) (produced : List Production) (accepted : List Acceptance) : Type 0 where
   pub named : NamedAt w opened produced
   pub apart : AreNodesApart w produced
-  pub of_openings : AreOfOpenings w opened accepted
+  pub of_openings : AreOfOpenings w opened produced accepted
 
 pub record OpeningsIn (c : Chronicle) : Type 0 where
   pub produced : Produced c
@@ -48,11 +51,15 @@ streams_openings w new opened produced accepted passes at =
     record {
       named = streams_named w new opened produced passes at.named;
       apart = apart_later w new produced later at.apart;
-      of_openings = subst (λ (l : List Opened). AreOfOpenings new l accepted) (append-nil opened) (openings_later w new opened [] accepted later at.of_openings);
+      of_openings = subst (λ (l : List Opened). AreOfOpenings new l produced accepted) (append-nil opened) (openings_later w new opened [] produced produced accepted later (λ p there. there) at.of_openings);
     }
 
 device_after : (w new : World) (device : ℕ) (t : DeviceTable) → Later w new → slice_get w.tables device ≡ Some t → (u : DeviceTable) × (slice_get new.tables device ≡ Some u)
 device_after w new device t later at = let after = later.tables device t at in (after.table, after.there)
+
+pub grows : (device : ℕ) (ms : List Made) (produced : List Production) (p : Production) → Contains produced p → Contains (produced_more device produced ms) p
+grows device [] produced p there = there
+grows device (m ∷ ms) produced p there = grows device ms (produced ++ numbered device produced m ∷ []) p (Contains-append_left produced (numbered device produced m ∷ []) p there)
 
 event_openings : NameLaws → (c : Chronicle) (act : Act) (reported : ReportedEvent) (new : World) → happens c.story.world act ≡ Ok (Some reported, new) → (m : OneEvent (Waits c.story.world c.opened) c.story.world reported new) → Produced c → IdsAreDrawn new → OpeningsAt c.story.world c.opened c.produced c.accepted → OpeningsAt new (c.opened ++ frame_opens c.story.world reported.device m.before reported.event m.after) (produced_more reported.device c.produced (makes m.before reported.event)) (accepted_by_act c.story.world c.produced act reported.answer.verdict ++ c.accepted)
 event_openings laws c act reported new is m ok next_drawn at =
@@ -62,7 +69,8 @@ event_openings laws c act reported new is m ok next_drawn at =
     record {
       named = event_named laws c.story.world new c.opened c.produced reported m ok.drawn next_drawn at.named;
       apart = apart_more new reported.device (makes m.before reported.event) c.produced (record { table = there.0; is = there.1 }) (apart_later c.story.world new c.produced later at.apart);
-      of_openings = event_of_opening c.story.world new c.opened (frame_opens c.story.world reported.device m.before reported.event m.after) c.produced c.accepted act reported m.before is m.is ok.sent at.named at.apart ok.drawn later at.of_openings;
+      of_openings = event_of_opening c.story.world new c.opened (frame_opens c.story.world reported.device m.before reported.event m.after) c.produced (produced_more reported.device c.produced (makes m.before reported.event)) c.accepted act reported m.before is m.is ok.sent at.named at.apart ok.drawn later
+          (grows reported.device (makes m.before reported.event) c.produced) at.of_openings;
     }
 
 after_is : (t : DeviceTable) (reported : ReportedEvent) (u : DeviceTable) → step t reported.event ≡ Ok (reported.answer, u) → table_of t (step t reported.event) ≡ u
@@ -84,7 +92,7 @@ by_act laws c act (Ok (Some reported, new)) is acts ok next at =
           (event_openings laws c act reported new is acts ok produced.drawn at);
     })
 
-acts_keep : AnswersSendWhatIsMade → SchedulesKeepIdsDrawn → NameLaws → ActsKeep OpeningsIn
+pub acts_keep : AnswersSendWhatIsMade → SchedulesKeepIdsDrawn → NameLaws → ActsKeep OpeningsIn
 acts_keep sends keep laws c act at =
     let openings = at.openings in
     let named = openings.named in
@@ -93,13 +101,13 @@ acts_keep sends keep laws c act at =
 
 -- ---- at the beginning
 
-fresh_slots : (device n : ℕ) (configs : List SlotConfig) → AllByRecursion (SlotHasEntry [] device) (indexed_from n configs (map fresh_slot configs))
-fresh_slots device n [] = tt
-fresh_slots device n (slot ∷ configs) = (tt, fresh_slots device (suc n) configs)
+fresh_slots : (w : World) (device n : ℕ) (configs : List SlotConfig) → AllByRecursion (SlotHasEntry w [] device) (indexed_from n configs (map fresh_slot configs))
+fresh_slots w device n [] = tt
+fresh_slots w device n (slot ∷ configs) = (tt, fresh_slots w device (suc n) configs)
 
 fresh_named : (w : World) (device : ℕ) (made : Config) → TableIsNamed w [] device (opening_table made)
 fresh_named w device (config.Adapter profile) = record { rows = tt; streams = tt }
-fresh_named w device (config.Scanner profile) = fresh_slots device 0 profile.slots
+fresh_named w device (config.Scanner profile) = record { slots = fresh_slots w device 0 profile.slots; streams = tt }
 
 all_fresh : (w : World) (configs : List Config) (n device : ℕ) (t : DeviceTable) → slice_get (map opening_table configs) n ≡ Some t → TableIsNamed w [] device t
 all_fresh w [] n device t at = absurd (let e = at in cc)
@@ -113,7 +121,7 @@ schedule_openings sends keep opens laws configs acts c is =
     (record {
       produced = blank_produced opens configs acts c is;
       openings = record {
-        named = record { entries = tt; tables = λ device t at. all_fresh (opening_world configs) configs device device t at; productions = tt; producers = tt; streams = tt };
+        named = record { entries = tt; apart = tt; tables = λ device t at. all_fresh (opening_world configs) configs device device t at; productions = tt; producers = tt; streams = tt };
         apart = opening_apart configs is.faultless;
         of_openings = tt;
       };
@@ -124,32 +132,38 @@ schedule_openings sends keep opens laws configs acts c is =
 pub schedules_name : AnswersSendWhatIsMade → SchedulesKeepIdsDrawn → OpeningWorldsHaveIdsDrawn → NameLaws → SchedulesNameOpenings
 schedules_name sends keep opens laws configs acts c is =
     let all = schedule_openings sends keep opens laws configs acts c is in
-    let openings = all.openings in
-    let named = openings.named in
+    let known = all.openings in
+    let named = known.named in
     record {
       entries = named.entries;
       rows = λ device t at. rows_of device t (named.tables device (Adapter t) at);
-      slots = λ device t at. named.tables device (Scanner t) at;
+      slots = λ device t at. slots_of device t (named.tables device (Scanner t) at);
       productions = named.productions;
       producers = named.producers;
+      accepted = all_more (IsAccepted c.story.world c.opened c.produced) (SlotAcceptsByEntry c.story.world c.opened) (λ a is. is.of_entry) c.accepted known.of_openings;
+      were_produced = all_more (IsAccepted c.story.world c.opened c.produced) (WasProduced c.produced) (λ a is. is.was_produced) c.accepted known.of_openings;
+      openings = λ a t there at. accepted_of a t known.of_openings there at;
     }
   where
+    slots_of : (device : ℕ) (t : ScannerTable) → ScannerIsNamed c.story.world c.opened device t → AllByRecursion (SlotHasEntry c.story.world c.opened device) (indexed_slots t)
+    slots_of device t is = is.slots
+
+    accepted_of : (a : Acceptance) (t : AdapterTable) → AreOfOpenings c.story.world c.opened c.produced c.accepted → Contains c.accepted a → slice_get c.story.world.tables a.consumer.device ≡ Some (Adapter t) → IsOfItsOpening c.opened a
+    accepted_of a t all there at =
+        let accepted : IsAccepted c.story.world c.opened c.produced a = all_contains (IsAccepted c.story.world c.opened c.produced) c.accepted a all there in
+        accepted.of_opening (record { table = t; is = at })
+
     rows_of : (device : ℕ) (t : AdapterTable) → AdapterIsNamed c.story.world c.opened device t → AllByRecursion (HasEntry c.story.world c.opened device) t.rows
     rows_of device t is = is.rows
 
-pub schedules_accept : AnswersSendWhatIsMade → SchedulesKeepIdsDrawn → OpeningWorldsHaveIdsDrawn → NameLaws → SchedulesAcceptOneOpening
-schedules_accept sends keep opens laws configs acts c is a t there at =
-    let all = schedule_openings sends keep opens laws configs acts c is in
-    let openings = all.openings in
-    all_contains (λ (a : Acceptance). IsAdapterIn c.story.world a.consumer.device → IsOfItsOpening c.opened a) c.accepted a openings.of_openings there (record { table = t; is = at })
+pub schedules_accept : SchedulesNameOpenings → SchedulesAcceptOneOpening
+schedules_accept names configs acts c is = let named = names configs acts c is in named.openings
 
-pub one_opening_has_it : AnswersSendWhatIsMade → SchedulesKeepIdsDrawn → OpeningWorldsHaveIdsDrawn → NameLaws → AnIdNamesOneOpening
-one_opening_has_it sends keep opens laws configs acts c is p q one two first second same =
-    let all = schedule_openings sends keep opens laws configs acts c is in
+pub one_opening_has_it : SchedulesKeepIdsDrawn → OpeningWorldsHaveIdsDrawn → AnswersSendWhatIsMade → SchedulesNameOpenings → AnIdNamesOneOpening
+one_opening_has_it keep opens sends names configs acts c is p q one two first second same =
     let w = c.story.world in
-    let produced = all.produced in
-    let openings = all.openings in
-    let named = openings.named in
+    let produced = schedule_produced sends keep opens configs acts c is in
+    let named = names configs acts c is in
     let e : IsOpenedFor c.opened p.producer p.made.datagram.connection = all_contains (ProductionHasEntry w c.opened) c.produced p named.productions one first in
     let f : IsOpenedFor c.opened q.producer q.made.datagram.connection = all_contains (ProductionHasEntry w c.opened) c.produced q named.productions two second in
     let entry : IsEntry w c.opened e.entry = all_contains (IsEntry w c.opened) c.opened e.entry named.entries e.there in

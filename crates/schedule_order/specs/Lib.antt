@@ -3,3 +3,7 @@ pub mod Order
 pub mod Indexes
 pub mod Names
 pub mod Streams
+pub mod Producers
+pub mod MadeOnce
+pub mod Devices
+pub mod Marks

@@ -2,8 +2,9 @@
 -- chapter 2, encapsulation sessions over TCP).
 use Rattle.std.specs.Prelude.{ℕ, ◌≡◌, ◌≢◌, ◌⊎◌, List, map, slice_get, Some}
 use Rattle.std.specs.List.{AllByRecursion}
+use Rattle.cip_types.specs.declared.names.Node.{Node}
 use Rattle.stream_queues.specs.Streams.{QueueItem, Opening, Queued, Ending, Side, Stream}
-use Rattle.segment_world.specs.World.{World}
+use Rattle.segment_world.specs.World.{World, node_at}
 
 -- the two devices of a stream
 pub record Ends : Type 0 where
@@ -49,3 +50,11 @@ pub record IsOver (w : World) (device other n : ℕ) : Type 0 where
   pub there : slice_get (map ends_of w.streams) n ≡ Some ends
   pub apart : ends.from ≢ ends.to
   pub between : IsBetween ends device other
+
+-- A DEVICE'S STREAMS
+
+-- an open stream of this number and peer stands in the world, between the device and another one whose node is the peer
+pub record IsOpenTo (w : World) (device number : ℕ) (peer : Node) : Type 0 where
+  pub other : ℕ
+  pub over : IsOver w device other number
+  pub peer_is : peer ≡ node_at w other

@@ -5,14 +5,20 @@
 ghost use Rattle.schedule_order.specs.Indexes.{ProducedInOrder};
 ghost use Rattle.schedule_order.specs.Names.{SchedulesNameOpenings, SchedulesAcceptOneOpening, AnIdNamesOneOpening};
 ghost use Rattle.schedule_order.specs.Order.{AcceptedIndexesRise, ProducedAsWritten};
+ghost use Rattle.schedule_order.specs.Producers.{SchedulesNameOneProducer, LaterConnectionsAcceptNothingOlder};
+
+mod devices;
+mod made_once;
 
 use adapter_table::laws::{accepted_datagrams_are_newer, profiles_stay};
 use cip_tables::laws::{next_id_never_falls, tables_are_whole};
 use device_laws::ids_are_carried;
+pub use devices::{devices_stand, streams_follow_their_marks};
+pub use made_once::{an_id_opens_one_connection, ids_are_used_once};
 use made_productions::answers_send_what_is_made;
 use reply_ids::{
-    connections_keep_their_ids, replies_carry_opened_ids, scanners_send_no_success,
-    slots_have_the_ids_of_their_success,
+    a_scanners_streams_come_with_events, connections_keep_their_ids, replies_carry_opened_ids,
+    scanners_ask_for_their_own_ids, scanners_send_no_success, slots_have_the_ids_of_their_success,
 };
 use scanner_laws::{
     accepted_numbers_are_newer, bytes_are_from_scratch, counters_never_fall, openings_are_numbered,
@@ -56,8 +62,9 @@ pub fn outputs_are_as_written()
     bytes_are_from_scratch();
 }
 
-/// Connection ids name openings: each connection of an adapter, each open slot of a scanner and each datagram that a scanner
-/// produced has an entry in the chronicle, that of the slot's opening whose Forward_Open opened the connection.
+/// Connection ids name openings: each connection of an adapter, each open slot of a scanner, each datagram that a device
+/// produced and each that a slot accepted has an entry in the chronicle, that of the slot's opening whose Forward_Open opened
+/// the connection. The entry's T->O id is the second that a group's opening drew, or one that the scanner drew.
 ///
 /// Volume 1, chapter 3, network connection ids and Forward_Open service.
 pub fn ids_name_openings()
@@ -74,6 +81,8 @@ pub fn ids_name_openings()
     connections_keep_their_ids();
     slots_have_the_ids_of_their_success();
     scanners_send_no_success();
+    scanners_ask_for_their_own_ids();
+    a_scanners_streams_come_with_events();
 }
 
 /// What an adapter accepts through one connection are productions of the one slot opening whose Forward_Open opened the
@@ -83,17 +92,7 @@ pub fn ids_name_openings()
 pub fn one_opening_is_accepted()
     ensures { SchedulesAcceptOneOpening }
 {
-    answers_send_what_is_made();
-    ids_are_drawn();
-    ids_are_carried();
-    tables_are_whole();
-    next_id_never_falls();
-    profiles_stay();
-    counters_never_fall();
-    replies_carry_opened_ids();
-    connections_keep_their_ids();
-    slots_have_the_ids_of_their_success();
-    scanners_send_no_success();
+    ids_name_openings();
 }
 
 /// An O->T id names one producer for good: two datagrams that scanners produced with one connection id are of one slot's
@@ -105,6 +104,25 @@ pub fn an_id_names_one_opening()
 {
     answers_send_what_is_made();
     ids_are_drawn();
+    ids_name_openings();
+}
+
+/// A connection id names one producer for good.
+///
+/// - `one_producer`: two productions with one connection id have one producer, and so have two connections with one T->O id.
+/// - `later`: a connection that an adapter opened after a moment accepts nothing that was produced by then: at the adapter
+///   nothing at all, and at its slot, whenever the slot asked, at most what a producer sent that still had a connection. Such a
+///   producer is that of a group that the connection joined.
+///
+/// So nothing of a producer that has ended reaches a connection that was opened afterwards.
+///
+/// Volume 1, chapter 3, network connection ids; Volume 2, chapter 3, multicast connections.
+pub fn an_id_names_one_producer()
+    ensures one_producer { SchedulesNameOneProducer }
+    ensures later { LaterConnectionsAcceptNothingOlder }
+{
+    answers_send_what_is_made();
+    ids_are_drawn();
     ids_are_carried();
     tables_are_whole();
     next_id_never_falls();
@@ -114,4 +132,7 @@ pub fn an_id_names_one_opening()
     connections_keep_their_ids();
     slots_have_the_ids_of_their_success();
     scanners_send_no_success();
+    scanners_ask_for_their_own_ids();
+    a_scanners_streams_come_with_events();
+    an_id_opens_one_connection();
 }

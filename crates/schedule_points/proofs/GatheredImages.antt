@@ -23,6 +23,8 @@ use Rattle.cip_tables.specs.declared.table.Config.TheVariants as config
 use Rattle.cip_tables.specs.declared.table.DeviceTable.{DeviceTable}
 use Rattle.cip_tables.specs.declared.table.DeviceTable.TheVariants.{Adapter, Scanner}
 use Rattle.cip_tables.specs.Run.{table_of}
+use Rattle.cip_tables.specs.Whole.{IsWholeDevice}
+use Rattle.reply_ids.specs.Slots.{SlotsHaveTheIdsOfTheirSuccess}
 use Rattle.cip_tables.specs.Step.{DeviceNext, as_adapter, opening_table, step}
 use Rattle.sent_log.specs.Log.{Sent}
 use Rattle.segment_world.specs.declared.act.Act.{Act}
@@ -37,14 +39,14 @@ use Rattle.made_productions.specs.Productions.{Production}
 use Rattle.made_productions.proofs.Lists.{is_equal, not_equal}
 use Rattle.schedule_order.specs.Chronicle.{Acceptance, Chronicle, Establishment, accepted_by_act, accepted_by_verdict, accepted_sent, blank, establishes, is_slot, names, with_event}
 use Rattle.schedule_order.specs.Indexes.{sent_of}
-use Rattle.schedule_order.specs.Order.{IsScannerAt}
+use Rattle.schedule_order.specs.Order.{IsChronicle, IsScannerAt}
 use Rattle.schedule_order.proofs.Beginning.{blank_produced, fresh_idle}
 use Rattle.schedule_order.proofs.Deliveries.{IsDelivery, IsOther, act_kind}
 use Rattle.schedule_order.proofs.NewestActs.{IsSentAs, sent_as}
 use Rattle.schedule_order.proofs.NewestSteps.{scanner_stepped}
 use Rattle.schedule_order.proofs.ProducedActs.{Any, Cases, Produced, cases_keep, chronicles_keep, produced_cases}
 use Rattle.schedule_points.specs.Images.{ImageIs, SchedulesGatherImages}
-use Rattle.schedule_points.proofs.ImageActs.{ImageOf, IsLast, TableGathers, datagram_gathers, found_elsewhere, gathers_more, quiet_gathers}
+use Rattle.schedule_points.proofs.ImageActs.{ImageOf, IsLast, TableGathers, datagram_gathers, found_elsewhere, gathers_more, quiet_gathers, steps_keep_links}
 use Rattle.schedule_points.proofs.ImageSteps.{zeros_of}
 use Rattle.schedule_points.proofs.Moments.{stepped_to}
 use Rattle.schedule_points.proofs.Outputs.{contains_by}
@@ -104,13 +106,13 @@ scanner_cases w new reported m device u at = by_device (device == reported.devic
 
 -- ---- an act
 
-abbrev Gathers : Chronicle → Type 0
+abbrev pub Gathers : Chronicle → Type 0
 Gathers c = (device : ℕ) (t : ScannerTable) → IsScannerAt c device t → TableGathers c.accepted c.established device t
 
 -- what was produced, and what images hold
-record Gathering (c : Chronicle) : Type 0 where
-  produced : Produced c
-  images : Gathers c
+pub record Gathering (c : Chronicle) : Type 0 where
+  pub produced : Produced c
+  pub images : Gathers c
 
 elsewhere : (accepted : List Acceptance) (established more : List Establishment) (device : ℕ) (t : ScannerTable) → ((k : ℕ) → find (is_slot device k) more ≡ find (is_slot device k) established) → TableGathers accepted established device t → TableGathers accepted more device t
 elsewhere accepted established more device t same ok place stands =
@@ -123,8 +125,8 @@ elsewhere accepted established more device t same ok place stands =
 next_same : (a b : Next) → ◌≡◌ {A = Result Next StepFault} (Ok a) (Ok b) → a ≡ b
 next_same a b is = cc
 
-came_images : (c : Chronicle) (act : Act) (reported : ReportedEvent) (new : World) → happens c.story.world act ≡ Ok (Some reported, new) → (m : Came Any c.story.world reported new) → Gathering c → Gathers (with_event c act reported new m.before)
-came_images c act reported new is m ok device u at = by_case (act_kind c.story.world c.produced act reported new is) (scanner_cases c.story.world new reported m device u at) where
+came_images : SlotsHaveTheIdsOfTheirSuccess → (c : Chronicle) (act : Act) (reported : ReportedEvent) (new : World) → happens c.story.world act ≡ Ok (Some reported, new) → (m : Came Any c.story.world reported new) → Gathering c → Gathers (with_event c act reported new m.before)
+came_images ids c act reported new is m ok device u at = by_case (act_kind c.story.world c.produced act reported new is) (scanner_cases c.story.world new reported m device u at) where
   w : World
   w = c.story.world
 
@@ -179,12 +181,15 @@ came_images c act reported new is m ok device u at = by_case (act_kind c.story.w
       (subst (λ (v : Verdict). TableGathers (accepted_by_verdict d p (names (Scanner b.table) (sent_of w p)) v ++ c.accepted) (establishes d (Scanner b.table) (Scanner u) ++ c.established) d u) verdict
       (subst (λ (x : ScannerTable). TableGathers (accepted_by_verdict d p (names (Scanner b.table) (sent_of w p)) said.0.verdict ++ c.accepted) (establishes d (Scanner b.table) (Scanner x) ++ c.established) d x) table gathers)))
 
+  whole_of : (b : ScannerBefore w reported u) → IsWholeDevice (Scanner b.table)
+  whole_of b = let produced = ok.produced in let drawn = produced.drawn in drawn.whole d (Scanner b.table) b.there
+
   quiet : IsOther w c.produced act reported → (b : ScannerBefore w reported u) → d ≡ device → TableGathers (noted_now ++ c.accepted) established d u
   quiet other b same_device =
       subst (λ (xs : List Acceptance). TableGathers (xs ++ c.accepted) established d u) (sym (other.none reported.answer.verdict))
       (here b same_device c.accepted
       (subst (λ (x : ScannerTable). TableGathers c.accepted (establishes d (Scanner b.table) (Scanner x) ++ c.established) d x) b.table_is
-      (quiet_gathers c.accepted c.established d b.table reported.event b.next b.is other.event (ok.images d b.table b.there))))
+      (quiet_gathers c.accepted c.established d b.table reported.event b.next b.is other.event (steps_keep_links ids b.table reported.event b.next b.is (whole_of b)) (ok.images d b.table b.there))))
 
   by_case : IsDelivery w act reported ⊎ IsOther w c.produced act reported → ScannerCases w reported device u → TableGathers (noted_now ++ c.accepted) established device u
   by_case kind (inl other) =
@@ -192,15 +197,15 @@ came_images c act reported new is m ok device u at = by_case (act_kind c.story.w
   by_case (inl del) (inr own) = subst (λ (n : ℕ). TableGathers (noted_now ++ c.accepted) established n u) (sym own.0) (delivered del own.1 (sym own.0))
   by_case (inr other) (inr own) = subst (λ (n : ℕ). TableGathers (noted_now ++ c.accepted) established n u) (sym own.0) (quiet other own.1 (sym own.0))
 
-gathering_cases : AnswersSendWhatIsMade → SchedulesKeepIdsDrawn → Cases Gathering
-gathering_cases sends keep = record {
+gathering_cases : AnswersSendWhatIsMade → SchedulesKeepIdsDrawn → SlotsHaveTheIdsOfTheirSuccess → Cases Gathering
+gathering_cases sends keep ids = record {
   rests = λ c act new is rests ok. record {
     produced = (produced_cases sends keep).rests c act new is rests ok.produced;
     images = λ device t at. ok.images device t (ap (λ (ts : List DeviceTable). slice_get ts device) (sym rests.tables) ∙ at);
   };
   came = λ c act reported new is m ok. record {
     produced = (produced_cases sends keep).came c act reported new is m ok.produced;
-    images = came_images c act reported new is m ok;
+    images = came_images ids c act reported new is m ok;
   };
 }
 
@@ -231,8 +236,12 @@ image_is c device place None ok = ok
 image_is c device place (Some e) (inl zeros) = inl zeros
 image_is c device place (Some e) (inr g) = inr (record { acceptance = g.acceptance; there = contains_by c.accepted g.acceptance g.there; consumer_is = g.consumer_is; data_is = g.image_is })
 
-pub images_gathered : AnswersSendWhatIsMade → SchedulesKeepIdsDrawn → OpeningWorldsHaveIdsDrawn → SchedulesGatherImages
-images_gathered sends keep opens configs acts c is device t place at there =
+pub schedule_gathers : AnswersSendWhatIsMade → SchedulesKeepIdsDrawn → OpeningWorldsHaveIdsDrawn → SlotsHaveTheIdsOfTheirSuccess → (configs : List Config) (acts : List Act) (c : Chronicle) → IsChronicle configs acts c → Gathering c
+schedule_gathers sends keep opens ids configs acts c is =
     let begins : Gathering (blank (opening_world configs)) = record { produced = blank_produced opens configs acts c is; images = λ device t at. all_begin configs device device t at } in
-    let holds : Gathering c = subst (λ (r : Result Chronicle ActFault). IfOk r Gathering) is.ran (chronicles_keep Gathering (cases_keep Gathering (gathering_cases sends keep)) acts (Ok (blank (opening_world configs))) begins) in
+    subst (λ (r : Result Chronicle ActFault). IfOk r Gathering) is.ran (chronicles_keep Gathering (cases_keep Gathering (gathering_cases sends keep ids)) acts (Ok (blank (opening_world configs))) begins)
+
+pub images_gathered : AnswersSendWhatIsMade → SchedulesKeepIdsDrawn → OpeningWorldsHaveIdsDrawn → SlotsHaveTheIdsOfTheirSuccess → SchedulesGatherImages
+images_gathered sends keep opens ids configs acts c is device t place at there =
+    let holds = schedule_gathers sends keep opens ids configs acts c is in
     image_is c device place (find (is_slot device place.number) c.established) (holds.images device t at place (slot_is t place.number place there).stands).image

@@ -1,7 +1,10 @@
 -- What the image of a slot holds over acts: zeros, or the data of a production that the slot accepted since it was last
 -- established.
 use Rattle.std.proofs.Common.{◌≡◌, ◌≢◌, ℕ, ◌==◌, ◌&&◌, Bool, true, false, cond, List, [], ◌∷◌, ◌++◌, find, length, Option, Some, None, Result, Ok, Err, IfOk, ◌⊎◌, inl, inr, refl, sym, ◌∙◌, ap, subst}
-use Rattle.std.specs.List.{filter_map}
+use Rattle.std.specs.Int.{w32}
+use Rattle.std.specs.List.{AllByRecursion, Contains, filter_map}
+use Rattle.std.proofs.lemmas.Bool.{and_parts}
+use Rattle.cip_types.specs.declared.names.ConnId.{ConnId}
 use Rattle.cip_types.specs.declared.names.Node.{Node}
 use Rattle.cip_datagram.specs.declared.datagram.DatagramFault.{DatagramFault}
 use Rattle.cip_datagram.specs.Datagram.{DatagramFields, datagram_text}
@@ -10,6 +13,7 @@ use Rattle.cip_events.specs.declared.event.Delivery.TheVariants.{Applied, Duplic
 use Rattle.cip_events.specs.declared.event.Event.{Event}
 use Rattle.cip_events.specs.declared.event.StepFault.{StepFault}
 use Rattle.cip_productions.specs.Acceptance.{accepts_sequence, is_duplicate}
+use Rattle.conn_state.specs.declared.names.Link.{Link}
 use Rattle.scanner_table.specs.declared.profile.SlotConfig.{SlotConfig}
 use Rattle.scanner_table.specs.declared.slot.Connection.{Connection}
 use Rattle.scanner_table.specs.declared.slot.Slot.{Slot}
@@ -18,42 +22,48 @@ use Rattle.scanner_table.specs.declared.slot.SlotState.TheVariants.{Idle, Openin
 use Rattle.scanner_table.specs.declared.table.ScannerTable.{ScannerTable}
 use Rattle.scanner_table.specs.Datagrams.{accepted, accepted_connection, accepted_table, connected, delivered, is_for, received, received_as, received_at, sized, state_received}
 use Rattle.scanner_table.specs.Effects.{Next}
-use Rattle.scanner_table.specs.Slots.{IndexedSlot, is_numbered, slot_at, indexed_slots}
+use Rattle.scanner_table.specs.Replies.{state_consumes}
+use Rattle.scanner_table.specs.Slots.{IndexedSlot, is_numbered, is_with, slot_at, indexed_slots, with_slot}
 use Rattle.scanner_table.specs.Step.{scanner_step}
 use Rattle.scanner_laws.specs.Newest.{came_from}
-use Rattle.scanner_laws.proofs.SlotLookups.{Apart, Each, EachTwo, Stands, each_found, each_stands, slot_stands, indexed_at, slots_apart}
+use Rattle.scanner_laws.proofs.SlotLookups.{Apart, Each, EachTwo, Stands, each_found, each_stands, found_passes as slot_passes, same_slot, slot_stands, indexed_at, slots_apart}
 use Rattle.scanner_laws.proofs.Slotwise.{Goes, same_later, set_goes, set_later, stays_goes, was_of}
-use Rattle.device_laws.proofs.Texts.{either}
+use Rattle.device_laws.proofs.Texts.{either, again}
 use Rattle.cip_tables.specs.declared.table.DeviceTable.{DeviceTable}
 use Rattle.cip_tables.specs.declared.table.DeviceTable.TheVariants.{Adapter, Scanner}
 use Rattle.cip_tables.specs.Step.{is_datagram}
+use Rattle.cip_tables.specs.Whole.{IsWholeDevice}
+use Rattle.reply_ids.specs.Slots.{WasEstablished, IsEstablishedBy, StateHasItsIds, SlotHasItsIds, SlotsHaveTheIdsOfTheirSuccess}
 use Rattle.made_productions.specs.Productions.{End, end_at, Production}
 use Rattle.made_productions.proofs.Lists.{Has, differ_is, equal_is, is_equal, not_equal}
-use Rattle.made_productions.proofs.Reading.{read_as}
+use Rattle.made_productions.proofs.Reading.{ComesBack, read_as}
 use Rattle.made_productions.proofs.ScannerBooks.{SetCases, same_alike, set_cases}
 use Rattle.schedule_order.specs.Chronicle.{Acceptance, Establishment, accepted_by_verdict, came_before, establishes, establishment, is_slot, names, names_in, place_establishes, slot_number, state_establishes, state_number}
 use Rattle.schedule_order.proofs.AdapterNewest.{Entry}
+use Rattle.schedule_order.proofs.Found.{found_holds, all_contains}
 use Rattle.schedule_points.proofs.ImageSteps.{Continues, Images, WasSame, images_lead, images_slotwise, zeros_of}
 
 -- ---- what holds of a slot
 
--- this end accepted a production with these data
-pub record Gathered (accepted : List Acceptance) (consumer : End) (image : List ℕ) : Type 0 where
+-- this end accepted a production with this T->O id and these data
+pub record Gathered (accepted : List Acceptance) (consumer : End) (t_o : ℕ) (image : List ℕ) : Type 0 where
   pub acceptance : Acceptance
   pub there : Has acceptance accepted
   pub consumer_is : acceptance.consumer ≡ consumer
+  pub id_is : again w32 acceptance.production.made.datagram.connection ≡ t_o
   pub image_is : image ≡ acceptance.production.made.datagram.payload
 
 -- the image is zeros, or what the slot accepted since it was last established
 abbrev pub ImageOf : List Acceptance → ℕ → SlotConfig → List ℕ → Option Establishment → Type 0
 ImageOf accepted device config image None = image ≡ zeros_of config
-ImageOf accepted device config image (Some e) = (image ≡ zeros_of config) ⊎ Gathered accepted (end_at device e.request) image
+ImageOf accepted device config image (Some e) = (image ≡ zeros_of config) ⊎ Gathered accepted (end_at device e.request) e.t_o_id.0 image
 
--- an established slot was last established by the opening of its connection
+-- an established slot was last established by the opening of its connection, with the connection's T->O id
 pub record IsLast (found : Option Establishment) (c : Connection) : Type 0 where
   pub establishment : Establishment
   pub is : found ≡ Some establishment
   pub request : establishment.request ≡ c.opening
+  pub t_o : establishment.t_o_id ≡ c.link.t_o_id
 
 pub record SlotGathers (accepted : List Acceptance) (established : List Establishment) (device : ℕ) (place : IndexedSlot) : Type 0 where
   pub image : ImageOf accepted device place.config place.slot.image (find (is_slot device place.number) established)
@@ -166,21 +176,14 @@ image_on : (accepted : List Acceptance) (device : ℕ) (config : SlotConfig) (wa
 image_on accepted device config was now None (inl same) ok = same ∙ ok
 image_on accepted device config was now None (inr zeros) ok = zeros
 image_on accepted device config was now (Some e) (inl same) (inl zeros) = inl (same ∙ zeros)
-image_on accepted device config was now (Some e) (inl same) (inr g) = inr (record { acceptance = g.acceptance; there = g.there; consumer_is = g.consumer_is; image_is = same ∙ g.image_is })
+image_on accepted device config was now (Some e) (inl same) (inr g) = inr (record { acceptance = g.acceptance; there = g.there; consumer_is = g.consumer_is; id_is = g.id_is; image_is = same ∙ g.image_is })
 image_on accepted device config was now (Some e) (inr zeros) ok = inl zeros
-
-came_so : (opening : ℕ) (state : SlotState) → came_from opening state ≡ true → (b : Connection) × (state ≡ Established b) × (b.opening ≡ opening)
-came_so opening Idle is = absurd (let e = is in cc)
-came_so opening (Opening o) is = absurd (let e = is in cc)
-came_so opening (Established c) is = (c, refl, is_equal c.opening opening is)
-came_so opening (TimedOut link) is = absurd (let e = is in cc)
-came_so opening (Closing c) is = absurd (let e = is in cc)
 
 came_same : (state : SlotState) (c : Connection) → WasSame state c → came_from c.opening state ≡ true
 came_same state c m = rw m.state (equal_is m.before.opening c.opening m.opening)
 
-slot_on : (accepted : List Acceptance) (established : List Establishment) (device : ℕ) (t : ScannerTable) (number : ℕ) (config : SlotConfig) (was now : Slot) (o : Option Establishment) → slot_at t number ≡ Some (indexed_at number config was) → state_establishes device t number now.state ≡ o → Continues config was now → SlotGathers accepted established device (indexed_at number config was) → (found : Option Establishment) → found ≡ or_other o (find (is_slot device number) established) → ImageOf accepted device config now.image found × ((c : Connection) → now.state ≡ Established c → IsLast found c)
-slot_on accepted established device t number config was now o at is continues ok found found_is =
+slot_on : (accepted : List Acceptance) (established : List Establishment) (device : ℕ) (t : ScannerTable) (number : ℕ) (config : SlotConfig) (was now : Slot) (o : Option Establishment) → slot_at t number ≡ Some (indexed_at number config was) → state_establishes device t number now.state ≡ o → Continues config was now → ((c : Connection) → now.state ≡ Established c → came_from c.opening was.state ≡ true → WasSame was.state c) → SlotGathers accepted established device (indexed_at number config was) → (found : Option Establishment) → found ≡ or_other o (find (is_slot device number) established) → ImageOf accepted device config now.image found × ((c : Connection) → now.state ≡ Established c → IsLast found c)
+slot_on accepted established device t number config was now o at is continues links ok found found_is =
     subst (λ (f : Option Establishment). ImageOf accepted device config now.image f × ((c : Connection) → now.state ≡ Established c → IsLast f c)) (sym found_is)
     (by_state o now.state refl is)
   where
@@ -191,9 +194,9 @@ slot_on accepted established device t number config was now o at is continues ok
     stays came = (
       image_on accepted device config was.image now.image old continues.image ok.image,
       λ c established_so.
-          let b = came_so c.opening was.state (came c established_so) in
-          let l = ok.last b.0 b.1 in
-          record { establishment = l.establishment; is = l.is; request = l.request ∙ b.2 },
+          let m = links c established_so (came c established_so) in
+          let l = ok.last m.before m.state in
+          record { establishment = l.establishment; is = l.is; request = l.request ∙ m.opening; t_o = l.t_o ∙ ap (λ (x : Link). x.t_o_id) m.link },
     )
 
     connection_is : (x y : Connection) → Established x ≡ Established y → x ≡ y
@@ -209,7 +212,7 @@ slot_on accepted established device t number config was now o at is continues ok
         (stays (λ d so. subst (λ (x : Connection). came_from x.opening was.state ≡ true) (connection_is c d (sym established_so ∙ so)) came))
     by_came false c established_so came e is =
         subst (λ (x : Option Establishment). ImageOf accepted device config now.image (or_other x old) × ((d : Connection) → now.state ≡ Established d → IsLast (or_other x old) d)) is
-        (inl (begins c established_so (continues.state c established_so) came), λ d so. record { establishment = establishment device number c; is = refl; request = ap (λ (x : Connection). x.opening) (connection_is c d (sym established_so ∙ so)) })
+        (inl (begins c established_so (continues.state c established_so) came), λ d so. record { establishment = establishment device number c; is = refl; request = ap (λ (x : Connection). x.opening) (connection_is c d (sym established_so ∙ so)); t_o = ap (λ (x : Connection). x.link.t_o_id) (connection_is c d (sym established_so ∙ so)) })
 
     none_by : (e : Option Establishment) (state : SlotState) → now.state ≡ state → ((c : Connection) → state ≡ Established c → ⊥) → state_establishes device t number now.state ≡ e → state_establishes device t number state ≡ None → ImageOf accepted device config now.image (or_other e old) × ((c : Connection) → now.state ≡ Established c → IsLast (or_other e old) c)
     none_by e state state_is never is none =
@@ -225,16 +228,66 @@ slot_on accepted established device t number config was now o at is continues ok
     by_state e (TimedOut link) state_is is = none_by e (TimedOut link) state_is (λ c so. let h = so in cc) is refl
     by_state e (Closing x) state_is is = none_by e (Closing x) state_is (λ c so. let h = so in cc) is refl
 
-goes_gathers : (accepted : List Acceptance) (established : List Establishment) (device : ℕ) (t u : ScannerTable) → Goes Images t u → TableGathers accepted established device t → TableGathers accepted (establishes device (Scanner t) (Scanner u) ++ established) device u
-goes_gathers accepted established device t u goes ok now stands =
+-- a slot that is established by the opening by which it was has the ids that it had
+abbrev pub KeepsLinks : ScannerTable → ScannerTable → Type 0
+KeepsLinks t u =
+    (now : IndexedSlot) → Stands u now → (was : Slot) → Stands t (indexed_at now.number now.config was) →
+    (c : Connection) → now.slot.state ≡ Established c → came_from c.opening was.state ≡ true → WasSame was.state c
+
+goes_gathers : (accepted : List Acceptance) (established : List Establishment) (device : ℕ) (t u : ScannerTable) → Goes Images t u → KeepsLinks t u → TableGathers accepted established device t → TableGathers accepted (establishes device (Scanner t) (Scanner u) ++ established) device u
+goes_gathers accepted established device t u goes links ok now stands =
     let was = was_of Images t u now goes stands in
-    let both = slot_on accepted established device t now.number now.config was.slot now.slot (place_establishes device t now) (slot_stands t (indexed_at now.number now.config was.slot) was.stands) refl was.holds (ok (indexed_at now.number now.config was.slot) was.stands)
+    let both = slot_on accepted established device t now.number now.config was.slot now.slot (place_establishes device t now) (slot_stands t (indexed_at now.number now.config was.slot) was.stands) refl was.holds (links now stands was.slot was.stands) (ok (indexed_at now.number now.config was.slot) was.stands)
     (find (is_slot device now.number) (establishes device (Scanner t) (Scanner u) ++ established)) (found_after device t u established now stands) in
     record { image = both.0; last = both.1 }
 
-pub quiet_gathers : (accepted : List Acceptance) (established : List Establishment) (device : ℕ) (t : ScannerTable) (e : Event) (next : Next) → scanner_step t e ≡ Ok next → is_datagram e ≡ false → TableGathers accepted established device t → TableGathers accepted (establishes device (Scanner t) (Scanner next.1) ++ established) device next.1
-quiet_gathers accepted established device t e next is none ok =
-    goes_gathers accepted established device t next.1 (subst (λ (said : Result Next StepFault). IfOk said (λ n. Goes Images t n.1)) is (images_lead t e none)) ok
+pub quiet_gathers : (accepted : List Acceptance) (established : List Establishment) (device : ℕ) (t : ScannerTable) (e : Event) (next : Next) → scanner_step t e ≡ Ok next → is_datagram e ≡ false → KeepsLinks t next.1 → TableGathers accepted established device t → TableGathers accepted (establishes device (Scanner t) (Scanner next.1) ++ established) device next.1
+quiet_gathers accepted established device t e next is none links ok =
+    goes_gathers accepted established device t next.1 (subst (λ (said : Result Next StepFault). IfOk said (λ n. Goes Images t n.1)) is (images_lead t e none)) links ok
+
+-- ---- slots that keep their ids
+
+same_links : (t : ScannerTable) → KeepsLinks t t
+same_links t now stands was before c is came =
+    let same = same_slot t (indexed_at now.number now.config was) now refl before stands in
+    record { before = c; state = ap (λ (x : IndexedSlot). x.slot.state) same ∙ is; opening = refl; link = refl }
+
+set_links : (t : ScannerTable) (place : IndexedSlot) (slot : Slot) → Stands t place → ((x : Connection) → slot.state ≡ Established x → WasSame place.slot.state x) → KeepsLinks t (with_slot t place.number slot)
+set_links t place slot stands own now there was before c is came = by_case (set_cases t t place slot now (same_alike t) stands there) where
+  old : now ≡ indexed_at place.number place.config slot → WasSame was.state c
+  old same =
+      let same_place = same_slot t (indexed_at now.number now.config was) place (ap (λ (x : IndexedSlot). x.number) same) before stands in
+      subst (λ (x : IndexedSlot). WasSame x.slot.state c) (sym same_place) (own c (sym (ap (λ (x : IndexedSlot). x.slot.state) same) ∙ is))
+
+  by_case : SetCases t place slot now → WasSame was.state c
+  by_case (inl same) = old same
+  by_case (inr apart) = same_links t now apart.1 was before c is came
+
+as_all : (P : IndexedSlot → Type 0) (xs : List IndexedSlot) → Each P xs → AllByRecursion P xs
+as_all P [] all = tt
+as_all P (y ∷ ys) all = (all.0, as_all P ys all.1)
+
+-- the slot of a number is the one that stands there
+was_there : (t : ScannerTable) (now : IndexedSlot) (was : Slot) (place : IndexedSlot) → Stands t (indexed_at now.number now.config was) → Contains (indexed_slots t) place → place.number ≡ now.number → place.slot ≡ was
+was_there t now was place before there number =
+    let stands : Stands t place = all_contains (Stands t) (indexed_slots t) place (as_all (Stands t) (indexed_slots t) (each_stands t)) there in
+    ap (λ (x : IndexedSlot). x.slot) (same_slot t place (indexed_at now.number now.config was) number stands before)
+
+ids_keep : (t : ScannerTable) (e : Event) (now : IndexedSlot) (was : Slot) (c : Connection) → Stands t (indexed_at now.number now.config was) → came_from c.opening was.state ≡ true → WasEstablished t now.number now.config c ⊎ IsEstablishedBy t e now.number now.config c → WasSame was.state c
+ids_keep t e now was c before came (inl w) =
+    let same = w.same in
+    let slot = was_there t now was w.place before w.there w.number_is in
+    record { before = w.before; state = sym (ap (λ (s : Slot). s.state) slot) ∙ w.state; opening = sym same.opening; link = sym same.link }
+ids_keep t e now was c before came (inr by) =
+    let waits = by.waits in
+    let slot = was_there t now was waits.indexed before waits.there waits.number_is in
+    absurd (let e : came_from c.opening (Opening by.opening) ≡ true = subst (λ (s : SlotState). came_from c.opening s ≡ true) (sym (ap (λ (s : Slot). s.state) slot) ∙ waits.state) came in cc)
+
+-- so it is after each step
+pub steps_keep_links : SlotsHaveTheIdsOfTheirSuccess → (t : ScannerTable) (e : Event) (next : Next) → scanner_step t e ≡ Ok next → IsWholeDevice (Scanner t) → KeepsLinks t next.1
+steps_keep_links ids t e (answer, u) is whole now stands was before c established_so came =
+    let has : SlotHasItsIds t e now = found_holds (SlotHasItsIds t e) (is_numbered now.number) (indexed_slots u) now (ids t e answer u is whole) (slot_stands u now stands) in
+    ids_keep t e now was c before came (subst (StateHasItsIds t e now.number now.config) established_so has)
 
 -- ---- a datagram
 
@@ -246,7 +299,7 @@ has_behind (x ∷ xs) ys a has = inr (has_behind xs ys a has)
 image_more : (more accepted : List Acceptance) (device : ℕ) (config : SlotConfig) (image : List ℕ) (o : Option Establishment) → ImageOf accepted device config image o → ImageOf (more ++ accepted) device config image o
 image_more more accepted device config image None ok = ok
 image_more more accepted device config image (Some e) (inl zeros) = inl zeros
-image_more more accepted device config image (Some e) (inr g) = inr (record { acceptance = g.acceptance; there = has_behind more accepted g.acceptance g.there; consumer_is = g.consumer_is; image_is = g.image_is })
+image_more more accepted device config image (Some e) (inr g) = inr (record { acceptance = g.acceptance; there = has_behind more accepted g.acceptance g.there; consumer_is = g.consumer_is; id_is = g.id_is; image_is = g.image_is })
 
 pub gathers_more : (more accepted : List Acceptance) (established : List Establishment) (device : ℕ) (t : ScannerTable) → TableGathers accepted established device t → TableGathers (more ++ accepted) established device t
 gathers_more more accepted established device t ok place stands =
@@ -284,8 +337,8 @@ none_new device t number config was (TimedOut link) at same = refl
 none_new device t number config was (Closing x) at same = refl
 
 -- new data of the slot's connection stand in the image
-applied_gathers : (accepted_so_far : List Acceptance) (established : List Establishment) (device : ℕ) (p : Production) (t : ScannerTable) (place : IndexedSlot) (d : DatagramFields) (c : Connection) → Stands t place → place.slot.state ≡ Established c → d.payload ≡ p.made.datagram.payload → TableGathers accepted_so_far established device t → TableGathers (Entry device p c.opening Applied ∷ accepted_so_far) (establishes device (Scanner t) (Scanner (accepted_table t place d c d.payload)) ++ established) device (accepted_table t place d c d.payload)
-applied_gathers accepted_so_far established device p t place d c stands is payload ok now there = by_case (set_cases t t place slot now (same_alike t) stands there) where
+applied_gathers : (accepted_so_far : List Acceptance) (established : List Establishment) (device : ℕ) (p : Production) (t : ScannerTable) (place : IndexedSlot) (d : DatagramFields) (c : Connection) → Stands t place → place.slot.state ≡ Established c → c.link.t_o_id.0 ≡ again w32 p.made.datagram.connection → d.payload ≡ p.made.datagram.payload → TableGathers accepted_so_far established device t → TableGathers (Entry device p c.opening Applied ∷ accepted_so_far) (establishes device (Scanner t) (Scanner (accepted_table t place d c d.payload)) ++ established) device (accepted_table t place d c d.payload)
+applied_gathers accepted_so_far established device p t place d c stands is id payload ok now there = by_case (set_cases t t place slot now (same_alike t) stands there) where
   slot : Slot
   slot = fed_slot t place d c d.payload
 
@@ -315,11 +368,11 @@ applied_gathers accepted_so_far established device p t place d c stands is paylo
       let at : slot_at t now.number ≡ Some (indexed_at now.number place.config place.slot) = subst (λ (n : ℕ). slot_at t n ≡ Some (indexed_at n place.config place.slot)) (sym number) (slot_stands t place stands) in
       let was_same : (x : Connection) → now.slot.state ≡ Established x → WasSame place.slot.state x = λ x so. fed_same t place d c d.payload is x (sym state ∙ so) in
       let old : IsLast (find found established) c = subst (λ (n : ℕ). IsLast (find (is_slot device n) established) c) (sym number) ((ok place stands).last c is) in
-      let gathered_now : Gathered more (end_at device old.establishment.request) now.slot.image =
-      record { acceptance = Entry device p c.opening Applied; there = inl refl; consumer_is = ap (end_at device) (sym old.request); image_is = image ∙ payload } in
+      let gathered_now : Gathered more (end_at device old.establishment.request) old.establishment.t_o_id.0 now.slot.image =
+      record { acceptance = Entry device p c.opening Applied; there = inl refl; consumer_is = ap (end_at device) (sym old.request); id_is = sym id ∙ sym (ap (λ (x : ConnId). x.0) old.t_o); image_is = image ∙ payload } in
       as_gathers (gathers (find found (establishes device (Scanner t) (Scanner u) ++ established)) (none_left place.config place.slot at was_same)
       (subst (ImageOf more device now.config now.slot.image) (sym old.is) (inr gathered_now))
-      (λ x so. let m = was_same x so in record { establishment = old.establishment; is = old.is; request = old.request ∙ ap (λ (y : Connection). y.opening) (connection_is c m.before (sym is ∙ m.state)) ∙ m.opening }))
+      (λ x so. let m = was_same x so in record { establishment = old.establishment; is = old.is; request = old.request ∙ ap (λ (y : Connection). y.opening) (connection_is c m.before (sym is ∙ m.state)) ∙ m.opening; t_o = old.t_o ∙ ap (λ (y : Connection). y.link.t_o_id) (connection_is c m.before (sym is ∙ m.state)) ∙ ap (λ (l : Link). l.t_o_id) m.link }))
     where
       connection_is : (a b : Connection) → Established a ≡ Established b → a ≡ b
       connection_is a b is = cc
@@ -339,33 +392,41 @@ applied_gathers accepted_so_far established device p t place d c stands is paylo
 abbrev NextGathers : List Acceptance → List Establishment → ℕ → Production → ScannerTable → Option ℕ → Next → Type 0
 NextGathers so_far established device p t number n = TableGathers (accepted_by_verdict device p number n.0.verdict ++ so_far) (establishes device (Scanner t) (Scanner n.1) ++ established) device n.1
 
-connected_gathers : (so_far : List Acceptance) (established : List Establishment) (device : ℕ) (p : Production) (t : ScannerTable) (place : IndexedSlot) (d : DatagramFields) (c : Connection) → Stands t place → place.slot.state ≡ Established c → d.payload ≡ p.made.datagram.payload → TableGathers so_far established device t → NextGathers so_far established device p t (Some c.opening) (connected t place d c)
-connected_gathers so_far established device p t place d c stands is payload ok =
-    let same = goes_gathers so_far established device t t (same_goes t) ok in
+connected_gathers : (so_far : List Acceptance) (established : List Establishment) (device : ℕ) (p : Production) (t : ScannerTable) (place : IndexedSlot) (d : DatagramFields) (c : Connection) → Stands t place → place.slot.state ≡ Established c → c.link.t_o_id.0 ≡ again w32 p.made.datagram.connection → d.payload ≡ p.made.datagram.payload → TableGathers so_far established device t → NextGathers so_far established device p t (Some c.opening) (connected t place d c)
+connected_gathers so_far established device p t place d c stands is id payload ok =
+    let same = goes_gathers so_far established device t t (same_goes t) (same_links t) ok in
     let P : Next → Type 0 = NextGathers so_far established device p t (Some c.opening) in
     either P (length d.payload == place.config.in_len) (sized t place d c) (delivered WrongSize t)
     (either P (accepts_sequence c.last d.sequence) (accepted t place d c) (delivered Old t)
     (either P (is_duplicate c.last d.count) (delivered Duplicate (accepted_table t place d c place.slot.image)) (delivered Applied (accepted_table t place d c d.payload))
-    (goes_gathers (Entry device p c.opening Duplicate ∷ so_far) established device t (accepted_table t place d c place.slot.image) (repeat_goes t place d c stands is)
+    (goes_gathers (Entry device p c.opening Duplicate ∷ so_far) established device t (accepted_table t place d c place.slot.image) (repeat_goes t place d c stands is) (set_links t place (fed_slot t place d c place.slot.image) stands (fed_same t place d c place.slot.image is))
     (gathers_more (Entry device p c.opening Duplicate ∷ []) so_far established device t ok))
-    (applied_gathers so_far established device p t place d c stands is payload ok))
+    (applied_gathers so_far established device p t place d c stands is id payload ok))
     same)
     same
 
-state_gathers : (so_far : List Acceptance) (established : List Establishment) (device : ℕ) (p : Production) (t : ScannerTable) (place : IndexedSlot) (d : DatagramFields) (state : SlotState) → Stands t place → place.slot.state ≡ state → d.payload ≡ p.made.datagram.payload → TableGathers so_far established device t → NextGathers so_far established device p t (state_number state) (state_received t place d state)
-state_gathers so_far established device p t place d (Established c) stands is payload ok = connected_gathers so_far established device p t place d c stands is payload ok
-state_gathers so_far established device p t place d Idle stands is payload ok = goes_gathers so_far established device t t (same_goes t) ok
-state_gathers so_far established device p t place d (Opening o) stands is payload ok = goes_gathers so_far established device t t (same_goes t) ok
-state_gathers so_far established device p t place d (TimedOut link) stands is payload ok = goes_gathers so_far established device t t (same_goes t) ok
-state_gathers so_far established device p t place d (Closing c) stands is payload ok = goes_gathers so_far established device t t (same_goes t) ok
+state_gathers : (so_far : List Acceptance) (established : List Establishment) (device : ℕ) (p : Production) (t : ScannerTable) (place : IndexedSlot) (d : DatagramFields) (state : SlotState) → Stands t place → place.slot.state ≡ state → ((c : Connection) → state ≡ Established c → c.link.t_o_id.0 ≡ again w32 p.made.datagram.connection) → d.payload ≡ p.made.datagram.payload → TableGathers so_far established device t → NextGathers so_far established device p t (state_number state) (state_received t place d state)
+state_gathers so_far established device p t place d (Established c) stands is id payload ok = connected_gathers so_far established device p t place d c stands is (id c refl) payload ok
+state_gathers so_far established device p t place d Idle stands is id payload ok = goes_gathers so_far established device t t (same_goes t) (same_links t) ok
+state_gathers so_far established device p t place d (Opening o) stands is id payload ok = goes_gathers so_far established device t t (same_goes t) (same_links t) ok
+state_gathers so_far established device p t place d (TimedOut link) stands is id payload ok = goes_gathers so_far established device t t (same_goes t) (same_links t) ok
+state_gathers so_far established device p t place d (Closing c) stands is id payload ok = goes_gathers so_far established device t t (same_goes t) (same_links t) ok
 
-found_gathers : (so_far : List Acceptance) (established : List Establishment) (device : ℕ) (p : Production) (t : ScannerTable) (test : IndexedSlot → Bool) (d : DatagramFields) (found : Option IndexedSlot) → find test (indexed_slots t) ≡ found → d.payload ≡ p.made.datagram.payload → TableGathers so_far established device t → NextGathers so_far established device p t (slot_number found) (received_at t d found)
-found_gathers so_far established device p t test d None is payload ok = goes_gathers so_far established device t t (same_goes t) ok
-found_gathers so_far established device p t test d (Some place) is payload ok = state_gathers so_far established device p t place d place.slot.state (each_found (Stands t) test (indexed_slots t) place is (each_stands t)) refl payload ok
+-- a slot that a datagram names has its id
+named_id : (t : ScannerTable) (peer : Node) (d : DatagramFields) (p : Production) (place : IndexedSlot) (c : Connection) → d.connection ≡ again w32 p.made.datagram.connection → is_for peer d.connection place ≡ true → place.slot.state ≡ Established c → c.link.t_o_id.0 ≡ again w32 p.made.datagram.connection
+named_id t peer d p place c connection passes is =
+    let parts = and_parts (is_with peer place) (state_consumes (record { 0 = d.connection }) place.slot.state) passes in
+    is_equal c.link.t_o_id.0 d.connection (subst (λ (s : SlotState). state_consumes (record { 0 = d.connection }) s ≡ true) is parts.1) ∙ connection
+
+found_gathers : (so_far : List Acceptance) (established : List Establishment) (device : ℕ) (p : Production) (t : ScannerTable) (peer : Node) (d : DatagramFields) (found : Option IndexedSlot) → find (is_for peer d.connection) (indexed_slots t) ≡ found → ComesBack p.made.datagram d → TableGathers so_far established device t → NextGathers so_far established device p t (slot_number found) (received_at t d found)
+found_gathers so_far established device p t peer d None is back ok = goes_gathers so_far established device t t (same_goes t) (same_links t) ok
+found_gathers so_far established device p t peer d (Some place) is back ok =
+    state_gathers so_far established device p t place d place.slot.state (each_found (Stands t) (is_for peer d.connection) (indexed_slots t) place is (each_stands t)) refl
+    (λ c so. named_id t peer d p place c back.connection (slot_passes (is_for peer d.connection) (indexed_slots t) place is) so) back.payload ok
 
 read_gathers : (so_far : List Acceptance) (established : List Establishment) (device : ℕ) (p : Production) (t : ScannerTable) (peer : Node) (reading : Result DatagramFields DatagramFault) → datagram_reading (datagram_text p.made.datagram) ≡ reading → TableGathers so_far established device t → NextGathers so_far established device p t (names_in (Scanner t) peer reading) (received_as t peer reading)
-read_gathers so_far established device p t peer (Err fault) is ok = goes_gathers so_far established device t t (same_goes t) ok
-read_gathers so_far established device p t peer (Ok d) is ok = found_gathers so_far established device p t (is_for peer d.connection) d (find (is_for peer d.connection) (indexed_slots t)) refl (read_as p.made.datagram d is).payload ok
+read_gathers so_far established device p t peer (Err fault) is ok = goes_gathers so_far established device t t (same_goes t) (same_links t) ok
+read_gathers so_far established device p t peer (Ok d) is ok = found_gathers so_far established device p t peer d (find (is_for peer d.connection) (indexed_slots t)) refl (read_as p.made.datagram d is) ok
 
 pub datagram_gathers : (so_far : List Acceptance) (established : List Establishment) (device : ℕ) (p : Production) (t : ScannerTable) (peer : Node) → TableGathers so_far established device t → TableGathers (accepted_by_verdict device p (names (Scanner t) (record { from = peer; bytes = datagram_text p.made.datagram })) (received t peer (datagram_text p.made.datagram)).0.verdict ++ so_far) (establishes device (Scanner t) (Scanner (received t peer (datagram_text p.made.datagram)).1) ++ established) device (received t peer (datagram_text p.made.datagram)).1
 unfolding received

@@ -6,3 +6,4 @@ pub mod Outputs
 pub mod ImageSteps
 pub mod ImageActs
 pub mod GatheredImages
+pub mod ProducedImages

@@ -1,19 +1,22 @@
 //! What outputs and images hold over every schedule of many devices. Each call does nothing: its contract is the law.
 #![tactic(auto)]
 
-ghost use Rattle.schedule_points.specs.Images.{SchedulesGatherImages};
+ghost use Rattle.schedule_points.specs.Images.{GatheredInOrder, SchedulesGatherImages};
 ghost use Rattle.schedule_points.specs.Outputs.{AppliedInOrder};
 
 use adapter_table::laws::{accepted_datagrams_are_newer, outputs_hold_what_is_left};
 use cip_datagram::reads_back;
 use made_productions::answers_send_what_is_made;
+use reply_ids::slots_have_the_ids_of_their_success;
 use scanner_laws::{accepted_numbers_are_newer, openings_are_numbered};
 use schedule_laws::ids_are_drawn;
-use schedule_order::{ids_name_openings, one_opening_is_accepted};
+use schedule_order::{
+    accepted_indexes_rise, an_id_opens_one_connection, ids_name_openings, one_opening_is_accepted,
+};
 
 /// What an adapter accepts through one connection are productions of the one slot opening whose Forward_Open opened it, with
-/// strictly rising production indexes; each that it applies was made in run mode. The output of an owner holds what the
-/// slot's output held at the newest accepted production in run mode.
+/// strictly rising production indexes; each that it applies was made in run mode. The output of an owner whose newest accepted
+/// production was made in run mode holds what the slot's output held at that production.
 ///
 /// This holds at every moment of every schedule that keeps the half-circle condition.
 ///
@@ -44,4 +47,24 @@ pub fn images_hold_accepted_data()
 {
     answers_send_what_is_made();
     ids_are_drawn();
+    slots_have_the_ids_of_their_success();
+}
+
+/// What a slot's opening accepts are productions of the one producer that its T->O id names, with strictly rising production
+/// indexes. From the moment a slot becomes established until it does so again, its image is the zeros of that moment, or what
+/// the adapter's input held at a production of the producer that the slot's T->O id of that moment names.
+///
+/// A multicast producer lives as long as its group: a slot that joins may accept first what the same living group sent before
+/// it joined. This holds at every moment of every schedule that keeps the half-circle condition.
+///
+/// Volume 1, chapter 3, class 1 transport; Volume 2, chapter 2, sequenced address item, and chapter 3, multicast connections.
+pub fn images_are_in_order()
+    ensures { GatheredInOrder }
+{
+    answers_send_what_is_made();
+    ids_are_drawn();
+    slots_have_the_ids_of_their_success();
+    accepted_indexes_rise();
+    ids_name_openings();
+    an_id_opens_one_connection();
 }

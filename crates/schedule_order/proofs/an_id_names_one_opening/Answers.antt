@@ -2,16 +2,4 @@ use Rattle.schedule_order.proofs.OpeningActs.{one_opening_has_it}
 use Rattle.schedule_order.proofs.an_id_names_one_opening.Goals as goal
 
 pub returns : goal.returns
-returns c = one_opening_has_it c.answers_send_what_is_made.ensures c.ids_are_drawn.ensures.schedule c.ids_are_drawn.ensures.opened (record {
-  steps = record {
-    carry = c.ids_are_carried.ensures;
-    whole = c.tables_are_whole.ensures.run;
-    counts = c.next_id_never_falls.ensures.step;
-    adapters = c.profiles_stay.ensures;
-    scanners = c.counters_never_fall.ensures.step;
-  };
-  replies = c.replies_carry_opened_ids.ensures;
-  rows = c.connections_keep_their_ids.ensures;
-  slots = c.slots_have_the_ids_of_their_success.ensures;
-  requests = c.scanners_send_no_success.ensures;
-})
+returns c = one_opening_has_it c.ids_are_drawn.ensures.schedule c.ids_are_drawn.ensures.opened c.answers_send_what_is_made.ensures c.ids_name_openings.ensures

@@ -14,4 +14,6 @@ returns c = schedules_name c.answers_send_what_is_made.ensures c.ids_are_drawn.e
   rows = c.connections_keep_their_ids.ensures;
   slots = c.slots_have_the_ids_of_their_success.ensures;
   requests = c.scanners_send_no_success.ensures;
+  asks = c.scanners_ask_for_their_own_ids.ensures;
+  streams = c.a_scanners_streams_come_with_events.ensures;
 })

@@ -1,0 +1,214 @@
+-- A new connection of an adapter has the T->O id for which its request asked, or one of the adapter's own.
+use Rattle.std.proofs.Common.{◌≡◌, ◌≤◌, ◌⊎◌, inl, inr, ℕ, ◌+◌, ◌==◌, ◌&&◌, not, Bool, true, false, cond, List, [], ◌∷◌, length, find, Option, Some, None, Result, Ok, Err, IfOk, refl, sym, ◌∙◌, ap, subst, arith}
+use Rattle.std.specs.List.{AllByRecursion}
+use Rattle.std.specs.Option.{IfSome}
+use Rattle.std.specs.Str.{bytes_eq}
+use Rattle.std.proofs.lemmas.Bool.{and_parts}
+use Rattle.std.proofs.lemmas.Bool.Decides.{nat_tests}
+use Rattle.cip_types.specs.declared.names.ConnId.{ConnId}
+use Rattle.cip_types.specs.declared.names.Node.{Node}
+use Rattle.cip_types.specs.Texts.{Tailed}
+use Rattle.cip_encap.specs.declared.message.EncapFault.{EncapFault}
+use Rattle.cip_encap.specs.declared.packet.ItemFault.{ItemFault}
+use Rattle.cip_encap.specs.Message.{MessageFields}
+use Rattle.cip_encap.specs.Packet.{PacketFields}
+use Rattle.cip_encap.specs.PacketReading.{packet_reading}
+use Rattle.cip_encap.specs.Reading.{message_reading}
+use Rattle.cip_events.specs.declared.event.StepFault.{StepFault}
+use Rattle.cip_events.specs.declared.event.Verdict.TheVariants.{BadFrame}
+use Rattle.cip_events.specs.Answers.{plain_answer}
+use Rattle.cip_fwdopen.specs.Close.{CloseFields}
+use Rattle.cip_fwdopen.specs.Open.{OpenFields}
+use Rattle.cip_router.specs.declared.command.Command.{Command}
+use Rattle.cip_router.specs.declared.command.Command.TheVariants as command
+use Rattle.cip_router.specs.declared.command.EncapStatus.TheVariants as encap
+use Rattle.cip_router.specs.declared.refusal.Refusal.{Refusal}
+use Rattle.cip_router.specs.declared.refusal.Status.TheVariants as status
+use Rattle.cip_router.specs.Requests.{RouterRequestFields, nothing, refused, closing, assembly, opening, router_request_reading}
+use Rattle.cip_router.specs.Commands.{command_of, is_silent}
+use Rattle.cip_router.specs.Frames.{ReplyHeader, reply_header_of, reply_header_in, misfit_of, frame_fields, protocol_text, frame_reading}
+use Rattle.cip_router.specs.Replies.{got}
+use Rattle.adapter_table.specs.declared.profile.Profile.{Profile}
+use Rattle.adapter_table.specs.declared.row.Row.{Row}
+use Rattle.adapter_table.specs.declared.table.AdapterTable.{AdapterTable}
+use Rattle.adapter_table.specs.declared.table.Stream.{Stream}
+use Rattle.adapter_table.specs.Checks.{Admitted, drawn_ids, group_of, joined, admission}
+use Rattle.adapter_table.specs.Closing.{stays, without_triad, closed_table}
+use Rattle.adapter_table.specs.Encapsulation.{Handled, refusal, unanswered, session_begun, session_ended, register_session, request_replied, packet_replied, handled, framed, frame_answer, frame_of, frame}
+use Rattle.adapter_table.specs.Opening.{opened_t_o_id, opened_row, opened_table}
+use Rattle.adapter_table.specs.Points.{bytes_at}
+use Rattle.adapter_table.specs.Productions.{producer_of}
+use Rattle.adapter_table.specs.Requests.{Next, Served, judged_open, admitted_open, served_open, close_of, served_close, is_value_attribute, router_refusal, assembly_of, served_assembly, served}
+use Rattle.adapter_table.specs.Rows.{has_triad, is_established, is_member, Each}
+use Rattle.adapter_table.specs.Sound.{IdsAreDrawn, IsSound, MulticastIdIsDrawn}
+use Rattle.adapter_table.specs.Streams.{is_stream, without_stream, has_session, registered_table}
+use Rattle.adapter_table.proofs.CheckLemmas.{admitted_is}
+use Rattle.device_laws.proofs.Lists.{all_both, all_filtered}
+use Rattle.device_laws.proofs.Texts.{either}
+use Rattle.reply_ids.specs.Requests.{request_asks, packet_asks, message_asks, asks_id, IsOwnId, IsOldOrRequested, NewConnectionsAreRequested}
+
+-- ---- the T->O id of a new connection
+
+member_parts : (point : ℕ) (row : Row) → is_member point row ≡ true → (is_established row ≡ true) × (row.multicast ≡ true)
+member_parts point row is =
+    let first = and_parts (is_established row) (row.multicast && row.produced == point) is in
+    (first.0, (and_parts row.multicast (row.produced == point) first.1).0)
+
+some_row : (a b : Row) → Some a ≡ Some b → a ≡ b
+some_row a b e = cc
+
+own_step : (profile : Profile) (next_id point : ℕ) (row member : Row) (rest : Option Row) (b : Bool) → next_id ≤ 16777216 → MulticastIdIsDrawn profile next_id row → (rest ≡ Some member → IsOwnId profile member.t_o_id) → is_member point row ≡ b → cond b (Some row) rest ≡ Some member → IsOwnId profile member.t_o_id
+own_step profile next_id point row member rest true left drawn on passes is =
+    let parts = member_parts point row passes in
+    let own = drawn parts.0 parts.1 in
+    subst (λ (r : Row). IsOwnId profile r.t_o_id) (some_row row member is) (record { counter = producer_of row.state + 1; below = omega (arith, own.1, left); is = own.0 })
+own_step profile next_id point row member rest false left drawn on passes is = on is
+
+-- the id of a living group is one of the adapter's own
+group_owns : (profile : Profile) (next_id point : ℕ) (rows : List Row) (member : Row) → next_id ≤ 16777216 → Each (MulticastIdIsDrawn profile next_id) rows → find (is_member point) rows ≡ Some member → IsOwnId profile member.t_o_id
+group_owns profile next_id point [] member left drawn is = absurd (let e = is in cc)
+group_owns profile next_id point (row ∷ rows) member left drawn is =
+    own_step profile next_id point row member (find (is_member point) rows) (is_member point row) left drawn.0 (group_owns profile next_id point rows member left drawn.1) refl is
+
+joined_owns : (t : AdapterTable) (multicast : Bool) (point : ℕ) (member : Row) → IsSound t → Some member ≡ joined multicast (group_of t.rows point) → IsOwnId t.profile member.t_o_id
+joined_owns t true point member sound is = let producers = sound.producers in group_owns t.profile t.next_id point t.rows member sound.ids_are_left producers.multicast (sym is)
+joined_owns t false point member sound is = absurd (let e = is in cc)
+
+id_is : (t : AdapterTable) (request : OpenFields) (multicast : Bool) (point : ℕ) (group : Option Row) → IsSound t → group ≡ joined multicast (group_of t.rows point) → t.next_id + drawn_ids multicast group ≤ 16777216 → (opened_t_o_id t request multicast group ≡ request.t_o_id) ⊎ IsOwnId t.profile (opened_t_o_id t request multicast group)
+id_is t request true point None sound is left = inr (record { counter = t.next_id + 1; below = omega (arith, left); is = refl })
+id_is t request false point None sound is left = inl refl
+id_is t request multicast point (Some member) sound is left = inr (joined_owns t multicast point member sound is)
+
+-- ---- what holds of a request that opens
+
+-- it holds of each connection that a request to open makes
+abbrev Makes : (Row → Type 0) → AdapterTable → RouterRequestFields → Type 0
+Makes O t requested = (large : Bool) (request : OpenFields) → requested ≡ opening large request → (peer : Node) (admitted : Admitted) → admission t request ≡ Ok admitted → O (opened_row t peer request admitted)
+
+abbrev RowsAre : (Row → Type 0) → AdapterTable → Type 0
+RowsAre O t = AllByRecursion O t.rows
+
+open_rows : (O : Row → Type 0) (t : AdapterTable) (peer : Node) (large : Bool) (request : OpenFields) (said : Result Admitted Refusal) → admission t request ≡ said → ((admitted : Admitted) → admission t request ≡ Ok admitted → O (opened_row t peer request admitted)) → RowsAre O t → RowsAre O (judged_open t peer large request said).table
+unfolding admitted_open opened_table
+open_rows O t peer large request (Err why) is makes rows = rows
+open_rows O t peer large request (Ok admitted) is makes rows = all_both O _ (opened_row t peer request admitted ∷ []) (all_filtered O _ t.rows rows) (makes admitted is, tt)
+
+close_rows : (O : Row → Type 0) (t : AdapterTable) (request : CloseFields) (found : Option Row) → RowsAre O t → RowsAre O (close_of t request found).table
+unfolding closed_table
+close_rows O t request None rows = rows
+close_rows O t request (Some row) rows = all_filtered O (stays (without_triad row.triad t.rows)) (without_triad row.triad t.rows) (all_filtered O _ t.rows rows)
+
+abbrev ServedRows : (Row → Type 0) → Served → Type 0
+ServedRows O s = RowsAre O s.table
+
+assembly_rows : (O : Row → Type 0) (t : AdapterTable) (service : ℕ) (attribute : Option ℕ) (body : List ℕ) (found : Option (List ℕ)) → RowsAre O t → ServedRows O (assembly_of t service attribute body found)
+assembly_rows O t service attribute body None rows = rows
+assembly_rows O t service attribute body (Some value) rows =
+    let all : Served = record { reply = got value; address = None; notices = []; table = t } in
+    either (ServedRows O) (not (service == 0x0E)) _ _ rows
+    (either (ServedRows O) (not (is_value_attribute attribute)) _ _ rows
+    (either (ServedRows O) (not (length body == 0)) (router_refusal t service status.TooMuchData) all rows rows))
+
+served_rows : (O : Row → Type 0) (t : AdapterTable) (peer : Node) (requested : RouterRequestFields) → Makes O t requested → RowsAre O t → IfSome (served t peer requested) (ServedRows O)
+unfolding served_open served_close served_assembly
+served_rows O t peer nothing makes rows = tt
+served_rows O t peer (refused service why) makes rows = rows
+served_rows O t peer (closing request) makes rows = close_rows O t request (find (has_triad request.triad) t.rows) rows
+served_rows O t peer (assembly service instance attribute body) makes rows = assembly_rows O t service attribute body (bytes_at t.values instance) rows
+served_rows O t peer (opening large request) makes rows = open_rows O t peer large request (admission t request) refl (makes large request refl peer) rows
+
+-- ---- a frame
+
+abbrev HandledRows : (Row → Type 0) → Handled → Type 0
+HandledRows O done = RowsAre O done.table
+
+registered_rows : (O : Row → Type 0) (t : AdapterTable) (number : ℕ) → RowsAre O t → RowsAre O (registered_table t number)
+unfolding registered_table
+registered_rows O t number rows = rows
+
+without_rows : (O : Row → Type 0) (t : AdapterTable) (number : ℕ) → RowsAre O t → RowsAre O (without_stream t number)
+unfolding without_stream
+without_rows O t number rows = rows
+
+register_rows : (O : Row → Type 0) (t : AdapterTable) (stream : Stream) (body : List ℕ) → RowsAre O t → HandledRows O (register_session t stream body)
+register_rows O t stream body rows =
+    either (HandledRows O) (not (length body == 4)) _ _ rows
+    (either (HandledRows O) (not (bytes_eq body protocol_text)) _ _ rows
+    (either (HandledRows O) stream.registered (refusal t encap.InvalidCommand) (session_begun t stream) rows (registered_rows O t stream.number rows)))
+
+replied_rows : (O : Row → Type 0) (t : AdapterTable) (s : Option Served) → IfSome s (ServedRows O) → RowsAre O t → HandledRows O (request_replied t s)
+replied_rows O t None goes rows = rows
+replied_rows O t (Some s) goes rows = goes
+
+abbrev PacketMakes : (Row → Type 0) → AdapterTable → Result PacketFields ItemFault → Type 0
+PacketMakes O t reading = (packet : PacketFields) → reading ≡ Ok packet → Makes O t (router_request_reading packet.payload)
+
+packet_rows : (O : Row → Type 0) (t : AdapterTable) (peer : Node) (reading : Result PacketFields ItemFault) → PacketMakes O t reading → RowsAre O t → HandledRows O (packet_replied t peer reading)
+packet_rows O t peer (Err why) makes rows = rows
+packet_rows O t peer (Ok packet) makes rows = replied_rows O t (served t peer (router_request_reading packet.payload)) (served_rows O t peer (router_request_reading packet.payload) (makes packet refl) rows) rows
+
+handled_rows : (O : Row → Type 0) (t : AdapterTable) (stream : Stream) (echo : ReplyHeader) (body : List ℕ) (requested : Command) → PacketMakes O t (packet_reading body) → RowsAre O t → HandledRows O (handled t stream echo body requested)
+unfolding handled
+handled_rows O t stream echo body command.Nop makes rows = rows
+handled_rows O t stream echo body command.ListServices makes rows = rows
+handled_rows O t stream echo body command.RegisterSession makes rows = register_rows O t stream body rows
+handled_rows O t stream echo body command.UnregisterSession makes rows =
+    either (HandledRows O) (has_session stream echo.session) (session_ended t stream) (unanswered t) (without_rows O t stream.number rows) rows
+handled_rows O t stream echo body command.SendRrData makes rows = either (HandledRows O) (has_session stream echo.session) _ _ (packet_rows O t stream.peer (packet_reading body) makes rows) rows
+handled_rows O t stream echo body command.Other makes rows = rows
+
+abbrev NextRows : (Row → Type 0) → Next → Type 0
+NextRows O next = RowsAre O next.1
+
+misfit_rows : (O : Row → Type 0) (t : AdapterTable) (stream : Stream) (header : Option Tailed) → RowsAre O t → NextRows O (frame_answer t stream (misfit_of header))
+misfit_rows O t stream None rows = rows
+misfit_rows O t stream (Some h) rows =
+    either (NextRows O) (is_silent (command_of (reply_header_in h.0).command)) (plain_answer BadFrame, t) (framed stream.number (reply_header_in h.0) (refusal t encap.InvalidLength)) rows rows
+
+abbrev MessageMakes : (Row → Type 0) → AdapterTable → Result MessageFields EncapFault → Type 0
+MessageMakes O t reading = (m : MessageFields) → reading ≡ Ok m → PacketMakes O t (packet_reading m.payload)
+
+message_rows : (O : Row → Type 0) (t : AdapterTable) (stream : Stream) (header : Option Tailed) (reading : Result MessageFields EncapFault) → MessageMakes O t reading → RowsAre O t → NextRows O (frame_answer t stream (frame_fields header reading))
+message_rows O t stream header (Err why) makes rows = misfit_rows O t stream header rows
+message_rows O t stream header (Ok m) makes rows = handled_rows O t stream (reply_header_of m) m.payload (command_of m.command) (makes m refl) rows
+
+frame_rows : (O : Row → Type 0) (t : AdapterTable) (bytes : List ℕ) (found : Option Stream) → MessageMakes O t (message_reading bytes) → RowsAre O t → IfOk (frame_of t bytes found) (NextRows O)
+unfolding frame_reading
+frame_rows O t bytes None makes rows = tt
+frame_rows O t bytes (Some stream) makes rows = message_rows O t stream _ (message_reading bytes) makes rows
+
+-- ---- the law
+
+own_number : (n : ℕ) → (n == n) ≡ true
+own_number n = grind (arith, nat_tests)
+
+-- the bytes ask for the id of the request that they are
+requested_by : (bytes : List ℕ) (m : MessageFields) (packet : PacketFields) (large : Bool) (request : OpenFields) → message_reading bytes ≡ Ok m → packet_reading m.payload ≡ Ok packet → router_request_reading packet.payload ≡ opening large request → asks_id request.t_o_id.0 bytes ≡ true
+unfolding asks_id
+requested_by bytes m packet large request one two three =
+    let id = request.t_o_id.0 in
+    ap (message_asks request.t_o_id.0) one ∙ ap (packet_asks request.t_o_id.0) two ∙ ap (request_asks request.t_o_id.0) three ∙ own_number request.t_o_id.0
+
+row_requested : (t : AdapterTable) (bytes : List ℕ) (peer : Node) (request : OpenFields) (admitted : Admitted) → IsSound t → asks_id request.t_o_id.0 bytes ≡ true → admission t request ≡ Ok admitted → IsOldOrRequested t bytes (opened_row t peer request admitted)
+unfolding opened_row
+row_requested t bytes peer request admitted sound asks is =
+    let admits = admitted_is t request admitted is in
+    inr (so (id_is t request admitted.multicast admitted.produced admitted.group sound admits.group_is admits.ids_are_left))
+  where
+    so : (opened_t_o_id t request admitted.multicast admitted.group ≡ request.t_o_id) ⊎ IsOwnId t.profile (opened_t_o_id t request admitted.multicast admitted.group) → (asks_id (opened_t_o_id t request admitted.multicast admitted.group).0 bytes ≡ true) ⊎ IsOwnId t.profile (opened_t_o_id t request admitted.multicast admitted.group)
+    so (inl same) = inl (subst (λ (id : ConnId). asks_id id.0 bytes ≡ true) (sym same) asks)
+    so (inr own) = inr own
+
+old_rows : (t : AdapterTable) (bytes : List ℕ) (rows : List Row) → IdsAreDrawn t.profile t.next_id rows → AllByRecursion (IsOldOrRequested t bytes) rows
+old_rows t bytes [] drawn = tt
+old_rows t bytes (row ∷ rows) drawn = (inl drawn.1, old_rows t bytes rows drawn.2)
+
+pub new_rows_requested : NewConnectionsAreRequested
+unfolding frame
+new_rows_requested t number bytes answer next is whole =
+    let O = IsOldOrRequested t bytes in
+    let sound = whole.sound in
+    subst (λ (said : Result Next StepFault). IfOk said (NextRows (IsOldOrRequested t bytes))) is
+    (frame_rows (IsOldOrRequested t bytes) t bytes (find (is_stream number) t.streams)
+    (λ m one packet two large request three peer admitted admits. row_requested t bytes peer request admitted whole.sound (requested_by bytes m packet large request one two three) admits)
+    (old_rows t bytes t.rows sound.ids_are_drawn))
