@@ -13,6 +13,7 @@ pub use cip_tables::{
 pub use cip_types::{ConnId, Fault, Identity, Items, Mismatch, Ms, Node, OutOfMemory, Triad};
 pub use device_lock::{Book, BookFault, History, LockedDevice, Receipt, Segment};
 pub use plain_engine::{PlainAdapter, PlainScanner};
+pub use scanner_engine::FastScanner;
 pub use udp_runner::{
     Clock, Input, MemoryPort, Output, Port, PortFault, RunFault, SentOutput, SteppedClock, drive,
 };

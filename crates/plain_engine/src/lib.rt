@@ -3,8 +3,11 @@
 
 use adapter::Adapter;
 use connection_list::ConnectionList;
+use slot_hints::NoHints;
+use slot_scanner::Scanner;
 
 /// An adapter over a plain list of connections, which contracts see as its table.
 pub type PlainAdapter = Adapter<ConnectionList>;
 
-pub use plain_scanner::PlainScanner;
+/// A scanner that looks at all its slots at each event, which contracts see as its table.
+pub type PlainScanner = Scanner<NoHints>;

@@ -1,5 +1,5 @@
 -- Slots that change in place.
-use Rattle.std.proofs.Common.{◌≡◌, ◌<◌, ◌≤◌, ℕ, suc, ◌+◌, ◌==◌, Result, Bool, true, false, cond, List, [], ◌∷◌, ◌++◌, length, map, take, drop, get_or, set, drop-cons, find, Option, Some, Ok, refl, sym, ◌∙◌, ap, arith, append_assoc}
+use Rattle.std.proofs.Common.{◌≡◌, ◌<◌, ◌≤◌, ℕ, suc, ◌+◌, ◌==◌, Result, Bool, true, false, cond, List, [], ◌∷◌, ◌++◌, length, map, take, drop, get_or, set, drop-cons, find, Option, Some, Ok, refl, sym, ◌∙◌, ap, subst, arith, append_assoc}
 use Rattle.std.specs.List.{filter_map, cons_option}
 use Rattle.std.proofs.lemmas.List.{append-nil, map-append}
 use Rattle.std.proofs.lemmas.List.Elements.{filter_map-append}
@@ -25,6 +25,9 @@ use Rattle.scanner_table.specs.Datagrams.{accepted_connection, accepted, receive
 use Rattle.scanner_table.specs.Points.{moded_slot, output_slot, write_at, write}
 use Rattle.cip_productions.specs.Kinds.{is_owner}
 use Rattle.cip_events.specs.declared.event.StepFault.{StepFault}
+use Rattle.scanner_table.specs.Datagrams.{accepted_table}
+use Rattle.slot_hints.specs.declared.bounds.Bounds.{Bounds}
+use Rattle.slot_hints.specs.Bounding.{IsHinted, IsNoLater, with_deadline}
 use Rattle.slot_data.specs.Results.{judged}
 
 -- ---- one slot
@@ -128,3 +131,11 @@ sent_more view f g xs i x d sent more lt is so_far grown =
 pub pushed_is : (run : Bool) (indexed : IndexedSlot) (c : Connection) (old new : List OutgoingDatagram) (one : OutgoingDatagram) → indexed.slot.state ≡ Established c → one ≡ sent (connection_production run indexed c) → new ≡ old ++ one ∷ [] → new ≡ old ++ map sent (filter_map (slot_production run) (indexed ∷ []))
 pushed_is run indexed c old new one is made grown =
     grown ∙ ap (λ (s : OutgoingDatagram). old ++ s ∷ []) made ∙ ap (λ (s : SlotState). old ++ map sent (cons_option (state_production run indexed s) [])) (sym is)
+
+-- ---- hints
+
+-- the bounds of a slot that has accepted a datagram
+pub accepted_hinted : (later bounds : Bounds) (t : ScannerTable) (indexed : IndexedSlot) (d : DatagramFields) (c accepted : Connection) (old new : Slot) (image : List ℕ) → ((b l : Bounds) (u : ScannerTable) → IsNoLater b l → IsHinted l u → IsHinted b u) → accepted ≡ accepted_connection t.clock indexed.config.mult d c → old ≡ indexed.slot → new ≡ record old { state = Established accepted; image = image } → IsHinted (with_deadline bounds (accepted_connection t.clock indexed.config.mult d c).deadline) (accepted_table t indexed d c image) → IsNoLater later (with_deadline bounds accepted.deadline) → IsHinted later (with_slot t indexed.number new)
+accepted_hinted later bounds t indexed d c accepted old new image earlier is same changed hinted le =
+    let next : new ≡ record indexed.slot { state = Established (accepted_connection t.clock indexed.config.mult d c); image = image } = changed ∙ ap (λ (s : Slot). record s { state = Established accepted; image = image }) same ∙ ap (λ (x : Connection). record indexed.slot { state = Established x; image = image }) is in
+    subst (λ (s : Slot). IsHinted later (with_slot t indexed.number s)) (sym next) (earlier later _ _ (subst (λ (x : Connection). IsNoLater later (with_deadline bounds x.deadline)) is le) hinted)

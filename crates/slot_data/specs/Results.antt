@@ -1,23 +1,15 @@
 -- The results of this crate's functions, in terms of the table's definitions.
-use Rattle.std.specs.Prelude.{◌&&◌, not, Bool, Result, Ok, Err}
-use Rattle.std.specs.List.{list_any}
+use Rattle.std.specs.Prelude.{Result, Ok, Err}
 use Rattle.cip_datagram.specs.Datagram.{DatagramFields}
-use Rattle.cip_types.specs.declared.names.Ms.{Ms}
 use Rattle.cip_events.specs.declared.event.Delivery.{Delivery}
 use Rattle.cip_events.specs.declared.event.StepFault.{StepFault}
 use Rattle.cip_events.specs.declared.event.Verdict.TheVariants.{Done}
 use Rattle.cip_events.specs.Answers.{plain_answer}
 use Rattle.scanner_table.specs.declared.slot.Connection.{Connection}
 use Rattle.scanner_table.specs.declared.table.ScannerTable.{ScannerTable}
-use Rattle.scanner_table.specs.Slots.{IndexedSlot, indexed_slots}
+use Rattle.scanner_table.specs.Slots.{IndexedSlot}
 use Rattle.scanner_table.specs.Effects.{Next}
-use Rattle.scanner_table.specs.Opening.{is_ready_slot}
 use Rattle.scanner_table.specs.Datagrams.{delivered, accepted}
-use Rattle.scanner_table.specs.Ticks.{has_expired, is_overdue}
-
--- the table with its clock at a time
-abbrev pub at_time : ScannerTable → Ms → ScannerTable
-at_time t clock = record t { clock = clock }
 
 -- the error is the delivery of a datagram that is not accepted; otherwise the connection accepts it
 abbrev pub judged : ScannerTable → IndexedSlot → DatagramFields → Result Connection Delivery → Next
@@ -28,7 +20,3 @@ judged t indexed d (Ok connection) = accepted t indexed d connection
 abbrev pub done_or : Result (Unit {0}) StepFault → ScannerTable → Result Next StepFault
 done_or (Ok nothing) t = Ok (plain_answer Done, t)
 done_or (Err why) t = Err why
-
--- no slot times out, gives up a reply, or is ready to open
-abbrev pub is_quiet : ScannerTable → Bool
-is_quiet t = not (list_any (has_expired t.clock) (indexed_slots t)) && (not (list_any (is_overdue t.clock) (indexed_slots t)) && not (list_any (is_ready_slot t.clock) (indexed_slots t)))

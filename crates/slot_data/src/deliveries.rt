@@ -1,6 +1,7 @@
 //! Datagrams that slots receive.
 
-ghost use Rattle.std.specs.Prelude.{◌≡◌, ◌≤◌, ◌^◌, length, find, IfOk, if◌then◌else◌};
+ghost use Rattle.std.specs.Prelude.{◌≡◌, ◌≤◌, ◌^◌, length, find, Some, IfOk, IfSome, if◌then◌else◌};
+ghost use Rattle.std.specs.Option.{option_map};
 ghost use Rattle.cip_datagram.specs.Datagram.{view_datagram};
 ghost use Rattle.cip_events.specs.Answers.{plain_answer};
 ghost use Rattle.cip_events.specs.declared.event.Verdict.TheVariants.{Delivered};
@@ -13,14 +14,19 @@ ghost use Rattle.scanner_table.specs.Datagrams.{is_for, accepted_connection, sta
 ghost use Rattle.scanner_table.specs.Whole.{IsWhole};
 ghost use Rattle.slot_places.specs.Views.{view_slot, table_of};
 ghost use Rattle.slot_data.specs.Results.{judged};
+ghost use Rattle.slot_hints.specs.Bounding.{IsHinted};
 
 use cip_datagram::{Datagram, read_datagram};
 use cip_events::Delivery;
 use cip_netparams::timeout_of;
 use cip_productions::{Accepted, accepts_sequence, is_duplicate};
-use cip_types::{Ms, Node};
+use cip_types::{ConnId, Ms, Node};
 use scanner_table::{Connection, ScannerProfile, Slot, SlotState};
-use slot_places::{ScannerState, SlotTest, SlotView, find_slot};
+use slot_hints::{
+    Hints, accepted_datagrams_keep_bounds, bounds_are_kept_by_earlier_ones,
+    found_consumers_are_first,
+};
+use slot_places::{ScannerState, SlotTest, SlotView, find_slot, slot_at};
 
 /// Returns the connection after it has accepted a datagram: it records the sequence number and the count, and starts its
 /// watchdog anew.
@@ -66,54 +72,121 @@ fn accepting(indexed: SlotView<'_>, datagram: &Datagram<'_>) -> Result<Connectio
     Ok(connection)
 }
 
-/// Lets a slot's connection accept a datagram, and copies its data to the image if they are new.
+/// Gives a slot the connection that has accepted a datagram, and copies the datagram's data to the image if they are new.
 fn gather(
     slot: &mut Slot,
+    last: Option<Accepted>,
     connection: Connection,
-    clock: Ms,
-    mult: u8,
     datagram: &Datagram<'_>,
 ) -> Delivery
-    requires waits { mult ≤ 7 }
-    requires interval { connection.t_o_api_ms ≤ 10000 }
-    requires time { clock.0 ≤ 2 ^ 48 }
     requires size { length slot.old.image ≡ length (view_datagram datagram.now).payload }
-    ensures delivery { result ≡ (if is_duplicate connection.last datagram.now.count then delivery.Duplicate else delivery.Applied) }
-    ensures slot { slot.new ≡ record slot.old { state = state.Established (accepted_connection clock mult (view_datagram datagram.now) connection); image = if is_duplicate connection.last datagram.now.count then slot.old.image else (view_datagram datagram.now).payload } }
+    ensures delivery { result ≡ (if is_duplicate last datagram.now.count then delivery.Duplicate else delivery.Applied) }
+    ensures slot { slot.new ≡ record slot.old { state = state.Established connection; image = if is_duplicate last datagram.now.count then slot.old.image else (view_datagram datagram.now).payload } }
 {
-    slot.state = SlotState::Established(accepted_connection(connection, clock, mult, datagram));
-    if is_duplicate(connection.last, datagram.count) {
+    slot.state = SlotState::Established(connection);
+    if is_duplicate(last, datagram.count) {
         return Delivery::Duplicate;
     }
     slot.image.overwrite(datagram.data);
     Delivery::Applied
 }
 
+/// Returns the remembered slot if a datagram of a peer with this id is for it.
+#[inline(always)]
+fn remembered<'a>(
+    profile: &'a ScannerProfile,
+    scanner: &'a ScannerState,
+    number: u32,
+    peer: Node,
+    id: ConnId,
+) -> Option<SlotView<'a>>
+    requires whole { IsWhole (table_of profile.now scanner.now) }
+    ensures { IfSome result (λ indexed. find (is_for peer id.0) (indexed_slots (table_of profile.now scanner.now)) ≡ Some (view_slot indexed)) }
+{
+    // No other slot is for it either.
+    found_consumers_are_first();
+    let Some(indexed) = slot_at(profile.slots.as_slice(), &scanner.slots, number) else {
+        return None;
+    };
+    if SlotTest::For(peer, id).passes(indexed) {
+        return Some(indexed);
+    }
+    None
+}
+
+/// Searches all slots for the one that a datagram of a peer with this id is for, and remembers it.
+fn search<'a, H: Hints>(
+    profile: &'a ScannerProfile,
+    scanner: &'a ScannerState,
+    hints: &mut H,
+    peer: Node,
+    id: ConnId,
+) -> Option<SlotView<'a>>
+    requires whole { IsWhole (table_of profile.now scanner.now) }
+    ensures found { option_map view_slot result ≡ find (is_for peer id.0) (indexed_slots (table_of profile.now scanner.now)) }
+    ensures hints { H.bounds hints.new ≡ H.bounds hints.old }
+{
+    let test = SlotTest::For(peer, id);
+    let Some(indexed) = find_slot(profile.slots.as_slice(), &scanner.slots, test) else {
+        return None;
+    };
+    hints.remember_consumer(id, indexed.number);
+    Some(indexed)
+}
+
+/// Returns the slot that a datagram of a peer with this id is for: the remembered one if it is, or the one that a search
+/// finds.
+fn consumer<'a, H: Hints>(
+    profile: &'a ScannerProfile,
+    scanner: &'a ScannerState,
+    hints: &mut H,
+    peer: Node,
+    id: ConnId,
+) -> Option<SlotView<'a>>
+    requires whole { IsWhole (table_of profile.now scanner.now) }
+    ensures found { option_map view_slot result ≡ find (is_for peer id.0) (indexed_slots (table_of profile.now scanner.now)) }
+    ensures hints { H.bounds hints.new ≡ H.bounds hints.old }
+{
+    if let Some(number) = hints.consumer(id) {
+        if let Some(indexed) = remembered(profile, scanner, number, peer, id) {
+            return Some(indexed);
+        }
+    }
+    search(profile, scanner, hints, peer, id)
+}
+
 /// Delivers a datagram to the slot that it is for, if there is one.
-fn receive_read(
+fn receive_read<H: Hints>(
     profile: &ScannerProfile,
     scanner: &mut ScannerState,
+    hints: &mut H,
     peer: Node,
     datagram: &Datagram<'_>,
 ) -> Delivery
     requires whole { IsWhole (table_of profile.now scanner.old) }
-    ensures { (plain_answer (Delivered result), table_of profile.now scanner.new) ≡ received_at (table_of profile.now scanner.old) (view_datagram datagram.now) (find (is_for peer datagram.now.connection.0) (indexed_slots (table_of profile.now scanner.old))) }
+    ensures step { (plain_answer (Delivered result), table_of profile.now scanner.new) ≡ received_at (table_of profile.now scanner.old) (view_datagram datagram.now) (find (is_for peer datagram.now.connection.0) (indexed_slots (table_of profile.now scanner.old))) }
+    ensures hints { IsHinted (H.bounds hints.old) (table_of profile.now scanner.old) → IsHinted (H.bounds hints.new) (table_of profile.now scanner.new) }
 {
-    let test = SlotTest::For(peer, datagram.connection);
-    let Some(indexed) = find_slot(profile.slots.as_slice(), &scanner.slots, test) else {
+    // The bounds stay true of the slot with its new deadline.
+    accepted_datagrams_keep_bounds();
+    bounds_are_kept_by_earlier_ones();
+    let Some(indexed) = consumer(profile, scanner, hints, peer, datagram.connection) else {
         return Delivery::UnknownId;
     };
     let number = indexed.number as usize;
     let mult = indexed.config.mult;
     match accepting(indexed, datagram) {
         Err(delivery) => delivery,
-        Ok(connection) => gather(
-            &mut scanner.slots[number],
-            connection,
-            scanner.clock,
-            mult,
-            datagram,
-        ),
+        Ok(connection) => {
+            let accepted = accepted_connection(connection, scanner.clock, mult, datagram);
+            hints.await_deadline(accepted.deadline);
+            gather(
+                &mut scanner.slots[number],
+                connection.last,
+                accepted,
+                datagram,
+            )
+        }
     }
 }
 
@@ -124,17 +197,19 @@ fn receive_read(
 ///
 /// Volume 1, chapter 3, class 1 transport and connection timeouts; Volume 2, chapter 2, sequenced address item.
 #[tactic(auto, unfolding(scanner_table::specs::Datagrams::received))]
-pub fn receive(
+pub fn receive<H: Hints>(
     profile: &ScannerProfile,
     scanner: &mut ScannerState,
+    hints: &mut H,
     peer: Node,
     bytes: &[u8],
 ) -> Delivery
     requires whole { IsWhole (table_of profile.now scanner.old) }
-    ensures { (plain_answer (Delivered result), table_of profile.now scanner.new) ≡ received (table_of profile.now scanner.old) peer bytes.now }
+    ensures step { (plain_answer (Delivered result), table_of profile.now scanner.new) ≡ received (table_of profile.now scanner.old) peer bytes.now }
+    ensures hints { IsHinted (H.bounds hints.old) (table_of profile.now scanner.old) → IsHinted (H.bounds hints.new) (table_of profile.now scanner.new) }
 {
     match read_datagram(bytes) {
         Err(_) => Delivery::Malformed,
-        Ok(datagram) => receive_read(profile, scanner, peer, &datagram),
+        Ok(datagram) => receive_read(profile, scanner, hints, peer, &datagram),
     }
 }

@@ -8,9 +8,7 @@
 mod deliveries;
 mod outputs;
 mod productions;
-mod quiet;
 
 pub use deliveries::receive;
 pub use outputs::{set_mode, write};
 pub use productions::{due_datagrams, produce};
-pub use quiet::is_quiet;

@@ -12,19 +12,16 @@ ghost use Rattle.scanner_table.specs.Productions.{slot_data, state_is_due, produ
 ghost use Rattle.scanner_table.specs.Whole.{IsWhole};
 ghost use Rattle.slot_places.specs.declared.indexed_slots.SlotView.{SlotView};
 ghost use Rattle.slot_places.specs.Views.{view_slot, table_of};
-ghost use Rattle.slot_data.specs.Results.{at_time};
+ghost use Rattle.slot_hints.specs.Bounding.{at_time};
 
 use cip_datagram::header;
-use cip_events::{Consumers, OutgoingDatagram};
+use cip_events::{Consumers, OutgoingDatagram, SmallBytes};
 use cip_productions::{Kind, Producer, is_production_due, produced, sent_by};
 use cip_types::{Ms, OutOfMemory};
 use list_order::{Order, sorted};
 use scanner_table::{Connection, ScannerProfile, Slot, SlotConfig, SlotState};
 use slot_places::{ScannerState, SlotTest, SlotView, slots_that};
 use std::alloc::Global;
-
-/// The bytes of a run/idle header.
-const HEADER: usize = 4;
 
 fn due_of(state: &SlotState) -> u64
     ensures { result ≡ due_of state.now }
@@ -48,27 +45,24 @@ impl<'a> Order<SlotView<'a>> for ByDue {
     }
 }
 
-/// Writes the data of an exclusive owner: the run/idle header and the output.
-fn owned_data(alloc: Global, run: bool, slot: &Slot) -> Result<Vec<u8>, OutOfMemory>
-    requires { length slot.now.output ≤ 65529 }
-    ensures { IfOk result (λ bytes. bytes.items ≡ to_le_bytes w32 (mode_header run) ++ slot.now.output) }
+/// Writes the data of an exclusive owner: the run/idle header and the output. Up to 56 bytes take no memory.
+fn owned_data(alloc: Global, run: bool, slot: &Slot) -> Result<SmallBytes, OutOfMemory>
+    ensures { IfOk result (λ bytes. bytes ≡ to_le_bytes w32 (mode_header run) ++ slot.now.output) }
 {
-    let output = slot.output.as_slice();
-    let mut bytes = Vec::with_capacity(alloc, HEADER + output.len())?;
-    bytes.extend_from_slice(&header(run).to_le_bytes())?;
-    bytes.extend_from_slice(output)?;
-    Ok(bytes)
+    let header = header(run).to_le_bytes();
+    SmallBytes::joined(alloc, &header, slot.output.as_slice())
 }
 
-/// Writes the data of a slot: an exclusive owner sends the run/idle header and its output, another kind no data.
-fn slot_data(alloc: Global, run: bool, indexed: SlotView<'_>) -> Result<Vec<u8>, OutOfMemory>
+/// Writes the data of a slot: an exclusive owner sends the run/idle header and its output, another kind no data. Up to 56
+/// bytes take no memory.
+fn slot_data(alloc: Global, run: bool, indexed: SlotView<'_>) -> Result<SmallBytes, OutOfMemory>
     requires { length indexed.slot.now.output ≤ 65529 }
-    ensures data { IfOk result (λ bytes. bytes.items ≡ slot_data run (view_slot indexed.entry)) }
-    ensures short { IfOk result (λ bytes. length bytes.items ≤ 65533) }
+    ensures data { IfOk result (λ bytes. bytes ≡ slot_data run (view_slot indexed.entry)) }
+    ensures short { IfOk result (λ bytes. length bytes ≤ 65533) }
 {
     match indexed.config.kind {
         Kind::ExclusiveOwner => owned_data(alloc, run, indexed.slot),
-        Kind::InputOnly | Kind::ListenOnly => Ok(Vec::new(alloc)),
+        Kind::InputOnly | Kind::ListenOnly => SmallBytes::joined(alloc, &[], &[]),
     }
 }
 
@@ -91,7 +85,7 @@ fn outgoing(
     sent_by(
         alloc,
         Consumers::one(indexed.config.target),
-        &bytes,
+        bytes.as_slice(),
         &producer,
     )
 }
@@ -136,7 +130,7 @@ fn datagrams_of(
     requires { All (λ (indexed : SlotView). length indexed.slot.now.output ≤ 65529) indexed_slots.now }
     ensures { IfOk result (λ due_datagrams. due_datagrams.items ≡ map sent (filter_map (slot_production run) (map view_slot indexed_slots.now))) }
 {
-    let mut due_datagrams = Vec::new(alloc);
+    let mut due_datagrams = Vec::with_capacity(alloc, indexed_slots.len())?;
     for indexed in indexed_slots {
         push_outgoing(alloc, run, *indexed, &mut due_datagrams)?;
     }

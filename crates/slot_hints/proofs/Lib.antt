@@ -1,0 +1,4 @@
+pub mod Bounded
+pub mod Resting
+pub mod Changes
+pub mod Few

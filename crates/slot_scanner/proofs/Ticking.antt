@@ -1,0 +1,41 @@
+-- The effect of a tick.
+use Rattle.std.proofs.Common.{◌≡◌, ℕ, ◌+◌, List, [], map, Result, Ok, refl, ap, ◌∙◌}
+use Rattle.cip_events.specs.declared.event.Answer.{Answer}
+use Rattle.cip_events.specs.declared.event.OutgoingDatagram.{OutgoingDatagram}
+use Rattle.cip_events.specs.declared.event.StepFault.{StepFault}
+use Rattle.cip_types.specs.declared.names.Ms.{Ms}
+use Rattle.cip_productions.specs.Productions.{Produced, sent}
+use Rattle.scanner_table.specs.declared.table.ScannerTable.{ScannerTable}
+use Rattle.cip_events.specs.declared.event.Verdict.TheVariants.{Done}
+use Rattle.cip_events.specs.Answers.{plain_answer}
+use Rattle.scanner_table.specs.Effects.{Next, Effect, nothing, sent_answer}
+use Rattle.slot_hints.specs.Bounding.{at_time}
+use Rattle.scanner_table.specs.Productions.{due_productions, produced_table}
+use Rattle.scanner_table.specs.Ticks.{clocked_table, advanced, ticked}
+use Rattle.slot_transactions.specs.Transactions.{Progress, begun, followed, progress_answer}
+
+-- a transaction with another clock
+abbrev pub with_clock : Ms → Progress → Progress
+with_clock clock d = record d { table = record d.table { clock = clock } }
+
+-- a transaction with another table
+abbrev pub with_table : ScannerTable → Progress → Progress
+with_table t d = record d { table = t }
+
+pub tick_taken : (t : ScannerTable) (effect : Effect) (d : Progress) (datagrams : List OutgoingDatagram) (answer : Answer) (made new : ScannerTable) → d ≡ followed (begun t) effect → datagrams ≡ map sent (due_productions d.table) → made ≡ produced_table d.table → answer ≡ progress_answer (with_table made d) datagrams → new ≡ made → ◌≡◌ {A = Result Next StepFault} (Ok (ticked effect)) (Ok (answer, new))
+tick_taken t effect d datagrams answer made new is sends makes reported left = rw (reported, left, makes, sends, is) refl
+
+pub advanced_made : (t : ScannerTable) (ms n : ℕ) (first last : Progress) → first ≡ begun t → n ≡ ms → last ≡ followed (with_clock (record { 0 = t.clock.0 + n }) first) (advanced (with_clock (record { 0 = t.clock.0 + n }) first).table) → last ≡ followed (begun (clocked_table t ms)) (advanced (clocked_table t ms))
+advanced_made t ms n first last begins same is =
+    is
+    ∙ ap (λ (d : Progress). followed (with_clock (record { 0 = t.clock.0 + n }) d) (advanced (with_clock (record { 0 = t.clock.0 + n }) d).table)) begins
+    ∙ ap (λ (m : ℕ). followed (begun (clocked_table t m)) (advanced (clocked_table t m))) same
+
+abbrev as_ok : Next → Result Next StepFault
+as_ok next = Ok next
+
+-- a tick by which nothing happens
+pub rested : (t : ScannerTable) (clock : Ms) → advanced (at_time t clock) ≡ nothing (at_time t clock) → due_productions (at_time t clock) ≡ [] → produced_table (at_time t clock) ≡ at_time t clock → ◌≡◌ {A = Result Next StepFault} (Ok (ticked (advanced (at_time t clock)))) (Ok (plain_answer Done, at_time t clock))
+rested t clock rests none same = ap (λ (e : Effect). as_ok (ticked e)) rests ∙ both (due_productions (at_time t clock)) (produced_table (at_time t clock)) none same where
+  both : (due : List Produced) (made : ScannerTable) → due ≡ [] → made ≡ at_time t clock → ◌≡◌ {A = Result Next StepFault} (Ok (sent_answer (nothing (at_time t clock)) (map sent due), made)) (Ok (plain_answer Done, at_time t clock))
+  both due made none same = rw (none, same) refl

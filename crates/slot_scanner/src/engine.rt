@@ -1,0 +1,164 @@
+//! A scanner over its slots.
+
+use crate::events::{happened, image_at, written};
+use crate::made::{fresh_state, state_of};
+use crate::ticks::tick;
+use cip_tables::{
+    Config, Delivery, Device, DeviceTable, Event, NewFault, Outcome, StepFault, TableCopy,
+};
+use cip_types::{Items, Node, OutOfMemory};
+use scanner_laws::{fresh_tables_are_whole, steps_keep_tables_whole};
+use scanner_table::{ScannerProfile, ScannerTable, copy_of_slots};
+use slot_data::receive;
+use slot_hints::Hints;
+use slot_places::ScannerState;
+use std::alloc::Global;
+use std::marker::Model;
+
+/// A scanner over its slots, which contracts see as its table.
+///
+/// It keeps the allocator that it was made with. What it remembers beside its slots shows in no outcome.
+#[derive(Drop)]
+pub struct Scanner<H: Hints> {
+    alloc: Global,
+    profile: ScannerProfile,
+    scanner: ScannerState,
+    hints: H,
+}
+
+impl<H: Hints> Model for Scanner<H> {
+    ghost use Rattle.scanner_table.specs.declared.table.ScannerTable.{ScannerTable};
+    ghost use Rattle.scanner_laws.specs.Whole.{IsWholeScanner};
+    ghost use Rattle.slot_hints.specs.Bounding.{IsHinted};
+    ghost use Rattle.slot_places.specs.Views.{table_of};
+
+    ghost Value = { ScannerTable };
+
+    ghost view = { λ s. table_of s.profile s.scanner };
+
+    ghost invariant = { λ s. IsWholeScanner (table_of s.profile s.scanner) × IsHinted (H.bounds s.hints) (table_of s.profile s.scanner) };
+}
+
+impl<H: Hints> Device for Scanner<H> {
+    ghost use Rattle.std.specs.Prelude.{false};
+    ghost use Rattle.cip_tables.specs.declared.table.DeviceTable.{DeviceTable};
+
+    ghost table = { λ scanner. DeviceTable.Scanner scanner };
+
+    ghost ADAPTER = { false };
+
+    const ADAPTER: bool = false;
+
+    fn new(alloc: Global, config: Config) -> Result<Self, NewFault> {
+        let profile = match config {
+            Config::Scanner(profile) => profile,
+            Config::Adapter(profile) => {
+                profile.check()?;
+                return Err(NewFault::WrongKind);
+            }
+        };
+        profile.check()?;
+        // The fresh table is whole, since the profile has no fault.
+        fresh_tables_are_whole();
+        let scanner = fresh_state(alloc, &profile)?;
+        Ok(Scanner {
+            alloc,
+            profile,
+            scanner,
+            hints: H::new(),
+        })
+    }
+
+    #[inline(always)]
+    #[tactic(auto, unfolding(cip_tables::specs::Step::step), using(cip_tables::specs::FollowLaws::scanner_follows, crate::proofs::Kept::follows_kept))]
+    fn step(&mut self, event: &Event) -> Outcome {
+        // The next table is whole, as the invariant of this type says.
+        steps_keep_tables_whole();
+        match event {
+            Event::Tick { ms } => tick(
+                self.alloc,
+                &self.profile,
+                &mut self.scanner,
+                &mut self.hints,
+                *ms,
+            ),
+            _ => happened(
+                self.alloc,
+                &self.profile,
+                &mut self.scanner,
+                &mut self.hints,
+                event,
+            ),
+        }
+    }
+
+    #[tactic(auto, unfolding(cip_tables::specs::Step::step), using(crate::proofs::Kept::received_kept))]
+    fn deliver(&mut self, peer: Node, bytes: &[u8]) -> Delivery {
+        // The next table is whole, as the invariant of this type says.
+        steps_keep_tables_whole();
+        receive(
+            &self.profile,
+            &mut self.scanner,
+            &mut self.hints,
+            peer,
+            bytes,
+        )
+    }
+
+    #[tactic(auto, unfolding(cip_tables::specs::Step::step), using(cip_tables::specs::FollowLaws::scanner_follows, crate::proofs::Kept::written_kept))]
+    fn write_point(&mut self, point: u32, bytes: &[u8]) -> Outcome {
+        // The next table is whole, as the invariant of this type says.
+        steps_keep_tables_whole();
+        written(self.alloc, &self.profile, &mut self.scanner, point, bytes)
+    }
+
+    #[tactic(auto, unfolding(cip_tables::specs::Step::step, scanner_table::specs::Points::read))]
+    fn read_point(&self, point: u32) -> Result<&[u8], StepFault> {
+        image_at(&self.profile, &self.scanner, point)
+    }
+
+    fn copy(&self) -> Result<TableCopy, OutOfMemory> {
+        Ok(TableCopy::scanner(ScannerTable {
+            profile: self.profile.copy(self.alloc)?,
+            slots: Items::from_vec(copy_of_slots(self.alloc, &self.scanner.slots)?),
+            run: self.scanner.run,
+            clock: self.scanner.clock,
+            next_id: self.scanner.next_id,
+            next_serial: self.scanner.next_serial,
+            next_request: self.scanner.next_request,
+            streams: Items::copy_of(self.alloc, &self.scanner.streams)?,
+        }))
+    }
+
+    fn is_whole(&self) {
+        // Reading a field gives the prover the invariant of this type.
+        let _clock = self.scanner.clock;
+    }
+}
+
+impl<H: Hints> Scanner<H> {
+    ghost use Rattle.std.specs.Prelude.{◌≡◌, not, None, IfOk, IfErr};
+    ghost use Rattle.cip_events.specs.Faults.{IsRefusedAs};
+    ghost use Rattle.cip_tables.specs.declared.table.DeviceTable.{DeviceTable};
+    ghost use Rattle.cip_tables.specs.Step.{is_adapter};
+
+    /// Makes a scanner that goes on from a copied table.
+    ///
+    /// The errors, in order: `WrongKind` if the copy is of an adapter's table; `OutOfMemory`.
+    pub fn from_copy(alloc: Global, copy: &TableCopy) -> Result<Self, NewFault>
+        ensures table { IfOk result (λ scanner. DeviceTable.Scanner scanner ≡ copy.now) }
+        ensures fault { IfErr result (λ fault. IsRefusedAs None (not (is_adapter copy.now)) fault) }
+    {
+        let DeviceTable::Scanner(table) = copy.table() else {
+            return Err(NewFault::WrongKind);
+        };
+        let profile = table.profile.copy(alloc)?;
+        let scanner = state_of(alloc, table)?;
+        Ok(Scanner {
+            alloc,
+            profile,
+            scanner,
+            hints: H::new(),
+        })
+    }
+}

@@ -1,0 +1,198 @@
+//! Ticks.
+
+ghost use Rattle.std.specs.Prelude.{IfOk, ◌≡◌, ◌<◌, ◌≤◌, ◌+◌, ◌^◌, Ok, None};
+ghost use Rattle.cip_events.specs.Outcomes.{Follows};
+ghost use Rattle.scanner_table.specs.Effects.{nothing};
+ghost use Rattle.scanner_table.specs.Ticks.{clocked_table, advanced, ticked, tick};
+ghost use Rattle.scanner_table.specs.Profiles.{profile_fault};
+ghost use Rattle.scanner_table.specs.Whole.{IsWhole};
+ghost use Rattle.slot_hints.specs.Bounding.{IsHinted, at_time};
+ghost use Rattle.slot_transactions.specs.Transactions.{begun, followed, view_transaction};
+ghost use Rattle.slot_places.specs.Views.{table_of};
+
+use crate::answers::{sent_answer, taken};
+use cip_events::{Answer, Outcome, StepFault, Verdict};
+use cip_types::limits::{CLOCK_END_MS, LONGEST_TICK_MS};
+use cip_types::{Ms, OutOfMemory};
+use scanner_table::{ScannerProfile, advancing_keeps_tables_whole};
+use slot_data::{due_datagrams, produce};
+use slot_hints::{
+    Bounds, Hints, bounds_are_kept_by_earlier_ones, bounds_of, connections_rest_before_bounds,
+    producers_rest_before_bounds,
+};
+use slot_places::ScannerState;
+use slot_runs::advance;
+use slot_transactions::Transaction;
+use std::alloc::Global;
+
+/// Moves the clock to a time by which no connection changes: only due slots send.
+fn pass(alloc: Global, profile: &ScannerProfile, scanner: &mut ScannerState, clock: Ms) -> Outcome
+    requires whole { IsWhole (table_of profile.now scanner.old) }
+    requires time { clock.0 ≤ 2 ^ 48 }
+    requires quiet { advanced (at_time (table_of profile.now scanner.old) clock) ≡ nothing (at_time (table_of profile.now scanner.old) clock) }
+    ensures { Follows (Ok (ticked (advanced (at_time (table_of profile.now scanner.old) clock)))) (table_of profile.now scanner.old) result (table_of profile.now scanner.new) }
+{
+    let datagrams = due_datagrams(alloc, profile, scanner, clock)?;
+    produce(scanner, clock);
+    Ok(sent_answer(alloc, datagrams))
+}
+
+/// Performs the part of a tick before its productions. The clock does not pass its end.
+fn advanced(
+    alloc: Global,
+    profile: &ScannerProfile,
+    scanner: &ScannerState,
+    ms: u32,
+) -> Result<Transaction, OutOfMemory>
+    requires whole { IsWhole (table_of profile.now scanner.now) }
+    requires time { scanner.now.clock.0 + ms ≤ 2 ^ 48 }
+    ensures effect { let t = clocked_table (table_of profile.now scanner.now) ms in IfOk result (λ transaction. view_transaction profile.now transaction ≡ followed (begun t) (advanced t)) }
+{
+    let mut transaction = Transaction::begin(alloc, scanner)?;
+    transaction.scanner.clock = Ms(scanner.clock.0 + u64::from(ms));
+    advance(&mut transaction, profile)?;
+    Ok(transaction)
+}
+
+/// Performs a tick in which connections change: then due slots send. The clock does not pass its end.
+fn advance_by(
+    alloc: Global,
+    profile: &ScannerProfile,
+    scanner: &mut ScannerState,
+    ms: u32,
+) -> Outcome
+    requires whole { IsWhole (table_of profile.now scanner.old) }
+    requires time { scanner.old.clock.0 + ms ≤ 2 ^ 48 }
+    ensures { Follows (Ok (ticked (advanced (clocked_table (table_of profile.now scanner.old) ms)))) (table_of profile.now scanner.old) result (table_of profile.now scanner.new) }
+{
+    // The due slots produce from a whole table.
+    advancing_keeps_tables_whole();
+    let mut transaction = advanced(alloc, profile, scanner, ms)?;
+    let clock = transaction.scanner.clock;
+    let datagrams = due_datagrams(alloc, profile, &transaction.scanner, clock)?;
+    produce(&mut transaction.scanner, clock);
+    Ok(taken(transaction, scanner, datagrams))
+}
+
+/// Takes the bounds of the slots anew.
+pub fn renew<H: Hints>(profile: &ScannerProfile, scanner: &ScannerState, hints: &mut H)
+    requires { profile_fault profile.now ≡ None }
+    ensures { IsHinted (H.bounds hints.new) (table_of profile.now scanner.now) }
+{
+    // Earlier bounds hold where these do.
+    bounds_are_kept_by_earlier_ones();
+    hints.set_bounds(bounds_of(profile, scanner));
+}
+
+/// Returns the bounds, taken anew if they allow a change by this time.
+fn present_bounds(
+    profile: &ScannerProfile,
+    scanner: &ScannerState,
+    bounds: Bounds,
+    clock: Ms,
+) -> Bounds
+    requires faultless { profile_fault profile.now ≡ None }
+    requires hints { IsHinted bounds (table_of profile.now scanner.now) }
+    ensures { IsHinted result (table_of profile.now scanner.now) }
+{
+    if bounds.allow_changes(clock) {
+        return bounds_of(profile, scanner);
+    }
+    bounds
+}
+
+/// Performs a tick by which connections may change, or slots may be due. The clock does not pass its end.
+fn advance_within(
+    alloc: Global,
+    profile: &ScannerProfile,
+    scanner: &mut ScannerState,
+    bounds: Bounds,
+    ms: u32,
+) -> Outcome
+    requires whole { IsWhole (table_of profile.now scanner.old) }
+    requires hints { IsHinted bounds (table_of profile.now scanner.old) }
+    requires time { scanner.old.clock.0 + ms ≤ 2 ^ 48 }
+    ensures { Follows (Ok (ticked (advanced (clocked_table (table_of profile.now scanner.old) ms)))) (table_of profile.now scanner.old) result (table_of profile.now scanner.new) }
+{
+    // Before the bounds, no connection changes.
+    connections_rest_before_bounds();
+    let clock = Ms(scanner.clock.0 + u64::from(ms));
+    if present_bounds(profile, scanner, bounds, clock).allow_changes(clock) {
+        return advance_by(alloc, profile, scanner, ms);
+    }
+    pass(alloc, profile, scanner, clock)
+}
+
+/// Performs a tick that reaches a bound. The clock does not pass its end.
+#[inline(never)]
+fn reach<H: Hints>(
+    alloc: Global,
+    profile: &ScannerProfile,
+    scanner: &mut ScannerState,
+    hints: &mut H,
+    ms: u32,
+) -> Outcome
+    requires whole { IsWhole (table_of profile.now scanner.old) }
+    requires hints { IsHinted (H.bounds hints.old) (table_of profile.now scanner.old) }
+    requires time { scanner.old.clock.0 + ms ≤ 2 ^ 48 }
+    ensures step { Follows (Ok (ticked (advanced (clocked_table (table_of profile.now scanner.old) ms)))) (table_of profile.now scanner.old) result (table_of profile.now scanner.new) }
+    ensures hints { IsHinted (H.bounds hints.new) (table_of profile.now scanner.new) }
+{
+    let outcome = advance_within(alloc, profile, scanner, hints.bounds(), ms);
+    renew(profile, scanner, hints);
+    outcome
+}
+
+/// Performs a tick by which nothing happens: the clock moves.
+#[inline(always)]
+fn rest(
+    alloc: Global,
+    profile: &ScannerProfile,
+    scanner: &mut ScannerState,
+    bounds: Bounds,
+    ms: u32,
+) -> Outcome
+    requires whole { IsWhole (table_of profile.now scanner.old) }
+    requires hints { IsHinted bounds (table_of profile.now scanner.old) }
+    requires time { scanner.old.clock.0 + ms ≤ 2 ^ 48 }
+    requires ends { scanner.old.clock.0 + ms < bounds.ends.0 }
+    requires retries { scanner.old.clock.0 + ms < bounds.retries.0 }
+    requires dues { scanner.old.clock.0 + ms < bounds.dues.0 }
+    ensures step { Follows (Ok (ticked (advanced (clocked_table (table_of profile.now scanner.old) ms)))) (table_of profile.now scanner.old) result (table_of profile.now scanner.new) }
+    ensures hints { IsHinted bounds (table_of profile.now scanner.new) }
+{
+    // Before the bounds, no connection changes and no slot produces.
+    connections_rest_before_bounds();
+    producers_rest_before_bounds();
+    scanner.clock = Ms(scanner.clock.0 + u64::from(ms));
+    Ok(Answer::plain(alloc, Verdict::Done))
+}
+
+/// Performs a tick. The errors, in order: `TickTooLong`, `ClockEnd`, `OutOfMemory`.
+#[inline(always)]
+#[tactic(auto, unfolding(scanner_table::specs::Ticks::tick))]
+pub fn tick<H: Hints>(
+    alloc: Global,
+    profile: &ScannerProfile,
+    scanner: &mut ScannerState,
+    hints: &mut H,
+    ms: u32,
+) -> Outcome
+    requires whole { IsWhole (table_of profile.now scanner.old) }
+    requires hints { IsHinted (H.bounds hints.old) (table_of profile.now scanner.old) }
+    ensures step { Follows (tick (table_of profile.now scanner.old) ms) (table_of profile.now scanner.old) result (table_of profile.now scanner.new) }
+    ensures hints { IsHinted (H.bounds hints.new) (table_of profile.now scanner.new) }
+{
+    if ms > LONGEST_TICK_MS {
+        return Err(StepFault::TickTooLong);
+    }
+    let clock = Ms(scanner.clock.0 + u64::from(ms));
+    if clock.0 > CLOCK_END_MS {
+        return Err(StepFault::ClockEnd);
+    }
+    let bounds = hints.bounds();
+    if bounds.are_after(clock) {
+        return rest(alloc, profile, scanner, bounds, ms);
+    }
+    reach(alloc, profile, scanner, hints, ms)
+}
