@@ -3,7 +3,7 @@ use Rattle.std.specs.Prelude.{◌≡◌, ℕ, Bool, true, false, List, slice_ind
 use Rattle.std.specs.Option.{is_none}
 use Rattle.udp_runner.specs.declared.input.Input.{Input}
 use Rattle.port_streams.specs.declared.port_stream.PortStream.{PortStream}
-use Rattle.port_streams.specs.StreamInputs.{ReceivesBytes, ended, given_of, left_of, takes_bytes}
+use Rattle.port_streams.specs.StreamInputs.{ReceivesBytes, Sends, ended, given_of, left_of, takes_bytes}
 
 -- no stream has the number of the slot
 abbrev pub is_free : {S : Type 0} → Option (PortStream S) → Bool
@@ -39,7 +39,19 @@ pub record Receives {S : Type 0} (old : List (Option (PortStream S))) (number : 
   pub received : ReceivesAt (slot_at old number) piece slot
   pub others : new ≡ slice_set old number slot
 
--- the socket to read from, of a stream that takes bytes, and the one to write to, until the stream ends
+-- the slot after a message was sent over its stream
+abbrev pub SendsAt : {S : Type 0} → (S → Option (List ℕ)) → Option (PortStream S) → List ℕ → Option (PortStream S) → Type 0
+SendsAt contents None message new = new ≡ None
+SendsAt contents (Some port_stream) message None = ⊥
+SendsAt contents (Some port_stream) message (Some new) = Sends contents port_stream.ended port_stream message new
+
+-- a message was sent over the stream of this number: no other stream changes
+pub record SendsOver {S : Type 0} (contents : S → Option (List ℕ)) (old : List (Option (PortStream S))) (number : ℕ) (message : List ℕ) (new : List (Option (PortStream S))) : Type 0 where
+  pub slot : Option (PortStream S)
+  pub sent : SendsAt contents (slot_at old number) message slot
+  pub others : new ≡ slice_set old number slot
+
+-- the socket to read from, of a stream that takes bytes
 abbrev pub socket_if : {S : Type 0} → Bool → S → Option S
 socket_if true socket = Some socket
 socket_if false socket = None
@@ -47,11 +59,3 @@ socket_if false socket = None
 abbrev pub read_at : {S : Type 0} → Option (PortStream S) → Option S
 read_at None = None
 read_at (Some port_stream) = socket_if (takes_bytes port_stream) port_stream.socket
-
-abbrev pub is_open : Bool → Bool
-is_open true = false
-is_open false = true
-
-abbrev pub written_at : {S : Type 0} → Option (PortStream S) → Option S
-written_at None = None
-written_at (Some port_stream) = socket_if (is_open port_stream.ended) port_stream.socket

@@ -1,5 +1,6 @@
 -- One stream of a port: how it begins, the messages in its bytes, and its inputs in turn.
-use Rattle.std.specs.Prelude.{◌≡◌, ◌⊎◌, ℕ, Bool, true, false, List, [], ◌∷◌, ◌++◌, Option, Some, None}
+use Rattle.std.specs.Prelude.{◌≡◌, ◌⊎◌, ℕ, ◌<◌, Bool, true, false, List, [], ◌∷◌, ◌++◌, length, take, Option, Some, None}
+use Rattle.std.specs.Io.KnownBytes.{Appends}
 use Rattle.cip_types.specs.declared.names.Node.{Node}
 use Rattle.cip_encap.specs.Stream.{AreMessages, EndsTooLong, GoOn}
 use Rattle.udp_runner.specs.declared.input.Input.{Input}
@@ -60,3 +61,23 @@ left_next port_stream true [] false = Some port_stream
 
 abbrev pub left_of : {S : Type 0} → PortStream S → Option (PortStream S)
 left_of port_stream = left_next port_stream port_stream.reported port_stream.waiting port_stream.ended
+
+-- only a beginning of a message was written
+abbrev pub IsCutShort : Option (List ℕ) → List ℕ → Option (List ℕ) → Type 0
+IsCutShort old message new = (count : ℕ) × ((count < length message) × Appends old new (take count message))
+
+-- The whole message was written over the socket, and nothing else changes. Of a socket the bytes that it took may be
+-- known.
+pub record SendsWhole {S : Type 0} (contents : S → Option (List ℕ)) (old : PortStream S) (message : List ℕ) (new : PortStream S) : Type 0 where
+  pub written : Appends (contents old.socket) (contents new.socket) message
+  pub same : new ≡ record old { socket = new.socket }
+
+-- Only a beginning of the message was written, and with it the stream ends.
+pub record SendsInPart {S : Type 0} (contents : S → Option (List ℕ)) (old : PortStream S) (message : List ℕ) (new : PortStream S) : Type 0 where
+  pub part : IsCutShort (contents old.socket) message (contents new.socket)
+  pub same : new ≡ record old { socket = new.socket; ended = true }
+
+-- a stream after a message was sent over it: a stream that has ended drops it
+abbrev pub Sends : {S : Type 0} → (S → Option (List ℕ)) → Bool → PortStream S → List ℕ → PortStream S → Type 0
+Sends contents true old message new = new ≡ old
+Sends contents false old message new = SendsWhole contents old message new ⊎ SendsInPart contents old message new

@@ -1,12 +1,14 @@
 //! One stream of a port.
 
 ghost use Rattle.std.specs.Prelude.{◌≡◌, OnOk, OnErr};
-ghost use Rattle.port_streams.specs.StreamInputs.{ReceivesBytes, begun, ended, given_of, left_of, takes_bytes};
+ghost use Rattle.port_streams.specs.StreamInputs.{ReceivesBytes, Sends, begun, ended, given_of, left_of, takes_bytes};
 
+use crate::sending::write_message;
 use crate::waiting::MessageQueue;
 use cip_encap::{SplitFault, Splitter};
 use cip_types::{Node, OutOfMemory};
 use std::alloc::Global;
+use std::io::Write;
 use udp_runner::Input;
 
 /// One stream of a port: its peer, its socket, whether its opening was reported, whether it has ended, the bytes behind
@@ -43,13 +45,6 @@ impl<S: Drop> PortStream<S> {
         &self.socket
     }
 
-    /// Whether the stream has ended.
-    pub fn has_ended(&self) -> bool
-        ensures { result ≡ self.now.ended }
-    {
-        self.ended
-    }
-
     /// Whether bytes are to be read: the opening was reported, the stream has not ended, and no message waits.
     pub fn takes_bytes(&self) -> bool
         ensures { result ≡ takes_bytes self.now }
@@ -57,11 +52,11 @@ impl<S: Drop> PortStream<S> {
         self.reported && !self.ended && self.waiting.is_empty()
     }
 
-    /// Receives bytes of the stream. A stream that takes none drops them. The only fault is a refused allocation, which
-    /// leaves the stream as it was.
+    /// Receives bytes of the stream. A stream that takes none drops them. The only fault is a refused allocation: the
+    /// bytes are lost, so the stream ends.
     pub fn receive(&mut self, piece: &[u8]) -> Result<(), OutOfMemory>
         ensures received { OnOk result (ReceivesBytes (takes_bytes self.old) self.old piece.now self.new) }
-        ensures err { OnErr result (self.new ≡ self.old) }
+        ensures err { OnErr result (self.new ≡ ended self.old) }
     {
         if !self.takes_bytes() {
             return Ok(());
@@ -75,7 +70,10 @@ impl<S: Drop> PortStream<S> {
                 self.ended = true;
                 Ok(())
             }
-            Err(SplitFault::OutOfMemory) => Err(OutOfMemory),
+            Err(SplitFault::OutOfMemory) => {
+                self.ended = true;
+                Err(OutOfMemory)
+            }
         }
     }
 
@@ -112,5 +110,20 @@ impl<S: Drop> PortStream<S> {
             return (Some(Input::Cut { stream: number }), None);
         }
         (None, Some(self))
+    }
+}
+
+impl<S: Write + Drop> PortStream<S> {
+    /// Sends a message. A stream that does not take all of it at once ends, so that no message follows one that was
+    /// written in part. A stream that has ended drops it. Takes no memory.
+    pub fn send(&mut self, message: &[u8])
+        ensures { Sends S.contents self.old.ended self.old message.now self.new }
+    {
+        if self.ended {
+            return;
+        }
+        if !write_message(&mut self.socket, message) {
+            self.ended = true;
+        }
     }
 }

@@ -3,12 +3,13 @@
 ghost use Rattle.std.specs.Prelude.{◌≡◌, ◌<◌, replicate, position, slice_set, vec_len, Some, None, IfOk, IfErr, OnOk, OnErr};
 ghost use Rattle.std.specs.Option.{option_map};
 ghost use Rattle.port_streams.specs.StreamInputs.{begun};
-ghost use Rattle.port_streams.specs.Slots.{Receives, ended_at, given_at, is_free, left_at, slot_at, read_at, written_at};
+ghost use Rattle.port_streams.specs.Slots.{Receives, SendsOver, ended_at, given_at, is_free, left_at, slot_at, read_at};
 
 use crate::port_stream::PortStream;
 use cip_types::limits::MOST_STREAMS;
 use cip_types::{Node, OutOfMemory};
 use std::alloc::Global;
+use std::io::Write;
 use udp_runner::Input;
 
 /// The streams of a port by their numbers, each with its socket.
@@ -67,16 +68,6 @@ impl<S: Drop> PortStreams<S> {
         }
     }
 
-    /// The socket to write to: that of a stream that has not ended.
-    pub fn to_write(&self, number: u16) -> Option<&S>
-        ensures { option_map (λ lent. lent.now) result ≡ written_at (slot_at self.now.slots.items number) }
-    {
-        match self.slots.get(usize::from(number)) {
-            Some(Some(port_stream)) if !port_stream.has_ended() => Some(port_stream.socket()),
-            _ => None,
-        }
-    }
-
     /// Removes a stream, and answers it.
     fn take(&mut self, number: u16) -> Option<PortStream<S>>
         ensures taken { result ≡ slot_at self.old.slots.items number }
@@ -100,11 +91,11 @@ impl<S: Drop> PortStreams<S> {
     }
 
     /// Receives bytes of the stream of this number, and cuts them into messages, which wait to be taken. A message that
-    /// is too long ends the stream. A stream that takes no bytes drops them. The only fault is a refused allocation,
-    /// which leaves all streams as they were.
+    /// is too long ends the stream. A stream that takes no bytes drops them. The only fault is a refused allocation:
+    /// the bytes are lost, so the stream ends.
     pub fn receive(&mut self, number: u16, piece: &[u8]) -> Result<(), OutOfMemory>
         ensures received { OnOk result (Receives self.old.slots.items number piece.now self.new.slots.items) }
-        ensures err { OnErr result (self.new.slots.items ≡ self.old.slots.items) }
+        ensures err { OnErr result (self.new.slots.items ≡ slice_set self.old.slots.items number (ended_at (slot_at self.old.slots.items number))) }
     {
         let Some(mut port_stream) = self.take(number) else {
             return Ok(());
@@ -142,5 +133,19 @@ impl<S: Drop> PortStreams<S> {
         ensures { self.new.slots.items ≡ slice_set self.old.slots.items number None }
     {
         self.put(number, None);
+    }
+}
+
+impl<S: Write + Drop> PortStreams<S> {
+    /// Sends a message over the stream of this number. A stream that does not take all of it at once ends. The message
+    /// is dropped if the stream has ended or there is none. Takes no memory.
+    pub fn send(&mut self, number: u16, message: &[u8])
+        ensures { SendsOver S.contents self.old.slots.items number message.now self.new.slots.items }
+    {
+        let Some(mut port_stream) = self.take(number) else {
+            return;
+        };
+        port_stream.send(message);
+        self.put(number, Some(port_stream));
     }
 }

@@ -7,6 +7,6 @@ mod loop_device;
 mod profiles;
 
 pub use fault::LoopFault;
-pub use line::{LoopLine, run_loop};
+pub use line::{LoopLine, SocketLine, run_loop};
 pub use loop_device::LoopDevice;
 pub use profiles::{adapter, scanner};

@@ -1,22 +1,25 @@
 //! A device at its port, with its clock.
 
+ghost use Rattle.std.specs.Prelude.{◌≡◌, true, OnOk};
+ghost use Rattle.socket_loop.specs.Turning.{IsReadTimes};
+
 use crate::fault::LoopFault;
 use cip_tables::Device;
-use socket_port::{SocketPort, SystemClock};
-use std::rt::Clock as System;
-use udp_runner::{Port, drive};
+use udp_runner::{Clock, Port, drive};
 
 /// A device at its port, with a clock of its own.
 #[derive(Drop)]
-pub struct LoopDevice<R: System + Drop, D> {
-    pub port: SocketPort<R>,
+pub struct LoopDevice<P, C, D> {
+    pub port: P,
     pub device: D,
-    pub clock: SystemClock<R>,
+    pub clock: C,
 }
 
-impl<R: System + Drop, D: Device> LoopDevice<R, D> {
-    /// Drives the device for one turn.
-    pub fn turn(&mut self) -> Result<(), LoopFault> {
+impl<P: Port, C: Clock, D: Device> LoopDevice<P, C, D> {
+    /// Drives the device for one turn, which reads the clock once.
+    pub fn turn(&mut self) -> Result<(), LoopFault>
+        ensures { OnOk result (C.is_scripted ≡ true → IsReadTimes 1 (C.coming self.old.clock) (C.coming self.new.clock)) }
+    {
         // (`drive` requires that the count of failures can rise)
         if self.port.failures() == u64::MAX {
             return Err(LoopFault::Port);

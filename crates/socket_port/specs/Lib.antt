@@ -1,1 +1,1 @@
-pub mod ReadOutcomes
+pub mod Outcomes

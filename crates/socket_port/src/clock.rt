@@ -1,7 +1,8 @@
 //! The system's clock.
 
+use crate::whole_ms::WholeMs;
 use std::rt::Clock as System;
-use std::time::{Duration, Instant};
+use std::time::Instant;
 use udp_runner::Clock;
 
 /// Whole milliseconds of the system's clock. The remainder is kept for the next answer.
@@ -9,12 +10,17 @@ use udp_runner::Clock;
 pub struct SystemClock<R: System + Drop> {
     rt: R,
     last: Option<Instant>,
+    whole: WholeMs,
 }
 
 impl<R: System + Drop> SystemClock<R> {
     /// A clock that was not read yet.
     pub fn new(rt: R) -> SystemClock<R> {
-        SystemClock { rt, last: None }
+        SystemClock {
+            rt,
+            last: None,
+            whole: WholeMs::none(),
+        }
     }
 
     /// The whole milliseconds since the last answer, if there was one and the system's clock did not go back.
@@ -24,9 +30,9 @@ impl<R: System + Drop> SystemClock<R> {
             self.last = Some(now);
             return None;
         };
-        let ms = u64::try_from(now.checked_duration_since(last)?.as_millis()).ok()?;
-        self.last = last.checked_add(Duration::from_millis(ms));
-        Some(ms)
+        let ns = u64::try_from(now.checked_duration_since(last)?.as_nanos()).ok()?;
+        self.last = Some(now);
+        Some(self.whole.add(ns))
     }
 }
 

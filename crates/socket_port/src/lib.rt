@@ -4,8 +4,10 @@
 mod addresses;
 mod calls;
 mod clock;
+mod outcomes;
 mod port;
 mod sockets;
+mod whole_ms;
 
 pub use addresses::{LOOPBACK, loopback, node_of};
 pub use clock::SystemClock;

@@ -1,13 +1,14 @@
 //! The sockets of a port, over which it receives and sends.
 
 ghost use Rattle.std.specs.Prelude.{◌≤◌, length};
-ghost use Rattle.socket_port.specs.ReadOutcomes.{Fits};
+ghost use Rattle.socket_port.specs.Outcomes.{Fits};
 
 use crate::addresses::{address_of, node_of};
-use crate::calls::{self, ReadOutcome};
+use crate::calls;
+use crate::outcomes::ReadOutcome;
 use cip_types::limits::MOST_STREAMS;
 use cip_types::{Items, Node, OutOfMemory};
-use port_streams::{DatagramRoutes, PortStreams};
+use port_streams::{DatagramRoutes, PollOrder, PortStreams};
 use std::alloc::Global;
 use std::io;
 use std::net::{SocketAddr, TcpListener, TcpStream, UdpSocket};
@@ -18,17 +19,6 @@ const STREAM_NUMBERS: u16 = MOST_STREAMS as u16;
 
 /// A UDP datagram has fewer bytes. A read of a stream takes at most as many.
 const BUFFER_BYTES: usize = 65_536;
-
-/// One in this many polls looks at the streams before the datagrams.
-const POLLS: u8 = 16;
-
-/// The listener accepts once the polls since the last time have this weight: a call that finds no connection costs as
-/// much as four reads.
-const ACCEPT_INTERVAL: u8 = 240;
-
-/// The weight of a poll that finds nothing, and follows a wait of a millisecond. A poll that finds something takes
-/// microseconds, and has the weight 1.
-const IDLE_POLL: u8 = 30;
 
 /// The sockets of a port.
 #[derive(Drop)]
@@ -41,10 +31,7 @@ pub struct PortSockets {
     /// Whether the UDP socket is connected to the one destination of all datagrams.
     joined: bool,
     buffer: Vec<u8>,
-    first: u16,
-    polls: u8,
-    since_accept: u8,
-    idle: bool,
+    order: PollOrder,
 }
 
 impl PortSockets {
@@ -63,10 +50,7 @@ impl PortSockets {
             routes,
             joined: false,
             buffer: vec![in alloc; 0; BUFFER_BYTES]?,
-            first: 0,
-            polls: 0,
-            since_accept: ACCEPT_INTERVAL,
-            idle: false,
+            order: PollOrder::begin(),
         })
     }
 
@@ -91,7 +75,7 @@ impl PortSockets {
     /// The input that is there before the port waits. If the last poll found nothing, that was a moment ago, and no
     /// socket is read again: a port without inputs polls once a millisecond, and a port with many does not wait.
     pub fn poll_again(&mut self) -> Result<Option<Input>, PortFault> {
-        if self.idle {
+        if self.order.is_idle() {
             return Ok(None);
         }
         self.poll()
@@ -99,20 +83,18 @@ impl PortSockets {
 
     /// The input that is there now.
     pub fn poll(&mut self) -> Result<Option<Input>, PortFault> {
-        self.accept_in_turn()?;
+        if self.order.asks_listener() {
+            self.accept()?;
+        }
         let input = self.poll_all()?;
-        self.idle = input.is_none();
-        let counts = if self.idle { IDLE_POLL } else { 1 };
-        self.since_accept = self.since_accept.saturating_add(counts);
+        self.order.end_poll(input.is_some());
         Ok(input)
     }
 
-    /// The datagram or stream input that is there now. Datagrams are first, and in one of `POLLS` polls the streams, so
-    /// that neither delays the other for long.
+    /// The datagram or stream input that is there now. In most polls the datagrams are asked first, and in some the
+    /// streams, so that neither delays the other for long.
     fn poll_all(&mut self) -> Result<Option<Input>, PortFault> {
-        let turn = self.polls % POLLS;
-        self.polls = turn + 1;
-        if turn == 0 {
+        if self.order.asks_streams_first() {
             if let Some(input) = self.poll_streams()? {
                 return Ok(Some(input));
             }
@@ -140,24 +122,14 @@ impl PortSockets {
 
     /// The input of a stream that is there now. The streams take turns.
     fn poll_streams(&mut self) -> Result<Option<Input>, PortFault> {
-        let first = self.first % STREAM_NUMBERS;
-        for offset in 0..STREAM_NUMBERS {
-            let number = (first + offset) % STREAM_NUMBERS;
+        for place in 0..STREAM_NUMBERS {
+            let number = self.order.stream_at(place);
             if let Some(input) = self.poll_stream(number)? {
-                self.first = number + 1;
+                self.order.serve(number);
                 return Ok(Some(input));
             }
         }
         Ok(None)
-    }
-
-    /// Accepts the connection that waits, if it is the listener's turn.
-    fn accept_in_turn(&mut self) -> Result<(), PortFault> {
-        if self.since_accept < ACCEPT_INTERVAL {
-            return Ok(());
-        }
-        self.since_accept = 0;
-        self.accept()
     }
 
     /// Accepts the connection that waits.
@@ -184,24 +156,21 @@ impl PortSockets {
         Ok(self.streams.next(number))
     }
 
-    /// Takes the bytes of a stream out of the buffer. If there is no memory for them, they are lost, and the stream is
-    /// closed.
+    /// Takes the bytes of a stream out of the buffer. If there is no memory for them, the stream ends.
     fn receive(&mut self, number: u16, count: usize) -> Result<(), PortFault>
         requires { count ≤ length self.old.buffer.items }
     {
-        let received = self.streams.receive(number, &self.buffer[..count]);
-        if received.is_err() {
-            self.streams.end(number);
-            return Err(PortFault::Memory);
+        match self.streams.receive(number, &self.buffer[..count]) {
+            Ok(()) => Ok(()),
+            Err(OutOfMemory) => Err(PortFault::Memory),
         }
-        Ok(())
     }
 
     /// Sends an output.
     pub fn send(&mut self, output: &Output<'_>) -> Result<(), PortFault> {
         match output {
             Output::Frame { stream, bytes } => {
-                self.send_frame(*stream, bytes);
+                self.streams.send(*stream, bytes);
                 Ok(())
             }
             Output::Datagram { node, bytes } => self.send_datagram(*node, bytes),
@@ -212,14 +181,7 @@ impl PortSockets {
         }
     }
 
-    /// Sends a message over a stream. A stream that does not take it at once ends.
-    fn send_frame(&mut self, number: u16, bytes: &[u8]) {
-        if !is_taken(&self.streams, number, bytes) {
-            self.streams.end(number);
-        }
-    }
-
-    /// Sends a datagram to a node, if it has a destination.
+    /// Sends a datagram to a node. A datagram for a node without a destination is dropped. The fault: `Send`.
     fn send_datagram(&mut self, node: Node, bytes: &[u8]) -> Result<(), PortFault> {
         if self.joined {
             return calls::send_joined(&self.udp, bytes);
@@ -238,13 +200,5 @@ fn read(streams: &PortStreams<TcpStream>, number: u16, buffer: &mut [u8]) -> Rea
     match streams.to_read(number) {
         Some(socket) => calls::read(socket, buffer),
         None => ReadOutcome::Nothing,
-    }
-}
-
-/// Whether a stream takes all of a message. A message to a stream that has ended is dropped.
-fn is_taken(streams: &PortStreams<TcpStream>, number: u16, bytes: &[u8]) -> bool {
-    match streams.to_write(number) {
-        Some(socket) => calls::write(socket, bytes),
-        None => true,
     }
 }
