@@ -1,7 +1,7 @@
 //! An adapter over sockets, and what its peers receive.
 
 use crate::fault::SocketFault;
-use cip_tables::{Config, Device, InputPoint, Profile};
+use cip_tables::{Action, Config, Device, InputPoint, OutputPoint, Profile};
 use cip_types::{Items, OutOfMemory};
 use plain_engine::PlainAdapter;
 use socket_loop::{LoopDevice, LoopFault, adapter};
@@ -14,6 +14,14 @@ use std::rt::Clock;
 /// A reply has to come within this many turns.
 const MOST_TURNS: u32 = 20_000;
 
+/// The bytes of the adapter's output and of its input: the longest ones, so that its datagrams and answers are long.
+pub const POINT_BYTES: usize = 1_400;
+
+/// The numbers of the output and of the input.
+pub const OUTPUT: u32 = 150;
+
+pub const INPUT: u32 = 100;
+
 /// What a peer receives.
 #[derive(Clone, Copy, PartialEq, Eq)]
 pub enum Received {
@@ -23,11 +31,14 @@ pub enum Received {
     End,
 }
 
-/// An adapter over sockets, and its ports.
+type HostDevice<R> = LoopDevice<SocketPort<R>, SystemClock<R>, PlainAdapter>;
+
+/// An adapter over sockets, and its ports. It sends all datagrams to one socket, its consumer.
 #[derive(Drop)]
 pub struct AdapterHost<R: Clock + Drop> {
     rt: R,
-    loop_device: LoopDevice<R, PlainAdapter>,
+    loop_device: HostDevice<R>,
+    consumer: Option<UdpSocket>,
     tcp: u16,
     udp: u16,
 }
@@ -39,6 +50,58 @@ impl<R: Clock + Drop> AdapterHost<R> {
             self.loop_device.turn()?;
         }
         Ok(())
+    }
+
+    /// Whether the output of the adapter has these bytes within some turns.
+    pub fn applies(&mut self, output: &[u8]) -> Result<bool, SocketFault> {
+        for _ in 0..MOST_TURNS {
+            self.loop_device.turn()?;
+            if has_output(&self.loop_device.device, output) {
+                return Ok(true);
+            }
+        }
+        Ok(false)
+    }
+
+    /// The application of the adapter writes its input.
+    pub fn write_input(&mut self, bytes: &[u8]) -> Result<(), SocketFault> {
+        let _written = (self.loop_device.device)
+            .write_point(INPUT, bytes)
+            .map_err(LoopFault::from)?;
+        Ok(())
+    }
+
+    /// The number of bytes of the next datagram that the consumer receives; 0 if there is none within some turns.
+    pub fn consumed(&mut self, buffer: &mut [u8]) -> Result<usize, SocketFault> {
+        for _ in 0..MOST_TURNS {
+            self.loop_device.turn()?;
+            let count = self
+                .consumer
+                .as_ref()
+                .map_or(0, |socket| datagram(socket, buffer));
+            if count > 0 {
+                return Ok(count);
+            }
+        }
+        Ok(0)
+    }
+
+    /// The consumer throws bytes at the adapter.
+    pub fn throw_from_consumer(&self, bytes: &[u8]) {
+        if let Some(socket) = &self.consumer {
+            // (a datagram that the system does not take is lost, as it may be on the network)
+            let _ = socket.send_to(bytes, loopback(self.udp));
+        }
+    }
+
+    /// The consumer closes its socket: from then on it refuses the datagrams of the adapter.
+    pub fn close_consumer(&mut self) {
+        self.consumer = None;
+    }
+
+    /// Whether the peer has received bytes.
+    pub fn has_received(&self, peer: &TcpStream) -> bool {
+        matches!(read(peer), Some(count) if count > 0)
     }
 
     /// What the peer receives, if it waits for this many bytes.
@@ -63,19 +126,17 @@ impl<R> AdapterHost<R>
 where
     R: AllocGlobal + Clock + Net<Listener = TcpListener, Stream = TcpStream> + Copy + Drop,
 {
-    /// An adapter at ports that nobody uses.
-    pub fn open(rt: R) -> Result<AdapterHost<R>, SocketFault> {
+    /// An adapter at ports that nobody uses. If it is joined, its port is connected to the consumer.
+    pub fn open(rt: R, joined: bool) -> Result<AdapterHost<R>, SocketFault> {
+        let consumer = UdpSocket::bind(&rt, loopback(0))?;
+        consumer.set_nonblocking(true)?;
+        let to = consumer.local_addr()?.port();
         let (tcp, udp) = free_ports(&rt)?;
-        let config = Config::Adapter(profile(rt.alloc())?);
-        let device = PlainAdapter::new(rt.alloc(), config).map_err(LoopFault::from)?;
-        let port = SocketPort::adapter(rt.alloc(), rt, tcp, udp, udp).map_err(LoopFault::from)?;
+        let loop_device = host_device(rt, (tcp, udp), to, joined)?;
         Ok(AdapterHost {
             rt,
-            loop_device: LoopDevice {
-                port,
-                device,
-                clock: SystemClock::new(rt),
-            },
+            loop_device,
+            consumer: Some(consumer),
             tcp,
             udp,
         })
@@ -106,6 +167,29 @@ where
     }
 }
 
+/// A fresh adapter at these ports of TCP and UDP, whose datagrams go to this port.
+fn host_device<R>(
+    rt: R,
+    (tcp, udp): (u16, u16),
+    to: u16,
+    joined: bool,
+) -> Result<HostDevice<R>, SocketFault>
+where
+    R: AllocGlobal + Clock + Net<Listener = TcpListener, Stream = TcpStream> + Copy + Drop,
+{
+    let mut port = SocketPort::adapter(rt.alloc(), rt, tcp, udp, to).map_err(LoopFault::from)?;
+    if joined {
+        port.join().map_err(LoopFault::from)?;
+    }
+    let config = Config::Adapter(profile(rt.alloc())?);
+    let device = PlainAdapter::new(rt.alloc(), config).map_err(LoopFault::from)?;
+    Ok(LoopDevice {
+        port,
+        device,
+        clock: SystemClock::new(rt),
+    })
+}
+
 /// Ports of TCP and UDP that nobody uses.
 fn free_ports<R>(rt: &R) -> io::Result<(u16, u16)>
 where
@@ -116,16 +200,39 @@ where
     Ok((tcp.port(), udp.port()))
 }
 
-/// An adapter with an input of many bytes, so that its answers are long.
+/// An adapter whose output and input have as many bytes as they may.
 fn profile(alloc: Global) -> Result<Profile, OutOfMemory> {
+    let output = OutputPoint {
+        instance: OUTPUT,
+        len: POINT_BYTES as u64,
+        idle: Action::Zero,
+        fault: Action::Zero,
+    };
     let input = InputPoint {
-        instance: 100,
-        len: 1_400,
+        instance: INPUT,
+        len: POINT_BYTES as u64,
     };
     Ok(Profile {
+        outputs: Items::one(alloc, output)?,
         inputs: Items::one(alloc, input)?,
         ..adapter(alloc)?
     })
+}
+
+/// Whether the output of the adapter has these bytes.
+fn has_output(device: &PlainAdapter, output: &[u8]) -> bool {
+    match device.read_point(OUTPUT) {
+        Ok(bytes) => bytes == output,
+        Err(_) => false,
+    }
+}
+
+/// How many bytes the next datagram has: none where there is none.
+fn datagram(socket: &UdpSocket, buffer: &mut [u8]) -> usize {
+    match socket.recv(buffer) {
+        Ok(count) => count,
+        Err(_) => 0,
+    }
 }
 
 /// How many bytes came: none where nothing did, 0 where the connection ended.

@@ -4,7 +4,7 @@
 use crate::fault::SocketFault;
 use cip_tables::{Device, DeviceTable, SlotState};
 use plain_engine::{PlainAdapter, PlainScanner};
-use socket_loop::{LoopFault, LoopLine};
+use socket_loop::{LoopFault, SocketLine};
 use socket_port::loopback;
 use std::io;
 use std::net::{Net, TcpListener, TcpStream, UdpSocket};
@@ -15,7 +15,7 @@ const POINT: u32 = 150;
 
 const MOST_TURNS: u32 = 100_000;
 
-type Line<R> = LoopLine<R, PlainAdapter, PlainScanner>;
+type Line<R> = SocketLine<R, PlainAdapter, PlainScanner>;
 
 /// A port of TCP that nobody uses.
 fn free_tcp<R: Net<Listener = TcpListener, Stream = TcpStream>>(rt: &R) -> io::Result<u16> {
@@ -35,7 +35,7 @@ where
     for _ in 0..50 {
         let tcp = free_tcp(&rt)?;
         let udp = free_udp(&rt)?;
-        if let Ok(line) = LoopLine::open(rt.alloc(), rt, tcp, udp) {
+        if let Ok(line) = SocketLine::open(rt.alloc(), rt, tcp, udp) {
             return Ok(line);
         }
     }
@@ -96,7 +96,7 @@ fn is_refused<R>(rt: R, tcp: u16, udp: u16) -> bool
 where
     R: AllocGlobal + Clock + Net<Listener = TcpListener, Stream = TcpStream> + Copy + Drop,
 {
-    let line: Result<Line<R>, LoopFault> = LoopLine::open(rt.alloc(), rt, tcp, udp);
+    let line: Result<Line<R>, LoopFault> = SocketLine::open(rt.alloc(), rt, tcp, udp);
     matches!(line, Err(LoopFault::Port))
 }
 
