@@ -34,7 +34,8 @@ mode_clean : (run : Bool) → is_clean (mode_word run) ≡ true
 mode_clean true = refl
 mode_clean false = refl
 
-event_reads : (builder builder' : TraceBuilder) (given : Event) → EventFits given → builder_with builder (line.Event given) ≡ Some builder' → Reads builder (line_text (event_words given)) builder'
+-- an event, wherever it is allowed
+pub event_reads : (builder builder' : TraceBuilder) (given : Event) → EventFits given → builder_with builder (line.Event given) ≡ Some builder' → Reads builder (line_text (event_words given)) builder'
 event_reads builder builder' (event.Request peer bytes) fits built = line_reads builder builder' (codes "request") (node_word peer ∷ bytes_word bytes ∷ []) (line.Event (event.Request peer bytes)) refl refl (rw (node_clean peer, bytes_clean bytes fits.1) refl) (rw (node_back peer fits.0, bytes_back bytes fits.1) refl) built
 event_reads builder builder' (event.StreamOpened stream peer) fits built = line_reads builder builder' (codes "stream") (decimal stream ∷ node_word peer ∷ []) (line.Event (event.StreamOpened stream peer)) refl refl (rw (c16 stream fits.0, node_clean peer) refl) (rw (n16 stream fits.0, node_back peer fits.1) refl) built
 event_reads builder builder' (event.Frame stream bytes) fits built = line_reads builder builder' (codes "frame") (decimal stream ∷ bytes_word bytes ∷ []) (line.Event (event.Frame stream bytes)) refl refl (rw (c16 stream fits.0, bytes_clean bytes fits.1) refl) (rw (n16 stream fits.0, bytes_back bytes fits.1) refl) built

@@ -7,3 +7,4 @@ mod ProfileLaws
 mod TextLaws
 mod TraceLaws
 mod WordLaws
+mod ScannerLaws

@@ -4,6 +4,7 @@
 use Rattle.std.specs.Prelude.{◌≡◌, ◌<◌, ◌^◌, ◌-◌, List, length, None, Ok, Err, IfSome}
 use Rattle.std.specs.List.{All}
 use Rattle.hex.specs.Hex.{IsBytes}
+use Rattle.cip_epath.specs.declared.key.ElectronicKey.{ElectronicKey}
 use Rattle.cip_types.specs.declared.names.Fault.{Fault}
 use Rattle.cip_types.specs.declared.names.Identity.{Identity}
 use Rattle.cip_types.specs.declared.names.Mismatch.{Mismatch}
@@ -28,6 +29,9 @@ use Rattle.cip_events.specs.declared.event.Verdict.{Verdict}
 use Rattle.cip_events.specs.declared.event.Verdict.TheVariants as verdict
 use Rattle.cip_events.specs.Outcomes.{Outcome}
 use Rattle.cip_tables.specs.declared.table.Config.TheVariants as config
+use Rattle.scanner_table.specs.declared.profile.ScannerProfile.{ScannerProfile}
+use Rattle.scanner_table.specs.declared.profile.SlotConfig.{SlotConfig}
+use Rattle.scanner_table.specs.Profiles as scanner
 use Rattle.trace_text.specs.Reading.{Entry, trace_reading}
 use Rattle.trace_text.specs.Written.{trace_text}
 
@@ -52,6 +56,35 @@ pub record ProfileFits (profile : Profile) : Type 0 where
   pub config_fits : IfSome profile.config InputFits
   pub input_only_fits : profile.input_only < 2 ^ 32
   pub listen_only_fits : profile.listen_only < 2 ^ 32
+
+-- PROFILES OF SCANNERS
+
+-- the major revision of a key has seven bits by its type
+abbrev pub KeyFits : ElectronicKey → Type 0
+KeyFits key = (key.vendor < 2 ^ 16) × (key.device_type < 2 ^ 16) × (key.product < 2 ^ 16) × (key.minor < 2 ^ 8)
+
+pub record SlotFits (slot : SlotConfig) : Type 0 where
+  pub target_fits : slot.target.0 < 2 ^ 32
+  pub config_fits : IfSome slot.config (λ instance. instance < 2 ^ 32)
+  pub consumed_fits : slot.consumed < 2 ^ 32
+  pub produced_fits : slot.produced < 2 ^ 32
+  pub out_len_fits : slot.out_len < 2 ^ 64
+  pub in_len_fits : slot.in_len < 2 ^ 64
+  pub o_t_rpi_fits : slot.o_t_rpi < 2 ^ 32
+  pub t_o_rpi_fits : slot.t_o_rpi < 2 ^ 32
+  pub mult_fits : slot.mult < 2 ^ 8
+  pub key_fits : IfSome slot.key KeyFits
+  pub config_data_fits : IsBytes slot.config_data
+  pub inhibit_fits : slot.inhibit < 2 ^ 8
+
+pub record ScannerFits (profile : ScannerProfile) : Type 0 where
+  pub incarnation_fits : profile.incarnation < 2 ^ 8
+  pub node_fits : profile.node.0 < 2 ^ 32
+  pub vendor_fits : profile.vendor < 2 ^ 16
+  pub serial_fits : profile.serial < 2 ^ 32
+  pub open_timeout_fits : profile.open_timeout < 2 ^ 64
+  pub retry_fits : profile.retry < 2 ^ 64
+  pub slots_fit : All SlotFits profile.slots
 
 -- EVENTS
 
@@ -132,3 +165,8 @@ EntryFits entry = EventFits entry.0 × IfSome entry.1 OutcomeFits
 abbrev pub TraceReadsBack : Type 0
 TraceReadsBack = (profile : Profile) (events : List Entry) → ProfileFits profile → profile_fault profile ≡ None → All EntryFits events → length events < 2 ^ 64 - 1
     → trace_reading (trace_text (record { config = config.Adapter profile; events = events })) ≡ Ok (record { config = config.Adapter profile; events = events })
+
+-- a scanner's trace
+abbrev pub ScannerTraceReadsBack : Type 0
+ScannerTraceReadsBack = (profile : ScannerProfile) (events : List Entry) → ScannerFits profile → scanner.profile_fault profile ≡ None → All EntryFits events → length events < 2 ^ 64 - 1
+    → trace_reading (trace_text (record { config = config.Scanner profile; events = events })) ≡ Ok (record { config = config.Scanner profile; events = events })

@@ -2,11 +2,11 @@
 //! for whole traces.
 
 ghost use Rattle.trace_laws.specs.WordsBack.{NumbersReadBack, NodesReadBack, NodeListsReadBack, BytesReadBack, IdsReadBack, GeneralReadsBack, ExtendedReadsBack, ActionsReadBack};
-ghost use Rattle.trace_laws.specs.TraceBack.{TraceReadsBack};
+ghost use Rattle.trace_laws.specs.TraceBack.{ScannerTraceReadsBack, TraceReadsBack};
 
 /// Does nothing. Its contract is a law for callers: a number, an address, a list of addresses, bytes, a connection id,
-/// a status and an action are read back from their words; and a trace from its text, with all recorded outcomes, if its
-/// profile is valid and no recorded reason is a mismatch that carries a refused status.
+/// a status and an action are read back from their words; and the trace of an adapter or of a scanner from its text, with
+/// all recorded outcomes, if its profile is valid and no recorded reason is a mismatch that carries a refused status.
 pub fn reads_back()
     ensures numbers { NumbersReadBack }
     ensures nodes { NodesReadBack }
@@ -17,4 +17,5 @@ pub fn reads_back()
     ensures extended { ExtendedReadsBack }
     ensures actions { ActionsReadBack }
     ensures trace { TraceReadsBack }
+    ensures scanner_trace { ScannerTraceReadsBack }
 {}

@@ -1,5 +1,5 @@
 use Rattle.trace_laws.proofs.NodeLaws.{nodes_back}
-use Rattle.trace_laws.proofs.TraceLaws.{trace_back}
+use Rattle.trace_laws.proofs.TraceLaws.{trace_back, scanner_trace_back}
 use Rattle.trace_laws.proofs.WordLaws.{number_back, node_back, bytes_back, id_back, general_back, extended_back, action_back}
 use Rattle.trace_laws.proofs.laws.reads_back.Goals as goal
 
@@ -29,3 +29,6 @@ returns-clause-node_lists c = nodes_back
 
 pub returns-clause-trace : goal.returns-clause-trace
 returns-clause-trace c = trace_back
+
+pub returns-clause-scanner_trace : goal.returns-clause-scanner_trace
+returns-clause-scanner_trace c = scanner_trace_back

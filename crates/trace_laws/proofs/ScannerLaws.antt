@@ -1,0 +1,268 @@
+-- A scanner's profile that is written is read as itself.
+use Rattle.std.proofs.Common.{◌≡◌, ℕ, zero, suc, ◌<◌, ◌+◌, ◌^◌, ◌%◌, Bool, true, false, List, [], ◌∷◌, ◌++◌, length, Option, Some, None, refl, sym, ap, subst, ◌∙◌, arith, eqb, append_assoc}
+use Rattle.std.proofs.Math.Bridge.{le_prop}
+use Rattle.std.specs.Prelude.{decimal, codes, drop, flat_map, nat_le, if◌then◌else◌, IfSome}
+use Rattle.std.specs.List.{All}
+use Rattle.std.specs.Str.{all_ascii_digits}
+use Rattle.std.specs.Str.Parse.{digits_value}
+use Rattle.std.specs.Char.{is_ascii_digit}
+use Rattle.std.proofs.lemmas.Bool.Decides.{nat_tests}
+use Rattle.std.proofs.lemmas.Fmt.{digits_decimal, decimal_nonempty}
+use Rattle.std.proofs.lemmas.List.{append-nil}
+use Rattle.std.proofs.lemmas.Nat.{from_le_bytes-to_le_bytes_2}
+use Rattle.std.proofs.lemmas.Str.Parse.{IsNumeralModel, numerals_by_value, tells_all_ascii_digits}
+use Rattle.hex.specs.Hex.{IsBytes}
+use Rattle.cip_epath.specs.declared.key.ElectronicKey.{ElectronicKey}
+use Rattle.cip_epath.specs.ElectronicKey.{view_key}
+use Rattle.cip_epath.specs.Segment.{key_text}
+use Rattle.cip_netparams.specs.declared.Trigger.{Trigger}
+use Rattle.cip_netparams.specs.declared.Trigger.TheVariants.{Cyclic, ChangeOfState}
+use Rattle.cip_productions.specs.declared.kind.Kind.{Kind}
+use Rattle.cip_productions.specs.declared.kind.Kind.TheVariants.{ExclusiveOwner, InputOnly, ListenOnly}
+use Rattle.scanner_table.specs.declared.profile.ScannerProfile.{ScannerProfile}
+use Rattle.scanner_table.specs.declared.profile.SlotConfig.{SlotConfig}
+use Rattle.trace_words.specs.Words.{number_of, node_of, bytes_of, instance_of, is_dash, bytes_word, line_text}
+use Rattle.trace_words.specs.Reader.{Reader, ◌>>=◌, next_word, gives, perhaps}
+use Rattle.trace_profiles.specs.declared.forms.Rate.{Rate}
+use Rattle.trace_profiles.specs.declared.forms.ScannerLine.{ScannerLine}
+use Rattle.trace_profiles.specs.Slots.{kind_of, multicast_of, trigger_of, key_of_bytes, key_with, key_reader, rate_reader, slot_reader, kind_word, multicast_word, instance_word, key_word, rate_words, slot_words, scanner_words, scanner_text}
+use Rattle.trace_text.specs.declared.builder.TraceBuilder.TheVariants.{Empty, Slots}
+use Rattle.trace_text.specs.declared.forms.TraceLine.TheVariants as line
+use Rattle.trace_text.specs.Forms.{line_reader}
+use Rattle.trace_laws.specs.TraceBack.{KeyFits, SlotFits, ScannerFits}
+use Rattle.trace_laws.proofs.WordLaws.{node_back, bytes_back}
+use Rattle.trace_laws.proofs.CleanWords.{decimal_clean, node_clean, bytes_clean}
+use Rattle.trace_laws.proofs.LineLaws.{is_clean, are_clean, both, and_both}
+use Rattle.trace_laws.proofs.ProfileLaws.{n8, n16, n32, n64, c8, c16, c32}
+use Rattle.trace_laws.proofs.TextLaws.{first_of, rest_of, Reads, reads_none, reads_both, line_reads, next_reads, then_reads}
+
+-- WORDS
+
+kind_back : (kind : Kind) → kind_of (kind_word kind) ≡ Some kind
+unfolding kind_of
+kind_back ExclusiveOwner = refl
+kind_back InputOnly = refl
+kind_back ListenOnly = refl
+
+kind_clean : (kind : Kind) → is_clean (kind_word kind) ≡ true
+kind_clean ExclusiveOwner = refl
+kind_clean InputOnly = refl
+kind_clean ListenOnly = refl
+
+multicast_back : (multicast : Bool) → multicast_of (multicast_word multicast) ≡ Some multicast
+unfolding multicast_of
+multicast_back true = refl
+multicast_back false = refl
+
+multicast_clean : (multicast : Bool) → is_clean (multicast_word multicast) ≡ true
+multicast_clean true = refl
+multicast_clean false = refl
+
+own : IsNumeralModel (λ word. all_ascii_digits word ≡ true) (digits_value 10)
+own = numerals_by_value _ tells_all_ascii_digits
+
+undashed : (word : List ℕ) → 0 < length word → all_ascii_digits word ≡ true → is_dash word ≡ false
+undashed [] some digits = absurd (omega (arith, some))
+undashed (c ∷ cs) some digits =
+    let first : is_ascii_digit c ≡ true = (both (is_ascii_digit c) (all_ascii_digits cs) digits).0 in
+    let other : eqb c 45 ≡ false = grind (arith, nat_tests, first) in
+    rw other refl
+
+instance_back : (instance : Option ℕ) → IfSome instance (λ number. number < 2 ^ 32) → instance_of (instance_word instance) ≡ Some instance
+unfolding instance_of
+instance_back None fits = refl
+instance_back (Some number) fits =
+    let small : number < 2 ^ 64 = omega (arith, fits) in
+    rw (undashed (decimal number) (decimal_nonempty number small) (digits_decimal own number small), n32 number fits) refl
+
+instance_clean : (instance : Option ℕ) → IfSome instance (λ number. number < 2 ^ 32) → is_clean (instance_word instance) ≡ true
+instance_clean None fits = refl
+instance_clean (Some number) fits = c32 number fits
+
+-- KEYS
+
+-- the bytes of a key behind its format
+abbrev key_bytes : Option ElectronicKey → List ℕ
+key_bytes None = []
+key_bytes (Some key) = drop 2 (key_text (view_key key))
+
+bit_of : (compatible : Bool) (major : ℕ) → major < 128 → nat_le 128 (major + (if compatible then 128 else 0)) ≡ compatible
+bit_of true major small = grind (arith, nat_tests, small)
+bit_of false major small = grind (arith, nat_tests, small)
+
+major_of : (compatible : Bool) (major : ℕ) → major < 128 → (major + (if compatible then 128 else 0)) % 128 ≡ major
+major_of true major small = omega (arith, small)
+major_of false major small = omega (arith, small)
+
+abbrev key_of : (v t p : ℕ) (c : Bool) (m n : ℕ) → m < 128 → ElectronicKey
+key_of v t p c m n s = record { vendor = v; device_type = t; product = p; compatible = c; major = m; minor = n; seven_bits = s }
+
+same_fields : (v v' t t' p p' m n : ℕ) (c c' : Bool) (s s' : m < 128) → v ≡ v' → t ≡ t' → p ≡ p' → c ≡ c' → key_of v t p c m n s ≡ key_of v' t' p' c' m n s'
+same_fields v v' t t' p p' m n c c' s s' ve te pe ce = λ i. record {
+  vendor = ve i;
+  device_type = te i;
+  product = pe i;
+  compatible = ce i;
+  major = m;
+  minor = n;
+  seven_bits = le_prop s s' i;
+}
+
+-- a key is its fields: that its major revision has seven bits has one proof
+same_key : (v v' t t' p p' m m' n : ℕ) (c c' : Bool) (s : m < 128) (s' : m' < 128) → v ≡ v' → t ≡ t' → p ≡ p' → c ≡ c' → m ≡ m' → key_of v t p c m n s ≡ key_of v' t' p' c' m' n s'
+same_key v v' t t' p p' m m' n c c' s s' ve te pe ce me = subst (λ k. (s' : k < 128) → key_of v t p c m n s ≡ key_of v' t' p' c' k n s') me (λ s'. same_fields v v' t t' p p' m n c c' s s' ve te pe ce) s'
+
+key_same : (key : ElectronicKey) → KeyFits key → key_with (key_bytes (Some key)) ≡ key
+key_same key fits = same_key _ _ _ _ _ _ _ _ _ _ _ _ _
+    (from_le_bytes-to_le_bytes_2 key.vendor fits.0)
+    (from_le_bytes-to_le_bytes_2 key.device_type fits.1)
+    (from_le_bytes-to_le_bytes_2 key.product fits.2)
+    (bit_of key.compatible key.major key.seven_bits)
+    (major_of key.compatible key.major key.seven_bits)
+
+key_back : (key : Option ElectronicKey) → IfSome key KeyFits → key_of_bytes (key_bytes key) ≡ Some key
+unfolding key_of_bytes
+key_back None fits = refl
+key_back (Some key) fits = ap (λ (k : ElectronicKey). Some (Some k)) (key_same key fits)
+
+revision_fits : (compatible : Bool) (major : ℕ) → major < 128 → major + (if compatible then 128 else 0) < 2 ^ 8
+revision_fits true major small = omega (arith, small)
+revision_fits false major small = omega (arith, small)
+
+bytes_fit : (key : ElectronicKey) → KeyFits key → IsBytes (key_bytes (Some key))
+bytes_fit key fits zero = omega arith
+bytes_fit key fits (suc zero) = omega (arith, fits.0)
+bytes_fit key fits (suc (suc zero)) = omega arith
+bytes_fit key fits (suc (suc (suc zero))) = omega (arith, fits.1)
+bytes_fit key fits (suc (suc (suc (suc zero)))) = omega arith
+bytes_fit key fits (suc (suc (suc (suc (suc zero))))) = omega (arith, fits.2)
+bytes_fit key fits (suc (suc (suc (suc (suc (suc zero)))))) = revision_fits key.compatible key.major key.seven_bits
+bytes_fit key fits (suc (suc (suc (suc (suc (suc (suc zero))))))) = fits.3
+bytes_fit key fits (suc (suc (suc (suc (suc (suc (suc (suc i)))))))) = omega arith
+
+key_is_bytes : (key : Option ElectronicKey) → key_word key ≡ bytes_word (key_bytes key)
+key_is_bytes None = refl
+key_is_bytes (Some key) = refl
+
+all_bytes : (key : Option ElectronicKey) → IfSome key KeyFits → IsBytes (key_bytes key)
+all_bytes None fits i = omega arith
+all_bytes (Some key) fits i = bytes_fit key fits i
+
+key_read : (key : Option ElectronicKey) (words : List (List ℕ)) → IfSome key KeyFits → key_reader (key_word key ∷ words) ≡ Some (key, words)
+key_read key words fits =
+    let spelled : bytes_of (key_word key) ≡ Some (key_bytes key) = ap bytes_of (key_is_bytes key) ∙ bytes_back (key_bytes key) (all_bytes key fits) in
+    next_reads bytes_of _ _ words (key_bytes key) _ spelled (ap (λ k. perhaps k words) (key_back key fits))
+
+key_clean : (key : Option ElectronicKey) → IfSome key KeyFits → is_clean (key_word key) ≡ true
+key_clean key fits = ap is_clean (key_is_bytes key) ∙ bytes_clean (key_bytes key) (all_bytes key fits)
+
+-- THE TRIGGER AND THE INHIBIT TIME
+
+cyclic_back : trigger_of (codes "cyclic") ≡ Some Cyclic
+unfolding trigger_of
+cyclic_back = refl
+
+change_back : trigger_of (codes "change") ≡ Some ChangeOfState
+unfolding trigger_of
+change_back = refl
+
+rate_read : (trigger : Trigger) (inhibit : ℕ) → inhibit < 2 ^ 8 → rate_reader (rate_words trigger inhibit) ≡ Some (record { trigger = trigger; inhibit = inhibit }, [])
+rate_read Cyclic zero fits = refl
+rate_read Cyclic (suc inhibit) fits =
+    let some : eqb (suc inhibit) 0 ≡ false = grind (arith, nat_tests) in
+    rw some (next_reads trigger_of _ _ _ Cyclic _ cyclic_back (next_reads (number_of 8) _ _ _ (suc inhibit) _ (n8 (suc inhibit) fits) refl))
+rate_read ChangeOfState inhibit fits = next_reads trigger_of _ _ _ ChangeOfState _ change_back (next_reads (number_of 8) _ _ _ inhibit _ (n8 inhibit fits) refl)
+
+rate_clean : (trigger : Trigger) (inhibit : ℕ) → inhibit < 2 ^ 8 → are_clean (rate_words trigger inhibit) ≡ true
+rate_clean Cyclic zero fits = refl
+rate_clean Cyclic (suc inhibit) fits =
+    let some : eqb (suc inhibit) 0 ≡ false = grind (arith, nat_tests) in
+    rw some (and_both _ _ refl (and_both _ _ (c8 (suc inhibit) fits) refl))
+rate_clean ChangeOfState inhibit fits = and_both _ _ refl (and_both _ _ (c8 inhibit fits) refl)
+
+-- THE LINES
+
+-- the words of a slot behind its keyword
+abbrev behind_slot : SlotConfig → List (List ℕ)
+behind_slot slot = drop 1 (slot_words slot)
+
+-- the slot with this key, this configuration data and this rate
+abbrev slot_with : SlotConfig → Option ElectronicKey → List ℕ → Rate → SlotConfig
+slot_with slot key config_data rate = record slot { key = key; config_data = config_data; trigger = rate.trigger; inhibit = rate.inhibit }
+
+-- what reads on behind the data, behind the key, and behind the words before it
+abbrev then_rate : SlotConfig → Option ElectronicKey → List ℕ → Rate → Reader SlotConfig
+then_rate slot key config_data rate = gives (slot_with slot key config_data rate)
+
+abbrev then_data : SlotConfig → Option ElectronicKey → List ℕ → Reader SlotConfig
+then_data slot key config_data = rate_reader >>= then_rate slot key config_data
+
+abbrev then_key : SlotConfig → Option ElectronicKey → Reader SlotConfig
+then_key slot key = next_word bytes_of >>= then_data slot key
+
+slot_read : (slot : SlotConfig) → SlotFits slot → slot_reader (behind_slot slot) ≡ Some (slot, [])
+slot_read slot fits =
+    next_reads node_of _ _ _ slot.target _ (node_back slot.target fits.target_fits)
+    (next_reads kind_of _ _ _ slot.kind _ (kind_back slot.kind)
+    (next_reads instance_of _ _ _ slot.config _ (instance_back slot.config fits.config_fits)
+    (next_reads (number_of 32) _ _ _ slot.consumed _ (n32 _ fits.consumed_fits)
+    (next_reads (number_of 32) _ _ _ slot.produced _ (n32 _ fits.produced_fits)
+    (next_reads (number_of 64) _ _ _ slot.out_len _ (n64 _ fits.out_len_fits)
+    (next_reads (number_of 64) _ _ _ slot.in_len _ (n64 _ fits.in_len_fits)
+    (next_reads (number_of 32) _ _ _ slot.o_t_rpi _ (n32 _ fits.o_t_rpi_fits)
+    (next_reads (number_of 32) _ _ _ slot.t_o_rpi _ (n32 _ fits.t_o_rpi_fits)
+    (next_reads (number_of 8) _ _ _ slot.mult _ (n8 _ fits.mult_fits)
+    (next_reads multicast_of _ _ _ slot.multicast _ (multicast_back slot.multicast)
+    (then_reads key_reader (then_key slot) (key_word slot.key ∷ bytes_word slot.config_data ∷ rate_words slot.trigger slot.inhibit) slot.key (bytes_word slot.config_data ∷ rate_words slot.trigger slot.inhibit) _ (key_read slot.key _ fits.key_fits)
+    (next_reads bytes_of (then_data slot slot.key) _ (rate_words slot.trigger slot.inhibit) slot.config_data _ (bytes_back slot.config_data fits.config_data_fits)
+    (then_reads rate_reader (then_rate slot slot.key slot.config_data) (rate_words slot.trigger slot.inhibit) (record { trigger = slot.trigger; inhibit = slot.inhibit }) [] _ (rate_read slot.trigger slot.inhibit fits.inhibit_fits) refl)))))))))))))
+
+slot_line_read : (slot : SlotConfig) → SlotFits slot → line_reader (slot_words slot) ≡ Some (line.Slot slot, [])
+slot_line_read slot fits = then_reads slot_reader (λ value. gives (line.Slot value)) (behind_slot slot) slot [] _ (slot_read slot fits) refl
+
+slot_clean : (slot : SlotConfig) → SlotFits slot → are_clean (behind_slot slot) ≡ true
+slot_clean slot fits =
+    and_both _ _ (node_clean slot.target)
+    (and_both _ _ (kind_clean slot.kind)
+    (and_both _ _ (instance_clean slot.config fits.config_fits)
+    (and_both _ _ (c32 _ fits.consumed_fits)
+    (and_both _ _ (c32 _ fits.produced_fits)
+    (and_both _ _ (decimal_clean _ fits.out_len_fits)
+    (and_both _ _ (decimal_clean _ fits.in_len_fits)
+    (and_both _ _ (c32 _ fits.o_t_rpi_fits)
+    (and_both _ _ (c32 _ fits.t_o_rpi_fits)
+    (and_both _ _ (c8 _ fits.mult_fits)
+    (and_both _ _ (multicast_clean slot.multicast)
+    (and_both _ _ (key_clean slot.key fits.key_fits)
+    (and_both _ _ (bytes_clean slot.config_data fits.config_data_fits)
+    (rate_clean slot.trigger slot.inhibit fits.inhibit_fits)))))))))))))
+
+abbrev pub scanner_line : ScannerProfile → ScannerLine
+scanner_line profile = record { incarnation = profile.incarnation; node = profile.node; vendor = profile.vendor; serial = profile.serial; open_timeout = profile.open_timeout; retry = profile.retry }
+
+scanner_line_read : (profile : ScannerProfile) → ScannerFits profile → line_reader (scanner_words profile) ≡ Some (line.Scanner (scanner_line profile), [])
+scanner_line_read profile fits = rw (n8 profile.incarnation fits.incarnation_fits, node_back profile.node fits.node_fits, n16 profile.vendor fits.vendor_fits, n32 profile.serial fits.serial_fits, n64 profile.open_timeout fits.open_timeout_fits, n64 profile.retry fits.retry_fits) refl
+
+scanner_clean : (profile : ScannerProfile) → ScannerFits profile → are_clean (drop 1 (scanner_words profile)) ≡ true
+scanner_clean profile fits =
+    and_both _ _ (c8 _ fits.incarnation_fits)
+    (and_both _ _ (node_clean profile.node)
+    (and_both _ _ (c16 _ fits.vendor_fits)
+    (and_both _ _ (c32 _ fits.serial_fits)
+    (and_both _ _ (decimal_clean _ fits.open_timeout_fits)
+    (and_both _ _ (decimal_clean _ fits.retry_fits) refl)))))
+
+-- ONE AFTER THE OTHER
+
+slots_read : (scanner : ScannerLine) (before slots : List SlotConfig) → All SlotFits slots → Reads (Slots scanner before) (flat_map (λ slot. line_text (slot_words slot)) slots) (Slots scanner (before ++ slots))
+slots_read scanner before [] fit = subst (λ all. Reads (Slots scanner before) [] (Slots scanner all)) (sym (append-nil before)) (reads_none (Slots scanner before))
+slots_read scanner before (slot ∷ slots) fit =
+    let fits : SlotFits slot = first_of SlotFits slot slots fit in
+    let one : Reads (Slots scanner before) (line_text (slot_words slot)) (Slots scanner (before ++ slot ∷ [])) = line_reads _ _ (codes "slot") (behind_slot slot) (line.Slot slot) refl refl (slot_clean slot fits) (slot_line_read slot fits) refl in
+    let more : Reads (Slots scanner (before ++ slot ∷ [])) (flat_map (λ s. line_text (slot_words s)) slots) (Slots scanner (before ++ slot ∷ slots)) = subst (λ all. Reads (Slots scanner (before ++ slot ∷ [])) (flat_map (λ s. line_text (slot_words s)) slots) (Slots scanner all)) (append_assoc before (slot ∷ []) slots) (slots_read scanner (before ++ slot ∷ []) slots (rest_of SlotFits slot slots fit)) in
+    reads_both _ _ _ _ _ one more
+
+pub scanner_read : (profile : ScannerProfile) → ScannerFits profile → Reads Empty (scanner_text profile) (Slots (scanner_line profile) profile.slots)
+scanner_read profile fits =
+    let one : Reads Empty (line_text (scanner_words profile)) (Slots (scanner_line profile) []) = line_reads _ _ (codes "scanner") (drop 1 (scanner_words profile)) (line.Scanner (scanner_line profile)) refl refl (scanner_clean profile fits) (scanner_line_read profile fits) refl in
+    reads_both _ _ _ _ _ one (slots_read (scanner_line profile) [] profile.slots fits.slots_fit)
