@@ -1,5 +1,5 @@
 -- The task that a command line requests, and the output when it is done or fails.
-use Rattle.std.specs.Prelude.{ℕ, ◌≡◌, ◌⊎◌, List, codes, slice_get, Option, Some}
+use Rattle.std.specs.Prelude.{ℕ, ◌≡◌, ◌⊎◌, List, length, codes, slice_get, Option, Some}
 use Rattle.std.specs.Io.KnownBytes.{Appends}
 use Rattle.trace_stepper.specs.Written.{BeginsToWrite}
 use Rattle.eip_line.specs.Looped.{FailsLoop, turns_line}
@@ -7,9 +7,13 @@ use Rattle.eip_line.specs.Printed.{PrintsRun, Fails}
 use Rattle.eip_line.specs.declared.commands.Task.{Task}
 use Rattle.eip_line.specs.declared.commands.Task.TheVariants as task
 
--- the word behind the program's name is the command's
+-- the words are the program's name and this word, and nothing else
+abbrev pub IsAlone : List (List ℕ) → List ℕ → Type 0
+IsAlone words word = (length words ≡ 2) × (slice_get words 1 ≡ Some word)
+
+-- the word behind the program's name is the command's; no word follows the one for a step
 abbrev pub Requests : List (List ℕ) → Task → Type 0
-Requests words task.Step = slice_get words 1 ≡ Some (codes "step")
+Requests words task.Step = IsAlone words (codes "step")
 Requests words (task.Loop given) = slice_get words 1 ≡ Some (codes "loop")
 
 -- all that a task has to print is printed: all outcomes of a trace, or the turns of a loop

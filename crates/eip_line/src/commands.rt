@@ -1,7 +1,7 @@
 //! The command line.
 
-ghost use Rattle.std.specs.Prelude.{◌≡◌, map, true, IfOk};
-ghost use Rattle.eip_line.specs.Tasks.{Requests};
+ghost use Rattle.std.specs.Prelude.{◌≡◌, map, true, codes, Ok, IfOk};
+ghost use Rattle.eip_line.specs.Tasks.{IsAlone, Requests};
 
 use cip_types::limits::{TCP_PORT, UDP_PORT};
 use clap::error::ErrorKind;
@@ -59,15 +59,34 @@ impl From<clap::Error> for Misuse {
     }
 }
 
-/// The task that the words request. The first word is the program's own name, and the next one the command's.
+/// The task that the words request. The first word is the program's own name, and the next one the command's. The word
+/// `step` is taken alone, and never refused.
 pub fn read_task<S: AsStr>(alloc: Global, words: &[S]) -> Result<Task, Misuse>
-    ensures { IfOk result (Requests (map S.text words.now)) }
+    ensures requests { IfOk result (Requests (map S.text words.now)) }
+    ensures step { IsAlone (map S.text words.now) (codes "step") → result ≡ Ok Task.Step }
 {
+    if is_alone(words, "step") {
+        return Ok(Task::Step);
+    }
     match parse(alloc, words) {
         Ok(task) if is_named(words, task) => Ok(task),
         Ok(_) => Err(Misuse::Usage),
         Err(misuse) => Err(misuse),
     }
+}
+
+/// Whether the words are the program's name and this word, and nothing else.
+fn is_alone<S: AsStr>(words: &[S], word: &str) -> bool
+    ensures alone { result ≡ true → IsAlone (map S.text words.now) word.now }
+    ensures others { IsAlone (map S.text words.now) word.now → result ≡ true }
+{
+    let Some(given) = words.get(1) else {
+        return false;
+    };
+    if words.len() != 2 {
+        return false;
+    }
+    given.as_str() == word
 }
 
 /// Whether the command's word is that of the task.
@@ -78,7 +97,7 @@ fn is_named<S: AsStr>(words: &[S], task: Task) -> bool
         return false;
     };
     match task {
-        Task::Step => name.as_str() == "step",
+        Task::Step => is_alone(words, "step"),
         Task::Loop(_) => name.as_str() == "loop",
     }
 }

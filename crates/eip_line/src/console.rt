@@ -6,7 +6,7 @@ ghost use Rattle.trace_stepper.specs.Playing.{IsPlayed};
 ghost use Rattle.trace_stepper.specs.Written.{BeginsToWrite, IsTaken};
 ghost use Rattle.eip_line.specs.Faults.{fault_line};
 ghost use Rattle.eip_line.specs.Printed.{longest_trace, PrintsRun, Fails, IsStepped, IsFinished, IsTraceRead, IsTextFault, IsStop};
-ghost use Rattle.eip_line.specs.Tasks.{FailsTask, HasFailed, IsDone, Prints};
+ghost use Rattle.eip_line.specs.Tasks.{FailsTask, HasFailed, IsAlone, IsDone, Prints};
 ghost use Rattle.eip_line.specs.Usage.{usage_text};
 
 use crate::commands::{Misuse, Task, read_task};
@@ -100,8 +100,8 @@ impl From<StepperFault> for ProgramFault {
 ///   their number is printed.
 /// - 1: an outcome is not as recorded, and the last line names the first such event; or the run failed, and one line on
 ///   `err` says why, as far as the stream took it.
-/// - 2: the command line is none of the program's. Nothing is printed, and `err` gets the usage text, as far as the
-///   stream took it.
+/// - 2: the command line is none of the program's, and not `step` alone. Nothing is printed, and `err` gets the usage
+///   text, as far as the stream took it.
 pub fn program<R, S, I, O, E>(rt: &R, words: &[S], reader: &mut I, out: &mut O, err: &mut E) -> u8
 where
     R: AllocGlobal + Clock + Net<Listener = TcpListener, Stream = TcpStream>,
@@ -117,6 +117,7 @@ where
         → HasFailed (map S.text words.now) (I.remaining reader.old) (O.contents out.old) (O.contents out.new) (E.contents err.old) (E.contents err.new) }
     ensures usage { result ≡ 2 → (out.new ≡ out.old)
         × BeginsToWrite (E.contents err.old) usage_text (E.contents err.new) }
+    ensures step { IsAlone (map S.text words.now) (codes "step") → result ≤ 1 }
 {
     match read_task(rt.alloc(), words) {
         Ok(task) => perform(rt, task, reader, out, err),

@@ -69,15 +69,21 @@ where
     }
 }
 
-/// Runs a loop, and prints the number of its turns.
+/// Runs a loop, and prints the number of turns that it made.
 fn print_turns<R, O>(rt: &R, task: LoopTask, out: &mut O) -> Result<(), LoopEnd>
 where
     R: AllocGlobal + Clock + Net<Listener = TcpListener, Stream = TcpStream>,
     O: Write,
     ensures { IsLooped task.turns (O.contents out.old) result (O.contents out.new) }
 {
-    run_loop::<&R, FastAdapter, PlainScanner>(rt.alloc(), rt, task.tcp, task.udp, task.turns)?;
-    write_numbered(out, b"turns ", u64::from(task.turns))?;
+    let made = run_loop::<&R, FastAdapter, PlainScanner>(
+        rt.alloc(),
+        rt,
+        task.tcp,
+        task.udp,
+        task.turns,
+    )?;
+    write_numbered(out, b"turns ", u64::from(made))?;
     flush(out)
 }
 

@@ -4,12 +4,6 @@ use Rattle.std.specs.Prelude.{slice_get}
 use Rattle.eip_line.proofs.Words.{spelled}
 use Rattle.eip_line.proofs.commands.is_named.Goals as goal
 
-pub returns-in-Step : goal.returns-in-Step
-returns-in-Step g c same =
-    let found : slice_get c.args.words.now 1 ≡ Some c.in-Some.name.now = slice_get_read _ (length c.args.words.now) 1 _ refl (search rules) (search rules) in
-    let word : c.as_str.result.now ≡ codes "step" = search rules in
-    rw c.in-Step.is (spelled g.S.AsStr.text _ _ _ found (rw c.as_str.ensures at word))
-
 pub returns-in-Loop : goal.returns-in-Loop
 returns-in-Loop g c same =
     let found : slice_get c.args.words.now 1 ≡ Some c.in-Some.name.now = slice_get_read _ (length c.args.words.now) 1 _ refl (search rules) (search rules) in
