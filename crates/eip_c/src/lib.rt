@@ -1,0 +1,261 @@
+//! A device of the line behind a C header: each exported function performs one call at it.
+//!
+//! `include/eip.h` declares these functions, and lists their numbers. What C reads is what the contracts here say.
+#![tactic(auto)]
+
+ghost use Rattle.std.specs.Prelude.{◌≡◌, Ok};
+ghost use Rattle.cip_events.specs.declared.event.Event.TheVariants.{Request, StreamOpened, Frame, StreamCut, Datagram, Write, Tick, Mode, Start, Stop};
+ghost use Rattle.cip_events.specs.declared.event.Verdict.TheVariants.{Delivered};
+ghost use Rattle.cip_events.specs.Answers.{plain_answer};
+ghost use Rattle.cip_tables.specs.Step.{step};
+ghost use Rattle.trace_text.specs.Reading.{trace_reading};
+ghost use Rattle.flat_answers.specs.Flat.{delivery_number, delivery_of};
+ghost use Rattle.eip_c.specs.Statuses.{status_of};
+ghost use Rattle.eip_c.specs.Calls.{table_of, state, node, Answers, Reports, Reads, Opens};
+
+mod held;
+mod holder;
+mod opening;
+mod room;
+mod station;
+mod status;
+
+use cip_events::Event;
+use cip_types::{Items, Node};
+use flat_answers::delivery_number;
+use held::Held;
+use opening::opened;
+use room::report;
+use status::{DONE, OUT_OF_MEMORY};
+use std::alloc::Global;
+
+// DEVICES
+
+/// Makes a device from the lines of a profile, as they stand at the head of a trace, and writes its pointer.
+///
+/// The statuses: `Done`; `BadLine` and `BadProfile`, with their number; out of memory. Only `Done` writes a pointer.
+/// Lines of events are read, and not performed.
+#[unsafe(no_mangle)]
+pub extern "C" fn eip_c_new(
+    alloc: Global,
+    profile: &[u8],
+    at: &mut *mut u8,
+    number: &mut u64,
+) -> u32
+    ensures { Opens (trace_reading profile.now) (status_of result) number.new }
+{
+    match opened(alloc, profile, number) {
+        Ok(holder) => {
+            *at = Box::into_raw(holder) as *mut u8;
+            DONE
+        }
+        Err(status) => status,
+    }
+}
+
+/// Frees a device.
+#[unsafe(no_mangle)]
+pub extern "C" fn eip_c_free(device: Held) {
+    let _ = device.into_box();
+}
+
+/// Writes the answer that is kept: that of the last event that was not refused. Datagrams and reads keep none.
+#[unsafe(no_mangle)]
+pub extern "C" fn eip_c_answer(
+    alloc: Global,
+    device: &mut Held,
+    out: &mut [u8],
+    size: &mut usize,
+) -> u32
+    ensures answer { Reports device.old.value.answer (status_of result) (out.old, size.old) (out.new, size.new) }
+    ensures unchanged { device.new.value ≡ device.old.value }
+{
+    report(alloc, &device.holder().answer, out, size)
+}
+
+// MESSAGES
+
+/// A peer sends a request to the message router.
+#[unsafe(no_mangle)]
+pub extern "C" fn eip_c_request(
+    alloc: Global,
+    device: &mut Held,
+    peer: u32,
+    bytes: &[u8],
+    out: &mut [u8],
+    size: &mut usize,
+) -> u32
+    ensures { Answers (Request (node peer) bytes.now)
+        device.old.value result device.new.value (out.old, size.old) (out.new, size.new) }
+{
+    let Ok(bytes) = Items::copy_of(alloc, bytes) else {
+        return OUT_OF_MEMORY;
+    };
+    let event = Event::Request {
+        peer: Node(peer),
+        bytes,
+    };
+    device.holder().answered(alloc, &event, out, size)
+}
+
+/// A peer opens a stream, which gets this number.
+#[unsafe(no_mangle)]
+pub extern "C" fn eip_c_stream(
+    alloc: Global,
+    device: &mut Held,
+    stream: u16,
+    peer: u32,
+    out: &mut [u8],
+    size: &mut usize,
+) -> u32
+    ensures { Answers (StreamOpened stream (node peer))
+        device.old.value result device.new.value (out.old, size.old) (out.new, size.new) }
+{
+    let event = Event::StreamOpened {
+        stream,
+        peer: Node(peer),
+    };
+    device.holder().answered(alloc, &event, out, size)
+}
+
+/// A stream brings the bytes of one encapsulation message.
+#[unsafe(no_mangle)]
+pub extern "C" fn eip_c_frame(
+    alloc: Global,
+    device: &mut Held,
+    stream: u16,
+    bytes: &[u8],
+    out: &mut [u8],
+    size: &mut usize,
+) -> u32
+    ensures { Answers (Frame stream bytes.now)
+        device.old.value result device.new.value (out.old, size.old) (out.new, size.new) }
+{
+    let Ok(bytes) = Items::copy_of(alloc, bytes) else {
+        return OUT_OF_MEMORY;
+    };
+    let event = Event::Frame { stream, bytes };
+    device.holder().answered(alloc, &event, out, size)
+}
+
+/// A stream breaks, or its peer closes it.
+#[unsafe(no_mangle)]
+pub extern "C" fn eip_c_cut(
+    alloc: Global,
+    device: &mut Held,
+    stream: u16,
+    out: &mut [u8],
+    size: &mut usize,
+) -> u32
+    ensures { Answers (StreamCut stream)
+        device.old.value result device.new.value (out.old, size.old) (out.new, size.new) }
+{
+    let event = Event::StreamCut { stream };
+    device.holder().answered(alloc, &event, out, size)
+}
+
+/// A peer sends a class 1 datagram. Answers the number of its delivery. Takes no memory, and never fails.
+#[unsafe(no_mangle)]
+pub extern "C" fn eip_c_datagram(device: &mut Held, peer: u32, bytes: &[u8]) -> u32
+    ensures step { step (table_of device.old.value.station) (Datagram (node peer) bytes.now)
+        ≡ Ok (plain_answer (Delivered (delivery_of result)), table_of device.new.value.station) }
+    ensures number { delivery_number (delivery_of result) ≡ result }
+    ensures answer { device.new.value.answer ≡ device.old.value.answer }
+{
+    let delivery = device.holder().station.deliver(Node(peer), bytes);
+    delivery_number(delivery)
+}
+
+// POINTS AND TIME
+
+/// The application sets the value of an input.
+#[unsafe(no_mangle)]
+pub extern "C" fn eip_c_write(
+    alloc: Global,
+    device: &mut Held,
+    point: u32,
+    bytes: &[u8],
+    out: &mut [u8],
+    size: &mut usize,
+) -> u32
+    ensures { Answers (Write point bytes.now)
+        device.old.value result device.new.value (out.old, size.old) (out.new, size.new) }
+{
+    device.holder().written(alloc, point, bytes, out, size)
+}
+
+/// Writes the value of a point, as it is. Takes no memory.
+#[unsafe(no_mangle)]
+pub extern "C" fn eip_c_read(device: &mut Held, point: u32, out: &mut [u8], size: &mut usize) -> u32
+    ensures value { Reads (table_of device.old.value.station) point
+        (status_of result) (out.old, size.old) (out.new, size.new) }
+    ensures unchanged { device.new.value ≡ device.old.value }
+{
+    device.holder().value(point, out, size)
+}
+
+/// Milliseconds pass, at most 60,000.
+#[unsafe(no_mangle)]
+pub extern "C" fn eip_c_tick(
+    alloc: Global,
+    device: &mut Held,
+    ms: u32,
+    out: &mut [u8],
+    size: &mut usize,
+) -> u32
+    ensures { Answers (Tick ms)
+        device.old.value result device.new.value (out.old, size.old) (out.new, size.new) }
+{
+    let event = Event::Tick { ms };
+    device.holder().answered(alloc, &event, out, size)
+}
+
+// THE APPLICATION OF A SCANNER
+
+/// The application starts to run, or becomes idle.
+#[unsafe(no_mangle)]
+pub extern "C" fn eip_c_mode(
+    alloc: Global,
+    device: &mut Held,
+    run: bool,
+    out: &mut [u8],
+    size: &mut usize,
+) -> u32
+    ensures { Answers (Mode run)
+        device.old.value result device.new.value (out.old, size.old) (out.new, size.new) }
+{
+    let event = Event::Mode { run };
+    device.holder().answered(alloc, &event, out, size)
+}
+
+/// The connection of a slot is opened, and kept open.
+#[unsafe(no_mangle)]
+pub extern "C" fn eip_c_start(
+    alloc: Global,
+    device: &mut Held,
+    slot: u32,
+    out: &mut [u8],
+    size: &mut usize,
+) -> u32
+    ensures { Answers (Start slot)
+        device.old.value result device.new.value (out.old, size.old) (out.new, size.new) }
+{
+    let event = Event::Start { slot };
+    device.holder().answered(alloc, &event, out, size)
+}
+
+/// The connection of a slot is closed.
+#[unsafe(no_mangle)]
+pub extern "C" fn eip_c_stop(
+    alloc: Global,
+    device: &mut Held,
+    slot: u32,
+    out: &mut [u8],
+    size: &mut usize,
+) -> u32
+    ensures { Answers (Stop slot)
+        device.old.value result device.new.value (out.old, size.old) (out.new, size.new) }
+{
+    let event = Event::Stop { slot };
+    device.holder().answered(alloc, &event, out, size)
+}

@@ -1,0 +1,52 @@
+//! Bytes in the memory of a caller.
+
+ghost use Rattle.std.specs.Prelude.{◌≡◌, ◌≤◌, ◌++◌, length, drop, Some};
+ghost use Rattle.eip_c.specs.Calls.{Writes, Reports};
+ghost use Rattle.eip_c.specs.Statuses.{status_of};
+
+use crate::status::{DONE, NO_ANSWER, NO_MEMORY, NO_ROOM};
+use cip_events::Answer;
+use flat_answers::push_answer;
+use std::alloc::Global;
+
+/// Writes bytes at the front of the room, and their number. Where the room is too small for them, it writes their number
+/// alone.
+pub fn copy_out(bytes: &[u8], out: &mut [u8], size: &mut usize) -> u32
+    ensures { Writes bytes.now (status_of result) (out.old, size.old) (out.new, size.new) }
+{
+    *size = bytes.len();
+    if out.len() < bytes.len() {
+        return NO_ROOM;
+    }
+    put_first(bytes, out);
+    DONE
+}
+
+/// Overwrites the front of a slice.
+fn put_first(bytes: &[u8], out: &mut [u8])
+    requires { length bytes.now ≤ length out.old }
+    ensures { out.new ≡ bytes.now ++ drop (length bytes.now) out.old }
+{
+    let (front, _rest) = out.split_at_mut(bytes.len());
+    front.copy_from_slice(bytes);
+}
+
+/// Writes the answer that is kept, in the form of `flat_answers`.
+pub fn report(alloc: Global, answer: &Option<Answer>, out: &mut [u8], size: &mut usize) -> u32
+    ensures { Reports answer.now (status_of result) (out.old, size.old) (out.new, size.new) }
+{
+    match answer {
+        Some(answer) => report_answer(alloc, answer, out, size),
+        None => NO_ANSWER,
+    }
+}
+
+fn report_answer(alloc: Global, answer: &Answer, out: &mut [u8], size: &mut usize) -> u32
+    ensures { Reports (Some answer.now) (status_of result) (out.old, size.old) (out.new, size.new) }
+{
+    let mut text = Vec::new(alloc);
+    match push_answer(&mut text, answer) {
+        Ok(()) => copy_out(text.as_slice(), out, size),
+        Err(_) => NO_MEMORY,
+    }
+}

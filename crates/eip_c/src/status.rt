@@ -1,0 +1,64 @@
+//! The numbers that C reads for the outcome of a call.
+
+ghost use Rattle.std.specs.Prelude.{◌≡◌};
+ghost use Rattle.eip_c.specs.declared.status.Status.TheVariants.{Fault};
+ghost use Rattle.eip_c.specs.Statuses.{status_of};
+
+use cip_events::StepFault;
+
+/// The outcome of a call. `status_of` gives each its number.
+#[derive(Clone, Copy)]
+pub enum Status {
+    /// The call was performed, and its bytes are written.
+    Done,
+    /// The event is refused.
+    Fault(StepFault),
+    /// The call was performed. Its bytes need more room, and are counted.
+    NoRoom,
+    /// The event was performed. An allocation for the bytes of its answer was refused; the answer is kept.
+    NoMemory,
+    /// No answer is kept.
+    NoAnswer,
+    /// A line of the profile is bad.
+    BadLine,
+    /// The profile has a fault.
+    BadProfile,
+    /// No call answers this: the status of every other number.
+    Unknown,
+}
+
+/// `Done`.
+pub const DONE: u32 = 0;
+
+/// `Fault(OutOfMemory)`.
+pub const OUT_OF_MEMORY: u32 = 1;
+
+/// `NoRoom`.
+pub const NO_ROOM: u32 = 8;
+
+/// `NoMemory`.
+pub const NO_MEMORY: u32 = 9;
+
+/// `NoAnswer`.
+pub const NO_ANSWER: u32 = 10;
+
+/// `BadLine`.
+pub const BAD_LINE: u32 = 11;
+
+/// `BadProfile`.
+pub const BAD_PROFILE: u32 = 12;
+
+/// The number of a fault.
+pub fn fault_number(fault: StepFault) -> u32
+    ensures { status_of result ≡ Fault fault }
+{
+    match fault {
+        StepFault::OutOfMemory => 1,
+        StepFault::TickTooLong => 2,
+        StepFault::ClockEnd => 3,
+        StepFault::NoSuchPoint => 4,
+        StepFault::WrongLength => 5,
+        StepFault::NoSuchSlot => 6,
+        StepFault::NotAllowedNow => 7,
+    }
+}
