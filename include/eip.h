@@ -1,0 +1,303 @@
+/* eip.h: an EtherNet/IP class 1 adapter or scanner for programs in C and C++.
+ *
+ * A device has no socket, clock or thread in it. Its caller gives it each event: bytes that a peer sent, time that
+ * passed, what the application writes. It answers with bytes to send. Each function below performs one call of a device
+ * whose every step is proved; it ends, and it never touches memory beyond the ranges that it is given.
+ *
+ * What a caller keeps:
+ *   - A handle comes from eip_new. One thread at a time uses it, it is freed once, and never used after that. A pointer
+ *     that eip_new did not write cannot be recognized.
+ *   - Two threads may use two handles at once: there is no global state. A handle that moves from one thread to another
+ *     moves under a lock of the caller's, or as the other thread starts; the proofs speak of one thread.
+ *   - A range (bytes, len) or (out, room) lies in readable or writable memory of the caller for the time of the call, and
+ *     the ranges of one call do not overlap. A range of length 0 may have the pointer NULL.
+ *   - No function is called from a signal handler. malloc, realloc and free are those of one allocator.
+ *
+ * Nodes are IPv4 addresses, their first byte the most significant: 192.168.1.10 is 0xC0A8010A.
+ * Every size is in bytes. Nothing but the handle is to be freed.
+ */
+#ifndef EIP_H
+#define EIP_H
+
+#include <stdbool.h>
+#include <stddef.h>
+#include <stdint.h>
+
+#ifdef __cplusplus
+extern "C" {
+#endif
+
+/* A device. The pointer is NULL before eip_new and after eip_free. */
+typedef struct eip_device {
+    void *at;
+} eip_device;
+
+/* STATUSES */
+
+enum eip_status {
+    /* The call was performed, and its bytes are written. */
+    EIP_DONE = 0,
+    /* Refused: the device and the answer that it keeps are unchanged, and nothing is written. */
+    EIP_OUT_OF_MEMORY = 1,   /* an allocation was refused */
+    EIP_TICK_TOO_LONG = 2,   /* a tick of more than 60,000 ms */
+    EIP_CLOCK_END = 3,       /* the clock would pass its end, 2^48 ms */
+    EIP_NO_SUCH_POINT = 4,   /* no point of this number can be read or written */
+    EIP_WRONG_LENGTH = 5,    /* the number of bytes is not the point's */
+    EIP_NO_SUCH_SLOT = 6,    /* no slot has this number */
+    EIP_NOT_ALLOWED_NOW = 7, /* the event does not fit this kind of device, or its present state */
+    /* The event was performed, and its answer is kept for eip_answer. Nothing is written at out. */
+    EIP_NO_ROOM = 8,         /* *size is the room that the answer needs */
+    EIP_NO_MEMORY = 9,       /* an allocation for the bytes of the answer was refused */
+    /* eip_answer: the device keeps no answer. */
+    EIP_NO_ANSWER = 10,
+    /* eip_new: there is no device. */
+    EIP_BAD_LINE = 11,       /* *number is that of the first bad line, from 1 */
+    EIP_BAD_PROFILE = 12,    /* no line is bad, and *number is that of the first fault of the profile: 1 incarnation,
+                                2 address, 3 points, 4 the same instance twice, 5 length, 6 timing, 7 identity */
+    /* Answered by this header, before the call: nothing has happened. */
+    EIP_NULL = 20            /* a pointer is NULL, or the device was freed */
+};
+
+/* The deliveries of a datagram. Up to EIP_DUPLICATE it is accepted. */
+enum eip_delivery {
+    EIP_APPLIED = 0,     /* its run-mode data is applied to the output */
+    EIP_IDLE = 1,        /* it is in idle mode, and the output takes its idle action */
+    EIP_HEARTBEAT = 2,   /* its connection has no O->T data */
+    EIP_DUPLICATE = 3,   /* its sequence count repeats that of the last accepted one: its data is not new */
+    EIP_OLD = 4,         /* its sequence number is not newer than the last accepted one */
+    EIP_UNKNOWN_ID = 5,  /* no established connection of the peer has its connection id */
+    EIP_WRONG_SIZE = 6,  /* its size is not the connection's */
+    EIP_MALFORMED = 7    /* its bytes are no datagram */
+};
+
+/* THE LIBRARY: what the proofs speak of. The inline functions below test pointers for NULL and call these. */
+
+uint32_t eip_c_new(const uint8_t *profile, size_t len, void **at, uint64_t *number);
+void eip_c_free(eip_device device);
+uint32_t eip_c_answer(eip_device *device, uint8_t *out, size_t room, size_t *size);
+uint32_t eip_c_request(eip_device *device, uint32_t peer, const uint8_t *bytes, size_t len, uint8_t *out, size_t room,
+                       size_t *size);
+uint32_t eip_c_stream(eip_device *device, uint16_t stream, uint32_t peer, uint8_t *out, size_t room, size_t *size);
+uint32_t eip_c_frame(eip_device *device, uint16_t stream, const uint8_t *bytes, size_t len, uint8_t *out, size_t room,
+                     size_t *size);
+uint32_t eip_c_cut(eip_device *device, uint16_t stream, uint8_t *out, size_t room, size_t *size);
+uint32_t eip_c_datagram(eip_device *device, uint32_t peer, const uint8_t *bytes, size_t len);
+uint32_t eip_c_write(eip_device *device, uint32_t point, const uint8_t *bytes, size_t len, uint8_t *out, size_t room,
+                     size_t *size);
+uint32_t eip_c_read(eip_device *device, uint32_t point, uint8_t *out, size_t room, size_t *size);
+uint32_t eip_c_tick(eip_device *device, uint32_t ms, uint8_t *out, size_t room, size_t *size);
+uint32_t eip_c_mode(eip_device *device, bool run, uint8_t *out, size_t room, size_t *size);
+uint32_t eip_c_start(eip_device *device, uint32_t slot, uint8_t *out, size_t room, size_t *size);
+uint32_t eip_c_stop(eip_device *device, uint32_t slot, uint8_t *out, size_t room, size_t *size);
+
+/* Memory for a range of length 0. */
+static inline const uint8_t *eip_bytes(const void *bytes)
+{
+    static const uint8_t none = 0;
+    return bytes ? (const uint8_t *)bytes : &none;
+}
+
+static inline bool eip_is_null(const eip_device *device, const void *bytes, size_t len, const void *out, size_t room,
+                               const size_t *size)
+{
+    return !device || !device->at || (!bytes && len) || (!out && room) || !size;
+}
+
+#define EIP_CALL(BYTES, LEN, CALL)                                        \
+    uint8_t none = 0;                                                     \
+    if (eip_is_null(device, BYTES, LEN, out, room, size))                 \
+        return EIP_NULL;                                                  \
+    if (!out)                                                             \
+        out = &none;                                                      \
+    return CALL
+
+/* DEVICES */
+
+/* Makes a device from the lines of its profile, as they stand at the head of a trace: `adapter ..` or `scanner ..`. The
+ * text ends with a line feed. Lines of events are read, and not performed.
+ * Answers EIP_DONE, EIP_BAD_LINE or EIP_BAD_PROFILE with *number, EIP_OUT_OF_MEMORY or EIP_NULL.
+ * With any other status than EIP_DONE, *device is left as it was. */
+static inline uint32_t eip_new(eip_device *device, const char *profile, size_t len, uint64_t *number)
+{
+    if (!device || (!profile && len) || !number)
+        return EIP_NULL;
+    return eip_c_new(eip_bytes(profile), len, &device->at, number);
+}
+
+/* Frees a device, and makes its pointer NULL. Does nothing where that is NULL. */
+static inline void eip_free(eip_device *device)
+{
+    if (!device || !device->at)
+        return;
+    eip_c_free(*device);
+    device->at = NULL;
+}
+
+/* EVENTS
+ *
+ * Each performs one event. Its answer is kept until the next event that is not refused, and written at out: EIP_DONE, and
+ * *size is its size. If it needs more room than there is, nothing is written: EIP_NO_ROOM, *size is the room that it
+ * needs, the event is performed all the same, and eip_answer writes its answer. EIP_NO_MEMORY is the same for an
+ * allocation that was refused. Each other status leaves the device as it was, and *size too. */
+
+/* Writes the answer that is kept, again: EIP_DONE, EIP_NO_ROOM, EIP_NO_MEMORY, EIP_NO_ANSWER or EIP_NULL. */
+static inline uint32_t eip_answer(eip_device *device, uint8_t *out, size_t room, size_t *size)
+{
+    EIP_CALL(out, room, eip_c_answer(device, out, room, size));
+}
+
+/* A peer sends a request to the message router, as the data of a UCMM request. */
+static inline uint32_t eip_request(eip_device *device, uint32_t peer, const uint8_t *bytes, size_t len, uint8_t *out,
+                                   size_t room, size_t *size)
+{
+    EIP_CALL(bytes, len, eip_c_request(device, peer, eip_bytes(bytes), len, out, room, size));
+}
+
+/* A peer opens a stream (TCP), which the caller gives this number. EIP_NOT_ALLOWED_NOW if the number is in use, or the
+ * device takes no more streams. */
+static inline uint32_t eip_stream(eip_device *device, uint16_t stream, uint32_t peer, uint8_t *out, size_t room,
+                                  size_t *size)
+{
+    EIP_CALL(out, room, eip_c_stream(device, stream, peer, out, room, size));
+}
+
+/* A stream brings one encapsulation message: its header of 24 bytes, and as many bytes as the header says. */
+static inline uint32_t eip_frame(eip_device *device, uint16_t stream, const uint8_t *bytes, size_t len, uint8_t *out,
+                                 size_t room, size_t *size)
+{
+    EIP_CALL(bytes, len, eip_c_frame(device, stream, eip_bytes(bytes), len, out, room, size));
+}
+
+/* A stream breaks, or its peer closes it. */
+static inline uint32_t eip_cut(eip_device *device, uint16_t stream, uint8_t *out, size_t room, size_t *size)
+{
+    EIP_CALL(out, room, eip_c_cut(device, stream, out, room, size));
+}
+
+/* A peer sends a class 1 datagram (UDP). Answers its delivery at *delivery. Takes no memory. The answer that is kept
+ * stays. EIP_DONE or EIP_NULL. */
+static inline uint32_t eip_datagram(eip_device *device, uint32_t peer, const uint8_t *bytes, size_t len,
+                                    enum eip_delivery *delivery)
+{
+    if (!device || !device->at || (!bytes && len) || !delivery)
+        return EIP_NULL;
+    *delivery = (enum eip_delivery)eip_c_datagram(device, peer, eip_bytes(bytes), len);
+    return EIP_DONE;
+}
+
+/* The application sets the value of an adapter's input, or of the output of a scanner's slot. */
+static inline uint32_t eip_write(eip_device *device, uint32_t point, const uint8_t *bytes, size_t len, uint8_t *out,
+                                 size_t room, size_t *size)
+{
+    EIP_CALL(bytes, len, eip_c_write(device, point, eip_bytes(bytes), len, out, room, size));
+}
+
+/* Writes the value of an adapter's point, or of the image of a scanner's slot, at out as it is: EIP_DONE; EIP_NO_ROOM
+ * with *size; EIP_NO_SUCH_POINT or EIP_NO_SUCH_SLOT; EIP_NULL. Takes no memory, and changes nothing. */
+static inline uint32_t eip_read(eip_device *device, uint32_t point, uint8_t *out, size_t room, size_t *size)
+{
+    EIP_CALL(out, room, eip_c_read(device, point, out, room, size));
+}
+
+/* Milliseconds pass, at most 60,000. EIP_TICK_TOO_LONG, EIP_CLOCK_END. Connections expire and cyclic data are sent in a
+ * tick, and at no other time. No call says when a device next needs one: tick it every millisecond or so. */
+static inline uint32_t eip_tick(eip_device *device, uint32_t ms, uint8_t *out, size_t room, size_t *size)
+{
+    EIP_CALL(out, room, eip_c_tick(device, ms, out, room, size));
+}
+
+/* The application of a scanner starts to run, or becomes idle. */
+static inline uint32_t eip_mode(eip_device *device, bool run, uint8_t *out, size_t room, size_t *size)
+{
+    EIP_CALL(out, room, eip_c_mode(device, run, out, room, size));
+}
+
+/* A scanner opens the connection of a slot, and keeps it open. */
+static inline uint32_t eip_start(eip_device *device, uint32_t slot, uint8_t *out, size_t room, size_t *size)
+{
+    EIP_CALL(out, room, eip_c_start(device, slot, out, room, size));
+}
+
+/* A scanner closes the connection of a slot. */
+static inline uint32_t eip_stop(eip_device *device, uint32_t slot, uint8_t *out, size_t room, size_t *size)
+{
+    EIP_CALL(out, room, eip_c_stop(device, slot, out, room, size));
+}
+
+/* ANSWERS
+ *
+ * The bytes of an answer are items, one after the other: the verdict, the frames, the datagrams, each before the nodes
+ * that consume it, and the notices. An item is 28 bytes and its data; its numbers are little-endian:
+ * kind, a, b, c and d of 4 bytes each, and the size of the data in 8. */
+
+enum eip_kind {
+    /* verdicts */
+    EIP_ITEM_DONE = 1,              /* the device processed the event */
+    EIP_ITEM_BAD_FRAME = 2,         /* too few bytes to be answered, or a wrong length where there is no reply */
+    EIP_ITEM_IGNORED = 3,           /* a message that the scanner does not expect */
+    EIP_ITEM_VALUE = 4,             /* data: the value of a point */
+    EIP_ITEM_DELIVERED = 5,         /* a: enum eip_delivery */
+    /* to send */
+    EIP_ITEM_FRAME = 16,            /* data: bytes for stream a */
+    EIP_ITEM_REPLY = 17,            /* data: the reply to the request of node a */
+    EIP_ITEM_DATAGRAM = 32,         /* data: a datagram to address a, which may be a multicast address */
+    EIP_ITEM_CONSUMER = 33,         /* node a consumes the last datagram */
+    /* notices of a connection: a serial number, b vendor number, c originator serial number */
+    EIP_ITEM_OPENED = 48,           /* d: the O->T connection id */
+    EIP_ITEM_CLOSED = 49,
+    EIP_ITEM_EXPIRED = 50,
+    EIP_ITEM_DROPPED = 51,          /* a listen-only connection that nothing supports any more */
+    EIP_ITEM_REPLACED = 52,         /* a timed-out connection whose place was needed */
+    EIP_ITEM_STREAM_CLOSED = 53,    /* close stream a after the frames */
+    EIP_ITEM_SLOT = 54,             /* slot a is in state b */
+    EIP_ITEM_NO_IDS = 55,           /* slot a needs an id, and none is left */
+    /* a reply did not open the connection of slot a */
+    EIP_ITEM_REFUSED_ENCAP = 64,    /* encapsulation status b */
+    EIP_ITEM_UNREADABLE = 65,       /* no readable reply */
+    EIP_ITEM_REFUSED = 66,          /* general status b; if c is 1, extended status d */
+    EIP_ITEM_OTHER_TRIAD = 67,      /* a reply for another connection */
+    EIP_ITEM_OTHER_ID = 68,         /* another T->O id, or one in use */
+    EIP_ITEM_OTHER_API = 69,        /* an actual packet interval out of range */
+    EIP_ITEM_MISMATCH = 70          /* as EIP_ITEM_REFUSED */
+};
+
+/* An item of an answer. Its data stays where the answer lies. */
+typedef struct eip_item {
+    uint32_t kind, a, b, c, d;
+    const uint8_t *bytes;
+    size_t size;
+} eip_item;
+
+#define EIP_ITEM_HEAD 28
+
+static inline uint32_t eip_number(const uint8_t *bytes)
+{
+    return bytes[0] | (uint32_t)bytes[1] << 8 | (uint32_t)bytes[2] << 16 | (uint32_t)bytes[3] << 24;
+}
+
+/* Reads the item at *at of an answer, and moves *at behind it. False at the end. Begin with *at = 0. */
+static inline bool eip_next(const uint8_t *answer, size_t size, size_t *at, eip_item *item)
+{
+    const uint8_t *head = answer + *at;
+    uint64_t len;
+    if (*at > size || size - *at < EIP_ITEM_HEAD)
+        return false;
+    len = eip_number(head + 20) | (uint64_t)eip_number(head + 24) << 32;
+    if (len > size - *at - EIP_ITEM_HEAD)
+        return false;
+    item->kind = eip_number(head);
+    item->a = eip_number(head + 4);
+    item->b = eip_number(head + 8);
+    item->c = eip_number(head + 12);
+    item->d = eip_number(head + 16);
+    item->bytes = head + EIP_ITEM_HEAD;
+    item->size = (size_t)len;
+    *at += EIP_ITEM_HEAD + (size_t)len;
+    return true;
+}
+
+#ifdef __cplusplus
+}
+#endif
+
+#endif
