@@ -1,0 +1,40 @@
+-- A receipt more.
+use Rattle.std.proofs.Common.{◌≡◌, ℕ, List, [], ◌∷◌, ◌++◌, true, false, map, refl, ap, ◌∙◌, append-nil}
+use Rattle.std.specs.Prelude.{filter}
+use Rattle.std.proofs.lemmas.List.{map-append}
+use Rattle.std.proofs.lemmas.List.Elements.{All-push, filter-append}
+use Rattle.device_lock.specs.declared.receipt.Receipt.{Receipt}
+use Rattle.device_lock.specs.Locked.{IsReceiptOf}
+use Rattle.line_threads.specs.Accounts.{AddsItems, IsAccount, event_of, own_events}
+use Rattle.cip_events.specs.declared.event.Event.{Event}
+use Rattle.line_threads.specs.Scripts.{is_own}
+
+own_one : (r : Receipt) → is_own r.event ≡ true → own_events (r ∷ []) ≡ r.event ∷ []
+own_one r is = rw is refl
+
+own_none : (r : Receipt) → is_own r.event ≡ false → own_events (r ∷ []) ≡ []
+own_none r is = rw is refl
+
+own_append : (xs ys : List Receipt) → own_events (xs ++ ys) ≡ own_events xs ++ own_events ys
+own_append xs ys = ap (filter is_own) (map-append event_of xs ys) ∙ filter-append is_own (map event_of xs) (map event_of ys)
+
+pub adds_none : (k : ℕ) (rs : List Receipt) → AddsItems k rs rs
+adds_none k rs = record { own = refl; of = λ h. h }
+
+pub adds_item : (k : ℕ) (old mid : List Receipt) (e : Event) (r : Receipt) → AddsItems k old mid → IsReceiptOf k e r → is_own e ≡ false → AddsItems k old (mid ++ r ∷ [])
+adds_item k old mid e r adds of none =
+    record {
+      own = own_append mid (r ∷ []) ∙ ap (λ xs. own_events mid ++ xs) (own_none r (ap is_own of.event_is ∙ none)) ∙ append-nil (own_events mid) ∙ adds.own;
+      of = λ h. All-push (λ r. r.device ≡ k) mid r (adds.of h) of.device_is;
+    }
+
+pub account_more : (k : ℕ) (script : List Event) (old mid : List Receipt) (e : Event) (r : Receipt) → IsAccount k script old → AddsItems k old mid → IsReceiptOf k e r → is_own e ≡ true → IsAccount k (script ++ e ∷ []) (mid ++ r ∷ [])
+account_more k script old mid e r account adds of is =
+    record {
+      own =
+          own_append mid (r ∷ [])
+          ∙ ap (λ xs. own_events mid ++ xs) (own_one r (ap is_own of.event_is ∙ is))
+          ∙ ap (λ xs. xs ++ r.event ∷ []) (adds.own ∙ account.own)
+          ∙ ap (λ x. script ++ x ∷ []) of.event_is;
+      of = All-push (λ r. r.device ≡ k) mid r (adds.of account.of) of.device_is;
+    }

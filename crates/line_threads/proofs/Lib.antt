@@ -1,0 +1,6 @@
+pub mod Adding
+pub mod Distinct
+pub mod Gathering
+pub mod Incarnations
+pub mod Reaching
+pub mod Reporting

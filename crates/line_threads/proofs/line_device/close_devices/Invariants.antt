@@ -1,0 +1,6 @@
+use Rattle.std.proofs.Common.{◌≡◌}
+use Rattle.settling.specs.Histories.{configs_of}
+use Rattle.line_threads.proofs.line_device.close_devices.Given as goal
+
+abbrev pub invariant-loop-device : goal.invariant-loop-device
+invariant-loop-device g l = configs_of l.histories.items ≡ l.yielded

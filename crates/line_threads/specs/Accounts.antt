@@ -1,0 +1,31 @@
+-- What the receipts of a device say of its script.
+use Rattle.std.specs.Prelude.{◌≡◌, ◌==◌, ℕ, List, map, filter, All}
+use Rattle.cip_events.specs.declared.event.Event.{Event}
+use Rattle.device_lock.specs.declared.receipt.Receipt.{Receipt}
+use Rattle.line_threads.specs.Scripts.{is_own}
+
+abbrev pub event_of : Receipt → Event
+event_of r = r.event
+
+-- the events of the application and of time, in order
+abbrev pub own_events : List Receipt → List Event
+own_events rs = filter is_own (map event_of rs)
+
+-- the receipts of one device, which is given by its incarnation byte
+abbrev pub of_device : ℕ → List Receipt → List Receipt
+of_device byte rs = filter (λ r. r.device == byte) rs
+
+-- all these are receipts of the device
+abbrev pub AreOf : ℕ → List Receipt → Type 0
+AreOf byte rs = All (λ r. r.device ≡ byte) rs
+
+-- These are receipts of the device, and those of its application and of time are for the events of the script, in order
+-- and each once.
+pub record IsAccount (byte : ℕ) (script : List Event) (rs : List Receipt) : Type 0 where
+  pub own : own_events rs ≡ script
+  pub of : AreOf byte rs
+
+-- the new list has more receipts of the device, none of them of its application or of time
+pub record AddsItems (byte : ℕ) (old new : List Receipt) : Type 0 where
+  pub own : own_events new ≡ own_events old
+  pub of : AreOf byte old → AreOf byte new

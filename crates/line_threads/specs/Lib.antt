@@ -1,0 +1,4 @@
+pub mod Scripts
+pub mod Accounts
+pub mod Lines
+pub mod Openings
