@@ -24,7 +24,7 @@ impl From<OutOfMemory> for WorkFault {
 /// Why a run ends early.
 #[derive(Debug, Drop, Error)]
 pub enum BenchFault {
-    #[error("the one word that may follow is check, engine, scanner, world or books")]
+    #[error("the word that may follow is check, scanner, load, world or books")]
     Usage,
     #[error("no memory")]
     OutOfMemory,

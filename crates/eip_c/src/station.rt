@@ -12,10 +12,10 @@ use adapter_engine::FastAdapter;
 use cip_events::{Delivery, Event, Outcome, StepFault};
 use cip_tables::Device;
 use cip_types::Node;
-use plain_engine::PlainScanner;
+use scanner_engine::FastScanner;
 
 /// The scanner of a profile that begins with `scanner`.
-pub type LineScanner = PlainScanner;
+pub type LineScanner = FastScanner;
 
 /// An adapter or a scanner.
 #[derive(Drop)]

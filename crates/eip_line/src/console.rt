@@ -16,7 +16,7 @@ use adapter_engine::FastAdapter;
 use cip_tables::Config;
 use cip_types::limits::LONGEST_TRACE;
 use itoa::Buffer;
-use plain_engine::PlainScanner;
+use scanner_engine::FastScanner;
 use std::alloc::Global;
 use std::convert::AsStr;
 use std::io::{ErrorKind, Read, Write};
@@ -237,7 +237,7 @@ fn played<O: Write>(
 {
     match &trace.config {
         Config::Adapter(_) => play::<FastAdapter, O>(alloc, trace, out),
-        Config::Scanner(_) => play::<PlainScanner, O>(alloc, trace, out),
+        Config::Scanner(_) => play::<FastScanner, O>(alloc, trace, out),
     }
 }
 

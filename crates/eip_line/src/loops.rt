@@ -8,7 +8,7 @@ ghost use Rattle.eip_line.specs.Looped.{FailsLoop, IsLooped, end_line, turns_lin
 use crate::commands::LoopTask;
 use crate::console::write_numbered;
 use adapter_engine::FastAdapter;
-use plain_engine::PlainScanner;
+use scanner_engine::FastScanner;
 use socket_loop::{LoopFault, run_loop};
 use std::io::Write;
 use std::net::{Net, TcpListener, TcpStream};
@@ -76,7 +76,7 @@ where
     O: Write,
     ensures { IsLooped task.turns (O.contents out.old) result (O.contents out.new) }
 {
-    let made = run_loop::<&R, FastAdapter, PlainScanner>(
+    let made = run_loop::<&R, FastAdapter, FastScanner>(
         rt.alloc(),
         rt,
         task.tcp,

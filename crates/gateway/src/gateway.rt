@@ -1,7 +1,7 @@
 //! The gateway's two devices, and what it carries from one to the other.
 
 use crate::field::FIELD_NODE;
-use eip::{Config, Device, Event, FastAdapter, Items, NewFault, Node, PlainScanner, StepFault};
+use eip::{Config, Device, Event, FastAdapter, FastScanner, Items, NewFault, Node, StepFault};
 use example_profiles::{INPUT, OUTPUT, adapter, scanner};
 use std::alloc::Global;
 
@@ -14,7 +14,7 @@ const SLOT: u32 = 0;
 /// A scanner towards the field, and an adapter towards the controller.
 #[derive(Drop)]
 pub struct Gateway {
-    pub scanner: PlainScanner,
+    pub scanner: FastScanner,
     pub adapter: FastAdapter,
 }
 
@@ -24,7 +24,7 @@ impl Gateway {
         let upper = adapter(alloc, 0x10, GATEWAY_NODE, 0xFFFF_FF00)?;
         let lower = scanner(alloc, 0x20, GATEWAY_NODE, FIELD_NODE)?;
         Ok(Gateway {
-            scanner: PlainScanner::new(alloc, Config::Scanner(lower))?,
+            scanner: FastScanner::new(alloc, Config::Scanner(lower))?,
             adapter: FastAdapter::new(alloc, Config::Adapter(upper))?,
         })
     }

@@ -1,6 +1,6 @@
 //! Plays traces over the devices of the line, each named for the behaviour that it shows, and prints a line
-//! for each: whether all outcomes are as recorded. An adapter's traces are played over each of its engines, which have
-//! to give the same outcome of every event, recorded or not.
+//! for each: whether all outcomes are as recorded. A trace is played over both engines of its device, which have to give
+//! the same outcome of every event, recorded or not.
 //!
 //! The traces behind the word `driven` are driven over memory instead, with a failure at each call of the port.
 #![tactic(auto)]
@@ -9,8 +9,9 @@ mod driven;
 mod script;
 
 use adapter_engine::FastAdapter;
-use cip_tables::Config;
+use cip_tables::{Config, Device};
 use plain_engine::{PlainAdapter, PlainScanner};
+use scanner_engine::FastScanner;
 use std::alloc::Global;
 use std::env;
 use std::fs::{self, Files};
@@ -82,8 +83,8 @@ fn is_driven<R: AllocGlobal + Files + Print>(rt: &R, name: &str) -> bool {
 }
 
 fn is_played<R: AllocGlobal + Files + Print>(rt: &R, name: &str) -> bool {
-    match engines_of(rt, name) {
-        Ok(engines) => println!(rt; "{name} holds over {engines}").is_ok(),
+    match played(rt, name) {
+        Ok(()) => println!(rt; "{name} holds over plain and fast").is_ok(),
         Err(failure) => {
             let _ = println!(rt; "{name}: {failure}");
             false
@@ -91,8 +92,8 @@ fn is_played<R: AllocGlobal + Files + Print>(rt: &R, name: &str) -> bool {
     }
 }
 
-/// Whether the trace of this file holds over each engine, and which they are.
-fn engines_of<R: AllocGlobal + Files>(rt: &R, name: &str) -> Result<&'static str, Failure> {
+/// Whether the trace of this file holds over each engine.
+fn played<R: AllocGlobal + Files>(rt: &R, name: &str) -> Result<(), Failure> {
     let Ok(text) = fs::read(rt, name) else {
         return Err(Failure::Read);
     };
@@ -103,10 +104,13 @@ fn engines_of<R: AllocGlobal + Files>(rt: &R, name: &str) -> Result<&'static str
     replayed(rt.alloc(), &trace)
 }
 
-/// Plays an adapter's trace over both of its engines, which have to give the same outcomes.
-fn replayed_by_both(alloc: Global, trace: &Trace) -> Result<(), Failure> {
-    let plain = replay::<PlainAdapter>(alloc, trace);
-    let fast = replay::<FastAdapter>(alloc, trace);
+/// Plays a trace over a plain and a fast engine, which have to give the same outcomes.
+fn replayed_by_both<P: Device + Drop, F: Device + Drop>(
+    alloc: Global,
+    trace: &Trace,
+) -> Result<(), Failure> {
+    let plain = replay::<P>(alloc, trace);
+    let fast = replay::<F>(alloc, trace);
     if !are_alike(&plain, &fast) {
         return Err(Failure::Engines);
     }
@@ -124,16 +128,10 @@ fn are_alike(plain: &Result<Report, StepperFault>, fast: &Result<Report, Stepper
 }
 
 /// Plays a trace over each engine of its kind of device.
-fn replayed(alloc: Global, trace: &Trace) -> Result<&'static str, Failure> {
+fn replayed(alloc: Global, trace: &Trace) -> Result<(), Failure> {
     match &trace.config {
-        Config::Adapter(_) => {
-            replayed_by_both(alloc, trace)?;
-            Ok("plain and fast")
-        }
-        Config::Scanner(_) => {
-            compared(trace, replay::<PlainScanner>(alloc, trace), "plain")?;
-            Ok("plain")
-        }
+        Config::Adapter(_) => replayed_by_both::<PlainAdapter, FastAdapter>(alloc, trace),
+        Config::Scanner(_) => replayed_by_both::<PlainScanner, FastScanner>(alloc, trace),
     }
 }
 

@@ -1,9 +1,9 @@
 //! An adapter over sockets, and what its peers receive.
 
 use crate::fault::SocketFault;
+use adapter_engine::FastAdapter;
 use cip_tables::{Action, Config, Device, InputPoint, OutputPoint, Profile};
 use cip_types::{Items, OutOfMemory};
-use plain_engine::PlainAdapter;
 use socket_loop::{LoopDevice, LoopFault, adapter};
 use socket_port::{SocketPort, SystemClock, loopback};
 use std::alloc::Global;
@@ -31,7 +31,7 @@ pub enum Received {
     End,
 }
 
-type HostDevice<R> = LoopDevice<SocketPort<R>, SystemClock<R>, PlainAdapter>;
+type HostDevice<R> = LoopDevice<SocketPort<R>, SystemClock<R>, FastAdapter>;
 
 /// An adapter over sockets, and its ports. It sends all datagrams to one socket, its consumer.
 #[derive(Drop)]
@@ -182,7 +182,7 @@ where
         port.join().map_err(LoopFault::from)?;
     }
     let config = Config::Adapter(profile(rt.alloc())?);
-    let device = PlainAdapter::new(rt.alloc(), config).map_err(LoopFault::from)?;
+    let device = FastAdapter::new(rt.alloc(), config).map_err(LoopFault::from)?;
     Ok(LoopDevice {
         port,
         device,
@@ -220,7 +220,7 @@ fn profile(alloc: Global) -> Result<Profile, OutOfMemory> {
 }
 
 /// Whether the output of the adapter has these bytes.
-fn has_output(device: &PlainAdapter, output: &[u8]) -> bool {
+fn has_output(device: &FastAdapter, output: &[u8]) -> bool {
     match device.read_point(OUTPUT) {
         Ok(bytes) => bytes == output,
         Err(_) => false,

@@ -2,8 +2,9 @@
 //! each scanner stands at its adapter; and lines at ports that are in use.
 
 use crate::fault::SocketFault;
+use adapter_engine::FastAdapter;
 use cip_tables::{Device, DeviceTable, SlotState};
-use plain_engine::{PlainAdapter, PlainScanner};
+use scanner_engine::FastScanner;
 use socket_loop::{LoopFault, SocketLine};
 use socket_port::loopback;
 use std::io;
@@ -15,7 +16,7 @@ const POINT: u32 = 150;
 
 const MOST_TURNS: u32 = 100_000;
 
-type Line<R> = SocketLine<R, PlainAdapter, PlainScanner>;
+type Line<R> = SocketLine<R, FastAdapter, FastScanner>;
 
 /// A port of TCP that nobody uses.
 fn free_tcp<R: Net<Listener = TcpListener, Stream = TcpStream>>(rt: &R) -> io::Result<u16> {

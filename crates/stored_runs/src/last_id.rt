@@ -7,7 +7,7 @@ use cip_tables::{Device, Event};
 use cip_types::Items;
 use cip_types::limits::IDS_PER_INCARNATION;
 use example_profiles::ADAPTER;
-use plain_engine::PlainScanner;
+use scanner_engine::FastScanner;
 use std::alloc::Global;
 
 /// The target's answer to RegisterSession: the session has the handle 1.
@@ -22,22 +22,22 @@ fn registered(alloc: Global) -> Result<Event, StoredRunFault> {
     })
 }
 
-fn fresh(alloc: Global) -> Result<PlainScanner, StoredRunFault> {
-    Ok(PlainScanner::new(alloc, config(alloc, FIRST)?)?)
+fn fresh(alloc: Global) -> Result<FastScanner, StoredRunFault> {
+    Ok(FastScanner::new(alloc, config(alloc, FIRST)?)?)
 }
 
 /// The same scanner with the counter at its end.
-fn used_up(alloc: Global, scanner: &PlainScanner) -> Result<PlainScanner, StoredRunFault> {
+fn used_up(alloc: Global, scanner: &FastScanner) -> Result<FastScanner, StoredRunFault> {
     // (a law of each device: its table is whole, which `with_next_id` requires of the copy)
     scanner.is_whole();
     let copy = scanner.copy()?.with_next_id(IDS_PER_INCARNATION);
-    Ok(PlainScanner::from_copy(alloc, &copy)?)
+    Ok(FastScanner::from_copy(alloc, &copy)?)
 }
 
 fn step(
     rt: &impl Print,
     alloc: Global,
-    scanner: &mut PlainScanner,
+    scanner: &mut FastScanner,
     number: u64,
     event: Event,
 ) -> Result<(), StoredRunFault> {
@@ -48,7 +48,7 @@ fn step(
 fn register(
     rt: &impl Print,
     alloc: Global,
-    scanner: &mut PlainScanner,
+    scanner: &mut FastScanner,
 ) -> Result<(), StoredRunFault> {
     let opened = Event::StreamOpened {
         stream: 0,
@@ -58,14 +58,14 @@ fn register(
     step(rt, alloc, scanner, 2, registered(alloc)?)
 }
 
-fn start(rt: &impl Print, alloc: Global, mut scanner: PlainScanner) -> Result<(), StoredRunFault> {
+fn start(rt: &impl Print, alloc: Global, mut scanner: FastScanner) -> Result<(), StoredRunFault> {
     step(rt, alloc, &mut scanner, 3, Event::Start { slot: 0 })
 }
 
 fn print_start(
     rt: &impl Print,
     alloc: Global,
-    mut scanner: PlainScanner,
+    mut scanner: FastScanner,
 ) -> Result<(), StoredRunFault> {
     register(rt, alloc, &mut scanner)?;
     start(rt, alloc, used_up(alloc, &scanner)?)

@@ -1,6 +1,6 @@
-//! Runs of devices, fast adapters and plain scanners, printed step by step.
+//! Runs of devices, printed step by step.
 //!
-//! The first runs are of devices on a simulated segment, act by act, from files. In the race of two owners of one
+//! The first runs are of devices on a simulated segment, act by act, from files; plain and fast devices answer alike. In the race of two owners of one
 //! output, a datagram of the first owner is delivered after the next owner has opened its connection, and changes
 //! nothing. Then a reply comes too late. The answer of a device is printed behind its name, in the lines of its trace.
 //! Then come the faults of the making of a segment, and a scanner that has no connection id left.

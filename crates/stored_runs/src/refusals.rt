@@ -5,7 +5,7 @@ use crate::fault::StoredRunFault;
 use adapter_engine::FastAdapter;
 use cip_tables::{Config, Profile};
 use cip_types::OutOfMemory;
-use plain_engine::PlainScanner;
+use scanner_engine::FastScanner;
 use segment_world::World;
 use std::alloc::Global;
 
@@ -15,7 +15,7 @@ const NEIGHBOUR: &[u8] =
 
 /// Prints why no segment is made of these devices.
 fn print_fault(rt: &impl Print, alloc: Global, configs: Vec<Config>) -> Result<(), StoredRunFault> {
-    match World::<FastAdapter, PlainScanner>::new(alloc, configs) {
+    match World::<FastAdapter, FastScanner>::new(alloc, configs) {
         Ok(_) => Err(StoredRunFault::Differs),
         Err(fault) => Ok(println!(rt; "{fault}")?),
     }

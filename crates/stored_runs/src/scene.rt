@@ -1,12 +1,12 @@
 //! Devices on a segment, and the story of what happens to them.
 
+ghost use Rattle.std.specs.Prelude.{◌≡◌, true, false};
+
 use crate::devices::configs;
 use crate::fault::StoredRunFault;
 use crate::text::{push_fault, push_line, push_lines};
-use adapter_engine::FastAdapter;
-use cip_tables::{Answer, Outcome};
+use cip_tables::{Answer, Device, Outcome};
 use cip_types::OutOfMemory;
-use plain_engine::PlainScanner;
 use segment_world::{Act, World};
 use std::alloc::Global;
 use trace_outcomes::write_outcome;
@@ -41,9 +41,9 @@ impl Counts {
 
 /// A segment, and the lines of its acts.
 #[derive(Drop)]
-pub struct Scene {
+pub struct Scene<A: Device + Drop, S: Device + Drop> {
     alloc: Global,
-    world: World<FastAdapter, PlainScanner>,
+    world: World<A, S>,
     events: Counts,
     story: String,
 }
@@ -54,9 +54,12 @@ fn lines_of(alloc: Global, number: u64, answer: Answer) -> Result<String, OutOfM
     write_outcome(alloc, number, &outcome)
 }
 
-impl Scene {
+impl<A: Device + Drop, S: Device + Drop> Scene<A, S> {
     /// A segment of devices of these profiles, at most three.
-    pub fn new(alloc: Global, texts: &[&[u8]]) -> Result<Scene, StoredRunFault> {
+    pub fn new(alloc: Global, texts: &[&[u8]]) -> Result<Self, StoredRunFault>
+        requires adapter { A.ADAPTER ≡ true }
+        requires scanner { S.ADAPTER ≡ false }
+    {
         let world = World::new(alloc, configs(alloc, texts)?)?;
         Ok(Scene {
             alloc,
@@ -70,9 +73,10 @@ impl Scene {
         })
     }
 
-    /// The lines so far.
-    pub fn story(&self) -> &str {
-        self.story.as_str()
+    /// The lines of the acts.
+    pub fn into_story(self) -> String {
+        let Scene { story, .. } = self;
+        story
     }
 
     /// Appends a line for the reader.

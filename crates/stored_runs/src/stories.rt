@@ -9,8 +9,14 @@
 //!
 //! A line that begins with `# ` is printed as it is.
 
+ghost use Rattle.std.specs.Prelude.{◌≡◌, true, false};
+
 use crate::fault::StoredRunFault;
 use crate::scene::Scene;
+use adapter_engine::FastAdapter;
+use cip_tables::Device;
+use plain_engine::{PlainAdapter, PlainScanner};
+use scanner_engine::FastScanner;
 use segment_world::{Act, Call, Direction};
 use std::alloc::Global;
 use std::fs::{self, Files};
@@ -72,14 +78,22 @@ fn act_of(alloc: Global, device: u32, words: &mut Words<'_>) -> Result<Act, Line
     }
 }
 
-fn act(scene: &mut Scene, alloc: Global, line: &str) -> Result<(), StoredRunFault> {
+fn act<A: Device + Drop, S: Device + Drop>(
+    scene: &mut Scene<A, S>,
+    alloc: Global,
+    line: &str,
+) -> Result<(), StoredRunFault> {
     let mut words = Words::of(line);
     let name = words.word()?;
     let act = act_of(alloc, place_of(name), &mut words)?;
     Ok(scene.act(name, place_of(name), &act)?)
 }
 
-fn play(scene: &mut Scene, alloc: Global, text: &[u8]) -> Result<(), StoredRunFault> {
+fn play<A: Device + Drop, S: Device + Drop>(
+    scene: &mut Scene<A, S>,
+    alloc: Global,
+    text: &[u8],
+) -> Result<(), StoredRunFault> {
     let Ok(text) = str::from_utf8(text) else {
         return Err(StoredRunFault::Line);
     };
@@ -92,23 +106,38 @@ fn play(scene: &mut Scene, alloc: Global, text: &[u8]) -> Result<(), StoredRunFa
     Ok(())
 }
 
-fn print_story(
-    rt: &impl Print,
+/// The lines of a story that devices of these profiles play, at most three.
+fn lines_of_story<A: Device + Drop, S: Device + Drop>(
     alloc: Global,
-    scene: &mut Scene,
     text: &[u8],
-) -> Result<(), StoredRunFault> {
-    play(scene, alloc, text)?;
-    Ok(print!(rt; "{}", scene.story())?)
+    profiles: &[&[u8]],
+) -> Result<String, StoredRunFault>
+    requires adapter { A.ADAPTER ≡ true }
+    requires scanner { S.ADAPTER ≡ false }
+{
+    let mut scene: Scene<A, S> = Scene::new(alloc, profiles)?;
+    let played = play(&mut scene, alloc, text);
+    let story = scene.into_story();
+    played?;
+    Ok(story)
 }
 
-/// Plays the story of this file with devices of these profiles, at most three, and prints what each answers.
+/// Plays the story of this file with plain and with fast devices of these profiles, at most three. Prints what each device
+/// answers, which is the same for both.
 pub fn print_run<R: AllocGlobal + Files + Print>(
     rt: &R,
     name: &str,
     profiles: &[&[u8]],
 ) -> Result<(), StoredRunFault> {
     let text = fs::read(rt, name)?;
-    let mut scene = Scene::new(rt.alloc(), profiles)?;
-    print_story(rt, rt.alloc(), &mut scene, text.as_slice())
+    let plain = lines_of_story::<PlainAdapter, PlainScanner>(
+        rt.alloc(),
+        text.as_slice(),
+        profiles,
+    )?;
+    let fast = lines_of_story::<FastAdapter, FastScanner>(rt.alloc(), text.as_slice(), profiles)?;
+    if plain.as_str() != fast.as_str() {
+        return Err(StoredRunFault::Differs);
+    }
+    Ok(print!(rt; "{}", fast.as_str())?)
 }
