@@ -1,10 +1,11 @@
 /* Stands before the C library's allocator and refuses a request where a test asks for it.
 
-   A request for 2^50 + n bytes is refused, and so is the nth request from then on (none if n is 0). A request for 2^51
-   bytes is granted, by a byte, if a request was refused so since then, and else refused.
+   A request for 2^50 + n bytes is refused, and so are the nth request from then on and all after it (none if n is 0): a
+   list that grows while it is collected asks again for less. A request for 2^51 bytes is granted, by a byte, if a request
+   was refused so since then, and else refused.
 
-   The variable REFUSE=n in the environment refuses the nth request of the whole run. A byte is then written to the file
-   descriptor that the variable REFUSED names. tools/refusals builds and loads this. */
+   The variable REFUSE=n in the environment refuses the nth request of the whole run, and no other. A byte is then written
+   to the file descriptor that the variable REFUSED names. tools/refusals builds and loads this. */
 typedef unsigned long size_t;
 extern void *__libc_malloc(size_t);
 extern void *__libc_realloc(void *, size_t);
@@ -12,6 +13,7 @@ extern long write(int, const void *, size_t);
 extern char **environ;
 
 static size_t left;   /* the requests up to the one that is refused, with it; 0 if none is */
+static int onwards;   /* whether those after it are refused too */
 static int refused;   /* whether one was refused */
 static int descriptor = -1; /* where that is said once; -1 if nowhere */
 
@@ -36,6 +38,7 @@ __attribute__((constructor)) static void begin(void) {
 }
 
 static int is_refused(void) {
+    if (refused && onwards) return 1;
     if (left == 0 || --left > 0) return 0;
     refused = 1;
     if (descriptor >= 0) (void)!write(descriptor, "!", 1);
@@ -46,6 +49,7 @@ static int is_refused(void) {
 void *malloc(size_t size) {
     if (size >> 50 == 1) {
         left = size & 0xFFFFFF;
+        onwards = 1;
         refused = 0;
         return 0;
     }
