@@ -6,6 +6,7 @@ use cip_events::{Event, NewFault, Outcome, StepFault};
 use cip_tables::{Config, Device, TableCopy};
 use cip_types::OutOfMemory;
 use plain_engine::{PlainAdapter, PlainScanner};
+use scanner_engine::FastScanner;
 use std::alloc::Global;
 use std::marker::PhantomData;
 use trace_outcomes::Recorded;
@@ -32,6 +33,12 @@ impl Restore for FastAdapter {
 impl Restore for PlainScanner {
     fn of_copy(alloc: Global, copy: &TableCopy) -> Result<Self, NewFault> {
         PlainScanner::from_copy(alloc, copy)
+    }
+}
+
+impl Restore for FastScanner {
+    fn of_copy(alloc: Global, copy: &TableCopy) -> Result<Self, NewFault> {
+        FastScanner::from_copy(alloc, copy)
     }
 }
 

@@ -8,6 +8,7 @@ use cip_tables::Config;
 use cip_types::OutOfMemory;
 use device_lock::{History, Receipt};
 use plain_engine::{PlainAdapter, PlainScanner};
+use scanner_engine::FastScanner;
 use segment_world::{Act, ActFault, World, WorldFault};
 use settling::{Settled, Unsettled, check_configs, settle};
 use std::alloc::Global;
@@ -15,8 +16,8 @@ use std::alloc::Global;
 /// Plain adapters and scanners on a network.
 pub type PlainWorld = World<PlainAdapter, PlainScanner>;
 
-/// Fast adapters on a network with scanners.
-pub type FastWorld = World<FastAdapter, PlainScanner>;
+/// Fast adapters and scanners on a network.
+pub type FastWorld = World<FastAdapter, FastScanner>;
 
 /// A network of devices.
 pub trait Network {
@@ -83,7 +84,7 @@ impl Network for FastWorld {
     }
 
     fn account(alloc: Global) -> Result<Account, OutOfMemory> {
-        account_of::<FastAdapter, PlainScanner>(alloc)
+        account_of::<FastAdapter, FastScanner>(alloc)
     }
 
     fn schedule(
@@ -92,7 +93,7 @@ impl Network for FastWorld {
         receipts: &[Receipt],
     ) -> Result<Settled, Unsettled> {
         match check_configs(alloc, histories) {
-            Ok(()) => settle::<FastAdapter, PlainScanner>(alloc, histories, receipts),
+            Ok(()) => settle::<FastAdapter, FastScanner>(alloc, histories, receipts),
             Err(_) => Err(Unsettled::OutOfMemory),
         }
     }

@@ -10,6 +10,7 @@ use crate::texts::{Printed, Rewriting};
 use adapter_engine::FastAdapter;
 use cip_tables::{Config, Device};
 use plain_engine::{PlainAdapter, PlainScanner};
+use scanner_engine::FastScanner;
 use std::fs::{self, Files};
 use trace_text::{Trace, read_trace};
 
@@ -42,7 +43,10 @@ fn refuse_trace(refusals: &mut Refusals, trace: &Trace) -> Result<(), Difference
             refuse_over::<PlainAdapter>(refusals, trace)?;
             refuse_over::<FastAdapter>(refusals, trace)
         }
-        Config::Scanner(_) => refuse_over::<PlainScanner>(refusals, trace),
+        Config::Scanner(_) => {
+            refuse_over::<PlainScanner>(refusals, trace)?;
+            refuse_over::<FastScanner>(refusals, trace)
+        }
     }
 }
 
