@@ -107,13 +107,27 @@ where
     registers(host, &next)
 }
 
+/// Long datagrams, at an adapter of their own.
+fn long<R>(rt: R) -> Result<bool, SocketFault>
+where
+    R: AllocGlobal + Clock + Net<Listener = TcpListener, Stream = TcpStream> + Copy + Drop,
+{
+    long_datagrams(&mut AdapterHost::open(rt, false)?)
+}
+
+/// Refused datagrams, at an adapter whose port is joined.
+fn refused<R>(rt: R) -> Result<bool, SocketFault>
+where
+    R: AllocGlobal + Clock + Net<Listener = TcpListener, Stream = TcpStream> + Copy + Drop,
+{
+    refused_datagrams(&mut AdapterHost::open(rt, true)?)
+}
+
 /// An adapter for each.
 pub fn run<R>(rt: R) -> Result<(), SocketFault>
 where
     R: AllocGlobal + Clock + Print + Net<Listener = TcpListener, Stream = TcpStream> + Copy + Drop,
 {
-    let long = long_datagrams(&mut AdapterHost::open(rt, false)?)?;
-    print_answer(&rt, "datagrams of 1,400 bytes", long)?;
-    let refused = refused_datagrams(&mut AdapterHost::open(rt, true)?)?;
-    print_answer(&rt, "a peer that refuses datagrams", refused)
+    print_answer(&rt, "datagrams of 1,400 bytes", long(rt)?)?;
+    print_answer(&rt, "a peer that refuses datagrams", refused(rt)?)
 }

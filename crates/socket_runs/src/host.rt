@@ -75,10 +75,10 @@ impl<R: Clock + Drop> AdapterHost<R> {
     pub fn consumed(&mut self, buffer: &mut [u8]) -> Result<usize, SocketFault> {
         for _ in 0..MOST_TURNS {
             self.loop_device.turn()?;
-            let count = self
-                .consumer
-                .as_ref()
-                .map_or(0, |socket| datagram(socket, buffer));
+            let count = match &self.consumer {
+                Some(socket) => datagram(socket, buffer),
+                None => 0,
+            };
             if count > 0 {
                 return Ok(count);
             }
@@ -132,7 +132,8 @@ where
         consumer.set_nonblocking(true)?;
         let to = consumer.local_addr()?.port();
         let (tcp, udp) = free_ports(&rt)?;
-        let loop_device = host_device(rt, (tcp, udp), to, joined)?;
+        let port = host_port(rt, (tcp, udp), to, joined)?;
+        let loop_device = host_device(rt, port)?;
         Ok(AdapterHost {
             rt,
             loop_device,
@@ -167,13 +168,19 @@ where
     }
 }
 
-/// A fresh adapter at these ports of TCP and UDP, whose datagrams go to this port.
-fn host_device<R>(
+/// A fresh adapter.
+fn fresh_adapter(alloc: Global) -> Result<FastAdapter, SocketFault> {
+    let config = Config::Adapter(profile(alloc)?);
+    Ok(FastAdapter::new(alloc, config).map_err(LoopFault::from)?)
+}
+
+/// An adapter's port at these ports of TCP and UDP, whose datagrams go to this port.
+fn host_port<R>(
     rt: R,
     (tcp, udp): (u16, u16),
     to: u16,
     joined: bool,
-) -> Result<HostDevice<R>, SocketFault>
+) -> Result<SocketPort<R>, SocketFault>
 where
     R: AllocGlobal + Clock + Net<Listener = TcpListener, Stream = TcpStream> + Copy + Drop,
 {
@@ -181,8 +188,15 @@ where
     if joined {
         port.join().map_err(LoopFault::from)?;
     }
-    let config = Config::Adapter(profile(rt.alloc())?);
-    let device = FastAdapter::new(rt.alloc(), config).map_err(LoopFault::from)?;
+    Ok(port)
+}
+
+/// A fresh adapter at this port.
+fn host_device<R>(rt: R, port: SocketPort<R>) -> Result<HostDevice<R>, SocketFault>
+where
+    R: AllocGlobal + Clock + Copy + Drop,
+{
+    let device = fresh_adapter(rt.alloc())?;
     Ok(LoopDevice {
         port,
         device,
