@@ -1,5 +1,6 @@
 pub mod Faults
 pub mod Printed
+pub mod Lined
 pub mod Looped
 pub mod Tasks
 pub mod Usage

@@ -2,6 +2,7 @@
 use Rattle.std.specs.Prelude.{ℕ, ◌≡◌, ◌⊎◌, List, length, codes, slice_get, Option, Some}
 use Rattle.std.specs.Io.KnownBytes.{Appends}
 use Rattle.trace_stepper.specs.Written.{BeginsToWrite}
+use Rattle.eip_line.specs.Lined.{FailsLine, SettlesLine}
 use Rattle.eip_line.specs.Looped.{FailsLoop, turns_line}
 use Rattle.eip_line.specs.Printed.{PrintsRun, Fails}
 use Rattle.eip_line.specs.declared.commands.Task.{Task}
@@ -15,16 +16,19 @@ IsAlone words word = (length words ≡ 2) × (slice_get words 1 ≡ Some word)
 abbrev pub Requests : List (List ℕ) → Task → Type 0
 Requests words task.Step = IsAlone words (codes "step")
 Requests words (task.Loop given) = slice_get words 1 ≡ Some (codes "loop")
+Requests words (task.Line given) = slice_get words 1 ≡ Some (codes "line")
 
--- all that a task has to print is printed: all outcomes of a trace, or the turns of a loop
+-- all that a task has to print is printed: all outcomes of a trace, the turns of a loop, or that a line settles
 abbrev pub Prints : Task → Option (List ℕ) → Option (List ℕ) → Option (List ℕ) → Type 0
 Prints task.Step input old new = PrintsRun input old new
 Prints (task.Loop given) input old new = Appends old new (turns_line given.turns)
+Prints (task.Line given) input old new = SettlesLine given.scanners old new
 
 -- a task ended with status 1
 abbrev pub FailsTask : Task → Option (List ℕ) → Option (List ℕ) → Option (List ℕ) → Option (List ℕ) → Option (List ℕ) → Type 0
 FailsTask task.Step input old new silent reported = Fails input old new silent reported
 FailsTask (task.Loop given) input old new silent reported = FailsLoop given.turns old new silent reported
+FailsTask (task.Line given) input old new silent reported = FailsLine given.scanners old new silent reported
 
 -- the requested task is done and printed
 abbrev pub IsDone : List (List ℕ) → Option (List ℕ) → Option (List ℕ) → Option (List ℕ) → Type 0

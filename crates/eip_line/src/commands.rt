@@ -17,6 +17,8 @@ pub enum Task {
     Step,
     /// Runs an adapter and a scanner over sockets of this host.
     Loop(LoopTask),
+    /// Runs an adapter and scanners, each in a thread of its own, and settles what they did.
+    Line(LineTask),
 }
 
 /// The ports of an adapter and a scanner, and the number of turns of each.
@@ -30,8 +32,21 @@ pub struct LoopTask {
     pub turns: u32,
 }
 
+/// The number of scanners beside the adapter, and how many ticks of a millisecond each device has.
+#[derive(Clone, Copy)]
+pub struct LineTask {
+    pub scanners: u8,
+    pub ticks: u32,
+}
+
 /// The usual number of turns.
 const TURNS: u32 = 1_000;
+
+/// The usual number of scanners.
+const SCANNERS: u8 = 2;
+
+/// The usual number of ticks.
+const TICKS: u32 = 100;
 
 /// Why a command line requests no task.
 #[derive(Clone, Copy, Debug, PartialEq, Eq, Error)]
@@ -99,6 +114,7 @@ fn is_named<S: AsStr>(words: &[S], task: Task) -> bool
     match task {
         Task::Step => is_alone(words, "step"),
         Task::Loop(_) => name.as_str() == "loop",
+        Task::Line(_) => name.as_str() == "line",
     }
 }
 
@@ -109,6 +125,7 @@ fn parse<S: AsStr>(alloc: Global, words: &[S]) -> Result<Task, Misuse> {
     match matches.subcommand() {
         Some(("step", _)) => Ok(Task::Step),
         Some(("loop", given)) => Ok(Task::Loop(loop_task(given))),
+        Some(("line", given)) => Ok(Task::Line(line_task(given))),
         _ => Err(Misuse::Usage),
     }
 }
@@ -117,7 +134,8 @@ fn eip_line<'a>(alloc: Global) -> Result<Command<'a>, AllocError> {
     Command::new(alloc, "eip_line")
         .subcommand_required(true)
         .subcommand(Command::new(alloc, "step"))?
-        .subcommand(loop_command(alloc)?)
+        .subcommand(loop_command(alloc)?)?
+        .subcommand(line_command(alloc)?)
 }
 
 fn loop_command<'a>(alloc: Global) -> Result<Command<'a>, AllocError> {
@@ -129,6 +147,18 @@ fn loop_command<'a>(alloc: Global) -> Result<Command<'a>, AllocError> {
         .arg(port(alloc, "tcp"))?
         .arg(port(alloc, "udp"))?
         .arg(turns)
+}
+
+fn line_command<'a>(alloc: Global) -> Result<Command<'a>, AllocError> {
+    let scanners = Arg::new(alloc, "scanners")
+        .long("scanners")
+        .action(ArgAction::Set)
+        .value_parser(value_parser!(u8).range(1..=8));
+    let ticks = Arg::new(alloc, "ticks")
+        .long("ticks")
+        .action(ArgAction::Set)
+        .value_parser(value_parser!(u32).range(1..=10_000));
+    Command::new(alloc, "line").arg(scanners)?.arg(ticks)
 }
 
 /// A port, below the last one, so that there is a next one.
@@ -145,5 +175,13 @@ fn loop_task(given: &ArgMatches<'_>) -> LoopTask {
         tcp: given.get_one("tcp").unwrap_or(TCP_PORT),
         udp: given.get_one("udp").unwrap_or(UDP_PORT),
         turns: given.get_one("turns").unwrap_or(TURNS),
+    }
+}
+
+/// The given options, and the usual values of the others.
+fn line_task(given: &ArgMatches<'_>) -> LineTask {
+    LineTask {
+        scanners: given.get_one("scanners").unwrap_or(SCANNERS),
+        ticks: given.get_one("ticks").unwrap_or(TICKS),
     }
 }

@@ -10,6 +10,7 @@ ghost use Rattle.eip_line.specs.Tasks.{FailsTask, HasFailed, IsAlone, IsDone, Pr
 ghost use Rattle.eip_line.specs.Usage.{usage_text};
 
 use crate::commands::{Misuse, Task, read_task};
+use crate::lines::line_status;
 use crate::loops::loop_status;
 use crate::usage::write_usage;
 use adapter_engine::FastAdapter;
@@ -22,6 +23,8 @@ use std::convert::AsStr;
 use std::io::{ErrorKind, Read, Write};
 use std::net::{Net, TcpListener, TcpStream};
 use std::rt::Clock;
+use std::sync::Wait;
+use std::thread::Threads;
 use thiserror::Error;
 use trace_stepper::{NotTaken, StepperFault, play, write_text};
 use trace_text::{Trace, TraceFault, read_trace};
@@ -97,14 +100,19 @@ impl From<StepperFault> for ProgramFault {
 /// Runs the program on the words of a command line, the first of them its own name, and answers its status.
 ///
 /// - 0: the task is done. `step`: all outcomes are printed, and each is as recorded. `loop`: all turns are done, and
-///   their number is printed.
+///   their number is printed. `line`: all devices have ended, and what they did settles into one schedule.
 /// - 1: an outcome is not as recorded, and the last line names the first such event; or the run failed, and one line on
 ///   `err` says why, as far as the stream took it.
 /// - 2: the command line is none of the program's, and not `step` alone. Nothing is printed, and `err` gets the usage
 ///   text, as far as the stream took it.
 pub fn program<R, S, I, O, E>(rt: &R, words: &[S], reader: &mut I, out: &mut O, err: &mut E) -> u8
 where
-    R: AllocGlobal + Clock + Net<Listener = TcpListener, Stream = TcpStream>,
+    R: AllocGlobal
+        + Clock
+        + Net<Listener = TcpListener, Stream = TcpStream>
+        + Threads
+        + Wait
+        + Sync,
     S: AsStr,
     I: Read,
     O: Write,
@@ -140,7 +148,12 @@ pub(crate) fn misused<E: Write>(err: &mut E) -> u8
 /// task failed.
 pub fn perform<R, I, O, E>(rt: &R, task: Task, reader: &mut I, out: &mut O, err: &mut E) -> u8
 where
-    R: AllocGlobal + Clock + Net<Listener = TcpListener, Stream = TcpStream>,
+    R: AllocGlobal
+        + Clock
+        + Net<Listener = TcpListener, Stream = TcpStream>
+        + Threads
+        + Wait
+        + Sync,
     I: Read,
     O: Write,
     E: Write,
@@ -153,6 +166,7 @@ where
     match task {
         Task::Step => step_status(rt.alloc(), reader, out, err),
         Task::Loop(task) => loop_status(rt, task, out, err),
+        Task::Line(task) => line_status(rt, task, out, err),
     }
 }
 

@@ -1,9 +1,10 @@
-//! The command-line program: steps a device by the lines of a trace, or runs an adapter and a scanner over sockets of
-//! this host.
+//! The command-line program: steps a device by the lines of a trace, runs an adapter and a scanner over sockets of this
+//! host, or runs an adapter and scanners in threads and settles what they did.
 #![tactic(auto)]
 
 mod commands;
 mod console;
+mod lines;
 mod loops;
 mod running;
 mod usage;

@@ -6,11 +6,19 @@ use std::io::{BufWriter, ErrorKind, Read, Write};
 use std::net::{Net, TcpListener, TcpStream};
 use std::process::ExitCode;
 use std::rt::Clock;
+use std::sync::Wait;
+use std::thread::Threads;
 
 /// Runs the program on its command line and these streams, with a buffer for the output, and answers its status.
 pub fn run<R, I, O, E>(rt: &R, reader: &mut I, out: O, err: &mut E) -> ExitCode
 where
-    R: AllocGlobal + Env + Clock + Net<Listener = TcpListener, Stream = TcpStream>,
+    R: AllocGlobal
+        + Env
+        + Clock
+        + Net<Listener = TcpListener, Stream = TcpStream>
+        + Threads
+        + Wait
+        + Sync,
     I: Read,
     O: Write + Drop,
     E: Write,

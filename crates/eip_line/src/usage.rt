@@ -15,6 +15,10 @@ usage: eip_line step < TRACE
            --tcp PORT  the adapter's TCP port, 1 to 65534 (44818 if it is left out)
            --udp PORT  the adapter's UDP port, 1 to 65534 (2222 if it is left out); the scanner's is the next one
            --turns N   the turns of each device, 1 to 1000000 (1000 if it is left out)
+       eip_line line [--scanners N] [--ticks N]
+           runs an adapter and scanners in threads, and prints settled if what they did is one schedule
+           --scanners N  the scanners, 1 to 8 (2 if it is left out)
+           --ticks N     the milliseconds that pass at each device, 1 to 10000 (100 if it is left out)
 example: eip_line step < examples/first_open.trace
 status: 0 done; 1 an outcome is not as recorded, or a fault, which standard error names; 2 this text
 ";

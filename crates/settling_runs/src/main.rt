@@ -1,0 +1,28 @@
+//! Accounts of several devices that settle into a schedule, and accounts that do not.
+//!
+//! With no word: short lines, what becomes of their accounts, and where the events of a locked book stand. With the word
+//! `times`: how long the account of nine devices at 10,000 turns takes to settle.
+#![tactic(auto)]
+
+mod accounts;
+mod cases;
+mod fault;
+mod line;
+mod locked;
+mod mail;
+mod times;
+
+use adapter_engine::FastAdapter;
+use fault::RunFault;
+use scanner_engine::FastScanner;
+use std::env;
+
+fn main(rt: HostRuntime) -> Result<(), RunFault> {
+    let mut args = env::args(&rt)?;
+    let _program = args.next();
+    if args.next().is_some() {
+        return times::print_time::<FastAdapter, FastScanner, _>(&rt, rt.alloc());
+    }
+    cases::print_all::<FastAdapter, FastScanner>(&rt, rt.alloc())?;
+    locked::print_all::<FastAdapter, _>(&rt, rt.alloc())
+}

@@ -1,0 +1,46 @@
+//! How long an account takes to settle.
+
+ghost use Rattle.std.specs.Prelude.{◌≡◌, true, false};
+
+use crate::accounts::Account;
+use crate::cases::{start, turns};
+use crate::fault::RunFault;
+use crate::line::Line;
+use cip_tables::Device;
+use std::alloc::Global;
+use std::io;
+use std::rt::CpuClock;
+
+const SCANNERS: u8 = 8;
+
+const TURNS: u32 = 10_000;
+
+fn millis(rt: &impl CpuClock) -> io::Result<u64> {
+    Ok(u64::try_from(rt.thread_cpu_time()?.as_millis()).unwrap_or(u64::MAX))
+}
+
+fn account<A: Device + Drop, S: Device + Drop>(alloc: Global) -> Result<Account, RunFault>
+    requires adapter { A.ADAPTER ≡ true }
+    requires scanner { S.ADAPTER ≡ false }
+{
+    let mut line = Line::<A, S>::new(alloc, SCANNERS)?;
+    start(&mut line)?;
+    turns(alloc, &mut line, TURNS)?;
+    line.account()
+}
+
+/// Prints how long the account of nine devices at 10,000 turns takes to settle.
+pub fn print_time<A: Device + Drop, S: Device + Drop, R: Print + CpuClock>(
+    rt: &R,
+    alloc: Global,
+) -> Result<(), RunFault>
+    requires adapter { A.ADAPTER ≡ true }
+    requires scanner { S.ADAPTER ≡ false }
+{
+    let account = account::<A, S>(alloc)?;
+    let start = millis(rt)?;
+    account.print::<A, S>(rt, alloc, "nine devices at 10,000 turns")?;
+    let taken = millis(rt)?.wrapping_sub(start);
+    println!(rt; "{} receipts, {taken} ms", account.receipts.len())?;
+    Ok(())
+}
