@@ -7,8 +7,8 @@ use Rattle.eip_line.proofs.commands.is_named.Goals as goal
 pub returns-in-Loop : goal.returns-in-Loop
 returns-in-Loop g c same =
     let found : slice_get c.args.words.now 1 ≡ Some c.in-Some.name.now = slice_get_read _ (length c.args.words.now) 1 _ refl (search rules) (search rules) in
-    let word : c.as_str-in-Loop.result.now ≡ codes "loop" = search rules in
-    rw c.in-Loop.is (spelled g.S.AsStr.text _ _ _ found (rw c.as_str-in-Loop.ensures at word))
+    let word : c.as_str.result.now ≡ codes "loop" = search rules in
+    rw c.in-Loop.is (spelled g.S.AsStr.text _ _ _ found (rw c.as_str.ensures at word))
 
 pub returns-in-Line : goal.returns-in-Line
 returns-in-Line g c same =
