@@ -3,6 +3,7 @@
 ghost use Rattle.std.specs.Prelude.{◌≡◌, true, false};
 
 use crate::fault::RunFault;
+use crate::mail::number_of;
 use cip_tables::{Device, Verdict};
 use device_lock::{History, Receipt, Segment};
 use line_devices::{adapter_config, scanner_config};
@@ -28,7 +29,7 @@ pub fn history_of<A: Device + Drop, S: Device + Drop>(
     let history = match device.checked_sub(1) {
         None => History::new::<A>(alloc, adapter_config(alloc)?, segments),
         Some(scanner) => {
-            let config = scanner_config(alloc, scanner as u8)?;
+            let config = scanner_config(alloc, number_of(scanner))?;
             History::new::<S>(alloc, config, segments)
         }
     };

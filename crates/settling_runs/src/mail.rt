@@ -14,11 +14,16 @@ pub struct Mail {
     waiting: Vec<Vec<Event>>,
 }
 
+/// The number of a scanner, of which a line has at most 255.
+pub fn number_of(scanner: usize) -> u8 {
+    u8::try_from(scanner).unwrap_or(u8::MAX)
+}
+
 /// The address of a device.
 pub fn node_of(device: usize) -> Node {
     match device.checked_sub(1) {
         None => ADAPTER,
-        Some(scanner) => scanner_node(scanner as u8),
+        Some(scanner) => scanner_node(number_of(scanner)),
     }
 }
 
