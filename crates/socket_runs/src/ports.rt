@@ -33,13 +33,22 @@ const DATAGRAM: Output<'_> = Output::Datagram {
     bytes: &[0],
 };
 
+/// The outcome of sending the datagram over a port that counts no failure yet.
+fn sent<R: System + Drop>(port: &mut SocketPort<R>) -> Option<Result<(), PortFault>> {
+    // (`send` requires that the count of failures can rise)
+    if port.failures() != 0 {
+        return None;
+    }
+    Some(port.send(&DATAGRAM))
+}
+
 /// A datagram for a node without a route is dropped.
 fn drops_without_a_route<R>(rt: R) -> Result<bool, SocketFault>
 where
     R: AllocGlobal + System + Net<Listener = TcpListener, Stream = TcpStream> + Copy + Drop,
 {
     let mut port = port(rt, DatagramRoutes::Listed(Items::new(rt.alloc())))?;
-    Ok(port.send(&DATAGRAM) == Ok(()) && port.failures() == 0)
+    Ok(sent(&mut port) == Some(Ok(())) && port.failures() == 0)
 }
 
 /// A datagram that the system does not send, since no socket can have port 0, is a failure of the port.
@@ -48,7 +57,7 @@ where
     R: AllocGlobal + System + Net<Listener = TcpListener, Stream = TcpStream> + Copy + Drop,
 {
     let mut port = port(rt, DatagramRoutes::Own(0))?;
-    Ok(port.send(&DATAGRAM) == Err(PortFault::Send) && port.failures() == 1)
+    Ok(sent(&mut port) == Some(Err(PortFault::Send)) && port.failures() == 1)
 }
 
 /// What is written over a stream of a port is sent at once.
