@@ -1,5 +1,5 @@
 -- The output of a run over sockets.
-use Rattle.std.specs.Prelude.{ℕ, ◌≡◌, ◌≤◌, List, codes, Option, Result, Ok, Err}
+use Rattle.std.specs.Prelude.{ℕ, ◌≡◌, List, codes, Option, Result, Ok, Err}
 use Rattle.std.specs.Io.KnownBytes.{Appends}
 use Rattle.trace_stepper.specs.Written.{BeginsToWrite}
 use Rattle.socket_loop.specs.declared.fault.LoopFault.TheVariants as loop

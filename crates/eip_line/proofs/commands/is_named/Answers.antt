@@ -1,4 +1,4 @@
-use Rattle.std.proofs.Common.{rules, ◌≡◌, codes, true, Some, refl, length}
+use Rattle.std.proofs.Common.{rules, ◌≡◌, codes, Some, refl, length}
 use Rattle.std.proofs.lemmas.Option.{slice_get_read}
 use Rattle.std.specs.Prelude.{slice_get}
 use Rattle.eip_line.proofs.Words.{spelled}
