@@ -1,4 +1,4 @@
-//! Tests of the codec functions that no device calls: each call once, and behaviour that no clause states. The
+//! Tests of the codec functions and timers that no device calls: each call once, and behaviour that no clause states. The
 //! codecs' own samples have the meaning of worked bytes, and the scenarios run the functions that devices call.
 #![tactic(auto)]
 
@@ -10,3 +10,5 @@ mod of_fwdopen;
 mod of_states;
 #[cfg(test)]
 mod of_streams;
+#[cfg(test)]
+mod of_timers;

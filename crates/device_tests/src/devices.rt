@@ -1,4 +1,4 @@
-//! A plain adapter's calls beside `step`, and copies of adapters. The traces of the scenarios show the answers of their
+//! A plain adapter's calls beside `step`, copies of adapters, and a run of a scanner. The traces of the scenarios show the answers of their
 //! steps.
 
 use adapter_engine::FastAdapter;
@@ -8,6 +8,7 @@ use cip_tables::{
 use cip_types::{Items, OutOfMemory};
 use example_profiles::{ADAPTER, CONTROLLER, FORWARD_OPEN, MASK, RUN_DATA};
 use plain_engine::PlainAdapter;
+use scanner_engine::FastScanner;
 use std::alloc::Global;
 use std::test::Fail;
 
@@ -73,7 +74,7 @@ fn holds(device: &PlainAdapter, point: u32, expected: &[u8]) -> bool {
     device.read_point(point) == Ok(expected)
 }
 
-fn runs(alloc: Global, device: &mut PlainAdapter, events: &[Event]) -> bool {
+fn runs<D: Device>(alloc: Global, device: &mut D, events: &[Event]) -> bool {
     match run(alloc, device, events) {
         Ok(outcomes) => match outcomes.as_slice() {
             [first, second] => first.is_ok() && *second == Err(StepFault::TickTooLong),
@@ -88,6 +89,15 @@ fn a_run_has_an_outcome_for_each_event(rt: HostRuntime) -> Result<(), Fail> {
     let mut device = adapter(rt.alloc())?;
     let open = request(rt.alloc(), &FORWARD_OPEN)?;
     assert!(rt; runs(rt.alloc(), &mut device, &[open, Event::Tick { ms: 60_001 }]));
+    Ok(())
+}
+
+#[test]
+fn a_run_of_a_scanner_has_an_outcome_for_each_event(rt: HostRuntime) -> Result<(), Fail> {
+    let profile = example_profiles::scanner(rt.alloc(), 0x20, CONTROLLER, ADAPTER)?;
+    let mut device = FastScanner::new(rt.alloc(), Config::Scanner(profile))?;
+    let events = [Event::Start { slot: 0 }, Event::Tick { ms: 60_001 }];
+    assert!(rt; runs(rt.alloc(), &mut device, &events));
     Ok(())
 }
 
