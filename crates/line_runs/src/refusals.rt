@@ -64,12 +64,20 @@ where
     run_line::<A, S, Open, R>(rt, alloc, line, scripts, &Open)
 }
 
+// A scanner has the incarnation byte of the first one.
+fn give_first_byte(config: &mut Config) {
+    match config {
+        Config::Scanner(profile) => profile.incarnation = 0x20,
+        Config::Adapter(_) => {}
+    }
+}
+
 // A second scanner has the incarnation byte of the first.
 fn give_same_byte(configs: &mut Vec<Config>)
     ensures { length configs.new.items ≡ length configs.old.items }
 {
-    if let Some(Config::Scanner(profile)) = configs.get_mut(2) {
-        profile.incarnation = 0x20;
+    if let Some(config) = configs.get_mut(2) {
+        give_first_byte(config);
     }
 }
 
