@@ -1,0 +1,5 @@
+use Rattle.slot_openings.proofs.Drawing.{one_slot}
+use Rattle.slot_openings.proofs.an_opening_number_names_one_slot.Goals as goal
+
+pub returns : goal.returns
+returns c = one_slot c.openings_are_numbered.ensures.law c.openings_differ.ensures
