@@ -1,2 +1,3 @@
 mod Drawing
 mod Acting
+mod Samples
