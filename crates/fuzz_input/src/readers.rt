@@ -47,12 +47,15 @@ fn read_parameters(bytes: &[u8]) -> bool {
     true
 }
 
-/// Gives the bytes to a splitter in two pieces, the first as long as the first byte says.
+/// Gives the bytes to a splitter in two pieces, the first as long as the first byte says. Returns true.
 pub fn split(alloc: Global, bytes: &[u8]) -> bool {
     let Some((first, rest)) = bytes.split_first() else {
         return true;
     };
     let (one, two) = rest.split_at(rest.len().min(usize::from(*first)));
     let mut splitter = Splitter::new(alloc);
-    splitter.feed(one).is_err() || splitter.feed(two).is_ok() || true
+    if splitter.feed(one).is_ok() {
+        let _fed = splitter.feed(two).is_ok();
+    }
+    true
 }
