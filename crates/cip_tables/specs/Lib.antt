@@ -2,6 +2,7 @@ pub mod Sound
 pub mod Whole
 pub mod Scratch
 pub mod Step
+pub mod Wakes
 pub mod Run
 pub mod Newest
 pub mod Scanners

@@ -1,9 +1,11 @@
 //! The interface of a device, and runs of a device.
 
-ghost use Rattle.std.specs.Prelude.{◌≡◌, ◌≢◌, ◌↔◌, Bool, false, true, Ok, Err, None, Some, Result, filter, IfOk, IfErr, OnErr, IsErr};
+ghost use Rattle.std.specs.Prelude.{◌≡◌, ◌≢◌, ◌↔◌, ◌≤◌, Bool, false, true, Ok, Err, None, Some, Result, filter, IfOk, IfErr, OnErr, IsErr};
 ghost use Rattle.cip_tables.specs.declared.table.DeviceTable.{DeviceTable};
 ghost use Rattle.cip_tables.specs.Step.{step, opening_table, config_fault, bytes_in, produces_at_once, no_such, is_datagram, is_adapter, makes_adapter, same_kind};
+ghost use Rattle.cip_tables.specs.Wakes.{IsQuietFor};
 ghost use Rattle.cip_events.specs.Answers.{plain_answer, value_answer};
+ghost use Rattle.cip_events.specs.Clock.{longest_tick};
 ghost use Rattle.cip_events.specs.Outcomes.{Follows, found_memory};
 ghost use Rattle.cip_tables.specs.Run.{Runs, outcomes_of, performed, table_after};
 ghost use Rattle.cip_tables.specs.Sound.{IsSoundDevice};
@@ -14,7 +16,7 @@ use crate::copy::TableCopy;
 use crate::table::Config;
 use adapter_table::laws;
 use cip_events::{Delivery, Event, NewFault, Outcome, StepFault, Verdict};
-use cip_types::{Node, OutOfMemory};
+use cip_types::{Ms, Node, OutOfMemory};
 use scanner_laws::steps_keep_tables_whole;
 use std::alloc::Global;
 
@@ -72,6 +74,15 @@ pub trait Device {
     /// Copies the present table. `OutOfMemory` is the only error.
     fn copy(&self) -> Result<TableCopy, OutOfMemory>
         ensures { IfOk result (λ copy. copy ≡ table self.now) };
+
+    /// Returns for how long the device needs no tick: each tick of fewer milliseconds answers nothing, and moves the
+    /// clock alone. At most the longest tick, 60,000 milliseconds. Takes no memory.
+    ///
+    /// A caller that sleeps so long misses no time-out and no production. An event may shorten the time. It may end too
+    /// early, where a device remembers bounds: the tick that is made then puts them right.
+    fn next_wake(&self) -> Ms
+        ensures quiet { IsQuietFor (table self.now) result.0 }
+        ensures longest { result.0 ≤ longest_tick };
 
     /// Does nothing. Its contract gives a caller the fact that the table is whole. Takes no memory.
     fn is_whole(&self)
