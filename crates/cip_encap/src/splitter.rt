@@ -4,14 +4,12 @@ ghost use Rattle.std.specs.Prelude.{◌≡◌, ◌↔◌, ◌+◌, ◌<◌, ◌�
 ghost use Rattle.cip_encap.specs.Stream.{IsShortMessage, BeginsNoMessage, AreMessages, AreOnlyMessages, GoOn, length_field, IsTooLong, EndsTooLong};
 ghost use Rattle.cip_encap.specs.declared.splitter.SplitFault.TheVariants.{OutOfMemory as Memory};
 
+use crate::write::HEADER_LEN;
 use cip_types::limits::LONGEST_MESSAGE;
 use cip_types::{Items, OutOfMemory};
 use std::alloc::Global;
 use std::marker::Model;
 use thiserror::Error;
-
-/// The bytes of a message's header.
-const HEADER_LEN: usize = 24;
 
 /// All bytes of one message.
 pub type Message = Items<u8>;
