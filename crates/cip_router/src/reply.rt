@@ -1,9 +1,13 @@
 //! Replies to requests.
 
-ghost use Rattle.std.specs.Prelude.{◌≡◌, IfOk};
+ghost use Rattle.std.specs.Prelude.{◌≡◌, ◌++◌, IfOk, OnOk, length};
+ghost use Rattle.cip_fwdopen.specs.Reply.{refused_text};
 ghost use Rattle.cip_router.specs.Replies.{view_reply, reply_text, HasStatus};
 
-use cip_fwdopen::{Opened, write_closed, write_got, write_opened, write_refused};
+use cip_fwdopen::{
+    Opened, put_closed, put_got, put_opened, put_refused, write_closed, write_got, write_opened,
+    write_refused,
+};
 use cip_types::{Fault, OutOfMemory, Triad};
 use std::alloc::Global;
 
@@ -22,7 +26,40 @@ pub enum Reply<'a> {
     Refused(u8, Fault, Option<Triad>),
 }
 
+/// The number of bytes of a reply that refuses a request.
+fn refused_len(fault: Fault, triad: Option<Triad>) -> usize
+    ensures { result ≡ length (refused_text 0 fault triad) }
+{
+    let extended = if fault.extended.is_some() { 2 } else { 0 };
+    let data = if triad.is_some() { 10 } else { 0 };
+    4 + extended + data
+}
+
 impl Reply<'_> {
+    /// The number of bytes of the reply. Takes no memory.
+    pub fn len(&self) -> usize
+        ensures { result ≡ length (reply_text (view_reply self.now)) }
+    {
+        match self {
+            Reply::Opened(_, _) => 30,
+            Reply::Closed(_) => 14,
+            Reply::Got(value) => 4 + value.len(),
+            Reply::Refused(_, fault, triad) => refused_len(*fault, *triad),
+        }
+    }
+
+    /// Appends the reply. OutOfMemory is the only fault.
+    pub fn put(&self, out: &mut Vec<u8>) -> Result<(), OutOfMemory>
+        ensures { OnOk result (out.new.items ≡ out.old.items ++ reply_text (view_reply self.now)) }
+    {
+        match self {
+            Reply::Opened(large, opened) => put_opened(out, *large, opened),
+            Reply::Closed(triad) => put_closed(out, *triad),
+            Reply::Got(value) => put_got(out, value),
+            Reply::Refused(service, fault, triad) => put_refused(out, *service, *fault, *triad),
+        }
+    }
+
     /// Writes the reply. OutOfMemory is the only fault.
     pub fn write(&self, alloc: Global) -> Result<Vec<u8>, OutOfMemory>
         requires { HasStatus (view_reply self.now) }
