@@ -1,7 +1,7 @@
 //! Replies to requests.
 
 ghost use Rattle.std.specs.Prelude.{◌≡◌, ◌++◌, IfOk, OnOk, length};
-ghost use Rattle.cip_fwdopen.specs.Reply.{refused_text};
+ghost use Rattle.cip_fwdopen.specs.Reply.{extended_text, failure_text};
 ghost use Rattle.cip_router.specs.Replies.{view_reply, reply_text, HasStatus};
 
 use cip_fwdopen::{
@@ -26,13 +26,24 @@ pub enum Reply<'a> {
     Refused(u8, Fault, Option<Triad>),
 }
 
-/// The number of bytes of a reply that refuses a request.
-fn refused_len(fault: Fault, triad: Option<Triad>) -> usize
-    ensures { result ≡ length (refused_text 0 fault triad) }
+/// The number of bytes of an extended status, with its size.
+fn extended_len(extended: Option<u16>) -> usize
+    ensures { result ≡ length (extended_text extended) }
 {
-    let extended = if fault.extended.is_some() { 2 } else { 0 };
-    let data = if triad.is_some() { 10 } else { 0 };
-    4 + extended + data
+    match extended {
+        Some(_) => 3,
+        None => 1,
+    }
+}
+
+/// The number of bytes of the data of a failure.
+fn failure_len(triad: Option<Triad>) -> usize
+    ensures { result ≡ length (failure_text triad) }
+{
+    match triad {
+        Some(_) => 10,
+        None => 0,
+    }
 }
 
 impl Reply<'_> {
@@ -44,7 +55,9 @@ impl Reply<'_> {
             Reply::Opened(_, _) => 30,
             Reply::Closed(_) => 14,
             Reply::Got(value) => 4 + value.len(),
-            Reply::Refused(_, fault, triad) => refused_len(*fault, *triad),
+            Reply::Refused(_, fault, triad) => {
+                3 + extended_len(fault.extended) + failure_len(*triad)
+            }
         }
     }
 
