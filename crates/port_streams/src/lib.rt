@@ -2,6 +2,7 @@
 //! that are sent, the order of their inputs and of the polls, and the destinations of datagrams.
 #![tactic(auto)]
 
+mod links;
 mod poll_order;
 mod port_stream;
 mod routes;
@@ -9,6 +10,7 @@ mod sending;
 mod streams;
 mod waiting;
 
+pub use links::{TargetLink, TargetLinks};
 pub use poll_order::PollOrder;
 pub use port_stream::PortStream;
 pub use routes::{DatagramRoute, DatagramRoutes, Destination};

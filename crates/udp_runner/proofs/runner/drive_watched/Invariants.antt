@@ -3,7 +3,7 @@ use Rattle.cip_tables.specs.declared.table.DeviceTable.{DeviceTable}
 use Rattle.udp_runner.specs.declared.fault.RunFault.{RunFault}
 use Rattle.udp_runner.specs.Tape.{Tape}
 use Rattle.udp_runner.specs.Turns.{Drives, Stops, events_of}
-use Rattle.udp_runner.proofs.runner.drive.Given as goal
+use Rattle.udp_runner.proofs.runner.drive_watched.Given as goal
 
 -- what is left of the turns goes on to a run of all
 abbrev pub invariant-loop : goal.invariant-loop

@@ -2,7 +2,7 @@ use Rattle.std.proofs.Common.{◌≡◌, ◌+◌, ◌-◌, suc, ◌∙◌, arith
 use Rattle.std.proofs.lemmas.Result.{err_from_is_err_and}
 use Rattle.udp_runner.proofs.Joining.{drives_end, drives_turn, stops_in_turn, stops_turn, rest_of-drop}
 use Rattle.udp_runner.specs.Tape.{rest_of}
-use Rattle.udp_runner.proofs.runner.drive.Goals as goal
+use Rattle.udp_runner.proofs.runner.drive_watched.Goals as goal
 
 pub loop-preserved : goal.loop-preserved
 loop-preserved g c =
