@@ -1,8 +1,8 @@
 //! The links of a scanner to its targets: which one is to be opened now, and when a closed one is tried again.
 
 ghost use Rattle.std.specs.Prelude.{◌≡◌, ◌<◌, length, replicate, position, slice_set, map, IfOk, List};
-ghost use Rattle.port_streams.specs.Links.{closed_link, is_due, is_late, is_of, opening_link, retry_at, wait_of};
-ghost use Rattle.port_streams.specs.declared.links.TargetLink.TheVariants.{Down, Open};
+ghost use Rattle.target_links.specs.Links.{closed_link, is_due, is_late, is_of, opening_link, retry_at, wait_of};
+ghost use Rattle.target_links.specs.declared.links.TargetLink.TheVariants.{Down, Open};
 
 use cip_types::OutOfMemory;
 use std::alloc::Global;
@@ -33,7 +33,7 @@ pub struct TargetLinks {
 
 impl Model for TargetLinks {
     ghost use Rattle.std.specs.Prelude.{List};
-    ghost use Rattle.port_streams.specs.declared.links.TargetLink.{TargetLink};
+    ghost use Rattle.target_links.specs.declared.links.TargetLink.{TargetLink};
 
     ghost Value = { List TargetLink };
 

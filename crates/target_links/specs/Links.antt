@@ -1,7 +1,7 @@
 -- The links of a scanner to its targets.
 use Rattle.std.specs.Prelude.{ℕ, ◌+◌, ◌-◌, ◌^◌, min, nat_le, nat_eq, Bool, false, List, [], ◌∷◌}
-use Rattle.port_streams.specs.declared.links.TargetLink.{TargetLink}
-use Rattle.port_streams.specs.declared.links.TargetLink.TheVariants.{Down, Opening, Open}
+use Rattle.target_links.specs.declared.links.TargetLink.{TargetLink}
+use Rattle.target_links.specs.declared.links.TargetLink.TheVariants.{Down, Opening, Open}
 
 -- a closed or refused stream is tried again after so many milliseconds, and one that does not open is given up after so
 -- many
