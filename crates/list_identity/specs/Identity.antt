@@ -37,8 +37,8 @@ request_of (Ok m) = if is_request m then Some m else None
 request_of (Err fault) = None
 
 -- the ListIdentity request of some bytes, if they are one
-unfoldable pub asked_in : List ℕ → Option MessageFields
-asked_in bytes = request_of (message_reading bytes)
+unfoldable pub request_in : List ℕ → Option MessageFields
+request_in bytes = request_of (message_reading bytes)
 
 -- the socket address: numbers with the most significant byte first
 abbrev pub view_socket : StationIdentity → List ℕ
@@ -62,8 +62,8 @@ identity_item s =
 
 -- the reply to a request
 abbrev pub reply_message : StationIdentity → MessageFields → MessageFields
-reply_message s asked = record { command = list_identity; session = asked.session; status = 0; context = asked.context; options = 0; payload = identity_item s }
+reply_message s request = record { command = list_identity; session = request.session; status = 0; context = request.context; options = 0; payload = identity_item s }
 
 -- the bytes that answer some bytes: none, unless these are a ListIdentity request
 abbrev pub answer_to : List ℕ → StationIdentity → Option (List ℕ)
-answer_to bytes s = option_map (λ asked. message_text (reply_message s asked)) (asked_in bytes)
+answer_to bytes s = option_map (λ request. message_text (reply_message s request)) (request_in bytes)

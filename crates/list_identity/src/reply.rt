@@ -2,7 +2,7 @@
 
 ghost use Rattle.std.specs.Prelude.{◌≡◌, ◌++◌, ◌<◌, ◌+◌, length, IfOk, OnOk, OnErr};
 ghost use Rattle.std.specs.Option.{option_map};
-ghost use Rattle.list_identity.specs.Identity.{answer_to, asked_in, identity_item, view_socket, view_device};
+ghost use Rattle.list_identity.specs.Identity.{answer_to, request_in, identity_item, view_socket, view_device};
 ghost use Rattle.cip_encap.specs.Message.{view_message};
 
 use crate::station::StationIdentity;
@@ -32,21 +32,21 @@ const FIXED_BYTES: u16 = 34;
 /// Volume 2, chapter 2, ListIdentity.
 pub fn identity_reply(
     alloc: Global,
-    request: &[u8],
+    message: &[u8],
     station: &StationIdentity,
 ) -> Result<Option<Vec<u8>>, OutOfMemory>
-    ensures { IfOk result (λ reply. option_map (λ v. v.items) reply ≡ answer_to request.now station.now) }
+    ensures { IfOk result (λ reply. option_map (λ v. v.items) reply ≡ answer_to message.now station.now) }
 {
-    let Some(asked) = asked_in(request) else {
+    let Some(request) = request_in(message) else {
         return Ok(None);
     };
     let mut data = Vec::new(alloc);
     put_identity(&mut data, station)?;
     let reply = MessageView {
         command: LIST_IDENTITY,
-        session: asked.session,
+        session: request.session,
         status: 0,
-        context: asked.context,
+        context: request.context,
         options: 0,
         data: data.as_slice(),
     };
@@ -54,20 +54,20 @@ pub fn identity_reply(
 }
 
 /// The ListIdentity request of these bytes.
-fn asked_in(request: &[u8]) -> Option<MessageView<'_>>
-    ensures { option_map view_message result ≡ asked_in request.now }
+fn request_in(message: &[u8]) -> Option<MessageView<'_>>
+    ensures { option_map view_message result ≡ request_in message.now }
 {
-    let Ok(message) = read_message(request) else {
+    let Ok(request) = read_message(message) else {
         return None;
     };
-    if message.command != LIST_IDENTITY
-        || message.status != 0
-        || message.options != 0
-        || !message.data.is_empty()
+    if request.command != LIST_IDENTITY
+        || request.status != 0
+        || request.options != 0
+        || !request.data.is_empty()
     {
         return None;
     }
-    Some(message)
+    Some(request)
 }
 
 /// Appends the one item of the reply.

@@ -140,9 +140,7 @@ impl<R: System + Drop> StationPort<R> {
         if self.poll.poll(&mut self.events, Some(most)).is_err() {
             return false;
         }
-        for event in self.events.iter() {
-            self.sockets.ready.mark(event.token());
-        }
+        self.sockets.ready.mark_all(&self.events);
         // A connection that could not be accepted is asked for again after each wait.
         self.sockets.ready.listener = true;
         !self.events.is_empty()

@@ -43,7 +43,7 @@ retry_at now most (Down retry) = retry - now
 retry_at now most (Opening until) = until - now
 retry_at now most (Open stream) = most
 
--- the least of these times, at most so long
-abbrev pub wait_of : ℕ → ℕ → List TargetLink → ℕ
-wait_of now most [] = most
-wait_of now most (link ∷ links) = min (retry_at now most link) (wait_of now most links)
+-- the least of a time and those of these links
+abbrev pub wait_of : ℕ → ℕ → ℕ → List TargetLink → ℕ
+wait_of now most wait [] = wait
+wait_of now most wait (link ∷ links) = wait_of now most (min wait (retry_at now most link)) links

@@ -5,10 +5,11 @@ use Rattle.cip_events.specs.Outcomes.{Outcome, Follows}
 use Rattle.cip_tables.specs.declared.table.DeviceTable.{DeviceTable}
 use Rattle.cip_tables.specs.Run.{Runs}
 use Rattle.cip_tables.specs.Step.{step}
+use Rattle.udp_runner.specs.declared.fault.RunFault.{RunFault}
 use Rattle.udp_runner.specs.declared.input.Input.{Input}
 use Rattle.udp_runner.specs.Handing.{HandsOut, HandsSome, Watches}
-use Rattle.udp_runner.specs.Tape.{first_or, rest_of}
-use Rattle.udp_runner.specs.Turns.{events_of, inputs_of, ticks_of, turn_of}
+use Rattle.udp_runner.specs.Tape.{Tape, first_or, rest_of}
+use Rattle.udp_runner.specs.Turns.{Stops, events_of, inputs_of, ticks_of, turn_of}
 
 runs_append : (t t' t'' : DeviceTable) (es fs : List Event) (os ps : List Outcome) → Runs t es os t' → Runs t' fs ps t'' → Runs t (es ++ fs) (os ++ ps) t''
 runs_append t t' t'' [] fs [] ps same more = let P : DeviceTable → Type 0 = λ x. Runs x fs ps t'' in subst P same more
@@ -24,14 +25,14 @@ watches_append notes o o' o'' [] fs (p ∷ os) ps seen more = absurd seen
 watches_append notes o o' o'' (e ∷ es) fs [] ps seen more = absurd seen
 
 -- no step
-pub hands_none : {O : Type 0} (notes : O → Event → Outcome → O → Type 0) (Wanted : List Event → Type 0) (o : O) (t : DeviceTable) → Wanted [] → HandsOut notes Wanted 0 o o t t
-hands_none notes Wanted o t w = record { events = []; outcomes = []; wanted = w; counts = refl; runs = refl; watches = refl }
+pub hands_none : {O : Type 0} (notes : O → Event → Outcome → O → Type 0) (Required : List Event → Type 0) (o : O) (t : DeviceTable) → Required [] → HandsOut notes Required 0 o o t t
+hands_none notes Required o t w = record { events = []; outcomes = []; required = w; counts = refl; runs = refl; watches = refl }
 
 -- one step
-pub hands_one : {O : Type 0} (notes : O → Event → Outcome → O → Type 0) (Wanted : List Event → Type 0) (e : Event) (out : Outcome) (o o' : O) (t t' : DeviceTable)
-    → notes o e out o' → Follows (step t e) t out t' → Wanted (e ∷ []) → HandsOut notes Wanted 1 o o' t t'
-hands_one notes Wanted e out o o' t t' seen follows w =
-    record { events = e ∷ []; outcomes = out ∷ []; wanted = w; counts = refl; runs = (t', follows, refl); watches = (o', seen, refl) }
+pub hands_one : {O : Type 0} (notes : O → Event → Outcome → O → Type 0) (Required : List Event → Type 0) (e : Event) (out : Outcome) (o o' : O) (t t' : DeviceTable)
+    → notes o e out o' → Follows (step t e) t out t' → Required (e ∷ []) → HandsOut notes Required 1 o o' t t'
+hands_one notes Required e out o o' t t' seen follows w =
+    record { events = e ∷ []; outcomes = out ∷ []; required = w; counts = refl; runs = (t', follows, refl); watches = (o', seen, refl) }
 
 -- the last step of a run that ends early
 pub some_one : {O : Type 0} (notes : O → Event → Outcome → O → Type 0) (e : Event) (out : Outcome) (o o' : O) (t t' : DeviceTable)
@@ -47,7 +48,7 @@ pub hands_both : {O : Type 0} (notes : O → Event → Outcome → O → Type 0)
 hands_both notes First Then All n m o o' o'' t t' t'' joins a b = record {
   events = a.events ++ b.events;
   outcomes = a.outcomes ++ b.outcomes;
-  wanted = joins a.events b.events a.wanted b.wanted;
+  required = joins a.events b.events a.required b.required;
   counts = ap (λ x. x + m) a.counts ∙ ap (λ x. length a.events + x) b.counts ∙ sym (length-append a.events b.events);
   runs = runs_append t t' t'' a.events b.events a.outcomes b.outcomes a.runs b.runs;
   watches = watches_append notes o o' o'' a.events b.events a.outcomes b.outcomes a.watches b.watches;
@@ -66,7 +67,7 @@ some_after notes First n o o' o'' t t' t'' a b = record {
 -- the same run, of whose events less is said
 pub hands_weaker : {O : Type 0} (notes : O → Event → Outcome → O → Type 0) (More Less : List Event → Type 0) (n : ℕ) (o o' : O) (t t' : DeviceTable)
     → ((es : List Event) → More es → Less es) → HandsOut notes More n o o' t t' → HandsOut notes Less n o o' t t'
-hands_weaker notes More Less n o o' t t' says a = record { events = a.events; outcomes = a.outcomes; wanted = says a.events a.wanted; counts = a.counts; runs = a.runs; watches = a.watches }
+hands_weaker notes More Less n o o' t t' says a = record { events = a.events; outcomes = a.outcomes; required = says a.events a.required; counts = a.counts; runs = a.runs; watches = a.watches }
 
 -- the events of a turn: those of its tick, and those of its input
 pub turn_joins : (ms : ℕ) (ts : List ℕ) (is is' : List (Option Input)) (es fs : List Event)
@@ -91,9 +92,11 @@ pub no_turns : (left : ℕ) (ts : List ℕ) (is : List (Option Input)) (es all :
     → left ≡ 0 → ((hs : List Event) → hs ≡ events_of left ts is → es ++ hs ≡ all) → es ≡ all
 no_turns left ts is es all none before = sym (append-nil es) ∙ before [] (sym (ap (λ k. events_of k ts is) none))
 
-pub if_err_weaker : {T E : Type 0} {P Q : E → Type 0} (r : Result T E) → ((e : E) → P e → Q e) → IfErr r P → IfErr r Q
-if_err_weaker (Ok x) f p = tt
-if_err_weaker (Err e) f p = f e p
+-- a wait before a turn leaves the tape of a scripted port
+pub stops_waited : (P C : Type 0) (r : Result ℕ RunFault) (ts : List ℕ) (old mid new : Tape) (t t' : DeviceTable) → (P → mid ≡ old)
+    → IfErr r (λ fault. P → C → Stops fault (turn_of ts mid.coming) mid new t t') → IfErr r (λ fault. P → C → Stops fault (turn_of ts old.coming) old new t t')
+stops_waited P C (Ok count) ts old mid new t t' kept stops = tt
+stops_waited P C (Err fault) ts old mid new t t' kept stops = λ p c. let At : Tape → Type 0 = λ x. Stops fault (turn_of ts x.coming) x new t t' in subst At (kept p) (stops p c)
 
 -- all turns are left
 pub all_turns : (left turns : ℕ) (ts : List ℕ) (is : List (Option Input)) (fs : List Event) → left ≡ turns → fs ≡ events_of left ts is → [] ++ fs ≡ events_of turns ts is

@@ -182,11 +182,14 @@ fn take_input<P: Port, D: Device, O: Observer>(
         count observer.old observer.new (D.table device.old) (D.table device.new)) }
     ensures handed_some { OnErr result (HandsSome O.notes observer.old observer.new (D.table device.old) (D.table device.new)) }
 {
-    let Some(input) = port.receive()? else {
-        return Ok(0);
-    };
-    act(port, device, observer, &input.into_event())?;
-    Ok(1)
+    let came = port.receive()?;
+    match came {
+        None => Ok(0),
+        Some(input) => {
+            act(port, device, observer, &input.into_event())?;
+            Ok(1)
+        }
+    }
 }
 
 /// Steps the device by one event, hands both to the observer, and sends the answer.

@@ -26,5 +26,5 @@ returns-in_err-taken-clause-handed_some g c =
 pub returns-clause-handed : goal.returns-clause-handed
 returns-clause-handed g c =
     hands_both (g.O.Observer.notes) _ _ _ _ _ _ _ _ _ _ _
-    (λ es fs ticked taken port clock. turn_joins _ _ _ _ es fs (c.passed-ms.ensures.answer clock) (c.in_ok-ticked.ensures.inputs port) ticked (taken port))
+    (λ es fs ticked taken port clock. turn_joins _ (g.C.Clock.coming c.args.clock.now) ((g.P.Port.tape c.args.port.now).coming) _ es fs (c.passed-ms.ensures.answer clock) (c.in_ok-ticked.ensures.inputs port) ticked (taken port))
     c.in_ok-ticked.ensures.handed c.in_ok-taken.ensures.handed
