@@ -1,1 +1,2 @@
 mod IdentitySamples
+mod Short

@@ -16,7 +16,7 @@
 --   serial number        u32
 --   product name               a byte for its length, its bytes
 --   state                u8
-use Rattle.std.specs.Prelude.{ℕ, ◌+◌, Bool, true, false, ◌&&◌, nat_eq, if◌then◌else◌, List, [], ◌∷◌, ◌++◌, length, replicate, Option, Some, None, Result, Ok, Err}
+use Rattle.std.specs.Prelude.{ℕ, ◌+◌, Bool, true, false, ◌&&◌, ◌==◌, if◌then◌else◌, List, [], ◌∷◌, ◌++◌, length, replicate, Option, Some, None, Result, Ok, Err}
 use Rattle.std.specs.Int.{w8, w16, w32, to_be_bytes}
 use Rattle.std.specs.Option.{option_map}
 use Rattle.cip_types.specs.Fields.{fields_text}
@@ -30,14 +30,17 @@ list_identity = 0x0063
 
 -- the message is a ListIdentity request: it has no data, status or options
 abbrev pub is_request : MessageFields → Bool
-is_request m = nat_eq m.command list_identity && (nat_eq m.status 0 && (nat_eq m.options 0 && nat_eq (length m.payload) 0))
+is_request m = m.command == list_identity && (m.status == 0 && (m.options == 0 && length m.payload == 0))
+
+abbrev pub request_if : Bool → MessageFields → Option MessageFields
+request_if is_one m = if is_one then Some m else None
 
 abbrev pub request_of : Result MessageFields EncapFault → Option MessageFields
-request_of (Ok m) = if is_request m then Some m else None
+request_of (Ok m) = request_if (is_request m) m
 request_of (Err fault) = None
 
 -- the ListIdentity request of some bytes, if they are one
-unfoldable pub request_in : List ℕ → Option MessageFields
+abbrev pub request_in : List ℕ → Option MessageFields
 request_in bytes = request_of (message_reading bytes)
 
 -- the socket address: numbers with the most significant byte first
