@@ -1,8 +1,9 @@
 //! The system's clock.
 
 use crate::whole_ms::WholeMs;
+use cip_types::Ms;
 use std::rt::Clock as System;
-use std::time::Instant;
+use std::time::{Duration, Instant};
 use udp_runner::Clock;
 
 /// Whole milliseconds of the system's clock. The remainder is kept for the next answer.
@@ -21,6 +22,19 @@ impl<R: System + Drop> SystemClock<R> {
             last: None,
             whole: WholeMs::none(),
         }
+    }
+
+    /// The time until the next answer is this many milliseconds, if the clock was read and did not go back.
+    fn left(&self, ms: Ms) -> Option<Duration> {
+        let passed = Instant::now(&self.rt)
+            .ok()?
+            .checked_duration_since(self.last?)?;
+        let rest = Duration::from_nanos(u64::from(self.whole.rest_ns()));
+        Some(
+            Duration::from_millis(ms.0)
+                .saturating_sub(rest)
+                .saturating_sub(passed),
+        )
     }
 
     /// The whole milliseconds since the last answer, if there was one and the system's clock did not go back.
@@ -45,5 +59,9 @@ impl<R: System + Drop> Clock for SystemClock<R> {
 
     fn passed(&mut self) -> u64 {
         self.since().unwrap_or(0)
+    }
+
+    fn time_to(&self, ms: Ms) -> Duration {
+        self.left(ms).unwrap_or(Duration::ZERO)
     }
 }

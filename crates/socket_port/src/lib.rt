@@ -11,4 +11,5 @@ mod whole_ms;
 
 pub use addresses::{LOOPBACK, loopback, node_of};
 pub use clock::SystemClock;
+pub use outcomes::{ReadOutcome, accepted, read_outcome, received};
 pub use port::{OpenFault, SocketPort};

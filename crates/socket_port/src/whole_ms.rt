@@ -21,6 +21,13 @@ impl WholeMs {
         WholeMs { rest_ns: 0 }
     }
 
+    /// The nanoseconds that were not given out: less than a millisecond.
+    pub fn rest_ns(&self) -> u32
+        ensures { result ≡ self.now.rest_ns }
+    {
+        self.rest_ns
+    }
+
     /// The whole milliseconds of the rest and this time. What is left of the last one is kept.
     pub fn add(&mut self, ns: u64) -> u64
         ensures whole { result ≡ (self.old.rest_ns + ns) / 1000000 }

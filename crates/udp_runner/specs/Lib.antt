@@ -1,3 +1,4 @@
 pub mod Tape
 pub mod Outputs
 pub mod Turns
+pub mod Handing

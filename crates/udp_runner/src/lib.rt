@@ -5,6 +5,7 @@
 mod fault;
 mod input;
 mod memory;
+mod observer;
 mod outgoing;
 mod output;
 mod port;
@@ -13,6 +14,8 @@ mod runner;
 pub use fault::{PortFault, RunFault};
 pub use input::Input;
 pub use memory::{MemoryPort, SteppedClock};
+pub use observer::{Observer, Unobserved};
+pub use outgoing::send_answer;
 pub use output::{Output, SentOutput};
 pub use port::{Clock, Port};
-pub use runner::drive;
+pub use runner::{drive, drive_watched, turn_waiting};

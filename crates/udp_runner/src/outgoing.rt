@@ -9,6 +9,7 @@ use crate::fault::PortFault;
 use crate::output::Output;
 use crate::port::Port;
 use cip_events::{Answer, Frame, Notice, OutgoingDatagram, Recipient};
+use cip_types::Node;
 
 /// Sends the frames, datagrams and ends of streams of an answer, in this order.
 pub fn send_answer<P: Port>(port: &mut P, answer: &Answer) -> Result<(), PortFault>
@@ -65,7 +66,12 @@ fn send_datagrams<P: Port>(port: &mut P, datagrams: &[OutgoingDatagram]) -> Resu
     Ok(())
 }
 
-/// Sends a copy of a datagram to each of its nodes.
+/// Whether this is the address of a multicast group.
+fn is_group(address: Node) -> bool {
+    address.0 >> 28 == 0xE
+}
+
+/// Sends a copy of a datagram to each of its nodes, or one to its group if the port sends to groups.
 fn send_datagram<P: Port>(port: &mut P, outgoing: &OutgoingDatagram) -> Result<(), PortFault>
     requires { P.failed port.old < 2 ^ 64 - 1 }
     ensures sent { OnOk result (P.is_scripted ≡ true → P.tape port.new ≡ with_sent (P.tape port.old) (datagram_sent outgoing.now)) }
@@ -74,6 +80,12 @@ fn send_datagram<P: Port>(port: &mut P, outgoing: &OutgoingDatagram) -> Result<(
     ensures counted { OnErr result (P.failed port.new ≡ P.failed port.old + 1) }
 {
     let bytes = outgoing.bytes.as_slice();
+    if port.sends_to_groups() && is_group(outgoing.address) {
+        return port.send(&Output::Datagram {
+            node: outgoing.address,
+            bytes,
+        });
+    }
     for node in outgoing.nodes.as_slice() {
         port.send(&Output::Datagram { node: *node, bytes })?;
     }

@@ -1,12 +1,14 @@
 //! Ports, over which a device receives and sends, and clocks.
 
-ghost use Rattle.std.specs.Prelude.{◌≡◌, ◌<◌, ◌+◌, ◌-◌, ◌^◌, ◌∷◌, [], ℕ, List, Bool, true, None, IfOk, OnOk, OnErr};
+ghost use Rattle.std.specs.Prelude.{◌≡◌, ◌<◌, ◌+◌, ◌-◌, ◌^◌, ◌∷◌, [], ℕ, List, Bool, true, false, None, IfOk, OnOk, OnErr};
 ghost use Rattle.udp_runner.specs.Tape.{first_or, rest_of, Tape, with_sent, with_taken};
 ghost use Rattle.udp_runner.specs.Outputs.{view_output};
 
 use crate::fault::PortFault;
 use crate::input::Input;
 use crate::output::Output;
+use cip_types::Ms;
+use std::time::Duration;
 
 /// A port of a device, which receives inputs, sends outputs and counts its failures.
 ///
@@ -32,6 +34,21 @@ pub trait Port {
         ensures worked { OnOk result (failed self.new ≡ failed self.old) }
         ensures counted { OnErr result (failed self.new ≡ failed self.old + 1) };
 
+    /// Waits until an input may be there, at most for this long. It may end at once: a scripted port, and one whose
+    /// `receive` waits by itself, do not wait.
+    fn wait(&mut self, _most: Duration)
+        ensures kept { is_scripted ≡ true → tape self.new ≡ tape self.old }
+        ensures worked { failed self.new ≡ failed self.old }
+    {}
+
+    /// Whether a datagram to a multicast address is sent once to that address, and not once to each of its nodes. No
+    /// scripted port sends so.
+    fn sends_to_groups(&self) -> bool
+        ensures { is_scripted ≡ true → result ≡ false }
+    {
+        false
+    }
+
     /// Sends an output. The faults: `Send`, `Memory`.
     fn send(&mut self, output: &Output<'_>) -> Result<(), PortFault>
         requires { failed self.old < 2 ^ 64 - 1 }
@@ -51,4 +68,9 @@ pub trait Clock {
     fn passed(&mut self) -> u64
         ensures answer { is_scripted ≡ true → result ≡ first_or 0 (coming self.old) }
         ensures rest { is_scripted ≡ true → coming self.new ≡ rest_of (coming self.old) };
+
+    /// The time until the next answer can be this many milliseconds. A clock that knows no better answers so many.
+    fn time_to(&self, ms: Ms) -> Duration {
+        Duration::from_millis(ms.0)
+    }
 }

@@ -1,0 +1,29 @@
+//! Sockets that are bound to a station's address. None of their calls waits.
+
+use crate::fault::{StationFault, StationSocket, cause_of};
+use mio::net::{TcpListener, UdpSocket};
+use std::io;
+use std::net::{Net, SocketAddr};
+
+/// The outcome of a call that makes a socket.
+pub(crate) fn made<T: Drop>(
+    socket: StationSocket,
+    outcome: io::Result<T>,
+) -> Result<T, StationFault> {
+    match outcome {
+        Ok(value) => Ok(value),
+        Err(error) => Err(StationFault::Socket(socket, cause_of(error.kind()))),
+    }
+}
+
+/// Listens for encapsulation messages.
+pub(crate) fn listen<R: Net>(rt: &R, at: SocketAddr) -> Result<TcpListener, StationFault> {
+    made(StationSocket::Tcp, TcpListener::bind(rt, at))
+}
+
+/// Receives class 1 datagrams. What is sent to a group leaves no network.
+pub(crate) fn datagrams<R: Net>(rt: &R, at: SocketAddr) -> Result<UdpSocket, StationFault> {
+    let udp = made(StationSocket::Udp, UdpSocket::bind(rt, at))?;
+    made(StationSocket::Udp, udp.set_multicast_ttl_v4(1))?;
+    Ok(udp)
+}

@@ -1,0 +1,285 @@
+//! The sockets of a station, over which it receives and sends.
+
+use crate::bind::made;
+use crate::fault::{StationFault, StationSocket};
+use crate::finder::Finder;
+use crate::place::address_of;
+use crate::ready::{DATAGRAMS, LISTENER, Ready, STREAMS};
+use crate::targets::Targets;
+use cip_types::limits::MOST_STREAMS;
+use cip_types::{Items, Node, OutOfMemory};
+use mio::net::{TcpListener, TcpStream, UdpSocket};
+use mio::{Interest, Registry};
+use port_streams::{PollOrder, PortStreams};
+use socket_port::{ReadOutcome, accepted, node_of, read_outcome, received};
+use std::alloc::Global;
+use std::io::Read;
+use std::net::SocketAddr;
+use udp_runner::{Input, Output, PortFault};
+
+/// The numbers of streams are below this one.
+const STREAM_NUMBERS: u16 = MOST_STREAMS as u16;
+
+/// A UDP datagram has fewer bytes. A read of a stream takes at most as many.
+const BUFFER_BYTES: usize = 65_536;
+
+/// The sockets of a station.
+#[derive(Drop)]
+pub(crate) struct StationSockets {
+    alloc: Global,
+    listener: Option<TcpListener>,
+    udp: UdpSocket,
+    finder: Option<Finder>,
+    streams: PortStreams<TcpStream>,
+    pub(crate) targets: Targets,
+    peer_udp: u16,
+    buffer: Vec<u8>,
+    order: PollOrder,
+    pub(crate) ready: Ready,
+}
+
+impl StationSockets {
+    /// The sockets of a station that has no stream yet.
+    pub(crate) fn new(
+        alloc: Global,
+        listener: Option<TcpListener>,
+        udp: UdpSocket,
+        finder: Option<Finder>,
+        targets: Targets,
+        peer_udp: u16,
+    ) -> Result<StationSockets, OutOfMemory> {
+        Ok(StationSockets {
+            alloc,
+            listener,
+            udp,
+            finder,
+            streams: PortStreams::new(alloc)?,
+            targets,
+            peer_udp,
+            buffer: vec![in alloc; 0; BUFFER_BYTES]?,
+            order: PollOrder::begin(),
+            ready: Ready::all(),
+        })
+    }
+
+    /// Has a wait report the sockets.
+    pub(crate) fn register(&mut self, registry: &Registry) -> Result<(), StationFault> {
+        if let Some(listener) = &mut self.listener {
+            made(
+                StationSocket::Wait,
+                registry.register(listener, LISTENER, Interest::READABLE),
+            )?;
+        }
+        if let Some(finder) = &mut self.finder {
+            finder.register(registry)?;
+        }
+        made(
+            StationSocket::Wait,
+            registry.register(&mut self.udp, DATAGRAMS, Interest::READABLE),
+        )
+    }
+
+    /// Whether this poll is one in sixteen, which asks every socket.
+    pub(crate) fn asks_all(&mut self) -> bool {
+        self.order.asks_streams_first()
+    }
+
+    /// The input that is there now. A poll that asks all asks the streams before the datagrams, and each socket.
+    pub(crate) fn poll(
+        &mut self,
+        registry: &Registry,
+        all: bool,
+        now_ms: u64,
+    ) -> Result<Option<Input>, PortFault> {
+        let input = if all {
+            self.serve(registry, now_ms)?;
+            self.first_stream_input(now_ms)?
+        } else {
+            self.first_datagram(now_ms)?
+        };
+        if input.is_none() && !all {
+            self.serve(registry, now_ms)?;
+        }
+        Ok(input)
+    }
+
+    /// The input of a stream, or else a datagram.
+    fn first_stream_input(&mut self, now_ms: u64) -> Result<Option<Input>, PortFault> {
+        if let Some(input) = self.poll_streams(now_ms)? {
+            return Ok(Some(input));
+        }
+        self.poll_datagrams()
+    }
+
+    /// A datagram, or else the input of a stream.
+    fn first_datagram(&mut self, now_ms: u64) -> Result<Option<Input>, PortFault> {
+        if let Some(input) = self.poll_datagrams()? {
+            return Ok(Some(input));
+        }
+        self.poll_streams(now_ms)
+    }
+
+    /// Accepts a connection, adds the streams that have opened, and answers a ListIdentity request.
+    fn serve(&mut self, registry: &Registry, now_ms: u64) -> Result<(), PortFault> {
+        if self.ready.listener {
+            self.ready.listener = self.accept(registry)?;
+        }
+        if self.ready.openings {
+            self.ready.openings = false;
+            self.ready.streams |= self.targets.settle(registry, &mut self.streams, now_ms);
+        }
+        if self.ready.finder {
+            self.ready.finder = match &self.finder {
+                Some(finder) => finder.answer(&mut self.buffer)?,
+                None => false,
+            };
+        }
+        Ok(())
+    }
+
+    /// Accepts the connection that waits. Whether there was one. An extra connection is closed without reading it.
+    fn accept(&mut self, registry: &Registry) -> Result<bool, PortFault> {
+        let Some(listener) = &self.listener else {
+            return Ok(false);
+        };
+        let Some((mut socket, from)) = accepted(listener.accept())? else {
+            return Ok(false);
+        };
+        let Some(peer) = node_of(from) else {
+            return Ok(true);
+        };
+        let watched = registry.register(&mut socket, STREAMS, Interest::READABLE);
+        if watched.is_ok() && socket.set_nodelay(true).is_ok() {
+            // (the socket of an extra connection is returned, and closed as it is dropped)
+            let _ = self.streams.accept(peer, socket);
+            self.ready.streams = true;
+        }
+        Ok(true)
+    }
+
+    /// The datagram that is there now.
+    fn poll_datagrams(&mut self) -> Result<Option<Input>, PortFault> {
+        if !self.ready.datagrams {
+            return Ok(None);
+        }
+        let Some((count, from)) = self.next_datagram()? else {
+            self.ready.datagrams = false;
+            return Ok(None);
+        };
+        let Some(peer) = node_of(from) else {
+            return Ok(None);
+        };
+        let Some(datagram) = self.buffer.get(..count) else {
+            return Ok(None);
+        };
+        match Items::copy_of(self.alloc, datagram) {
+            Ok(bytes) => Ok(Some(Input::Datagram { peer, bytes })),
+            Err(OutOfMemory) => Err(PortFault::Memory),
+        }
+    }
+
+    /// The next datagram in the buffer: the number of its bytes, and its sender.
+    fn next_datagram(&mut self) -> Result<Option<(usize, SocketAddr)>, PortFault> {
+        received(self.udp.recv_from(&mut self.buffer))
+    }
+
+    /// The input of a stream that is there now. The streams take turns.
+    fn poll_streams(&mut self, now_ms: u64) -> Result<Option<Input>, PortFault> {
+        if !self.ready.streams {
+            return Ok(None);
+        }
+        let mut found = false;
+        for place in 0..STREAM_NUMBERS {
+            let number = self.order.stream_at(place);
+            found |= self.read(number)?;
+            if let Some(input) = self.streams.next(number) {
+                self.order.serve(number);
+                return self.take(input, now_ms);
+            }
+        }
+        self.ready.streams = found;
+        Ok(None)
+    }
+
+    /// Reads the bytes of one stream that are there now. Whether there were any.
+    fn read(&mut self, number: u16) -> Result<bool, PortFault> {
+        match read(&self.streams, number, &mut self.buffer) {
+            ReadOutcome::Nothing => Ok(false),
+            ReadOutcome::End => {
+                self.streams.end(number);
+                Ok(true)
+            }
+            ReadOutcome::Bytes(count) => self.receive(number, count),
+        }
+    }
+
+    /// Takes the bytes of a stream out of the buffer. If there is no memory for them, the stream ends.
+    fn receive(&mut self, number: u16, count: usize) -> Result<bool, PortFault> {
+        let Some(piece) = self.buffer.get(..count) else {
+            return Ok(false);
+        };
+        match self.streams.receive(number, piece) {
+            Ok(()) => Ok(true),
+            Err(OutOfMemory) => Err(PortFault::Memory),
+        }
+    }
+
+    /// An input of a stream on its way to the device. A ListIdentity request is answered here; after a cut the stream to
+    /// its target is opened again later.
+    fn take(&mut self, input: Input, now_ms: u64) -> Result<Option<Input>, PortFault> {
+        match &input {
+            Input::Frame { stream, bytes } => {
+                if self.finds(*stream, bytes.as_slice())? {
+                    return Ok(None);
+                }
+            }
+            Input::Cut { stream } => self.targets.lose(*stream, now_ms),
+            _ => {}
+        }
+        Ok(Some(input))
+    }
+
+    /// Answers a message over its stream if it is a ListIdentity request. Whether it is.
+    fn finds(&mut self, stream: u16, message: &[u8]) -> Result<bool, PortFault> {
+        let Some(finder) = &self.finder else {
+            return Ok(false);
+        };
+        match finder.reply(message) {
+            Ok(Some(reply)) => {
+                self.streams.send(stream, reply.as_slice());
+                Ok(true)
+            }
+            Ok(None) => Ok(false),
+            Err(OutOfMemory) => Err(PortFault::Memory),
+        }
+    }
+
+    /// Sends an output. A message that its stream does not take whole ends the stream, whose end is the next input. A
+    /// datagram that the system does not take is lost, as it may be on the network.
+    pub(crate) fn send(&mut self, output: &Output<'_>, now_ms: u64) {
+        match output {
+            Output::Frame { stream, bytes } => {
+                self.streams.send(*stream, bytes);
+                self.ready.streams = true;
+            }
+            Output::Datagram { node, bytes } => self.send_datagram(*node, bytes),
+            Output::Close { stream } => {
+                self.streams.close(*stream);
+                self.targets.lose(*stream, now_ms);
+            }
+        }
+    }
+
+    /// Sends a datagram to a node or a group.
+    fn send_datagram(&self, node: Node, bytes: &[u8]) {
+        let _ = self.udp.send_to(bytes, address_of(node, self.peer_udp));
+    }
+}
+
+/// Reads the bytes that a stream has received, if it is to be read.
+fn read(streams: &PortStreams<TcpStream>, number: u16, buffer: &mut [u8]) -> ReadOutcome {
+    match streams.to_read(number) {
+        Some(mut socket) => read_outcome(socket.read(buffer)),
+        None => ReadOutcome::Nothing,
+    }
+}

@@ -1,0 +1,223 @@
+//! A station's port.
+
+ghost use Rattle.std.specs.Prelude.{◌≡◌, IfOk};
+
+use crate::bind::{datagrams, listen, made};
+use crate::fault::{StationFault, StationSocket};
+use crate::finder::Finder;
+use crate::place::{StationPlace, address_of};
+use crate::ready::WAKER;
+use crate::sockets::StationSockets;
+use crate::targets::Targets;
+use list_identity::StationIdentity;
+use mio::{Events, Poll, Waker};
+use port_streams::Destination;
+use std::alloc::Global;
+use std::net::Net;
+use std::rt::Clock as System;
+use std::thread;
+use std::time::{Duration, Instant};
+use udp_runner::{Input, Output, Port, PortFault};
+
+/// A wait reports at most so many sockets at once; others are reported by the next one.
+const MOST_EVENTS: usize = 64;
+
+/// A port at a real address.
+#[derive(Drop)]
+pub struct StationPort<R: System + Drop> {
+    rt: R,
+    start: Instant,
+    poll: Poll,
+    events: Events,
+    sockets: StationSockets,
+    multicast: bool,
+    failures: u64,
+}
+
+impl<R: System + Net + Drop> StationPort<R> {
+    /// An adapter's port: its peers open its streams, and it answers ListIdentity with this identity.
+    pub fn adapter(
+        alloc: Global,
+        rt: R,
+        place: &StationPlace,
+        identity: StationIdentity,
+    ) -> Result<Self, StationFault>
+        ensures { IfOk result (λ port. port.failures ≡ 0) }
+    {
+        let listener = listen(&rt, address_of(place.address, place.tcp))?;
+        let udp = datagrams(&rt, address_of(place.address, place.udp))?;
+        let finder = Finder::new(alloc, &rt, place, identity)?;
+        let targets = Targets::new(alloc, place.address, &[])?;
+        let sockets = StationSockets::new(
+            alloc,
+            Some(listener),
+            udp,
+            Some(finder),
+            targets,
+            place.peer_udp,
+        )?;
+        StationPort::begin(alloc, rt, sockets, place.multicast)
+    }
+
+    /// A scanner's port: it opens a stream to each of these targets, and opens it again a second after a cut or a
+    /// refusal, without end.
+    pub fn scanner(
+        alloc: Global,
+        rt: R,
+        place: &StationPlace,
+        targets: &[Destination],
+    ) -> Result<Self, StationFault>
+        ensures { IfOk result (λ port. port.failures ≡ 0) }
+    {
+        let udp = datagrams(&rt, address_of(place.address, place.udp))?;
+        let targets = Targets::new(alloc, place.address, targets)?;
+        let sockets = StationSockets::new(alloc, None, udp, None, targets, place.peer_udp)?;
+        StationPort::begin(alloc, rt, sockets, place.multicast)
+    }
+
+    /// A port over these sockets.
+    fn begin(
+        alloc: Global,
+        rt: R,
+        sockets: StationSockets,
+        multicast: bool,
+    ) -> Result<Self, StationFault>
+        ensures { IfOk result (λ port. port.failures ≡ 0) }
+    {
+        let start = made(StationSocket::Wait, Instant::now(&rt))?;
+        let poll = made(StationSocket::Wait, Poll::new(&rt))?;
+        let events = Events::with_capacity(alloc, MOST_EVENTS)?;
+        let mut sockets = sockets;
+        sockets.register(poll.registry())?;
+        Ok(StationPort {
+            rt,
+            start,
+            poll,
+            events,
+            sockets,
+            multicast,
+            failures: 0,
+        })
+    }
+
+    /// Ends a wait of this port from another thread. A port has one waker.
+    pub fn waker(&self) -> Result<Waker, StationFault> {
+        made(StationSocket::Wait, Waker::new(self.poll.registry(), WAKER))
+    }
+
+    /// The input that is there now.
+    fn next_input(&mut self) -> Result<Option<Input>, PortFault>
+        ensures { self.new.failures ≡ self.old.failures }
+    {
+        let now_ms = self.now_ms();
+        self.sockets
+            .targets
+            .advance(&self.rt, self.poll.registry(), now_ms);
+        let all = self.sockets.asks_all();
+        if all || !self.sockets.ready.any() {
+            self.look(Duration::ZERO);
+        }
+        self.sockets.poll(self.poll.registry(), all, now_ms)
+    }
+}
+
+impl<R: System + Drop> StationPort<R> {
+    /// The milliseconds since the port was made.
+    fn now_ms(&self) -> u64 {
+        self.since_start().unwrap_or(0)
+    }
+
+    /// The same, if the system's clock can be read.
+    fn since_start(&self) -> Option<u64> {
+        let now = Instant::now(&self.rt).ok()?;
+        u64::try_from(now.checked_duration_since(self.start)?.as_millis()).ok()
+    }
+
+    /// Waits until a socket is reported, at most so long, and marks what is reported. Whether something was.
+    fn look(&mut self, most: Duration) -> bool
+        ensures { self.new.failures ≡ self.old.failures }
+    {
+        if self.poll.poll(&mut self.events, Some(most)).is_err() {
+            return false;
+        }
+        self.sockets.ready.mark_all(&self.events);
+        // A connection that could not be accepted is asked for again after each wait.
+        self.sockets.ready.listener = true;
+        !self.events.is_empty()
+    }
+
+    /// Waits until a socket is reported, at most until this moment: whole milliseconds for the sockets, and the rest of
+    /// the last one asleep.
+    fn wait_until(&mut self, end: Instant)
+        ensures { self.new.failures ≡ self.old.failures }
+    {
+        let whole_ms = u64::try_from(self.left(end).as_millis()).unwrap_or(0);
+        if self.look(Duration::from_millis(whole_ms)) {
+            return;
+        }
+        let rest = self.left(end);
+        if !rest.is_zero() {
+            thread::sleep(&self.rt, rest.min(Duration::from_millis(1)));
+        }
+    }
+
+    /// The time until a moment.
+    fn left(&self, end: Instant) -> Duration {
+        match Instant::now(&self.rt) {
+            Ok(now) => end.checked_duration_since(now).unwrap_or(Duration::ZERO),
+            Err(_) => Duration::ZERO,
+        }
+    }
+
+    /// The end of a wait of this length, or of a shorter one if a stream is to be opened before.
+    fn end_of(&self, most: Duration) -> Option<Instant> {
+        let now = Instant::now(&self.rt).ok()?;
+        let most_ms = u64::try_from(most.as_millis()).ok()?;
+        let links = self
+            .sockets
+            .targets
+            .wait(self.now_ms(), most_ms.saturating_add(1));
+        now.checked_add(most.min(Duration::from_millis(links)))
+    }
+}
+
+impl<R: System + Net + Drop> Port for StationPort<R> {
+    ghost use Rattle.std.specs.Prelude.{false, []};
+
+    ghost is_scripted = { false };
+
+    ghost tape = { λ port. record { coming = []; sent = [] } };
+
+    ghost failed = { λ port. port.failures };
+
+    fn failures(&self) -> u64 {
+        self.failures
+    }
+
+    fn wait(&mut self, most: Duration) {
+        if self.sockets.ready.any() {
+            return;
+        }
+        if let Some(end) = self.end_of(most) {
+            self.wait_until(end);
+        }
+    }
+
+    fn receive(&mut self) -> Result<Option<Input>, PortFault> {
+        let came = self.next_input();
+        if came.is_err() {
+            self.failures += 1;
+        }
+        came
+    }
+
+    fn sends_to_groups(&self) -> bool {
+        self.multicast
+    }
+
+    fn send(&mut self, output: &Output<'_>) -> Result<(), PortFault> {
+        let now_ms = self.now_ms();
+        self.sockets.send(output, now_ms);
+        Ok(())
+    }
+}

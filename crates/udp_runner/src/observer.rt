@@ -1,0 +1,30 @@
+//! Observers, which are handed each step of a device.
+
+ghost use Rattle.std.specs.Prelude.{◌≡◌};
+
+use cip_events::{Event, Outcome};
+
+/// Sees the steps of a device, one after another: a recorder, a printer, a counter.
+///
+/// Contracts see what it makes of a step as a relation of its own, `notes`: from the observer before the step, by the
+/// event and its outcome, to the observer after it.
+pub trait Observer {
+    ghost use Rattle.cip_events.specs.declared.event.Event.{Event};
+    ghost use Rattle.cip_events.specs.Outcomes.{Outcome};
+
+    ghost notes: { Self → Event → Outcome → Self → Type 0 };
+
+    /// The device was stepped by this event, with this outcome. Its answer is not sent yet.
+    fn stepped(&mut self, event: &Event, outcome: &Outcome)
+        ensures { notes self.old event.now outcome.now self.new };
+}
+
+/// An observer that does nothing.
+#[derive(Clone, Copy)]
+pub struct Unobserved;
+
+impl Observer for Unobserved {
+    ghost notes = { λ old event outcome new. new ≡ old };
+
+    fn stepped(&mut self, _event: &Event, _outcome: &Outcome) {}
+}
