@@ -2,7 +2,7 @@
 """An originator of EtherNet/IP class 1 connections, written from the standard alone. It shares no code with the crates.
 
     tools/originator.py TARGET --own ADDRESS [--tcp P] [--udp P] [--output 150 --out-len 4] [--input 100 --in-len 4]
-        [--config 151] [--input-only 198 --listen-only 199] [--seconds S] [--rpi-ms N] [--list] [--no-multicast]
+        [--config N] [--input-only 152 --listen-only 153] [--seconds S] [--rpi-ms N] [--list] [--no-multicast]
 
 It registers a session, opens a connection of each kind (exclusive owner, input only, listen only; point to point and
 multicast), exchanges data both ways, reads the output back, closes the connections and unregisters the session. --list
@@ -278,7 +278,7 @@ def main():
     parser.add_argument("target")
     parser.add_argument("--own", required=True)
     for name, default in [("tcp", 44818), ("udp", 2222), ("target-udp", 2222), ("output", 150), ("out-len", 4), ("input", 100),
-                          ("in-len", 4), ("config", None), ("input-only", 198), ("listen-only", 199), ("rpi-ms", 10)]:
+                          ("in-len", 4), ("config", None), ("input-only", 152), ("listen-only", 153), ("rpi-ms", 10)]:
         parser.add_argument(f"--{name}", type=int, default=default)
     parser.add_argument("--seconds", type=float, default=1.0)
     parser.add_argument("--list", action="store_true")

@@ -69,7 +69,7 @@ fn push_call(alloc: Global, out: &mut String, event: &Event) -> Result<(), OutOf
             push_data(alloc, out, bytes.as_slice())
         }
         Event::Read { point } => Ok(write!(out, "the application reads point {point}")?),
-        Event::Tick { ms } => Ok(write!(out, "{ms} ms passed")?),
+        Event::Tick { ms } => Ok(write!(out, "{ms} ms pass")?),
         Event::Mode { run: true } => push_text(out, "the application runs"),
         Event::Mode { run: false } => push_text(out, "the application is idle"),
         Event::Start { slot } => Ok(write!(out, "the application starts slot {slot}")?),
