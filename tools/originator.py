@@ -215,8 +215,8 @@ def exchange(args, session, sockets, connections, what):
         if connection.seen < wanted:
             raise Difference(f"{connection.kind}: {connection.seen} datagrams in {args.seconds} s, fewer than {wanted}")
     if any(connection.kind == EXCLUSIVE for connection in connections):
-        get = bytes([0x0E, 4, 0x20, 4, 0x25, 0]) + struct.pack("<H", args.output) + bytes([0x30, 3])
-        general, extended, value, _ = session.request(bytes([get[0], 4]) + get[2:])
+        path = bytes([0x20, 4, 0x25, 0]) + struct.pack("<H", args.output) + bytes([0x30, 3])
+        general, extended, value, _ = session.request(bytes([0x0E, len(path) // 2]) + path)
         expect("the status of Get_Attribute_Single", (general, extended), (0, ()))
         expect("the output that the owner set", value, data)
     print(f"{what}: {', '.join(str(connection.seen) for connection in connections)} datagrams")

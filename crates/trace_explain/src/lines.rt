@@ -32,7 +32,7 @@ pub fn event_lines(alloc: Global, trace: &Trace) -> Result<Vec<EventLine>, OutOf
     let mut lines = Vec::new(alloc);
     let mut time = 0;
     for (index, entry) in trace.events.as_slice().iter().enumerate() {
-        time = time_after(time, &entry.0, entry.1.get());
+        time = time_after(time, &entry.0, &entry.1);
         let words = entry_words(alloc, &trace.config, &entry.0, &entry.1)?;
         let number = index as u64 + 1;
         lines.push(EventLine {

@@ -15,9 +15,12 @@ abbrev pub is_refused : Option Outcome → Bool
 is_refused (Some (Err fault)) = true
 is_refused _ = false
 
+abbrev pub later : ℕ → ℕ → Bool → ℕ
+later time ms refused = if refused then time else (time + ms) % 2 ^ 64
+
 -- the time after an event; a refused tick does not pass
 abbrev pub time_after : ℕ → Event → Option Outcome → ℕ
-time_after time (Tick ms) outcome = if is_refused outcome then time else (time + ms) % 2 ^ 64
+time_after time (Tick ms) outcome = later time ms (is_refused outcome)
 time_after time _ outcome = time
 
 -- what arrives, and what is answered if that is recorded; nothing if the device refused the event

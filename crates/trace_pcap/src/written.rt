@@ -1,15 +1,16 @@
 //! A trace as a capture file.
 
-ghost use Rattle.std.specs.Prelude.{◌≡◌, ◌++◌, IfOk, OnOk};
-ghost use Rattle.std.specs.Option.{option_copied};
-ghost use Rattle.trace_pcap.specs.Written.{is_refused, time_after, entry_records, entry_streams, pcap_text};
+ghost use Rattle.std.specs.Prelude.{◌≡◌, ◌++◌, [], IfOk, OnOk};
+ghost use Rattle.trace_pcap.specs.Traffic.{event_records, event_streams, answer_records, answer_streams};
+ghost use Rattle.trace_pcap.specs.Written.{later, is_refused, time_after, entry_records, entry_streams, entries_records, pcap_text};
 
-use crate::ends::{Stream, side_of};
+use crate::ends::{Side, Stream, side_of};
 use crate::packets::push_file_header;
 use crate::traffic::{Moment, push_answer, push_event};
-use cip_events::{Event, Outcome};
+use cip_events::{Answer, Event};
 use cip_types::OutOfMemory;
 use std::alloc::Global;
+use trace_outcomes::Recorded;
 use trace_text::Trace;
 
 /// The bytes of a capture file with the packets of a trace: a classic pcap file of raw IPv4 packets, in the order of
@@ -24,40 +25,59 @@ use trace_text::Trace;
 pub fn write_pcap(alloc: Global, trace: &Trace) -> Result<Vec<u8>, OutOfMemory>
     ensures { IfOk result (λ file. file.items ≡ pcap_text trace.now) }
 {
-    let side = side_of(&trace.config);
     let mut out = Vec::new(alloc);
     push_file_header(&mut out)?;
-    let mut streams = Vec::new(alloc);
-    let mut time = 0;
-    for (index, entry) in trace.events.as_slice().iter().enumerate() {
-        let outcome = entry.1.get();
-        time = time_after(time, &entry.0, outcome);
-        let number = index as u64;
-        push_entry(
-            &mut out,
-            &mut streams,
-            Moment { side, time, number },
-            &entry.0,
-            outcome,
-        )?;
-    }
+    let side = side_of(&trace.config);
+    push_entries(alloc, &mut out, side, trace.events.as_slice())?;
     Ok(out)
 }
 
+/// Appends the packets of events, from time 0 on, and with no stream open.
+fn push_entries(
+    alloc: Global,
+    out: &mut Vec<u8>,
+    side: Side,
+    entries: &[(Event, Recorded)],
+) -> Result<(), OutOfMemory>
+    ensures { OnOk result (out.new.items ≡ out.old.items ++ entries_records side 0 0 [] entries.now) }
+{
+    let mut streams = Vec::new(alloc);
+    let mut time = 0;
+    for (index, entry) in entries.iter().enumerate() {
+        time = time_after(time, &entry.0, &entry.1);
+        let number = index as u64;
+        let moment = Moment { side, time, number };
+        push_entry(out, &mut streams, moment, &entry.0, &entry.1)?;
+    }
+    Ok(())
+}
+
 /// The time of a trace's clock after an event, with its outcome if that is recorded. A refused tick does not pass.
-pub fn time_after(time: u64, event: &Event, outcome: Option<&Outcome>) -> u64
-    ensures { result ≡ time_after time event.now (option_copied outcome) }
+pub fn time_after(time: u64, event: &Event, recorded: &Recorded) -> u64
+    ensures { result ≡ time_after time event.now recorded.now }
 {
     match event {
-        Event::Tick { ms } if !is_refused(outcome) => time.wrapping_add(u64::from(*ms)),
+        Event::Tick { ms } => later(time, *ms, is_refused(recorded)),
         _ => time,
     }
 }
 
-fn is_refused(outcome: Option<&Outcome>) -> bool
-    ensures { result ≡ is_refused (option_copied outcome) }
+/// The time, this number of milliseconds later if they are not refused.
+fn later(time: u64, ms: u32, refused: bool) -> u64
+    ensures { result ≡ later time ms refused }
 {
-    match outcome {
+    if refused {
+        time
+    } else {
+        time.wrapping_add(u64::from(ms))
+    }
+}
+
+/// Whether the recorded outcome is a fault.
+fn is_refused(recorded: &Recorded) -> bool
+    ensures { result ≡ is_refused recorded.now }
+{
+    match recorded.get() {
         Some(Err(_)) => true,
         _ => false,
     }
@@ -69,17 +89,29 @@ fn push_entry(
     streams: &mut Vec<Stream>,
     moment: Moment,
     event: &Event,
-    outcome: Option<&Outcome>,
+    recorded: &Recorded,
 ) -> Result<(), OutOfMemory>
-    ensures records { OnOk result (out.new.items ≡ out.old.items ++ entry_records moment event.now (option_copied outcome) streams.old.items) }
-    ensures streams { OnOk result (streams.new.items ≡ entry_streams moment event.now (option_copied outcome) streams.old.items) }
+    ensures records { OnOk result (out.new.items ≡ out.old.items ++ entry_records moment event.now recorded.now streams.old.items) }
+    ensures streams { OnOk result (streams.new.items ≡ entry_streams moment event.now recorded.now streams.old.items) }
 {
-    match outcome {
+    match recorded.get() {
         None => push_event(out, streams, moment, event),
-        Some(Ok(answer)) => {
-            push_event(out, streams, moment, event)?;
-            push_answer(out, streams, moment, answer)
-        }
+        Some(Ok(answer)) => push_answered(out, streams, moment, event, answer),
         Some(Err(_)) => Ok(()),
     }
+}
+
+/// Appends the packets of an event and of its answer.
+fn push_answered(
+    out: &mut Vec<u8>,
+    streams: &mut Vec<Stream>,
+    moment: Moment,
+    event: &Event,
+    answer: &Answer,
+) -> Result<(), OutOfMemory>
+    ensures records { OnOk result (out.new.items ≡ out.old.items ++ (event_records moment event.now streams.old.items ++ answer_records moment answer.now (event_streams moment event.now streams.old.items))) }
+    ensures streams { OnOk result (streams.new.items ≡ answer_streams answer.now (event_streams moment event.now streams.old.items)) }
+{
+    push_event(out, streams, moment, event)?;
+    push_answer(out, streams, moment, answer)
 }
