@@ -10,9 +10,8 @@ is_fit before byte = if byte == 32 then not (before == 32) else (nat_lt 32 byte 
 -- what a byte is that may not be at its place, which is in this column
 abbrev pub character_at : ℕ → ℕ → Bool → Character
 character_at byte column is_last =
-    if byte == 13 && is_last then CarriageReturn else
-    if byte == 9 then Tab column else
-    if byte == 32 then Space column else Unprinted column
+    if byte == 13 && is_last then CarriageReturn
+    else (if byte == 9 then Tab column else (if byte == 32 then Space column else Unprinted column))
 
 abbrev pub is_empty : List ℕ → Bool
 is_empty [] = true

@@ -29,11 +29,22 @@ pub fn event_lines(alloc: Global, trace: &Trace) -> Result<Vec<EventLine>, OutOf
     // Each event has its line, with its number and its time.
     ensures { IfOk result (λ lines. map moment_of_line lines.items ≡ moments 1 0 trace.now.events) }
 {
+    lines_of(alloc, &trace.config, trace.events.as_slice())
+}
+
+/// The events of a device of this configuration in words.
+fn lines_of(
+    alloc: Global,
+    config: &Config,
+    entries: &[(Event, Recorded)],
+) -> Result<Vec<EventLine>, OutOfMemory>
+    ensures { IfOk result (λ lines. map moment_of_line lines.items ≡ moments 1 0 entries.now) }
+{
     let mut lines = Vec::new(alloc);
     let mut time = 0;
-    for (index, entry) in trace.events.as_slice().iter().enumerate() {
+    for (index, entry) in entries.iter().enumerate() {
         time = time_after(time, &entry.0, &entry.1);
-        let words = entry_words(alloc, &trace.config, &entry.0, &entry.1)?;
+        let words = entry_words(alloc, config, &entry.0, &entry.1)?;
         let number = index as u64 + 1;
         lines.push(EventLine {
             number,

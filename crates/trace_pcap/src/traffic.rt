@@ -166,7 +166,7 @@ fn push_received(
     ensures records { OnOk result (out.new.items ≡ out.old.items ++ received_records moment bytes.now (stream_of number streams.old.items)) }
     ensures streams { OnOk result (streams.new.items ≡ received_streams bytes.now (stream_of number streams.old.items) streams.old.items) }
 {
-    let Some(stream) = find_stream(streams, number) else {
+    let Some(stream) = find_stream(streams.as_slice(), number) else {
         return Ok(());
     };
     push_to_device(out, moment, &stream, PSH | ACK, bytes)?;
@@ -191,7 +191,7 @@ fn push_sent(
     ensures records { OnOk result (out.new.items ≡ out.old.items ++ sent_records moment bytes.now (stream_of number streams.old.items)) }
     ensures streams { OnOk result (streams.new.items ≡ sent_streams bytes.now (stream_of number streams.old.items) streams.old.items) }
 {
-    let Some(stream) = find_stream(streams, number) else {
+    let Some(stream) = find_stream(streams.as_slice(), number) else {
         return Ok(());
     };
     push_from_device(out, moment, &stream, PSH | ACK, bytes)?;
@@ -215,7 +215,7 @@ fn push_cut(
     ensures records { OnOk result (out.new.items ≡ out.old.items ++ cut_records moment (stream_of number streams.old.items)) }
     ensures streams { OnOk result (streams.new.items ≡ without number streams.old.items) }
 {
-    if let Some(stream) = find_stream(streams, number) {
+    if let Some(stream) = find_stream(streams.as_slice(), number) {
         push_to_device(out, moment, &stream, RST | ACK, &[])?;
     }
     drop_stream(streams, number);
@@ -232,7 +232,7 @@ fn push_closed(
     ensures records { OnOk result (out.new.items ≡ out.old.items ++ closed_records moment (stream_of number streams.old.items)) }
     ensures streams { OnOk result (streams.new.items ≡ without number streams.old.items) }
 {
-    if let Some(stream) = find_stream(streams, number) {
+    if let Some(stream) = find_stream(streams.as_slice(), number) {
         push_from_device(out, moment, &stream, FIN | ACK, &[])?;
     }
     drop_stream(streams, number);
