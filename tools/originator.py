@@ -13,6 +13,7 @@ import argparse, select, socket, struct, sys, time
 
 EXCLUSIVE, INPUT_ONLY, LISTEN_ONLY = "exclusive owner", "input only", "listen only"
 POINT_TO_POINT, MULTICAST = 2, 1
+PATIENCE = 30  # seconds for a reply
 
 
 class Difference(Exception):
@@ -28,7 +29,7 @@ class Session:
     """A TCP connection with a registered session (Volume 2, chapter 2)."""
 
     def __init__(self, args):
-        self.tcp = socket.create_connection((args.target, args.tcp), 5, (args.own, 0))
+        self.tcp = socket.create_connection((args.target, args.tcp), PATIENCE, (args.own, 0))
         self.handle, self.context = 0, 0
         data = self.call(0x65, struct.pack("<HH", 1, 0), session=None)
         expect("protocol version and options of the session", data, struct.pack("<HH", 1, 0))
@@ -227,11 +228,11 @@ def identity(args):
     asked = struct.pack("<HHII8sI", 0x63, 0, 0, 0, b"\0\0whoami"[:8], 0)
     udp = socket.socket(socket.AF_INET, socket.SOCK_DGRAM)
     udp.bind((args.own, 0))
-    udp.settimeout(3)
+    udp.settimeout(PATIENCE)
     udp.sendto(asked, (args.target, args.tcp))
-    tcp = socket.create_connection((args.target, args.tcp), 5, (args.own, 0))
+    tcp = socket.create_connection((args.target, args.tcp), PATIENCE, (args.own, 0))
     tcp.sendall(asked)
-    tcp.settimeout(3)
+    tcp.settimeout(PATIENCE)
     for how, reply in ("UDP", udp.recv(2048)), ("TCP", tcp.recv(2048)):
         command, length, _, status = struct.unpack("<HHII", reply[:12])
         expect(f"the command, status and length of ListIdentity over {how}",
