@@ -1,7 +1,7 @@
 //! The events of a trace, each in a line with the lines of its outcome.
 
 ghost use Rattle.std.specs.Prelude.{◌≡◌, IfOk, map};
-ghost use Rattle.trace_explain.specs.Lines.{moment_of_line, moments};
+ghost use Rattle.trace_explain.specs.Lines.{moment_of_line, moments, later, is_refused, time_after};
 
 use crate::answers::push_outcome;
 use crate::events::push_event;
@@ -10,7 +10,6 @@ use cip_tables::Config;
 use cip_types::OutOfMemory;
 use std::alloc::Global;
 use trace_outcomes::Recorded;
-use trace_pcap::time_after;
 use trace_text::Trace;
 
 /// An event in words: its number in the trace, from 1, its time in milliseconds, what happened, and what the device
@@ -53,6 +52,37 @@ fn lines_of(
         })?;
     }
     Ok(lines)
+}
+
+/// The time of a trace's clock after an event, with its outcome if that is recorded. A refused tick does not pass.
+fn time_after(time: u64, event: &Event, recorded: &Recorded) -> u64
+    ensures { result ≡ time_after time event.now recorded.now }
+{
+    match event {
+        Event::Tick { ms } => later(time, *ms, is_refused(recorded)),
+        _ => time,
+    }
+}
+
+/// The time, this number of milliseconds later if they are not refused.
+fn later(time: u64, ms: u32, refused: bool) -> u64
+    ensures { result ≡ later time ms refused }
+{
+    if refused {
+        time
+    } else {
+        time.wrapping_add(u64::from(ms))
+    }
+}
+
+/// Whether the recorded outcome is a fault.
+fn is_refused(recorded: &Recorded) -> bool
+    ensures { result ≡ is_refused recorded.now }
+{
+    match recorded.get() {
+        Some(Err(_)) => true,
+        _ => false,
+    }
 }
 
 /// An event, and its outcome if that is recorded.

@@ -57,15 +57,20 @@ stream_at moment number peer received sent = record { number = number; peer = pe
 
 -- The end that opens sends SYN, the other one SYN and ACK, the first one ACK (RFC 9293, section 3.5). The numbers of
 -- both ends begin at 0, which SYN takes.
-unfoldable pub opening_records : Moment → ℕ → Node → List ℕ
-opening_records moment number peer =
-    if moment.side.opens
-    then from_device_record moment (stream_at moment number peer 0 0) 2 []
+unfoldable pub dialed_records : Moment → ℕ → Node → List ℕ
+dialed_records moment number peer =
+    from_device_record moment (stream_at moment number peer 0 0) 2 []
     ++ (to_device_record moment (stream_at moment number peer 0 1) 18 []
     ++ from_device_record moment (stream_at moment number peer 1 1) 16 [])
-    else to_device_record moment (stream_at moment number peer 0 0) 2 []
+
+unfoldable pub accepted_records : Moment → ℕ → Node → List ℕ
+accepted_records moment number peer =
+    to_device_record moment (stream_at moment number peer 0 0) 2 []
     ++ (from_device_record moment (stream_at moment number peer 1 0) 18 []
     ++ to_device_record moment (stream_at moment number peer 1 1) 16 [])
+
+abbrev pub opening_records : Moment → ℕ → Node → List ℕ
+opening_records moment number peer = if moment.side.opens then dialed_records moment number peer else accepted_records moment number peer
 
 abbrev pub opened_streams : Moment → ℕ → Node → Streams → Streams
 opened_streams moment number peer streams = replaced_stream (stream_at moment number peer 1 1) streams
