@@ -1,0 +1,196 @@
+//! Recorded outcomes in words, a line for each part.
+
+use crate::datagrams::push_datagram;
+use crate::events::is_target;
+use crate::frames::push_message;
+use crate::replies::push_reply;
+use crate::statuses::{encap_words, push_fault};
+use crate::values::{push_data, push_id, push_triad};
+use cip_events::{
+    Answer, Delivery, Frame, Notice, Outcome, OutgoingDatagram, Reason, Recipient, Verdict,
+};
+use cip_tables::Config;
+use cip_types::OutOfMemory;
+use std::alloc::Global;
+use trace_words::{push_node, push_nodes, push_text};
+
+/// What begins a line of an outcome.
+const INDENT: &str = "\n    ";
+
+/// The outcome of an event.
+pub fn push_outcome(
+    alloc: Global,
+    out: &mut String,
+    config: &Config,
+    outcome: &Outcome,
+) -> Result<(), OutOfMemory> {
+    match outcome {
+        Ok(answer) => push_answer(alloc, out, config, answer),
+        Err(fault) => {
+            push_text(out, INDENT)?;
+            Ok(write!(out, "refused: {fault}")?)
+        }
+    }
+}
+
+fn push_answer(
+    alloc: Global,
+    out: &mut String,
+    config: &Config,
+    answer: &Answer,
+) -> Result<(), OutOfMemory> {
+    push_text(out, INDENT)?;
+    push_verdict(alloc, out, &answer.verdict)?;
+    for frame in answer.frames.as_slice() {
+        push_text(out, INDENT)?;
+        push_frame(alloc, out, config, frame)?;
+    }
+    for outgoing in answer.datagrams.as_slice() {
+        push_text(out, INDENT)?;
+        push_outgoing(alloc, out, config, outgoing)?;
+    }
+    for notice in answer.notices.as_slice() {
+        push_text(out, INDENT)?;
+        push_notice(out, *notice)?;
+    }
+    Ok(())
+}
+
+fn push_verdict(alloc: Global, out: &mut String, verdict: &Verdict) -> Result<(), OutOfMemory> {
+    match verdict {
+        Verdict::Done => push_text(out, "done"),
+        Verdict::BadFrame => push_text(out, "not answered: too short, or a wrong length field"),
+        Verdict::Ignored => push_text(out, "ignored: the scanner does not expect it"),
+        Verdict::Value(bytes) => {
+            push_text(out, "the point holds ")?;
+            push_data(alloc, out, bytes.as_slice())
+        }
+        Verdict::Delivered(delivery) => push_text(out, delivery_words(*delivery)),
+    }
+}
+
+fn delivery_words(delivery: Delivery) -> &'static str {
+    match delivery {
+        Delivery::Applied => "accepted, its data are applied",
+        Delivery::Idle => "accepted, in idle mode",
+        Delivery::Heartbeat => "accepted, a heartbeat",
+        Delivery::Duplicate => "accepted, its sequence count repeats, so its data are not new",
+        Delivery::Old => "left aside: its sequence number is not newer than the last accepted one",
+        Delivery::UnknownId => "left aside: no established connection of the peer has this id",
+        Delivery::WrongSize => "left aside: its size is not the connection's",
+        Delivery::Malformed => "left aside: no class 1 datagram",
+    }
+}
+
+fn push_frame(
+    alloc: Global,
+    out: &mut String,
+    config: &Config,
+    frame: &Frame,
+) -> Result<(), OutOfMemory> {
+    match frame.to {
+        Recipient::Stream(stream) => {
+            write!(out, "sends on stream {stream}: ")?;
+            push_message(
+                alloc,
+                out,
+                config,
+                frame.bytes.as_slice(),
+                !is_target(config),
+            )
+        }
+        Recipient::Peer(node) => {
+            push_text(out, "replies to ")?;
+            push_node(out, node)?;
+            push_text(out, ": ")?;
+            push_reply(alloc, out, frame.bytes.as_slice())
+        }
+    }
+}
+
+fn push_outgoing(
+    alloc: Global,
+    out: &mut String,
+    config: &Config,
+    outgoing: &OutgoingDatagram,
+) -> Result<(), OutOfMemory> {
+    push_text(out, "sends a datagram to ")?;
+    push_node(out, outgoing.address)?;
+    push_text(out, ", consumed by ")?;
+    push_nodes(out, outgoing.nodes.as_slice())?;
+    push_text(out, ": ")?;
+    push_datagram(alloc, out, outgoing.bytes.as_slice(), !is_target(config))
+}
+
+fn push_notice(out: &mut String, notice: Notice) -> Result<(), OutOfMemory> {
+    match notice {
+        Notice::Opened(triad, id) => {
+            push_text(out, "opened: ")?;
+            push_triad(out, triad)?;
+            push_text(out, ", O->T id ")?;
+            push_id(out, id)
+        }
+        Notice::Closed(triad) => {
+            push_text(out, "closed: ")?;
+            push_triad(out, triad)
+        }
+        Notice::Expired(triad) => {
+            push_text(out, "timed out: ")?;
+            push_triad(out, triad)
+        }
+        Notice::Dropped(triad) => {
+            push_text(out, "dropped, a listener without support: ")?;
+            push_triad(out, triad)
+        }
+        Notice::Replaced(triad) => {
+            push_text(out, "removed for a new one, timed out before: ")?;
+            push_triad(out, triad)
+        }
+        Notice::StreamClosed(stream) => Ok(write!(out, "closes stream {stream}")?),
+        _ => push_slot_notice(out, notice),
+    }
+}
+
+fn push_slot_notice(out: &mut String, notice: Notice) -> Result<(), OutOfMemory> {
+    match notice {
+        Notice::Slot(slot, state) => {
+            let words = state_words(state);
+            Ok(write!(out, "slot {slot} is {words} (state {state})")?)
+        }
+        Notice::NoIds(slot) => Ok(write!(
+            out,
+            "slot {slot} needs a connection id or a request number, and none is left"
+        )?),
+        Notice::Refused(slot, reason) => {
+            write!(out, "slot {slot} is not opened: ")?;
+            push_reason(out, reason)
+        }
+        _ => Ok(()),
+    }
+}
+
+fn push_reason(out: &mut String, reason: Reason) -> Result<(), OutOfMemory> {
+    match reason {
+        Reason::Encap(status) => {
+            let words = encap_words(status);
+            Ok(write!(out, "encapsulation status {status:#06x} ({words})")?)
+        }
+        Reason::Unreadable => push_text(out, "no readable reply"),
+        Reason::Cip(fault) => push_fault(out, fault),
+        Reason::Mismatch(mismatch) => Ok(write!(out, "{mismatch}")?),
+    }
+}
+
+/// The state of a slot's connection, by the standard's number.
+///
+/// Volume 1, chapter 3, connection instance states.
+fn state_words(state: u8) -> &'static str {
+    match state {
+        0 => "idle",
+        2 => "opening",
+        3 => "established",
+        4 => "timed out",
+        6 => "closing",
+        _ => "in another state",
+    }
+}

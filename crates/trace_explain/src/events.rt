@@ -1,0 +1,79 @@
+//! Events in words.
+
+use crate::datagrams::push_datagram;
+use crate::frames::push_message;
+use crate::requests::push_request;
+use crate::values::push_data;
+use cip_events::Event;
+use cip_tables::Config;
+use cip_types::{Node, OutOfMemory};
+use std::alloc::Global;
+use trace_words::{push_node, push_text};
+
+/// Whether the traced device is a target: an adapter.
+pub fn is_target(config: &Config) -> bool {
+    match config {
+        Config::Adapter(_) => true,
+        Config::Scanner(_) => false,
+    }
+}
+
+/// What happens in an event.
+pub fn push_event(
+    alloc: Global,
+    out: &mut String,
+    config: &Config,
+    event: &Event,
+) -> Result<(), OutOfMemory> {
+    match event {
+        Event::Request { peer, bytes } => {
+            push_text(out, "request without a stream from ")?;
+            push_node(out, *peer)?;
+            push_text(out, ": ")?;
+            push_request(alloc, out, config, bytes.as_slice())
+        }
+        Event::StreamOpened { stream, peer } => push_stream(out, config, *stream, *peer),
+        Event::Frame { stream, bytes } => {
+            write!(out, "frame on stream {stream}: ")?;
+            push_message(alloc, out, config, bytes.as_slice(), is_target(config))
+        }
+        Event::StreamCut { stream } => {
+            Ok(write!(out, "stream {stream} breaks, or its peer closes it")?)
+        }
+        Event::Datagram { peer, bytes } => {
+            push_text(out, "datagram from ")?;
+            push_node(out, *peer)?;
+            push_text(out, ": ")?;
+            push_datagram(alloc, out, bytes.as_slice(), is_target(config))
+        }
+        _ => push_call(alloc, out, event),
+    }
+}
+
+fn push_stream(
+    out: &mut String,
+    config: &Config,
+    stream: u16,
+    peer: Node,
+) -> Result<(), OutOfMemory> {
+    let direction = if is_target(config) { "from" } else { "to" };
+    write!(out, "stream {stream} opens, {direction} ")?;
+    push_node(out, peer)
+}
+
+/// A call of the application, or time that passes.
+fn push_call(alloc: Global, out: &mut String, event: &Event) -> Result<(), OutOfMemory> {
+    match event {
+        Event::Write { point, bytes } => {
+            write!(out, "the application writes point {point}, ")?;
+            push_data(alloc, out, bytes.as_slice())
+        }
+        Event::Read { point } => Ok(write!(out, "the application reads point {point}")?),
+        Event::Tick { ms } => Ok(write!(out, "{ms} ms pass")?),
+        Event::Mode { run: true } => push_text(out, "the application runs"),
+        Event::Mode { run: false } => push_text(out, "the application is idle"),
+        Event::Start { slot } => Ok(write!(out, "the application starts slot {slot}")?),
+        Event::Stop { slot } => Ok(write!(out, "the application stops slot {slot}")?),
+        _ => Ok(()),
+    }
+}

@@ -1,0 +1,120 @@
+//! Replies of the message router in words.
+
+use crate::statuses::push_fault;
+use crate::values::{push_data, push_id, push_interval, push_triad};
+use cip_fwdopen::service::{
+    FORWARD_CLOSE, FORWARD_OPEN, GET_ATTRIBUTE_SINGLE, LARGE_FORWARD_OPEN, REPLY,
+};
+use cip_fwdopen::{
+    CloseAnswer, GetAnswer, OpenAnswer, Opened, Refused, read_close_reply, read_get_reply,
+    read_open_reply,
+};
+use cip_types::OutOfMemory;
+use std::alloc::Global;
+use trace_words::push_text;
+
+/// A reply, by its service and fields.
+///
+/// Volume 1, chapter 2, message router response; chapter 3, Connection Manager services.
+pub fn push_reply(alloc: Global, out: &mut String, bytes: &[u8]) -> Result<(), OutOfMemory> {
+    let [service, ..] = bytes else {
+        return push_text(out, "a reply without a byte");
+    };
+    if *service < REPLY {
+        write!(out, "no reply, since service {service:#04x} is a request: ")?;
+        return push_data(alloc, out, bytes);
+    }
+    match *service - REPLY {
+        FORWARD_OPEN => {
+            push_text(out, "reply to Forward_Open: ")?;
+            push_open_reply(alloc, out, bytes)
+        }
+        LARGE_FORWARD_OPEN => {
+            push_text(out, "reply to Large_Forward_Open: ")?;
+            push_open_reply(alloc, out, bytes)
+        }
+        FORWARD_CLOSE => {
+            push_text(out, "reply to Forward_Close: ")?;
+            push_close_reply(alloc, out, bytes)
+        }
+        GET_ATTRIBUTE_SINGLE => {
+            push_text(out, "reply to Get_Attribute_Single: ")?;
+            push_get_reply(alloc, out, bytes)
+        }
+        service => {
+            write!(out, "reply to service {service:#04x}: ")?;
+            push_get_reply(alloc, out, bytes)
+        }
+    }
+}
+
+fn push_open_reply(alloc: Global, out: &mut String, bytes: &[u8]) -> Result<(), OutOfMemory> {
+    match read_open_reply(bytes) {
+        Ok(reply) => match reply.answer {
+            OpenAnswer::Opened(opened) => push_opened(out, opened),
+            OpenAnswer::Refused(refused) => push_refused(out, refused),
+        },
+        Err(fault) => {
+            write!(out, "it does not read ({fault}), ")?;
+            push_data(alloc, out, bytes)
+        }
+    }
+}
+
+fn push_opened(out: &mut String, opened: Opened) -> Result<(), OutOfMemory> {
+    push_text(out, "opened ")?;
+    push_triad(out, opened.triad)?;
+    push_text(out, ", O->T id ")?;
+    push_id(out, opened.o_t_id)?;
+    push_text(out, " every ")?;
+    push_interval(out, opened.o_t_api_us)?;
+    push_text(out, ", T->O id ")?;
+    push_id(out, opened.t_o_id)?;
+    push_text(out, " every ")?;
+    push_interval(out, opened.t_o_api_us)
+}
+
+fn push_refused(out: &mut String, refused: Refused) -> Result<(), OutOfMemory> {
+    push_text(out, "refused with ")?;
+    push_fault(out, refused.fault)?;
+    match refused.triad {
+        Some(triad) => {
+            push_text(out, ", ")?;
+            push_triad(out, triad)
+        }
+        None => Ok(()),
+    }
+}
+
+fn push_close_reply(alloc: Global, out: &mut String, bytes: &[u8]) -> Result<(), OutOfMemory> {
+    match read_close_reply(bytes) {
+        Ok(reply) => match reply.answer {
+            CloseAnswer::Closed(triad) => {
+                push_text(out, "closed ")?;
+                push_triad(out, triad)
+            }
+            CloseAnswer::Refused(refused) => push_refused(out, refused),
+        },
+        Err(fault) => {
+            write!(out, "it does not read ({fault}), ")?;
+            push_data(alloc, out, bytes)
+        }
+    }
+}
+
+/// A reply whose data is the value of an attribute, or bytes that no reader here knows.
+fn push_get_reply(alloc: Global, out: &mut String, bytes: &[u8]) -> Result<(), OutOfMemory> {
+    match read_get_reply(bytes) {
+        Ok(reply) => match reply.answer {
+            GetAnswer::Got(value) => push_data(alloc, out, value),
+            GetAnswer::Refused(fault) => {
+                push_text(out, "refused with ")?;
+                push_fault(out, fault)
+            }
+        },
+        Err(fault) => {
+            write!(out, "it does not read ({fault}), ")?;
+            push_data(alloc, out, bytes)
+        }
+    }
+}

@@ -1,0 +1,102 @@
+//! Statuses in the words of the standard.
+
+use cip_types::{Fault, OutOfMemory};
+use trace_words::push_text;
+
+/// A general status, and an extended status of the Connection Manager, in words.
+///
+/// Volume 1, appendix B, general status codes; chapter 3, Connection Manager extended status codes.
+pub fn push_fault(out: &mut String, fault: Fault) -> Result<(), OutOfMemory> {
+    let Fault { general, extended } = fault;
+    let words = general_words(general);
+    write!(out, "general status {general:#04x} ({words})")?;
+    match extended {
+        Some(extended) if general == 1 => {
+            let words = extended_words(extended);
+            Ok(write!(out, ", extended status {extended:#06x} ({words})")?)
+        }
+        Some(extended) => Ok(write!(out, ", extended status {extended:#06x}")?),
+        None => push_text(out, ", no extended status"),
+    }
+}
+
+fn general_words(general: u8) -> &'static str {
+    match general {
+        0x00 => "success",
+        0x01 => "connection failure",
+        0x02 => "resource unavailable",
+        0x03 => "invalid parameter value",
+        0x04 => "path segment error",
+        0x05 => "path destination unknown",
+        0x08 => "service not supported",
+        0x09 => "invalid attribute value",
+        0x0C => "object state conflict",
+        0x0E => "attribute not settable",
+        0x0F => "privilege violation",
+        0x10 => "device state conflict",
+        0x11 => "reply data too large",
+        0x13 => "not enough data",
+        0x14 => "attribute not supported",
+        0x15 => "too much data",
+        0x16 => "object does not exist",
+        0x20 => "invalid parameter",
+        0x26 => "path size invalid",
+        _ => "another status",
+    }
+}
+
+fn extended_words(extended: u16) -> &'static str {
+    match extended {
+        0x0100 => "connection in use or duplicate Forward_Open",
+        0x0103 => "transport class and trigger combination not supported",
+        0x0106 => "ownership conflict",
+        0x0107 => "target connection not found",
+        0x0108 => "invalid network connection parameter",
+        0x0109 => "invalid connection size",
+        0x0110 => "target for connection not configured",
+        0x0111 => "RPI not supported",
+        0x0113 => "out of connections",
+        0x0114 => "vendor id or product code mismatch",
+        0x0115 => "device type mismatch",
+        0x0116 => "revision mismatch",
+        0x0117 => "invalid produced or consumed application path",
+        0x0118 => "invalid or inconsistent configuration application path",
+        0x0119 => "non-listen only connection not opened",
+        0x011A => "target object out of connections",
+        0x011B => "RPI is smaller than the production inhibit time",
+        0x0203 => "connection timed out",
+        0x0204 => "unconnected request timed out",
+        _ => later_words(extended),
+    }
+}
+
+fn later_words(extended: u16) -> &'static str {
+    match extended {
+        0x0123 => "invalid O->T network connection type",
+        0x0124 => "invalid T->O network connection type",
+        0x0126 => "invalid configuration size",
+        0x0127 => "invalid O->T size",
+        0x0128 => "invalid T->O size",
+        0x0129 => "invalid configuration application path",
+        0x012A => "invalid consuming application path",
+        0x012B => "invalid producing application path",
+        0x0315 => "invalid segment in the connection path",
+        _ => "another status",
+    }
+}
+
+/// The status of an encapsulation message, in words.
+///
+/// Volume 2, chapter 2, encapsulation status codes.
+pub fn encap_words(status: u32) -> &'static str {
+    match status {
+        0x0000 => "success",
+        0x0001 => "invalid or unsupported command",
+        0x0002 => "insufficient memory",
+        0x0003 => "incorrect data",
+        0x0064 => "invalid session handle",
+        0x0065 => "invalid length",
+        0x0069 => "unsupported protocol revision",
+        _ => "another status",
+    }
+}

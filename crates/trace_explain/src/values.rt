@@ -1,0 +1,44 @@
+//! Values that several parts print.
+
+use cip_types::{ConnId, OutOfMemory, Triad};
+use std::alloc::Global;
+use trace_words::{push_bytes, push_text};
+
+/// The three numbers that name a connection.
+pub fn push_triad(out: &mut String, triad: Triad) -> Result<(), OutOfMemory> {
+    let Triad {
+        serial,
+        vendor,
+        originator,
+    } = triad;
+    Ok(write!(
+        out,
+        "connection {serial} of vendor {vendor} originator {originator}"
+    )?)
+}
+
+/// A connection id, as eight hexadecimal digits.
+pub fn push_id(out: &mut String, id: ConnId) -> Result<(), OutOfMemory> {
+    let ConnId(id) = id;
+    Ok(write!(out, "{id:08x}")?)
+}
+
+/// A time in microseconds, as milliseconds.
+pub fn push_interval(out: &mut String, us: u32) -> Result<(), OutOfMemory> {
+    let ms = us / 1000;
+    let rest = us % 1000;
+    if rest == 0 {
+        return Ok(write!(out, "{ms} ms")?);
+    }
+    Ok(write!(out, "{ms}.{rest:03} ms")?)
+}
+
+/// The number of bytes, and the bytes.
+pub fn push_data(alloc: Global, out: &mut String, bytes: &[u8]) -> Result<(), OutOfMemory> {
+    if bytes.is_empty() {
+        return push_text(out, "no data");
+    }
+    let len = bytes.len();
+    write!(out, "{len} bytes of data ")?;
+    push_bytes(alloc, out, bytes)
+}

@@ -1,0 +1,29 @@
+-- What is appended one after the other, one step further.
+use Rattle.std.proofs.Common.{◌≡◌, ℕ, ◌<◌, ◌+◌, List, [], ◌∷◌, ◌++◌, length, get_or, drop, refl}
+use Rattle.std.proofs.lemmas.List.{append_assoc, drop_more}
+use Rattle.cip_events.specs.declared.event.Frame.{Frame}
+use Rattle.cip_events.specs.declared.event.Notice.{Notice}
+use Rattle.trace_text.specs.Reading.{Entry}
+use Rattle.trace_pcap.specs.declared.ends.Side.{Side}
+use Rattle.trace_pcap.specs.declared.traffic.Moment.{Moment}
+use Rattle.trace_pcap.specs.Traffic.{Streams, frame_records, frame_streams, frames_records, frames_streams, notice_records, notice_streams, notices_records, notices_streams}
+use Rattle.trace_pcap.specs.Written.{moment_of, entry_records, entry_streams, entries_records}
+
+pub frames_more : (moment : Moment) (out new : List ℕ) (streams after : Streams) (frames : List Frame) (i : ℕ) (frame : Frame) → i < length frames → frame ≡ get_or frames i frame → new ≡ out ++ frame_records moment frame streams → after ≡ frame_streams frame streams → new ++ frames_records moment (drop (i + 1) frames) after ≡ out ++ frames_records moment (drop i frames) streams
+frames_more moment out new streams after frames i frame lt is new_is after_is =
+    rw (new_is, after_is, drop_more frames i frame lt, ← is) (append_assoc out (frame_records moment frame streams) (frames_records moment (drop (i + 1) frames) (frame_streams frame streams)))
+
+pub frame_streams_more : (streams after : Streams) (frames : List Frame) (i : ℕ) (frame : Frame) → i < length frames → frame ≡ get_or frames i frame → after ≡ frame_streams frame streams → frames_streams (drop (i + 1) frames) after ≡ frames_streams (drop i frames) streams
+frame_streams_more streams after frames i frame lt is after_is = rw (after_is, drop_more frames i frame lt, ← is) refl
+
+pub notices_more : (moment : Moment) (out new : List ℕ) (streams after : Streams) (notices : List Notice) (i : ℕ) (notice : Notice) → i < length notices → notice ≡ get_or notices i notice → new ≡ out ++ notice_records moment notice streams → after ≡ notice_streams notice streams → new ++ notices_records moment (drop (i + 1) notices) after ≡ out ++ notices_records moment (drop i notices) streams
+notices_more moment out new streams after notices i notice lt is new_is after_is =
+    rw (new_is, after_is, drop_more notices i notice lt, ← is) (append_assoc out (notice_records moment notice streams) (notices_records moment (drop (i + 1) notices) (notice_streams notice streams)))
+
+pub notice_streams_more : (streams after : Streams) (notices : List Notice) (i : ℕ) (notice : Notice) → i < length notices → notice ≡ get_or notices i notice → after ≡ notice_streams notice streams → notices_streams (drop (i + 1) notices) after ≡ notices_streams (drop i notices) streams
+notice_streams_more streams after notices i notice lt is after_is = rw (after_is, drop_more notices i notice lt, ← is) refl
+
+-- the event at a moment, and those behind it
+pub entries_more : (side : Side) (time : ℕ) (out new : List ℕ) (streams after : Streams) (entries : List Entry) (i : ℕ) (entry : Entry) → i < length entries → entry ≡ get_or entries i entry → new ≡ out ++ entry_records (moment_of side time i entry) entry.0 entry.1 streams → after ≡ entry_streams (moment_of side time i entry) entry.0 entry.1 streams → new ++ entries_records side (moment_of side time i entry).time (i + 1) after (drop (i + 1) entries) ≡ out ++ entries_records side time i streams (drop i entries)
+entries_more side time out new streams after entries i entry lt is new_is after_is =
+    rw (new_is, after_is, drop_more entries i entry lt, ← is) (append_assoc out (entry_records (moment_of side time i entry) entry.0 entry.1 streams) (entries_records side (moment_of side time i entry).time (i + 1) (entry_streams (moment_of side time i entry) entry.0 entry.1 streams) (drop (i + 1) entries)))

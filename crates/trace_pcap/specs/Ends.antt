@@ -1,0 +1,41 @@
+-- The ends of packets: the traced device and its peers.
+use Rattle.std.specs.Prelude.{ℕ, ◌+◌, ◌/◌, ◌%◌, ◌==◌, if◌then◌else◌, Bool, true, false}
+use Rattle.cip_types.specs.declared.names.Node.{Node}
+use Rattle.cip_tables.specs.declared.table.Config.{Config}
+use Rattle.cip_tables.specs.declared.table.Config.TheVariants.{Adapter, Scanner}
+use Rattle.trace_pcap.specs.declared.ends.Side.{Side}
+use Rattle.trace_pcap.specs.declared.ends.Ends.{Ends}
+use Rattle.trace_pcap.specs.declared.ends.Stream.{Stream}
+
+-- an adapter's peers open its streams; a scanner opens its streams
+abbrev pub side_of : Config → Side
+side_of (Adapter profile) = record { node = profile.node; opens = false }
+side_of (Scanner profile) = record { node = profile.node; opens = true }
+
+-- the end that opens a stream has the stream's port, and the other end the port of explicit messages
+abbrev pub ends_from_device : Side → Stream → Ends
+ends_from_device side stream = record {
+  source = side.node;
+  source_port = (if side.opens then stream.port else 44818);
+  destination = stream.peer;
+  destination_port = (if side.opens then 44818 else stream.port);
+}
+
+abbrev pub ends_to_device : Side → Stream → Ends
+ends_to_device side stream = record {
+  source = stream.peer;
+  source_port = (if side.opens then 44818 else stream.port);
+  destination = side.node;
+  destination_port = (if side.opens then stream.port else 44818);
+}
+
+abbrev pub datagram_ends : Node → Node → Ends
+datagram_ends source destination = record { source = source; source_port = 2222; destination = destination; destination_port = 2222 }
+
+-- the four first bits of the address of a group of hosts are 1110 (RFC 1112, section 4)
+abbrev pub is_multicast : Node → Bool
+is_multicast node = node.0 / 0x10000000 == 14
+
+-- a dynamic port (RFC 6335, section 6), another one for each of 16,384 events in a row
+unfoldable pub stream_port : ℕ → ℕ
+stream_port number = 49152 + number % 16384

@@ -1,0 +1,6 @@
+pub mod Checksum
+pub mod Ends
+pub mod Headers
+pub mod Packets
+pub mod Traffic
+pub mod Written
