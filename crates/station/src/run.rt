@@ -11,8 +11,9 @@ use cip_tables::Device;
 use std::io::Write;
 use udp_runner::{Clock, Port};
 
-/// A station looks for lines of its application at least so often, in milliseconds.
-const LOOK_MS: u64 = 50;
+/// A station looks for lines of its application at least so often, in milliseconds. A source that wakes the port is looked
+/// at earlier.
+const LOOK_MS: u64 = 1_000;
 
 /// A scanner waits at most so long for the replies to its Forward_Close requests, in milliseconds.
 const CLOSE_MS: u64 = 2_000;
