@@ -15,6 +15,7 @@ status_of failure.Unread = 3
 status_of (failure.Profile fault) = 3
 status_of failure.Events = 3
 status_of failure.WrongKind = 3
+status_of failure.NoTrace = 3
 status_of (failure.Socket socket cause.NoAddress) = 4
 status_of (failure.Socket socket other) = 5
 status_of failure.Record = 6

@@ -5,11 +5,11 @@ ghost use Rattle.eip_station.specs.Failures.{status_of};
 
 use cip_tables::NewFault;
 use cip_types::OutOfMemory;
-use std::alloc::{AllocError, AllocFailed};
 use station::EarlyEnd;
 use station_port::{SocketCause, StationFault, StationSocket};
 use station_record::RecordFault;
 use station_words::Misuse;
+use std::alloc::{AllocError, AllocFailed};
 use thiserror::Error;
 use trace_text::TraceFault;
 
@@ -34,6 +34,9 @@ pub enum Failure {
     /// A socket cannot be made.
     #[error("the {0} {1}")]
     Socket(StationSocket, SocketCause),
+    /// The file is no trace.
+    #[error("is no trace")]
+    NoTrace,
     /// The record cannot be made or written.
     #[error("cannot be written")]
     Record,
@@ -57,6 +60,7 @@ pub fn status_of(failure: Failure) -> u8
         Failure::Profile(_) => 3,
         Failure::Events => 3,
         Failure::WrongKind => 3,
+        Failure::NoTrace => 3,
         Failure::Socket(_, SocketCause::NoAddress) => 4,
         Failure::Socket(_, _) => 5,
         Failure::Record => 6,
@@ -132,7 +136,11 @@ impl<T: Drop> From<AllocFailed<T>> for Failure {
 pub fn subject_of(words: &[String], failure: Failure) -> &str {
     match failure {
         Failure::Words(misuse) => wrong_word(words, misuse),
-        Failure::Unread | Failure::Profile(_) | Failure::Events | Failure::WrongKind => {
+        Failure::Unread
+        | Failure::Profile(_)
+        | Failure::Events
+        | Failure::WrongKind
+        | Failure::NoTrace => {
             match words.get(2) {
                 Some(word) => word.as_str(),
                 None => "",

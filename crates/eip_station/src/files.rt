@@ -29,12 +29,26 @@ pub fn pcap_of<R: Files + AllocGlobal>(rt: &R, path: &str) -> Result<Vec<u8>, Fa
     Ok(write_pcap(rt.alloc(), &trace)?)
 }
 
-/// A file's trace in words, or why the file is no trace.
-pub fn words_of_trace<R: Files + AllocGlobal>(rt: &R, path: &str) -> Result<String, Failure> {
+/// What is told of a file: its trace in words, or why it is no trace.
+#[derive(Drop)]
+pub struct ToldFile {
+    pub words: String,
+    pub is_trace: bool,
+}
+
+/// What is told of a file.
+pub fn told_trace<R: Files + AllocGlobal>(rt: &R, path: &str) -> Result<ToldFile, Failure> {
     let text = bytes_of(rt, path)?;
-    match read_trace(rt.alloc(), text.as_slice()) {
-        Ok(trace) => Ok(explain_trace(rt.alloc(), &trace)?),
-        Err(fault) => Ok(explain_fault(rt.alloc(), text.as_slice(), fault)?),
+    let alloc = rt.alloc();
+    match read_trace(alloc, text.as_slice()) {
+        Ok(trace) => Ok(ToldFile {
+            words: explain_trace(alloc, &trace)?,
+            is_trace: true,
+        }),
+        Err(fault) => Ok(ToldFile {
+            words: explain_fault(alloc, text.as_slice(), fault)?,
+            is_trace: false,
+        }),
     }
 }
 

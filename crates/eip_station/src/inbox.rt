@@ -2,6 +2,7 @@
 
 use cip_types::OutOfMemory;
 use mio::Waker;
+use station::{CallBuffer, CallLines, NextLine};
 use std::alloc::Global;
 use std::io::{ErrorKind, Read};
 use std::rt::Clock;
@@ -9,7 +10,6 @@ use std::sync::{Arc, Mutex, Wait};
 use std::thread;
 use std::thread::Threads;
 use std::time::Duration;
-use station::{CallBuffer, CallLines, NextLine};
 
 /// A read takes at most so many bytes.
 const CHUNK_BYTES: usize = 4_096;

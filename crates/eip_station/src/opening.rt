@@ -1,16 +1,16 @@
 //! The ports of stations.
 
 use crate::failure::Failure;
+use cip_encap::SocketAddress;
 use cip_tables::{Profile, ScannerProfile};
 use cip_types::Node;
-use cip_encap::SocketAddress;
 use list_identity::{ProductName, StationIdentity};
 use port_streams::Destination;
+use station_port::{StationPlace, StationPort};
+use station_words::Options;
 use std::alloc::Global;
 use std::net::Net;
 use std::rt::Clock;
-use station_port::{StationPlace, StationPort};
-use station_words::Options;
 
 /// The product name of an adapter.
 const NAME: &[u8] = b"Rattle adapter";
@@ -48,7 +48,11 @@ pub fn targets_of(
 }
 
 /// The port of an adapter, which its peers find by ListIdentity.
-pub fn adapter_port<R>(rt: R, place: &StationPlace, profile: &Profile) -> Result<StationPort<R>, Failure>
+pub fn adapter_port<R>(
+    rt: R,
+    place: &StationPlace,
+    profile: &Profile,
+) -> Result<StationPort<R>, Failure>
 where
     R: AllocGlobal + Net + Clock + Copy + Drop,
 {

@@ -1,7 +1,7 @@
 //! The program, at its command line and its streams.
 
 use crate::failure::{Failure, status_of, subject_of};
-use crate::files::{pcap_of, profile_of, words_of_trace};
+use crate::files::{pcap_of, profile_of, told_trace};
 use crate::inbox::read_input;
 use crate::opening::{adapter_port, place_of, scanner_port};
 use crate::usage::USAGE;
@@ -26,7 +26,18 @@ use std::thread::Threads;
 /// Performs what the command line requests, and answers the status. A failure is one line on `err`.
 pub fn run<R, O, E>(rt: R, out: O, err: E) -> ExitCode
 where
-    R: AllocGlobal + Env + Files<File = File> + Clock + Net + Input + Threads + Wait + Copy + Send + Drop + 'static,
+    R: AllocGlobal
+        + Env
+        + Files<File = File>
+        + Clock
+        + Net
+        + Input
+        + Threads
+        + Wait
+        + Copy
+        + Send
+        + Drop
+        + 'static,
     O: Write + Drop,
     E: Write + Copy + Drop,
 {
@@ -52,7 +63,17 @@ fn words_of<R: AllocGlobal + Env>(rt: &R) -> Option<Vec<String>> {
 /// Performs the task of the words.
 fn perform<R, O, E>(rt: R, words: &[String], out: O, err: E) -> Result<(), Failure>
 where
-    R: AllocGlobal + Files<File = File> + Clock + Net + Input + Threads + Wait + Copy + Send + Drop + 'static,
+    R: AllocGlobal
+        + Files<File = File>
+        + Clock
+        + Net
+        + Input
+        + Threads
+        + Wait
+        + Copy
+        + Send
+        + Drop
+        + 'static,
     O: Write + Drop,
     E: Write + Drop,
 {
@@ -60,7 +81,22 @@ where
         Task::Help => print(out, USAGE.as_bytes()),
         Task::Station(task) => station(rt, words, task, out, err),
         Task::Pcap => print(out, pcap_of(&rt, file_of(words))?.as_slice()),
-        Task::Explain => print(out, words_of_trace(&rt, file_of(words))?.as_bytes()),
+        Task::Explain => explain(&rt, file_of(words), out),
+    }
+}
+
+/// Tells a file's trace in words, or why the file is none.
+fn explain<R, O>(rt: &R, path: &str, out: O) -> Result<(), Failure>
+where
+    R: AllocGlobal + Files<File = File>,
+    O: Write + Drop,
+{
+    let told = told_trace(rt, path)?;
+    print(out, told.words.as_bytes())?;
+    if told.is_trace {
+        Ok(())
+    } else {
+        Err(Failure::NoTrace)
     }
 }
 
@@ -74,9 +110,25 @@ fn print<O: Write + Drop>(out: O, text: &[u8]) -> Result<(), Failure> {
 }
 
 /// Runs a station: its profile is the third word.
-fn station<R, O, E>(rt: R, words: &[String], task: StationTask, out: O, err: E) -> Result<(), Failure>
+fn station<R, O, E>(
+    rt: R,
+    words: &[String],
+    task: StationTask,
+    out: O,
+    err: E,
+) -> Result<(), Failure>
 where
-    R: AllocGlobal + Files<File = File> + Clock + Net + Input + Threads + Wait + Copy + Send + Drop + 'static,
+    R: AllocGlobal
+        + Files<File = File>
+        + Clock
+        + Net
+        + Input
+        + Threads
+        + Wait
+        + Copy
+        + Send
+        + Drop
+        + 'static,
     O: Write + Drop,
     E: Write + Drop,
 {
@@ -111,7 +163,17 @@ fn adapter<R, O, E>(
     err: E,
 ) -> Result<(), Failure>
 where
-    R: AllocGlobal + Files<File = File> + Clock + Net + Input + Threads + Wait + Copy + Send + Drop + 'static,
+    R: AllocGlobal
+        + Files<File = File>
+        + Clock
+        + Net
+        + Input
+        + Threads
+        + Wait
+        + Copy
+        + Send
+        + Drop
+        + 'static,
     O: Write + Drop,
     E: Write + Drop,
 {
@@ -134,7 +196,17 @@ fn scanner<R, O, E>(
     err: E,
 ) -> Result<(), Failure>
 where
-    R: AllocGlobal + Files<File = File> + Clock + Net + Input + Threads + Wait + Copy + Send + Drop + 'static,
+    R: AllocGlobal
+        + Files<File = File>
+        + Clock
+        + Net
+        + Input
+        + Threads
+        + Wait
+        + Copy
+        + Send
+        + Drop
+        + 'static,
     O: Write + Drop,
     E: Write + Drop,
 {

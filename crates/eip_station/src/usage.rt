@@ -25,6 +25,6 @@ The station runs until its standard input ends, and at most N seconds. Each line
   write POINT HEX, read POINT, mode run, mode idle, start SLOT, stop SLOT
 It prints the outcome of each call and of each event with a notice, in the lines of a trace, and for each output or
 image that has changed N at MS output POINT HEX or N at MS image SLOT HEX: the number of the last event, and the time.
-status: 0 done; 1 the station ended before its time; 2 a wrong word; 3 a bad profile; 4 an address that is none;
+status: 0 done; 1 the station ended before its time; 2 a wrong word; 3 a bad profile or trace; 4 an address that is none;
         5 a socket cannot be made, as for a port in use; 6 the record cannot be written; 7 no memory
 ";

@@ -6,7 +6,6 @@ ghost use Rattle.station.specs.Faults.{lasting_fault};
 use cip_events::StepFault;
 use cip_types::OutOfMemory;
 use thiserror::Error;
-use trace_stepper::NotTaken;
 use udp_runner::{PortFault, RunFault};
 
 /// Why a station ends before its time.
@@ -29,12 +28,6 @@ pub enum EarlyEnd {
 impl From<OutOfMemory> for EarlyEnd {
     fn from(_refused: OutOfMemory) -> EarlyEnd {
         EarlyEnd::OutOfMemory
-    }
-}
-
-impl From<NotTaken> for EarlyEnd {
-    fn from(_refused: NotTaken) -> EarlyEnd {
-        EarlyEnd::Write
     }
 }
 

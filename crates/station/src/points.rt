@@ -71,7 +71,12 @@ impl Points {
 }
 
 /// A point of zeros.
-fn zeros(alloc: Global, kind: PointKind, point: u32, len: u64) -> Result<WatchedPoint, OutOfMemory> {
+fn zeros(
+    alloc: Global,
+    kind: PointKind,
+    point: u32,
+    len: u64,
+) -> Result<WatchedPoint, OutOfMemory> {
     let len = usize::try_from(len).unwrap_or(0);
     Ok(WatchedPoint {
         kind,

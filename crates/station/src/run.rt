@@ -28,8 +28,31 @@ pub struct Ending {
 }
 
 /// Runs a station until its time is over or the input ends, and then ends it in order: the slots are closed, and then the
-/// sessions.
+/// sessions. After a fault it ends so too, as far as it can.
 pub fn run_station<P, C, D, W, O, E, L>(
+    station: &mut Station<P, C, D, W, O, E>,
+    lines: &mut L,
+    ending: Ending,
+) -> Result<(), EarlyEnd>
+where
+    P: Port,
+    C: Clock,
+    D: Device,
+    W: Write + Drop,
+    O: Write,
+    E: Write,
+    L: CallLines,
+    ensures recorded { Recorded W.contents station.old.witness.recorder station.new.witness.recorder
+        (D.table station.old.device) (D.table station.new.device) }
+{
+    let served = serve_all(station, lines, ending);
+    let closed = close(station, ending.slots);
+    served?;
+    closed
+}
+
+/// Opens the slots, and serves until the time is over or the input ends.
+fn serve_all<P, C, D, W, O, E, L>(
     station: &mut Station<P, C, D, W, O, E>,
     lines: &mut L,
     ending: Ending,
@@ -51,7 +74,7 @@ where
             break;
         }
     }
-    close(station, ending.slots)
+    Ok(())
 }
 
 /// Performs the next call, if there is one, and makes a turn. False if the input has ended.

@@ -9,7 +9,7 @@ use cip_events::{Event, Outcome};
 use station_record::{RecordFault, Recorder};
 use std::alloc::Global;
 use std::io::Write;
-use trace_stepper::{NotTaken, write_text};
+use trace_stepper::write_text;
 use trace_text::push_outcome;
 use udp_runner::Observer;
 
@@ -24,6 +24,8 @@ pub struct Witness<W, O, E> {
     now_ms: u64,
     sessions: Sessions,
     fault: Option<EarlyEnd>,
+    /// Whether `out` did not take a text: then nothing more is printed.
+    is_mute: bool,
     record_fault: Option<RecordFault>,
 }
 
@@ -41,6 +43,7 @@ impl<W: Write + Drop, O: Write, E: Write> Witness<W, O, E> {
             now_ms: 0,
             sessions: Sessions::none(),
             fault: None,
+            is_mute: false,
             record_fault: None,
         }
     }
@@ -65,26 +68,28 @@ impl<W: Write + Drop, O: Write, E: Write> Witness<W, O, E> {
         &self.sessions
     }
 
-    /// Fails if an outcome could not be printed.
-    pub fn check(&self) -> Result<(), EarlyEnd> {
-        match self.fault {
+    /// Fails once if an outcome could not be printed.
+    pub fn check(&mut self) -> Result<(), EarlyEnd>
+        ensures kept { self.new.recorder ≡ self.old.recorder }
+    {
+        match self.fault.take() {
             Some(fault) => Err(fault),
             None => Ok(()),
         }
     }
 
-    /// Prints a text.
+    /// Prints a text. After a failure nothing more is printed.
     pub fn print(&mut self, text: &[u8]) -> Result<(), EarlyEnd>
         ensures kept { self.new.recorder ≡ self.old.recorder }
     {
-        if text.is_empty() {
+        if self.is_mute || text.is_empty() {
             return Ok(());
         }
-        write_text(&mut self.out, text)?;
-        match self.out.flush() {
-            Ok(()) => Ok(()),
-            Err(_) => Err(EarlyEnd::Write),
+        if write_text(&mut self.out, text).is_err() || self.out.flush().is_err() {
+            self.is_mute = true;
+            return Err(EarlyEnd::Write);
         }
+        Ok(())
     }
 
     /// Reports a line on `err`, as far as the stream takes it.
@@ -122,9 +127,15 @@ impl<W: Write + Drop, O: Write, E: Write> Witness<W, O, E> {
     {
         self.record_fault = Some(fault);
         match fault {
-            RecordFault::Full => self.report(b"eip_station: the record is full and has ended: a trace has at most 16777216 bytes\n"),
-            RecordFault::Write => self.report(b"eip_station: the record cannot be written and has ended\n"),
-            RecordFault::OutOfMemory => self.report(b"eip_station: no memory for the record, which has ended\n"),
+            RecordFault::Full => self.report(
+                b"eip_station: the record is full and has ended: a trace has at most 16777216 bytes\n",
+            ),
+            RecordFault::Write => self.report(
+                b"eip_station: the record cannot be written and has ended\n",
+            ),
+            RecordFault::OutOfMemory => self.report(
+                b"eip_station: no memory for the record, which has ended\n",
+            ),
         }
     }
 }

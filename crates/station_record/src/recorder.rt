@@ -94,7 +94,15 @@ impl<W: Write + Drop> Recorder<W> {
             return None;
         };
         let count = self.count;
-        match append(self.alloc, &mut self.text, &mut out, self.left, count, event, outcome) {
+        match append(
+            self.alloc,
+            &mut self.text,
+            &mut out,
+            self.left,
+            count,
+            event,
+            outcome,
+        ) {
             Ok(left) => {
                 self.left = left;
                 self.out = Some(out);

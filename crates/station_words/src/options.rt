@@ -126,20 +126,37 @@ pub fn read_options<S: AsStr>(words: &[S]) -> Result<Options, Misuse>
 }
 
 /// The options with a value for one of them; so many words are left, from the value on.
-fn with_value(options: Options, setting: Setting, word: &str, left: usize) -> Result<Options, Misuse>
+fn with_value(
+    options: Options,
+    setting: Setting,
+    word: &str,
+    left: usize,
+) -> Result<Options, Misuse>
     ensures { result ≡ with_value options setting word.now left }
 {
     match setting {
         Setting::Address => match address_of(word) {
-            Some(address) => Ok(Options { address: Some(address), ..options }),
+            Some(address) => Ok(Options {
+                address: Some(address),
+                ..options
+            }),
             None => Err(Misuse::BadAddress(left)),
         },
         Setting::Seconds => match seconds_of(word) {
-            Some(seconds) => Ok(Options { seconds: Some(seconds), ..options }),
+            Some(seconds) => Ok(Options {
+                seconds: Some(seconds),
+                ..options
+            }),
             None => Err(Misuse::BadValue(left)),
         },
-        Setting::Record => Ok(Options { record_left: Some(left), ..options }),
-        Setting::Multicast => Ok(Options { multicast: true, ..options }),
+        Setting::Record => Ok(Options {
+            record_left: Some(left),
+            ..options
+        }),
+        Setting::Multicast => Ok(Options {
+            multicast: true,
+            ..options
+        }),
         Setting::Tcp | Setting::Udp | Setting::PeerUdp => match port_of(word) {
             Some(port) => Ok(with_port(options, setting, port)),
             None => Err(Misuse::BadValue(left)),
@@ -152,9 +169,18 @@ fn with_port(options: Options, setting: Setting, port: u16) -> Options
     ensures { result ≡ with_port options setting port }
 {
     match setting {
-        Setting::Tcp => Options { tcp: port, ..options },
-        Setting::Udp => Options { udp: port, ..options },
-        Setting::PeerUdp => Options { peer_udp: port, ..options },
+        Setting::Tcp => Options {
+            tcp: port,
+            ..options
+        },
+        Setting::Udp => Options {
+            udp: port,
+            ..options
+        },
+        Setting::PeerUdp => Options {
+            peer_udp: port,
+            ..options
+        },
         _ => options,
     }
 }
