@@ -1,6 +1,6 @@
 //! The options of a station.
 
-ghost use Rattle.std.specs.Prelude.{◌≡◌, map};
+ghost use Rattle.std.specs.Prelude.{◌≡◌, ◌≤◌, ◌+◌, ◌∷◌, Err, length, map, IfOk, IfErr};
 ghost use Rattle.station_words.specs.Options.{options_after, setting_of, usual, with_port, with_value};
 
 use crate::numbers::{address_of, port_of, seconds_of};
@@ -107,22 +107,49 @@ pub fn read_options<S: AsStr>(words: &[S]) -> Result<Options, Misuse>
     let mut options = usual();
     let mut rest = words;
     while let Some((name, after)) = rest.split_first() {
-        match setting_of(name.as_str()) {
-            None => return Err(Misuse::NoSuchOption(rest.len())),
-            Some(Setting::Multicast) => {
-                options.multicast = true;
-                rest = after;
-            }
-            Some(setting) => {
-                let Some((value, behind)) = after.split_first() else {
-                    return Err(Misuse::NoValue(rest.len()));
-                };
-                options = with_value(options, setting, value.as_str(), after.len())?;
-                rest = behind;
+        let (next, behind) = with_option(options, name.as_str(), rest.len(), after)?;
+        options = next;
+        rest = behind;
+    }
+    Ok(options)
+}
+
+/// The options with the one of a word, and the words behind it and its value. So many words are left, from this one on.
+fn with_option<'a, S: AsStr>(
+    options: Options,
+    name: &str,
+    left: usize,
+    after: &'a [S],
+) -> Result<(Options, &'a [S]), Misuse>
+    requires { left ≡ length after.now + 1 }
+    ensures taken { IfOk result (λ next. options_after options (name.now ∷ map S.text after.now)
+        ≡ options_after next.0 (map S.text next.1.now)) }
+    ensures shorter { IfOk result (λ next. length next.1.now ≤ length after.now) }
+    ensures fault { IfErr result (λ fault. options_after options (name.now ∷ map S.text after.now) ≡ Err fault) }
+{
+    match setting_of(name) {
+        None => Err(Misuse::NoSuchOption(left)),
+        Some(Setting::Multicast) => Ok((with_flag(options), after)),
+        Some(setting) => {
+            let Some((value, behind)) = after.split_first() else {
+                return Err(Misuse::NoValue(left));
+            };
+            match with_value(options, setting, value.as_str(), after.len()) {
+                Ok(next) => Ok((next, behind)),
+                Err(misuse) => Err(misuse),
             }
         }
     }
-    Ok(options)
+}
+
+/// The options with the one that has no value.
+fn with_flag(options: Options) -> Options
+    ensures { result ≡ record options { multicast = true } }
+{
+    Options {
+        multicast: true,
+        ..options
+    }
 }
 
 /// The options with a value for one of them; so many words are left, from the value on.
