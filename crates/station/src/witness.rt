@@ -9,7 +9,6 @@ use cip_events::{Event, Outcome};
 use station_record::{RecordFault, Recorder};
 use std::alloc::Global;
 use std::io::Write;
-use trace_stepper::write_text;
 use trace_text::push_outcome;
 use udp_runner::Observer;
 
@@ -85,7 +84,7 @@ impl<W: Write + Drop, O: Write, E: Write> Witness<W, O, E> {
         if self.is_mute || text.is_empty() {
             return Ok(());
         }
-        if write_text(&mut self.out, text).is_err() || self.out.flush().is_err() {
+        if self.out.write_all(text).is_err() || self.out.flush().is_err() {
             self.is_mute = true;
             return Err(EarlyEnd::Write);
         }
@@ -96,7 +95,7 @@ impl<W: Write + Drop, O: Write, E: Write> Witness<W, O, E> {
     pub fn report(&mut self, line: &[u8])
         ensures kept { self.new.recorder ≡ self.old.recorder }
     {
-        let _ = write_text(&mut self.err, line);
+        let _ = self.err.write_all(line);
     }
 
     /// Prints the outcome of the last event.

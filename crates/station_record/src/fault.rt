@@ -2,7 +2,6 @@
 
 use cip_types::OutOfMemory;
 use thiserror::Error;
-use trace_stepper::NotTaken;
 
 /// Why a record ends. The device goes on without it.
 #[derive(Clone, Copy, Debug, PartialEq, Eq, Error)]
@@ -21,11 +20,5 @@ pub enum RecordFault {
 impl From<OutOfMemory> for RecordFault {
     fn from(_refused: OutOfMemory) -> RecordFault {
         RecordFault::OutOfMemory
-    }
-}
-
-impl From<NotTaken> for RecordFault {
-    fn from(_refused: NotTaken) -> RecordFault {
-        RecordFault::Write
     }
 }

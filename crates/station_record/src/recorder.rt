@@ -1,15 +1,14 @@
 //! A recorder, which writes the events of a device and their outcomes.
 
-ghost use Rattle.std.specs.Prelude.{◌≡◌, ◌↔◌, ◌+◌, ◌∷◌, ◌++◌, [], List, Some, None, Err, IsTrue, IfOk, IsSome, string_bytes};
+ghost use Rattle.std.specs.Prelude.{◌≡◌, ◌↔◌, ◌+◌, ◌∷◌, ◌++◌, [], List, Some, None, Err, IsTrue, IfOk, OnOk, IsSome, string_bytes};
+ghost use Rattle.std.specs.Io.KnownBytes.{Appends};
 ghost use Rattle.station_record.specs.Records.{AppendsWithin, IsRecordedAs, Notes, Records, entry_text};
 
 use crate::fault::RecordFault;
 use cip_tables::{Config, Event, Outcome, StepFault};
 use cip_types::limits::LONGEST_TRACE;
 use std::alloc::Global;
-use std::io::Write;
-use trace_laws::writes_piece_by_piece;
-use trace_stepper::write_text;
+use std::io::{self, Write};
 use trace_text::{push_config, push_event, push_outcome};
 
 /// Counts the events of a device, and writes each with its outcome behind those before.
@@ -47,7 +46,6 @@ impl<W: Write + Drop> Recorder<W> {
     pub fn begin(alloc: Global, config: &Config, out: W) -> Result<Recorder<W>, RecordFault>
         ensures { IfOk result (λ recorder. W.contents out ≡ Some [] → Records W.contents recorder config.now []) }
     {
-        writes_piece_by_piece();
         let mut out = out;
         let mut text = String::new(alloc);
         push_config(alloc, &mut text, config)?;
@@ -74,7 +72,6 @@ impl<W: Write + Drop> Recorder<W> {
         ensures noted { Notes W.contents self.old event.now outcome.now self.new }
         ensures open { result ≡ None → IsSome self.old.out → IsSome self.new.out }
     {
-        writes_piece_by_piece();
         if is_out_of_memory(outcome) {
             return None;
         }
@@ -141,11 +138,18 @@ fn hand_over<W: Write>(text: &String, out: &mut W, left: usize) -> Result<usize,
     let Some(now) = left.checked_sub(text.len()) else {
         return Err(RecordFault::Full);
     };
-    write_text(out, text.as_bytes())?;
-    match out.flush() {
+    match write_whole(out, text.as_bytes()) {
         Ok(()) => Ok(now),
         Err(_) => Err(RecordFault::Write),
     }
+}
+
+/// Writes a text and hands it on.
+fn write_whole<W: Write>(out: &mut W, text: &[u8]) -> io::Result<()>
+    ensures { OnOk result (Appends (W.contents out.old) (W.contents out.new) text.now) }
+{
+    out.write_all(text)?;
+    out.flush()
 }
 
 /// Whether an allocation was refused.

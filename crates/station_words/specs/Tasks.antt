@@ -1,5 +1,5 @@
 -- The task that a command line requests.
-use Rattle.std.specs.Prelude.{ℕ, List, [], ◌∷◌, codes, length, suc, Bool, false, true, Option, Some, None, Result, Ok, Err}
+use Rattle.std.specs.Prelude.{ℕ, List, [], ◌∷◌, codes, length, Bool, false, true, Option, Some, None, Result, Ok, Err}
 use Rattle.trace_words.specs.Reader.{Meanings, meaning}
 use Rattle.station_words.specs.Options.{usual, options_after}
 use Rattle.station_words.specs.declared.options.Options.{Options}
@@ -29,22 +29,24 @@ abbrev pub station_with : Bool → Result Options Misuse → Result Task Misuse
 station_with scanner (Ok options) = Ok (task.Station (record { scanner = scanner; options = options }))
 station_with scanner (Err fault) = Err fault
 
--- a task that takes no option
-abbrev pub alone : Task → ℕ → Result Task Misuse
-alone only 0 = Ok only
-alone only (suc more) = Err (misuse.NoSuchOption (suc more))
+-- a station, whose words are the name of its profile and its options
+abbrev pub station_of : Bool → List (List ℕ) → Result Task Misuse
+station_of scanner [] = Err misuse.NoFile
+station_of scanner (file ∷ rest) = station_with scanner (options_after usual rest)
+
+-- a task whose one word is the name of its file
+abbrev pub alone : Task → List (List ℕ) → Result Task Misuse
+alone only [] = Err misuse.NoFile
+alone only (file ∷ []) = Ok only
+alone only (file ∷ more ∷ rest) = Err (misuse.NoSuchOption (length (more ∷ rest)))
 
 -- the task of a command with the words behind it
 abbrev pub task_with : Command → List (List ℕ) → Result Task Misuse
 task_with command.Help words = Ok task.Help
-task_with command.Adapter [] = Err misuse.NoFile
-task_with command.Adapter (file ∷ rest) = station_with false (options_after usual rest)
-task_with command.Scanner [] = Err misuse.NoFile
-task_with command.Scanner (file ∷ rest) = station_with true (options_after usual rest)
-task_with command.Pcap [] = Err misuse.NoFile
-task_with command.Pcap (file ∷ rest) = alone task.Pcap (length rest)
-task_with command.Explain [] = Err misuse.NoFile
-task_with command.Explain (file ∷ rest) = alone task.Explain (length rest)
+task_with command.Adapter words = station_of false words
+task_with command.Scanner words = station_of true words
+task_with command.Pcap words = alone task.Pcap words
+task_with command.Explain words = alone task.Explain words
 
 -- the task of a command, if the word names one
 abbrev pub task_named : Option Command → ℕ → List (List ℕ) → Result Task Misuse

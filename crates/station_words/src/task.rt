@@ -1,7 +1,7 @@
 //! The task that a command line requests.
 
-ghost use Rattle.std.specs.Prelude.{◌≡◌, length, map};
-ghost use Rattle.station_words.specs.Tasks.{alone, command_of, task_of, task_with};
+ghost use Rattle.std.specs.Prelude.{◌≡◌, map};
+ghost use Rattle.station_words.specs.Tasks.{alone, command_of, station_of, task_of, task_with};
 
 use crate::options::{Misuse, Options, read_options};
 use std::convert::AsStr;
@@ -81,34 +81,37 @@ pub fn read_task<S: AsStr>(words: &[S]) -> Result<Task, Misuse>
 fn task_with<S: AsStr>(command: Command, words: &[S]) -> Result<Task, Misuse>
     ensures { result ≡ task_with command (map S.text words.now) }
 {
-    if command == Command::Help {
-        return Ok(Task::Help);
-    }
-    let Some((_file, rest)) = words.split_first() else {
-        return Err(Misuse::NoFile);
-    };
     match command {
-        Command::Adapter => Ok(Task::Station(StationTask {
-            scanner: false,
-            options: read_options(rest)?,
-        })),
-        Command::Scanner => Ok(Task::Station(StationTask {
-            scanner: true,
-            options: read_options(rest)?,
-        })),
-        Command::Pcap => alone(Task::Pcap, rest),
-        Command::Explain => alone(Task::Explain, rest),
+        Command::Adapter => station_of(false, words),
+        Command::Scanner => station_of(true, words),
+        Command::Pcap => alone(Task::Pcap, words),
+        Command::Explain => alone(Task::Explain, words),
         Command::Help => Ok(Task::Help),
     }
 }
 
-/// A task that takes no option.
-fn alone<S>(task: Task, words: &[S]) -> Result<Task, Misuse>
-    ensures { result ≡ alone task (length words.now) }
+/// A station, whose words are the name of its profile and its options.
+fn station_of<S: AsStr>(scanner: bool, words: &[S]) -> Result<Task, Misuse>
+    ensures { result ≡ station_of scanner (map S.text words.now) }
 {
-    if words.is_empty() {
-        Ok(task)
-    } else {
-        Err(Misuse::NoSuchOption(words.len()))
+    let Some((_file, rest)) = words.split_first() else {
+        return Err(Misuse::NoFile);
+    };
+    match read_options(rest) {
+        Ok(options) => Ok(Task::Station(StationTask { scanner, options })),
+        Err(misuse) => Err(misuse),
+    }
+}
+
+/// A task whose one word is the name of its file.
+fn alone<S: AsStr>(task: Task, words: &[S]) -> Result<Task, Misuse>
+    ensures { result ≡ alone task (map S.text words.now) }
+{
+    let Some((_file, rest)) = words.split_first() else {
+        return Err(Misuse::NoFile);
+    };
+    match rest.split_first() {
+        None => Ok(task),
+        Some(_) => Err(Misuse::NoSuchOption(rest.len())),
     }
 }
