@@ -1,0 +1,168 @@
+//! Why the program fails: the line on standard error, and the status.
+
+ghost use Rattle.std.specs.Prelude.{◌≡◌};
+ghost use Rattle.eip_station.specs.Failures.{status_of};
+
+use cip_tables::NewFault;
+use cip_types::OutOfMemory;
+use station::EarlyEnd;
+use station_port::{SocketCause, StationFault, StationSocket};
+use station_record::RecordFault;
+use station_words::Misuse;
+use std::alloc::{AllocError, AllocFailed};
+use thiserror::Error;
+use trace_text::TraceFault;
+
+/// Why the program fails.
+#[derive(Clone, Copy, Debug, PartialEq, Eq, Error)]
+pub enum Failure {
+    /// The command line requests nothing.
+    #[error(transparent)]
+    Words(#[from] Misuse),
+    /// The file cannot be read.
+    #[error("cannot be read")]
+    Unread,
+    /// The file is no profile, or no trace.
+    #[error(transparent)]
+    Profile(TraceFault),
+    /// The profile has events behind its lines.
+    #[error("has events behind the profile")]
+    Events,
+    /// The profile is that of an adapter, where a scanner's is needed, or the other way round.
+    #[error("is the profile of the other kind of device")]
+    WrongKind,
+    /// A socket cannot be made.
+    #[error("the {0} {1}")]
+    Socket(StationSocket, SocketCause),
+    /// The file is no trace.
+    #[error("is no trace")]
+    NoTrace,
+    /// The record cannot be made or written.
+    #[error("cannot be written")]
+    Record,
+    /// An allocation was refused.
+    #[error("no memory")]
+    OutOfMemory,
+    /// The station ended before its time.
+    #[error(transparent)]
+    Early(EarlyEnd),
+}
+
+/// The status of the program after a failure.
+pub fn status_of(failure: Failure) -> u8
+    ensures { result ≡ status_of failure }
+{
+    match failure {
+        Failure::Early(_) => 1,
+        Failure::Words(Misuse::BadAddress(_)) => 4,
+        Failure::Words(_) => 2,
+        Failure::Unread => 3,
+        Failure::Profile(_) => 3,
+        Failure::Events => 3,
+        Failure::WrongKind => 3,
+        Failure::NoTrace => 3,
+        Failure::Socket(_, SocketCause::NoAddress) => 4,
+        Failure::Socket(_, _) => 5,
+        Failure::Record => 6,
+        Failure::OutOfMemory => 7,
+    }
+}
+
+impl From<TraceFault> for Failure {
+    fn from(fault: TraceFault) -> Failure {
+        match fault {
+            TraceFault::OutOfMemory => Failure::OutOfMemory,
+            other => Failure::Profile(other),
+        }
+    }
+}
+
+impl From<StationFault> for Failure {
+    fn from(fault: StationFault) -> Failure {
+        match fault {
+            StationFault::Socket(socket, cause) => Failure::Socket(socket, cause),
+            StationFault::OutOfMemory => Failure::OutOfMemory,
+        }
+    }
+}
+
+impl From<NewFault> for Failure {
+    fn from(fault: NewFault) -> Failure {
+        match fault {
+            NewFault::OutOfMemory => Failure::OutOfMemory,
+            NewFault::WrongKind => Failure::WrongKind,
+            NewFault::Profile(first) => Failure::Profile(TraceFault::BadProfile(first.number())),
+        }
+    }
+}
+
+impl From<RecordFault> for Failure {
+    fn from(fault: RecordFault) -> Failure {
+        match fault {
+            RecordFault::OutOfMemory => Failure::OutOfMemory,
+            RecordFault::Full | RecordFault::Write => Failure::Record,
+        }
+    }
+}
+
+impl From<EarlyEnd> for Failure {
+    fn from(end: EarlyEnd) -> Failure {
+        match end {
+            EarlyEnd::OutOfMemory => Failure::OutOfMemory,
+            other => Failure::Early(other),
+        }
+    }
+}
+
+impl From<OutOfMemory> for Failure {
+    fn from(_refused: OutOfMemory) -> Failure {
+        Failure::OutOfMemory
+    }
+}
+
+impl From<AllocError> for Failure {
+    fn from(_refused: AllocError) -> Failure {
+        Failure::OutOfMemory
+    }
+}
+
+impl<T: Drop> From<AllocFailed<T>> for Failure {
+    fn from(_refused: AllocFailed<T>) -> Failure {
+        Failure::OutOfMemory
+    }
+}
+
+/// The words before a failure: the wrong word of the command line, or the file.
+pub fn subject_of(words: &[String], failure: Failure) -> &str {
+    match failure {
+        Failure::Words(misuse) => wrong_word(words, misuse),
+        Failure::Unread
+        | Failure::Profile(_)
+        | Failure::Events
+        | Failure::WrongKind
+        | Failure::NoTrace => {
+            match words.get(2) {
+                Some(word) => word.as_str(),
+                None => "",
+            }
+        }
+        Failure::Record => "the record",
+        Failure::Socket(_, _) | Failure::OutOfMemory | Failure::Early(_) => "",
+    }
+}
+
+/// The wrong word of a command line.
+fn wrong_word(words: &[String], misuse: Misuse) -> &str {
+    let left = match misuse {
+        Misuse::NoCommand | Misuse::NoFile => return "",
+        Misuse::NoSuchCommand(left) => left,
+        Misuse::NoSuchOption(left) => left,
+        Misuse::NoValue(left) => left,
+        Misuse::BadValue(left) => left,
+        Misuse::BadAddress(left) => left,
+    };
+    match words.get(words.len().saturating_sub(left)) {
+        Some(word) => word.as_str(),
+        None => "",
+    }
+}

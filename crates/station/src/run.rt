@@ -1,0 +1,155 @@
+//! A station from its beginning to its end.
+
+ghost use Rattle.std.specs.Prelude.{◌≡◌};
+ghost use Rattle.station.specs.Recorded.{Recorded};
+ghost use Rattle.station.specs.Times.{is_over, pause_ms};
+
+use crate::fault::EarlyEnd;
+use crate::lines::{CallLines, NextLine};
+use crate::serving::Station;
+use cip_tables::Device;
+use std::io::Write;
+use udp_runner::{Clock, Port};
+
+/// A station looks for lines of its application at least so often, in milliseconds. A source that wakes the port is looked
+/// at earlier.
+const LOOK_MS: u64 = 1_000;
+
+/// A scanner waits at most so long for the replies to its Forward_Close requests, in milliseconds.
+const CLOSE_MS: u64 = 2_000;
+
+/// When a station ends, and how many slots are to be opened and closed.
+#[derive(Clone, Copy)]
+pub struct Ending {
+    /// The slots of a scanner; none of an adapter.
+    pub slots: u32,
+    /// The milliseconds until the station ends, if not only its input ends it.
+    pub ms: Option<u64>,
+}
+
+/// Runs a station until its time is over or the input ends, and then ends it in order: the slots are closed, and then the
+/// sessions. After a fault it ends so too, as far as it can.
+pub fn run_station<P, C, D, W, O, E, L>(
+    station: &mut Station<P, C, D, W, O, E>,
+    lines: &mut L,
+    ending: Ending,
+) -> Result<(), EarlyEnd>
+where
+    P: Port,
+    C: Clock,
+    D: Device,
+    W: Write + Drop,
+    O: Write,
+    E: Write,
+    L: CallLines,
+    ensures recorded { Recorded W.contents station.old.witness.recorder station.new.witness.recorder
+        (D.table station.old.device) (D.table station.new.device) }
+{
+    let served = serve_all(station, lines, ending);
+    let closed = close(station, ending.slots);
+    served?;
+    closed
+}
+
+/// Opens the slots, and serves until the time is over or the input ends.
+fn serve_all<P, C, D, W, O, E, L>(
+    station: &mut Station<P, C, D, W, O, E>,
+    lines: &mut L,
+    ending: Ending,
+) -> Result<(), EarlyEnd>
+where
+    P: Port,
+    C: Clock,
+    D: Device,
+    W: Write + Drop,
+    O: Write,
+    E: Write,
+    L: CallLines,
+    ensures recorded { Recorded W.contents station.old.witness.recorder station.new.witness.recorder
+        (D.table station.old.device) (D.table station.new.device) }
+{
+    station.start(ending.slots)?;
+    for _ in 0..u64::MAX {
+        if is_over(station.now_ms(), ending.ms) || !serve(station, lines, ending.ms)? {
+            break;
+        }
+    }
+    Ok(())
+}
+
+/// Performs the next call, if there is one, and makes a turn. False if the input has ended.
+fn serve<P, C, D, W, O, E, L>(
+    station: &mut Station<P, C, D, W, O, E>,
+    lines: &mut L,
+    end_ms: Option<u64>,
+) -> Result<bool, EarlyEnd>
+where
+    P: Port,
+    C: Clock,
+    D: Device,
+    W: Write + Drop,
+    O: Write,
+    E: Write,
+    L: CallLines,
+    ensures recorded { Recorded W.contents station.old.witness.recorder station.new.witness.recorder
+        (D.table station.old.device) (D.table station.new.device) }
+{
+    match lines.next_line()? {
+        NextLine::End => Ok(false),
+        NextLine::Nothing => {
+            station.turn(pause_ms(station.now_ms(), end_ms))?;
+            Ok(true)
+        }
+        NextLine::Line(line) => {
+            station.call(line.as_slice())?;
+            station.turn(0)?;
+            Ok(true)
+        }
+    }
+}
+
+/// Closes the slots, waits a bounded time for the replies, and ends the sessions.
+fn close<P, C, D, W, O, E>(
+    station: &mut Station<P, C, D, W, O, E>,
+    slots: u32,
+) -> Result<(), EarlyEnd>
+where
+    P: Port,
+    C: Clock,
+    D: Device,
+    W: Write + Drop,
+    O: Write,
+    E: Write,
+    ensures recorded { Recorded W.contents station.old.witness.recorder station.new.witness.recorder
+        (D.table station.old.device) (D.table station.new.device) }
+{
+    station.stop(slots)?;
+    let until_ms = station.now_ms().saturating_add(CLOSE_MS);
+    for _ in 0..u64::MAX {
+        if !station.is_closing() || station.now_ms() >= until_ms {
+            break;
+        }
+        station.turn(pause_ms(station.now_ms(), Some(until_ms)))?;
+    }
+    station.unregister()
+}
+
+/// Whether a station's time is over.
+fn is_over(now_ms: u64, end_ms: Option<u64>) -> bool
+    ensures { result ≡ is_over now_ms end_ms }
+{
+    match end_ms {
+        Some(end) => end <= now_ms,
+        None => false,
+    }
+}
+
+/// The milliseconds that a turn waits at most: until lines are looked for, or the end.
+fn pause_ms(now_ms: u64, end_ms: Option<u64>) -> u64
+    ensures { result ≡ pause_ms now_ms end_ms }
+{
+    match end_ms {
+        Some(end) => LOOK_MS.min(end.saturating_sub(now_ms)),
+        None => LOOK_MS,
+    }
+}

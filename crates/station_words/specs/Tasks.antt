@@ -1,0 +1,60 @@
+-- The task that a command line requests.
+use Rattle.std.specs.Prelude.{ℕ, List, [], ◌∷◌, codes, length, Bool, false, true, Option, Some, None, Result, Ok, Err}
+use Rattle.trace_words.specs.Reader.{Meanings, meaning}
+use Rattle.station_words.specs.Options.{usual, options_after}
+use Rattle.station_words.specs.declared.options.Options.{Options}
+use Rattle.station_words.specs.declared.options.Misuse.{Misuse}
+use Rattle.station_words.specs.declared.options.Misuse.TheVariants as misuse
+use Rattle.station_words.specs.declared.task.Command.{Command}
+use Rattle.station_words.specs.declared.task.Command.TheVariants as command
+use Rattle.station_words.specs.declared.task.Task.{Task}
+use Rattle.station_words.specs.declared.task.Task.TheVariants as task
+
+-- the commands by their names
+abbrev pub command_meanings : Meanings (Option Command)
+command_meanings =
+    (codes "adapter", Some command.Adapter)
+    ∷ (codes "scanner", Some command.Scanner)
+    ∷ (codes "pcap", Some command.Pcap)
+    ∷ (codes "explain", Some command.Explain)
+    ∷ (codes "--help", Some command.Help)
+    ∷ (codes "-h", Some command.Help)
+    ∷ []
+
+unfoldable pub command_of : List ℕ → Option Command
+command_of word = meaning command_meanings None word
+
+-- an adapter or a scanner, with its options
+abbrev pub station_with : Bool → Result Options Misuse → Result Task Misuse
+station_with scanner (Ok options) = Ok (task.Station (record { scanner = scanner; options = options }))
+station_with scanner (Err fault) = Err fault
+
+-- a station, whose words are the name of its profile and its options
+abbrev pub station_of : Bool → List (List ℕ) → Result Task Misuse
+station_of scanner [] = Err misuse.NoFile
+station_of scanner (file ∷ rest) = station_with scanner (options_after usual rest)
+
+-- a task whose one word is the name of its file
+abbrev pub alone : Task → List (List ℕ) → Result Task Misuse
+alone only [] = Err misuse.NoFile
+alone only (file ∷ []) = Ok only
+alone only (file ∷ more ∷ rest) = Err (misuse.NoSuchOption (length (more ∷ rest)))
+
+-- the task of a command with the words behind it
+abbrev pub task_with : Command → List (List ℕ) → Result Task Misuse
+task_with command.Help words = Ok task.Help
+task_with command.Adapter words = station_of false words
+task_with command.Scanner words = station_of true words
+task_with command.Pcap words = alone task.Pcap words
+task_with command.Explain words = alone task.Explain words
+
+-- the task of a command, if the word names one
+abbrev pub task_named : Option Command → ℕ → List (List ℕ) → Result Task Misuse
+task_named None left rest = Err (misuse.NoSuchCommand left)
+task_named (Some named) left rest = task_with named rest
+
+-- the task that the words request, the first of which is the program's own name
+abbrev pub task_of : List (List ℕ) → Result Task Misuse
+task_of [] = Err misuse.NoCommand
+task_of (program ∷ []) = Err misuse.NoCommand
+task_of (program ∷ word ∷ rest) = task_named (command_of word) (length (word ∷ rest)) rest

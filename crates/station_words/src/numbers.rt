@@ -1,0 +1,42 @@
+//! Values of options: addresses, ports and times.
+
+ghost use Rattle.std.specs.Prelude.{◌≡◌};
+ghost use Rattle.station_words.specs.Options.{address_of, port_of, seconds_of};
+
+use cip_types::Node;
+use trace_words::{Words, read_u64};
+
+/// The longest time of a station, in seconds: some 31 years.
+const LONGEST_S: u64 = 1_000_000_000;
+
+/// The address of a word: four numbers below 256 with dots between them.
+pub fn address_of(word: &str) -> Option<Node>
+    ensures { result ≡ address_of word.now }
+{
+    let mut words = Words::of(word);
+    let node = words.node().ok()?;
+    words.end().ok()?;
+    Some(node)
+}
+
+/// The port of a word: 1 to 65,535.
+pub fn port_of(word: &str) -> Option<u16>
+    ensures { result ≡ port_of word.now }
+{
+    let number = read_u64(word)?;
+    if number == 0 || number > 65_535 {
+        return None;
+    }
+    Some(number as u16)
+}
+
+/// The seconds of a word: 1 to 1,000,000,000.
+pub fn seconds_of(word: &str) -> Option<u32>
+    ensures { result ≡ seconds_of word.now }
+{
+    let number = read_u64(word)?;
+    if number == 0 || number > LONGEST_S {
+        return None;
+    }
+    Some(number as u32)
+}

@@ -1,0 +1,213 @@
+//! The options of a station.
+
+ghost use Rattle.std.specs.Prelude.{◌≡◌, ◌≤◌, ◌+◌, ◌∷◌, Err, length, map, IfOk, IfErr};
+ghost use Rattle.station_words.specs.Options.{options_after, setting_of, usual, with_port, with_value};
+
+use crate::numbers::{address_of, port_of, seconds_of};
+use cip_types::Node;
+use cip_types::limits::{TCP_PORT, UDP_PORT};
+use std::convert::AsStr;
+use thiserror::Error;
+
+/// The options of a station, with the usual values of those that are left out.
+#[derive(Clone, Copy, PartialEq, Eq)]
+pub struct Options {
+    /// The address of the sockets; the profile's if it is left out.
+    pub address: Option<Node>,
+    /// An adapter's TCP port, or that of a scanner's targets.
+    pub tcp: u16,
+    /// The station's UDP port.
+    pub udp: u16,
+    /// The UDP port of the station's peers.
+    pub peer_udp: u16,
+    /// The seconds until the station ends.
+    pub seconds: Option<u32>,
+    /// The number of words from the record's file on.
+    pub record_left: Option<usize>,
+    /// Whether T->O datagrams go once to the address of their group.
+    pub multicast: bool,
+}
+
+/// The name of an option.
+#[derive(Clone, Copy, PartialEq, Eq)]
+pub enum Setting {
+    Address,
+    Tcp,
+    Udp,
+    PeerUdp,
+    Seconds,
+    Record,
+    Multicast,
+}
+
+/// Why words request no task. A number says how many words are left, from the wrong one on.
+#[derive(Clone, Copy, Debug, PartialEq, Eq, Error)]
+pub enum Misuse {
+    /// There is no command.
+    #[error("a command is missing")]
+    NoCommand,
+    /// The word is no command.
+    #[error("no such command")]
+    NoSuchCommand(usize),
+    /// The command needs the name of a file.
+    #[error("the name of a file is missing")]
+    NoFile,
+    /// The word is no option.
+    #[error("no such option")]
+    NoSuchOption(usize),
+    /// The option needs a value.
+    #[error("the option needs a value")]
+    NoValue(usize),
+    /// The word is no value of its option.
+    #[error("no such value of this option")]
+    BadValue(usize),
+    /// The word is no address.
+    #[error("no address")]
+    BadAddress(usize),
+}
+
+/// The usual values.
+fn usual() -> Options
+    ensures { result ≡ usual }
+{
+    Options {
+        address: None,
+        tcp: TCP_PORT,
+        udp: UDP_PORT,
+        peer_udp: UDP_PORT,
+        seconds: None,
+        record_left: None,
+        multicast: false,
+    }
+}
+
+/// The option that a word names.
+#[tactic(auto, unfolding(crate::specs::Options::setting_of))]
+fn setting_of(word: &str) -> Option<Setting>
+    ensures { result ≡ setting_of word.now }
+{
+    match word {
+        "--address" => Some(Setting::Address),
+        "--tcp" => Some(Setting::Tcp),
+        "--udp" => Some(Setting::Udp),
+        "--peer-udp" => Some(Setting::PeerUdp),
+        "--seconds" => Some(Setting::Seconds),
+        "--record" => Some(Setting::Record),
+        "--multicast" => Some(Setting::Multicast),
+        _ => None,
+    }
+}
+
+/// The options that the words give. A later word takes the place of an earlier one for the same option.
+///
+/// The faults, at the first word that is wrong: `NoSuchOption`, `NoValue`, `BadValue`, `BadAddress`.
+pub fn read_options<S: AsStr>(words: &[S]) -> Result<Options, Misuse>
+    ensures { result ≡ options_after usual (map S.text words.now) }
+{
+    let mut options = usual();
+    let mut rest = words;
+    while let Some((name, after)) = rest.split_first() {
+        let (next, behind) = with_option(options, name.as_str(), rest.len(), after)?;
+        options = next;
+        rest = behind;
+    }
+    Ok(options)
+}
+
+/// The options with the one of a word, and the words behind it and its value. So many words are left, from this one on.
+fn with_option<'a, S: AsStr>(
+    options: Options,
+    name: &str,
+    left: usize,
+    after: &'a [S],
+) -> Result<(Options, &'a [S]), Misuse>
+    requires { left ≡ length after.now + 1 }
+    ensures taken { IfOk result (λ next. options_after options (name.now ∷ map S.text after.now)
+        ≡ options_after next.0 (map S.text next.1.now)) }
+    ensures shorter { IfOk result (λ next. length next.1.now ≤ length after.now) }
+    ensures fault { IfErr result (λ fault. options_after options (name.now ∷ map S.text after.now) ≡ Err fault) }
+{
+    match setting_of(name) {
+        None => Err(Misuse::NoSuchOption(left)),
+        Some(Setting::Multicast) => Ok((with_flag(options), after)),
+        Some(setting) => {
+            let Some((value, behind)) = after.split_first() else {
+                return Err(Misuse::NoValue(left));
+            };
+            match with_value(options, setting, value.as_str(), after.len()) {
+                Ok(next) => Ok((next, behind)),
+                Err(misuse) => Err(misuse),
+            }
+        }
+    }
+}
+
+/// The options with the one that has no value.
+fn with_flag(options: Options) -> Options
+    ensures { result ≡ record options { multicast = true } }
+{
+    Options {
+        multicast: true,
+        ..options
+    }
+}
+
+/// The options with a value for one of them; so many words are left, from the value on.
+fn with_value(
+    options: Options,
+    setting: Setting,
+    word: &str,
+    left: usize,
+) -> Result<Options, Misuse>
+    ensures { result ≡ with_value options setting word.now left }
+{
+    match setting {
+        Setting::Address => match address_of(word) {
+            Some(address) => Ok(Options {
+                address: Some(address),
+                ..options
+            }),
+            None => Err(Misuse::BadAddress(left)),
+        },
+        Setting::Seconds => match seconds_of(word) {
+            Some(seconds) => Ok(Options {
+                seconds: Some(seconds),
+                ..options
+            }),
+            None => Err(Misuse::BadValue(left)),
+        },
+        Setting::Record => Ok(Options {
+            record_left: Some(left),
+            ..options
+        }),
+        Setting::Multicast => Ok(Options {
+            multicast: true,
+            ..options
+        }),
+        Setting::Tcp | Setting::Udp | Setting::PeerUdp => match port_of(word) {
+            Some(port) => Ok(with_port(options, setting, port)),
+            None => Err(Misuse::BadValue(left)),
+        },
+    }
+}
+
+/// The options with a port for one of them.
+fn with_port(options: Options, setting: Setting, port: u16) -> Options
+    ensures { result ≡ with_port options setting port }
+{
+    match setting {
+        Setting::Tcp => Options {
+            tcp: port,
+            ..options
+        },
+        Setting::Udp => Options {
+            udp: port,
+            ..options
+        },
+        Setting::PeerUdp => Options {
+            peer_udp: port,
+            ..options
+        },
+        _ => options,
+    }
+}

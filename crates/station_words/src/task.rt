@@ -1,0 +1,117 @@
+//! The task that a command line requests.
+
+ghost use Rattle.std.specs.Prelude.{◌≡◌, map};
+ghost use Rattle.station_words.specs.Tasks.{alone, command_of, station_of, task_of, task_with};
+
+use crate::options::{Misuse, Options, read_options};
+use std::convert::AsStr;
+
+/// A command of the program.
+#[derive(Clone, Copy, PartialEq, Eq)]
+pub enum Command {
+    /// Serves a profile.
+    Adapter,
+    /// Keeps the connections of a profile open.
+    Scanner,
+    /// Writes a trace as a capture file.
+    Pcap,
+    /// Tells a trace in words.
+    Explain,
+    /// Prints how the program is used.
+    Help,
+}
+
+/// A station: whether it is a scanner, and its options. Its profile is the third word.
+#[derive(Clone, Copy, PartialEq, Eq)]
+pub struct StationTask {
+    pub scanner: bool,
+    pub options: Options,
+}
+
+/// The task that a command line requests.
+#[derive(Clone, Copy, PartialEq, Eq)]
+pub enum Task {
+    /// Prints how the program is used.
+    Help,
+    /// Runs a station.
+    Station(StationTask),
+    /// Writes the trace, whose file is the third word, as a capture file.
+    Pcap,
+    /// Tells the trace, whose file is the third word, in words.
+    Explain,
+}
+
+/// The command that a word names.
+#[tactic(auto, unfolding(crate::specs::Tasks::command_of))]
+fn command_of(word: &str) -> Option<Command>
+    ensures { result ≡ command_of word.now }
+{
+    match word {
+        "adapter" => Some(Command::Adapter),
+        "scanner" => Some(Command::Scanner),
+        "pcap" => Some(Command::Pcap),
+        "explain" => Some(Command::Explain),
+        "--help" => Some(Command::Help),
+        "-h" => Some(Command::Help),
+        _ => None,
+    }
+}
+
+/// The task that the words request. The first word is the program's own name, the second the command, the third the name
+/// of a file, and options follow.
+///
+/// The faults, in order: `NoCommand`, `NoSuchCommand`, `NoFile`, and those of the options at the first word that is
+/// wrong. The words behind `--help` are not read.
+pub fn read_task<S: AsStr>(words: &[S]) -> Result<Task, Misuse>
+    ensures { result ≡ task_of (map S.text words.now) }
+{
+    let Some((_program, words)) = words.split_first() else {
+        return Err(Misuse::NoCommand);
+    };
+    let Some((word, rest)) = words.split_first() else {
+        return Err(Misuse::NoCommand);
+    };
+    match command_of(word.as_str()) {
+        Some(command) => task_with(command, rest),
+        None => Err(Misuse::NoSuchCommand(words.len())),
+    }
+}
+
+/// The task of a command with the words behind it.
+fn task_with<S: AsStr>(command: Command, words: &[S]) -> Result<Task, Misuse>
+    ensures { result ≡ task_with command (map S.text words.now) }
+{
+    match command {
+        Command::Adapter => station_of(false, words),
+        Command::Scanner => station_of(true, words),
+        Command::Pcap => alone(Task::Pcap, words),
+        Command::Explain => alone(Task::Explain, words),
+        Command::Help => Ok(Task::Help),
+    }
+}
+
+/// A station, whose words are the name of its profile and its options.
+fn station_of<S: AsStr>(scanner: bool, words: &[S]) -> Result<Task, Misuse>
+    ensures { result ≡ station_of scanner (map S.text words.now) }
+{
+    let Some((_file, rest)) = words.split_first() else {
+        return Err(Misuse::NoFile);
+    };
+    match read_options(rest) {
+        Ok(options) => Ok(Task::Station(StationTask { scanner, options })),
+        Err(misuse) => Err(misuse),
+    }
+}
+
+/// A task whose one word is the name of its file.
+fn alone<S: AsStr>(task: Task, words: &[S]) -> Result<Task, Misuse>
+    ensures { result ≡ alone task (map S.text words.now) }
+{
+    let Some((_file, rest)) = words.split_first() else {
+        return Err(Misuse::NoFile);
+    };
+    match rest.split_first() {
+        None => Ok(task),
+        Some(_) => Err(Misuse::NoSuchOption(rest.len())),
+    }
+}
