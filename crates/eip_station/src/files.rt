@@ -29,23 +29,23 @@ pub fn pcap_of<R: Files + AllocGlobal>(rt: &R, path: &str) -> Result<Vec<u8>, Fa
     Ok(write_pcap(rt.alloc(), &trace)?)
 }
 
-/// What is told of a file: its trace in words, or why it is no trace.
+/// A trace in words, or why a file is no trace.
 #[derive(Drop)]
-pub struct ToldFile {
+pub struct ExplainedFile {
     pub words: String,
     pub is_trace: bool,
 }
 
-/// What is told of a file.
-pub fn told_trace<R: Files + AllocGlobal>(rt: &R, path: &str) -> Result<ToldFile, Failure> {
+/// The trace of a file in words, or why the file is none.
+pub fn explained_trace<R: Files + AllocGlobal>(rt: &R, path: &str) -> Result<ExplainedFile, Failure> {
     let text = bytes_of(rt, path)?;
     let alloc = rt.alloc();
     match read_trace(alloc, text.as_slice()) {
-        Ok(trace) => Ok(ToldFile {
+        Ok(trace) => Ok(ExplainedFile {
             words: explain_trace(alloc, &trace)?,
             is_trace: true,
         }),
-        Err(fault) => Ok(ToldFile {
+        Err(fault) => Ok(ExplainedFile {
             words: explain_fault(alloc, text.as_slice(), fault)?,
             is_trace: false,
         }),

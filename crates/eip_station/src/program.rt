@@ -1,7 +1,7 @@
 //! The program, at its command line and its streams.
 
 use crate::failure::{Failure, status_of, subject_of};
-use crate::files::{pcap_of, profile_of, told_trace};
+use crate::files::{pcap_of, profile_of, explained_trace};
 use crate::inbox::read_input;
 use crate::opening::{adapter_port, place_of, scanner_port};
 use crate::usage::USAGE;
@@ -85,15 +85,15 @@ where
     }
 }
 
-/// Tells a file's trace in words, or why the file is none.
+/// Explains the trace of a file in words, or why the file is none.
 fn explain<R, O>(rt: &R, path: &str, out: O) -> Result<(), Failure>
 where
     R: AllocGlobal + Files<File = File>,
     O: Write + Drop,
 {
-    let told = told_trace(rt, path)?;
-    print(out, told.words.as_bytes())?;
-    if told.is_trace {
+    let explained = explained_trace(rt, path)?;
+    print(out, explained.words.as_bytes())?;
+    if explained.is_trace {
         Ok(())
     } else {
         Err(Failure::NoTrace)

@@ -9,7 +9,7 @@ usage: eip_station adapter PROFILE [options]
        eip_station pcap TRACE
            writes the frames and datagrams of a trace as a capture file for tshark to standard output
        eip_station explain TRACE
-           tells a trace in words, or why the file is none
+           explains a trace in words, or why the file is none
        eip_station --help
            prints this text
 PROFILE is a file with the profile's lines of a trace (docs/PROFILE.md, section 14).

@@ -53,8 +53,8 @@ watched contents old new [] (outcome ∷ outcomes) is = absurd is
 watched contents old new (event ∷ events) [] is = absurd is
 watched contents old new (event ∷ events) (outcome ∷ outcomes) (mid, noted, rest) = (mid.recorder, noted, watched contents mid new events outcomes rest)
 
-pub handed : {W O E : Type 0} (contents : W → Option (List ℕ)) (Wanted : List Event → Type 0) (count : ℕ) (old new : Witness W O E) (before after : DeviceTable) → HandsOut (λ one event outcome other. Notes contents one.recorder event outcome other.recorder) Wanted count old new before after → Recorded contents old.recorder new.recorder before after
-handed contents Wanted count old new before after hands = record { events = hands.events; outcomes = hands.outcomes; runs = hands.runs; notes = watched contents old new hands.events hands.outcomes hands.watches }
+pub handed : {W O E : Type 0} (contents : W → Option (List ℕ)) (Expected : List Event → Type 0) (count : ℕ) (old new : Witness W O E) (before after : DeviceTable) → HandsOut (λ one event outcome other. Notes contents one.recorder event outcome other.recorder) Expected count old new before after → Recorded contents old.recorder new.recorder before after
+handed contents Expected count old new before after hands = record { events = hands.events; outcomes = hands.outcomes; runs = hands.runs; notes = watched contents old new hands.events hands.outcomes hands.watches }
 
 pub handed_some : {W O E : Type 0} (contents : W → Option (List ℕ)) (old new : Witness W O E) (before after : DeviceTable) → HandsSome (λ one event outcome other. Notes contents one.recorder event outcome other.recorder) old new before after → Recorded contents old.recorder new.recorder before after
 handed_some contents old new before after hands = record { events = hands.events; outcomes = hands.outcomes; runs = hands.runs; notes = watched contents old new hands.events hands.outcomes hands.watches }

@@ -8,9 +8,9 @@ use Rattle.station.specs.declared.fault.EarlyEnd.{EarlyEnd}
 use Rattle.station.specs.declared.fault.EarlyEnd.TheVariants as station
 
 -- the fault that ends the station; none if it goes on, as after a datagram that could not be sent
-abbrev pub lasting_fault : RunFault → Option EarlyEnd
-lasting_fault (run.Port port.Memory) = Some station.OutOfMemory
-lasting_fault (run.Port port.Receive) = None
-lasting_fault (run.Port port.Send) = None
-lasting_fault (run.Step step.OutOfMemory) = Some station.OutOfMemory
-lasting_fault (run.Step fault) = Some station.Clock
+abbrev pub end_after : RunFault → Option EarlyEnd
+end_after (run.Port port.Memory) = Some station.OutOfMemory
+end_after (run.Port port.Receive) = None
+end_after (run.Port port.Send) = None
+end_after (run.Step step.OutOfMemory) = Some station.OutOfMemory
+end_after (run.Step fault) = Some station.Clock

@@ -1,7 +1,7 @@
 //! Why a station ends before its time.
 
 ghost use Rattle.std.specs.Prelude.{◌≡◌};
-ghost use Rattle.station.specs.Faults.{lasting_fault};
+ghost use Rattle.station.specs.Faults.{end_after};
 
 use cip_events::StepFault;
 use cip_types::OutOfMemory;
@@ -32,8 +32,8 @@ impl From<OutOfMemory> for EarlyEnd {
 }
 
 /// What a fault of a turn means for a station: None if it goes on, as after a datagram that could not be sent.
-pub fn lasting_fault(fault: RunFault) -> Option<EarlyEnd>
-    ensures { result ≡ lasting_fault fault }
+pub fn end_after(fault: RunFault) -> Option<EarlyEnd>
+    ensures { result ≡ end_after fault }
 {
     match fault {
         RunFault::Port(PortFault::Memory) => Some(EarlyEnd::OutOfMemory),

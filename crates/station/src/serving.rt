@@ -4,7 +4,7 @@ ghost use Rattle.std.specs.Prelude.{◌≡◌, IfOk};
 ghost use Rattle.station.specs.Recorded.{Recorded};
 
 use crate::calls::read_call;
-use crate::fault::{EarlyEnd, lasting_fault};
+use crate::fault::{EarlyEnd, end_after};
 use crate::points::Points;
 use crate::witness::Witness;
 use cip_encap::{MessageView, command, write_message};
@@ -110,12 +110,12 @@ impl<P: Port, C: Clock, D: Device, W: Write + Drop, O: Write, E: Write> Station<
         }
     }
 
-    /// Goes on after a fault of a turn, if it does not last.
+    /// Goes on after a fault of a turn, if the station does not end with it.
     fn weather(&mut self, fault: RunFault) -> Result<(), EarlyEnd>
         ensures recorder { self.new.witness.recorder ≡ self.old.witness.recorder }
         ensures device { self.new.device ≡ self.old.device }
     {
-        match lasting_fault(fault) {
+        match end_after(fault) {
             Some(end) => Err(end),
             None => self.fail(),
         }

@@ -1,1 +1,2 @@
+mod AddressWords
 mod OptionWords

@@ -1,8 +1,8 @@
 -- The options of a station, word by word.
-use Rattle.std.specs.Prelude.{ℕ, ◌==◌, ◌||◌, nat_lt, if◌then◌else◌, Bool, true, false, List, [], ◌∷◌, codes, length, option_map, option_and_then, Option, Some, None, Result, Ok, Err}
+use Rattle.std.specs.Prelude.{ℕ, ◌==◌, ◌||◌, nat_lt, if◌then◌else◌, Bool, true, false, List, [], ◌∷◌, codes, length, option_and_then, Option, Some, None, Result, Ok, Err}
 use Rattle.cip_types.specs.declared.names.Node.{Node}
-use Rattle.trace_words.specs.Words.{number_of, node_of, words_of}
-use Rattle.trace_words.specs.Reader.{◌>>=◌, next_word, ends, Meanings, meaning}
+use Rattle.trace_words.specs.Words.{number_of, node_of}
+use Rattle.trace_words.specs.Reader.{Meanings, meaning}
 use Rattle.station_words.specs.declared.options.Options.{Options}
 use Rattle.station_words.specs.declared.options.Setting.{Setting}
 use Rattle.station_words.specs.declared.options.Setting.TheVariants as setting
@@ -10,10 +10,6 @@ use Rattle.station_words.specs.declared.options.Misuse.{Misuse}
 use Rattle.station_words.specs.declared.options.Misuse.TheVariants as misuse
 
 -- VALUES
-
--- an address: four numbers below 256 with dots between them
-abbrev pub address_of : List ℕ → Option Node
-address_of word = option_map (λ got. got.0) ((next_word node_of >>= ends) (words_of word))
 
 -- a number from 1 to this one
 abbrev pub number_within : ℕ → List ℕ → Option ℕ
@@ -69,7 +65,7 @@ with_port_word options name left (Some port) = Ok (with_port options name port)
 
 -- the options with the value of one of them; so many words are left, from the value on
 abbrev pub with_value : Options → Setting → List ℕ → ℕ → Result Options Misuse
-with_value options setting.Address word left = with_address options left (address_of word)
+with_value options setting.Address word left = with_address options left (node_of word)
 with_value options setting.Seconds word left = with_seconds options left (seconds_of word)
 with_value options setting.Record word left = Ok (record options { record_left = Some left })
 with_value options setting.Multicast word left = Ok (record options { multicast = true })

@@ -1,22 +1,24 @@
 //! Values of options: addresses, ports and times.
 
 ghost use Rattle.std.specs.Prelude.{◌≡◌};
-ghost use Rattle.station_words.specs.Options.{address_of, port_of, seconds_of};
+ghost use Rattle.station_words.specs.Options.{port_of, seconds_of};
+ghost use Rattle.trace_words.specs.Words.{node_of};
 
 use cip_types::Node;
-use trace_words::{Words, read_u64};
+use std::net::Ipv4Addr;
+use trace_words::read_u64;
 
 /// The longest time of a station, in seconds: some 31 years.
 const LONGEST_S: u64 = 1_000_000_000;
 
 /// The address of a word: four numbers below 256 with dots between them.
 pub fn address_of(word: &str) -> Option<Node>
-    ensures { result ≡ address_of word.now }
+    ensures { result ≡ node_of word.now }
 {
-    let mut words = Words::of(word);
-    let node = words.node().ok()?;
-    words.end().ok()?;
-    Some(node)
+    match word.parse::<Ipv4Addr>() {
+        Ok(address) => Some(Node(address.to_bits())),
+        Err(_) => None,
+    }
 }
 
 /// The port of a word: 1 to 65,535.

@@ -1,6 +1,6 @@
 //! The options of a station.
 
-ghost use Rattle.std.specs.Prelude.{◌≡◌, ◌≤◌, ◌+◌, ◌∷◌, Err, length, map, IfOk, IfErr};
+ghost use Rattle.std.specs.Prelude.{◌≡◌, ◌≤◌, ◌+◌, ◌∷◌, Err, true, length, map, IfOk, IfErr};
 ghost use Rattle.station_words.specs.Options.{options_after, setting_of, usual, with_port, with_value};
 
 use crate::numbers::{address_of, port_of, seconds_of};
@@ -115,6 +115,7 @@ pub fn read_options<S: AsStr>(words: &[S]) -> Result<Options, Misuse>
 }
 
 /// The options with the one of a word, and the words behind it and its value. So many words are left, from this one on.
+#[tactic(auto, using(crate::proofs::OptionWords::unknown_left, crate::proofs::OptionWords::flagged, crate::proofs::OptionWords::lone_left, crate::proofs::OptionWords::valued_on, crate::proofs::OptionWords::valued_not))]
 fn with_option<'a, S: AsStr>(
     options: Options,
     name: &str,

@@ -15,7 +15,7 @@ pub enum Command {
     Scanner,
     /// Writes a trace as a capture file.
     Pcap,
-    /// Tells a trace in words.
+    /// Explains a trace in words.
     Explain,
     /// Prints how the program is used.
     Help,
