@@ -4,3 +4,5 @@ mod Pieces
 mod Samples
 mod ScannerSamples
 mod TextLines
+mod TraceTexts
+mod TraceValues

@@ -1,3 +1,4 @@
 pub mod Forms
 pub mod Reading
+pub mod Texts
 pub mod Written

@@ -9,7 +9,7 @@ mod trace;
 mod written;
 
 pub use lines::read_event_line;
-pub use trace::{Trace, TraceFault, read_trace};
+pub use trace::{Trace, TraceFault, has_one_reading, read_trace};
 pub use trace_outcomes::{Recorded, push_outcome, write_outcome};
 pub use trace_words::LineFault;
 pub use written::{push_config, push_event, write_trace};

@@ -2,9 +2,10 @@
 //!
 //! LF ends a line, and one space separates its words. Empty lines and lines that begin with `#` are skipped.
 
-ghost use Rattle.std.specs.Prelude.{◌≡◌, ◌<◌, ◌+◌, ◌∷◌, position, length, IfSome, IfNone, IfErr, IsOk, ◌↔◌, Some, None, [], Ok};
+ghost use Rattle.std.specs.Prelude.{◌≡◌, ℕ, ◌<◌, ◌+◌, List, ◌∷◌, position, length, IfSome, IfNone, IfErr, IsOk, ◌↔◌, Some, None, [], Result, Ok};
 ghost use Rattle.trace_words.specs.Reader.{Finds};
 ghost use Rattle.trace_text.specs.Reading.{is_line_feed, is_skipped, parts_of, builder_after, parsed, judged_by, trace_reading, Answers};
+ghost use Rattle.trace_text.specs.Texts.{IsTraceReading};
 ghost use Rattle.cip_tables.specs.Step.{config_fault};
 
 use crate::builder::{TraceBuilder, builder_with, with_last};
@@ -48,10 +49,12 @@ impl From<OutOfMemory> for TraceFault {
     }
 }
 
-/// Reads the text of a trace.
+/// Reads the text of a trace: the lines of its profile, and behind the line of each event those of its recorded outcome.
+/// `has_one_reading` says of the lines what the answer means.
 ///
-/// The faults: `BadLine` with the number of the first bad line, `BadProfile` if no line is bad, and `OutOfMemory`
-/// wherever an allocation was refused.
+/// The faults: `BadLine` with the number of the first line that begins no trace together with the lines before it (the
+/// end, if the lines are no whole trace), `BadProfile` if no line is bad, and `OutOfMemory` wherever an allocation was
+/// refused.
 #[tactic(auto, unfolding(crate::specs::Reading::trace_reading))]
 pub fn read_trace(alloc: Global, text: &[u8]) -> Result<Trace, TraceFault>
     ensures { Answers (trace_reading text.now) result }
@@ -73,6 +76,15 @@ pub fn read_trace(alloc: Global, text: &[u8]) -> Result<Trace, TraceFault>
     }
     parsed(alloc, builder, number)
 }
+
+/// Does nothing. Its contract is a law for callers of `read_trace`, whose answer is `trace_reading` of the text: that is a
+/// reading of the text line by line, and the text has no other one. A trace is a reading if the lines of the text, less
+/// the skipped ones, are those of the trace in their order, and its profile is valid.
+pub fn has_one_reading()
+    ensures reading { (text : List ℕ) → IsTraceReading text (trace_reading text) }
+    ensures only { (text : List ℕ) (other : Result Trace TraceFault) → IsTraceReading text other
+        → trace_reading text ≡ other }
+{}
 
 /// The first line, without the LF that ends it, and the text behind that. None if no LF is left.
 fn first_line(text: &[u8]) -> Option<(&[u8], &[u8])>

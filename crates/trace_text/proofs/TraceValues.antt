@@ -1,0 +1,407 @@
+-- What was read so far, as the lines that were read: each line that is allowed adds itself, each beginning can be
+-- completed, and the lines of a trace lead to that trace.
+use Rattle.std.proofs.Common.{◌≡◌, ◌≢◌, ℕ, ◌+◌, Bool, true, false, cond, eqb, List, [], ◌∷◌, ◌++◌, length, map, Option, Some, None, Result, Ok, Err, refl, sym, ap, ◌∙◌, arith, append_assoc}
+use Rattle.std.specs.Prelude.{option_to_list, option_map, option_and_then}
+use Rattle.std.proofs.lemmas.Bool.Decides.{nat_tests}
+use Rattle.std.proofs.lemmas.List.{append-nil, length-append}
+use Rattle.adapter_table.specs.declared.profile.Profile.{Profile}
+use Rattle.adapter_table.specs.declared.profile.InputPoint.{InputPoint}
+use Rattle.adapter_table.specs.declared.profile.OutputPoint.{OutputPoint}
+use Rattle.scanner_table.specs.declared.profile.ScannerProfile.{ScannerProfile}
+use Rattle.scanner_table.specs.declared.profile.SlotConfig.{SlotConfig}
+use Rattle.cip_events.specs.declared.event.Answer.{Answer}
+use Rattle.cip_events.specs.declared.event.Event.{Event}
+use Rattle.cip_events.specs.declared.event.Frame.{Frame}
+use Rattle.cip_events.specs.declared.event.Notice.{Notice}
+use Rattle.cip_events.specs.declared.event.OutgoingDatagram.{OutgoingDatagram}
+use Rattle.cip_events.specs.declared.event.Verdict.{Verdict}
+use Rattle.cip_events.specs.Outcomes.{Outcome}
+use Rattle.cip_tables.specs.declared.table.Config.{Config}
+use Rattle.cip_tables.specs.declared.table.Config.TheVariants as config
+use Rattle.trace_profiles.specs.declared.forms.AdapterLine.{AdapterLine}
+use Rattle.trace_profiles.specs.declared.forms.HeartbeatLine.{HeartbeatLine}
+use Rattle.trace_profiles.specs.declared.forms.ScannerLine.{ScannerLine}
+use Rattle.trace_profiles.specs.Profiles.{profile_with}
+use Rattle.trace_profiles.specs.Slots.{scanner_with}
+use Rattle.trace_outcomes.specs.declared.part.Part.{Part}
+use Rattle.trace_outcomes.specs.declared.part.Part.TheVariants as part
+use Rattle.trace_outcomes.specs.Recorded.{recorded_with}
+use Rattle.trace_text.specs.declared.builder.TraceBuilder.{TraceBuilder}
+use Rattle.trace_text.specs.declared.builder.TraceBuilder.TheVariants.{Empty, Points, Configured, Slots, Events}
+use Rattle.trace_text.specs.declared.forms.TraceLine.{TraceLine}
+use Rattle.trace_text.specs.declared.forms.TraceLine.TheVariants as line
+use Rattle.trace_text.specs.declared.trace.Trace.{Trace}
+use Rattle.trace_text.specs.declared.trace.TraceFault.{TraceFault}
+use Rattle.trace_text.specs.Reading.{Entry, builder_with, parsed, judged_by}
+use Rattle.trace_text.specs.Texts.{adapter_line_of, heartbeat_line_of, scanner_line_of, config_values, outcome_parts, recorded_parts, entry_values, entries_values, trace_values}
+
+-- LISTS AND OPTIONS
+
+map_last : {A B : Type 0} (f : A → B) (xs : List A) (x : A) → map f (xs ++ x ∷ []) ≡ map f xs ++ f x ∷ []
+map_last f [] x = refl
+map_last f (y ∷ xs) x = ap (λ t. f y ∷ t) (map_last f xs x)
+
+map_both : {A B : Type 0} (f : A → B) (xs ys : List A) → map f (xs ++ ys) ≡ map f xs ++ map f ys
+map_both f [] ys = refl
+map_both f (x ∷ xs) ys = ap (λ t. f x ∷ t) (map_both f xs ys)
+
+pub some_is : {A : Type 0} (x y : A) → Some x ≡ Some y → x ≡ y
+some_is x y is = cc
+
+no_elements : {A : Type 0} (xs : List A) → length xs ≡ 0 → xs ≡ []
+no_elements [] none = refl
+no_elements (x ∷ xs) none = absurd (omega arith)
+
+-- a test that was passed, and the value behind it
+passed : {A : Type 0} (test : Bool) (value : Option A) (got : A) → cond test value None ≡ Some got → (test ≡ true) × (value ≡ Some got)
+passed true value got is = (refl, is)
+passed false value got is = absurd (cc)
+
+pub found_in : {A B : Type 0} (next : A → Option B) (value : Option A) (got : B) → option_and_then next value ≡ Some got → (inner : A) × ((value ≡ Some inner) × (next inner ≡ Some got))
+found_in next None got is = absurd (cc)
+found_in next (Some inner) got is = (inner, (refl, is))
+
+mapped_from : {A B : Type 0} (f : A → B) (value : Option A) (got : B) → option_map f value ≡ Some got → (inner : A) × ((value ≡ Some inner) × (f inner ≡ got))
+mapped_from f None got is = absurd (cc)
+mapped_from f (Some inner) got is = (inner, (refl, some_is (f inner) got is))
+
+is_zero : (n : ℕ) → eqb n 0 ≡ true → n ≡ 0
+is_zero n is = grind (arith, nat_tests, is)
+
+same_number : (a b : ℕ) → a ≡ b → eqb a b ≡ true
+same_number a b is = grind (arith, nat_tests, is)
+
+is_same : (a b : ℕ) → eqb a b ≡ true → a ≡ b
+is_same a b is = grind (arith, nat_tests, is)
+
+-- WHAT WAS READ SO FAR
+
+abbrev pub so_far : TraceBuilder → List TraceLine
+so_far Empty = []
+so_far (Points adapter outputs inputs) = line.Adapter adapter ∷ (map line.Output outputs ++ map line.Input inputs)
+so_far (Configured adapter outputs inputs point) = line.Adapter adapter ∷ (map line.Output outputs ++ (map line.Input inputs ++ line.Config point ∷ []))
+so_far (Slots scanner slots) = line.Scanner scanner ∷ map line.Slot slots
+so_far (Events made_of entries last) = config_values made_of ++ entries_values 1 (entries ++ option_to_list last)
+
+so_far_is : (one other : TraceBuilder) → Some one ≡ Some other → so_far other ≡ so_far one
+so_far_is one other is = ap so_far (sym (some_is one other is))
+
+entries_last : (number : ℕ) (entries : List Entry) (last : Entry) → entries_values number (entries ++ last ∷ []) ≡ entries_values number entries ++ entry_values (number + length entries) last
+entries_last number [] last =
+    let here : number ≡ number + 0 = omega arith in
+    append-nil (entry_values number last) ∙ ap (λ n. entry_values n last) here
+entries_last number (entry ∷ entries) last =
+    let place : number + 1 + length entries ≡ number + length (entry ∷ entries) = omega arith in
+    ap (λ rest. entry_values number entry ++ rest) (entries_last (number + 1) entries last ∙ ap (λ n. entries_values (number + 1) entries ++ entry_values n last) place)
+    ∙ sym (append_assoc (entry_values number entry) (entries_values (number + 1) entries) _)
+
+event_added : (made_of : Config) (entries : List Entry) (event : Event) → config_values made_of ++ entries_values 1 (entries ++ (event, None) ∷ []) ≡ (config_values made_of ++ entries_values 1 entries) ++ line.Event event ∷ []
+event_added made_of entries event =
+    ap (λ t. config_values made_of ++ t) (entries_last 1 entries (event, None))
+    ∙ sym (append_assoc (config_values made_of) (entries_values 1 entries) (line.Event event ∷ []))
+
+output_added : (adapter : AdapterLine) (outputs : List OutputPoint) (inputs : List InputPoint) (output : OutputPoint) (next : TraceBuilder) → builder_with (Points adapter outputs inputs) (line.Output output) ≡ Some next → so_far next ≡ so_far (Points adapter outputs inputs) ++ line.Output output ∷ []
+output_added adapter outputs inputs output next is =
+    let pair = passed (eqb (length inputs) 0) (Some (Points adapter (outputs ++ output ∷ []) inputs)) next is in
+    let none : inputs ≡ [] = no_elements inputs (is_zero (length inputs) pair.0) in
+    so_far_is _ _ pair.1
+    ∙ ap (λ points. line.Adapter adapter ∷ (map line.Output (outputs ++ output ∷ []) ++ map line.Input points)) none
+    ∙ ap (λ t. line.Adapter adapter ∷ t) (append-nil (map line.Output (outputs ++ output ∷ [])) ∙ map_last line.Output outputs output)
+    ∙ ap (λ t. line.Adapter adapter ∷ (t ++ line.Output output ∷ [])) (sym (append-nil (map line.Output outputs)))
+    ∙ ap (λ points. line.Adapter adapter ∷ ((map line.Output outputs ++ map line.Input points) ++ line.Output output ∷ [])) (sym none)
+
+-- the parts of an outcome, in their order
+abbrev parts_with : List Frame → List OutgoingDatagram → List Notice → List Part
+parts_with frames datagrams notices = map part.Frame frames ++ (map part.Datagram datagrams ++ map part.Notice notices)
+
+frame_last : (frames : List Frame) (datagrams : List OutgoingDatagram) (notices : List Notice) (frame : Frame) → datagrams ≡ [] → notices ≡ [] → parts_with (frames ++ frame ∷ []) datagrams notices ≡ parts_with frames datagrams notices ++ part.Frame frame ∷ []
+frame_last frames datagrams notices frame no_datagrams no_notices =
+    ap (λ ds. parts_with (frames ++ frame ∷ []) ds notices) no_datagrams
+    ∙ ap (λ ns. parts_with (frames ++ frame ∷ []) [] ns) no_notices
+    ∙ append-nil (map part.Frame (frames ++ frame ∷ []))
+    ∙ map_last part.Frame frames frame
+    ∙ ap (λ t. t ++ part.Frame frame ∷ []) (sym (append-nil (map part.Frame frames)))
+    ∙ ap (λ ns. parts_with frames [] ns ++ part.Frame frame ∷ []) (sym no_notices)
+    ∙ ap (λ ds. parts_with frames ds notices ++ part.Frame frame ∷ []) (sym no_datagrams)
+
+datagram_last : (frames : List Frame) (datagrams : List OutgoingDatagram) (notices : List Notice) (outgoing : OutgoingDatagram) → notices ≡ [] → parts_with frames (datagrams ++ outgoing ∷ []) notices ≡ parts_with frames datagrams notices ++ part.Datagram outgoing ∷ []
+datagram_last frames datagrams notices outgoing no_notices =
+    ap (λ ns. parts_with frames (datagrams ++ outgoing ∷ []) ns) no_notices
+    ∙ ap (λ t. map part.Frame frames ++ t) (append-nil (map part.Datagram (datagrams ++ outgoing ∷ [])) ∙ map_last part.Datagram datagrams outgoing)
+    ∙ sym (append_assoc (map part.Frame frames) (map part.Datagram datagrams) (part.Datagram outgoing ∷ []))
+    ∙ ap (λ t. (map part.Frame frames ++ t) ++ part.Datagram outgoing ∷ []) (sym (append-nil (map part.Datagram datagrams)))
+    ∙ ap (λ ns. parts_with frames datagrams ns ++ part.Datagram outgoing ∷ []) (sym no_notices)
+
+notice_last : (frames : List Frame) (datagrams : List OutgoingDatagram) (notices : List Notice) (notice : Notice) → parts_with frames datagrams (notices ++ notice ∷ []) ≡ parts_with frames datagrams notices ++ part.Notice notice ∷ []
+notice_last frames datagrams notices notice =
+    ap (λ t. map part.Frame frames ++ (map part.Datagram datagrams ++ t)) (map_last part.Notice notices notice)
+    ∙ ap (λ t. map part.Frame frames ++ t) (sym (append_assoc (map part.Datagram datagrams) (map part.Notice notices) (part.Notice notice ∷ [])))
+    ∙ sym (append_assoc (map part.Frame frames) (map part.Datagram datagrams ++ map part.Notice notices) (part.Notice notice ∷ []))
+
+none_of_both : (a b : ℕ) → a + b ≡ 0 → (a ≡ 0) × (b ≡ 0)
+none_of_both a b none = (omega arith, omega arith)
+
+recorded_last : (recorded : Option Outcome) (more : Part) (outcome : Outcome) → recorded_with recorded more ≡ Some outcome → outcome_parts outcome ≡ recorded_parts recorded ++ more ∷ []
+recorded_last None (part.Verdict verdict) outcome is = ap outcome_parts (sym (some_is _ outcome is))
+recorded_last None (part.Fault why) outcome is = ap outcome_parts (sym (some_is _ outcome is))
+recorded_last None (part.Frame frame) outcome is = absurd (cc)
+recorded_last None (part.Datagram outgoing) outcome is = absurd (cc)
+recorded_last None (part.Notice notice) outcome is = absurd (cc)
+recorded_last (Some (Err why)) (part.Verdict verdict) outcome is = absurd (cc)
+recorded_last (Some (Err why)) (part.Fault other) outcome is = absurd (cc)
+recorded_last (Some (Err why)) (part.Frame frame) outcome is = absurd (cc)
+recorded_last (Some (Err why)) (part.Datagram outgoing) outcome is = absurd (cc)
+recorded_last (Some (Err why)) (part.Notice notice) outcome is = absurd (cc)
+recorded_last (Some (Ok answer)) (part.Verdict verdict) outcome is = absurd (cc)
+recorded_last (Some (Ok answer)) (part.Fault why) outcome is = absurd (cc)
+recorded_last (Some (Ok answer)) (part.Frame frame) outcome is =
+    let (grown, (from, made)) = mapped_from Ok _ outcome is in
+    let pair = passed (eqb (length answer.datagrams + length answer.notices) 0) (Some (record answer { frames = answer.frames ++ frame ∷ [] })) grown from in
+    let both = none_of_both (length answer.datagrams) (length answer.notices) (is_zero _ pair.0) in
+    ap outcome_parts (sym made) ∙ ap (λ a. outcome_parts (Ok a)) (sym (some_is _ grown pair.1))
+    ∙ ap (λ t. part.Verdict answer.verdict ∷ t) (frame_last answer.frames answer.datagrams answer.notices frame (no_elements _ both.0) (no_elements _ both.1))
+recorded_last (Some (Ok answer)) (part.Datagram outgoing) outcome is =
+    let (grown, (from, made)) = mapped_from Ok _ outcome is in
+    let pair = passed (eqb (length answer.notices) 0) (Some (record answer { datagrams = answer.datagrams ++ outgoing ∷ [] })) grown from in
+    ap outcome_parts (sym made) ∙ ap (λ a. outcome_parts (Ok a)) (sym (some_is _ grown pair.1))
+    ∙ ap (λ t. part.Verdict answer.verdict ∷ t) (datagram_last answer.frames answer.datagrams answer.notices outgoing (no_elements _ (is_zero _ pair.0)))
+recorded_last (Some (Ok answer)) (part.Notice notice) outcome is =
+    ap outcome_parts (sym (some_is _ outcome is))
+    ∙ ap (λ t. part.Verdict answer.verdict ∷ t) (notice_last answer.frames answer.datagrams answer.notices notice)
+
+part_added : (made_of : Config) (entries : List Entry) (event : Event) (recorded : Option Outcome) (number : ℕ) (more : Part) (next : TraceBuilder) → builder_with (Events made_of entries (Some (event, recorded))) (line.Recorded number more) ≡ Some next → so_far next ≡ so_far (Events made_of entries (Some (event, recorded))) ++ line.Recorded number more ∷ []
+part_added made_of entries event recorded number more next is =
+    let pair = passed (eqb number (length entries + 1)) (option_map (λ outcome. Events made_of entries (Some (event, Some outcome))) (recorded_with recorded more)) next is in
+    let (outcome, (from, made)) = mapped_from (λ outcome. Events made_of entries (Some (event, Some outcome))) (recorded_with recorded more) next pair.1 in
+    let place : 1 + length entries ≡ number = (let same : number ≡ length entries + 1 = is_same number (length entries + 1) pair.0 in omega arith) in
+    let parts : outcome_parts outcome ≡ recorded_parts recorded ++ more ∷ [] = recorded_last recorded more outcome from in
+    let grown : entry_values (1 + length entries) (event, Some outcome) ≡ entry_values (1 + length entries) (event, recorded) ++ line.Recorded number more ∷ [] =
+    ap (λ ps. line.Event event ∷ map (line.Recorded (1 + length entries)) ps) parts
+    ∙ ap (λ t. line.Event event ∷ t) (map_last (line.Recorded (1 + length entries)) (recorded_parts recorded) more)
+    ∙ ap (λ n. (line.Event event ∷ map (line.Recorded (1 + length entries)) (recorded_parts recorded)) ++ line.Recorded n more ∷ []) place in
+    ap so_far (sym made)
+    ∙ ap (λ t. config_values made_of ++ t) (entries_last 1 entries (event, Some outcome) ∙ ap (λ t. entries_values 1 entries ++ t) grown
+    ∙ sym (append_assoc (entries_values 1 entries) (entry_values (1 + length entries) (event, recorded)) (line.Recorded number more ∷ []))
+    ∙ ap (λ t. t ++ line.Recorded number more ∷ []) (sym (entries_last 1 entries (event, recorded))))
+    ∙ sym (append_assoc (config_values made_of) (entries_values 1 (entries ++ (event, recorded) ∷ [])) (line.Recorded number more ∷ []))
+
+-- a line that is allowed is one line more
+pub added : (builder : TraceBuilder) (parsed : TraceLine) (next : TraceBuilder) → builder_with builder parsed ≡ Some next → so_far next ≡ so_far builder ++ parsed ∷ []
+added Empty (line.Adapter value) next is = so_far_is _ _ is
+added Empty (line.Output value) next is = absurd (cc)
+added Empty (line.Input value) next is = absurd (cc)
+added Empty (line.Config value) next is = absurd (cc)
+added Empty (line.Heartbeat value) next is = absurd (cc)
+added Empty (line.Scanner value) next is = so_far_is _ _ is
+added Empty (line.Slot value) next is = absurd (cc)
+added Empty (line.Event value) next is = absurd (cc)
+added Empty (line.Recorded number value) next is = absurd (cc)
+added (Points adapter outputs inputs) (line.Adapter value) next is = absurd (cc)
+added (Points adapter outputs inputs) (line.Output value) next is = output_added adapter outputs inputs value next is
+added (Points adapter outputs inputs) (line.Input value) next is = so_far_is _ _ is ∙ ap (λ t. line.Adapter adapter ∷ (map line.Output outputs ++ t)) (map_last line.Input inputs value) ∙ ap (λ t. line.Adapter adapter ∷ t) (sym (append_assoc (map line.Output outputs) (map line.Input inputs) (line.Input value ∷ [])))
+added (Points adapter outputs inputs) (line.Config value) next is = so_far_is _ _ is ∙ ap (λ t. line.Adapter adapter ∷ t) (sym (append_assoc (map line.Output outputs) (map line.Input inputs) (line.Config value ∷ [])))
+added (Points adapter outputs inputs) (line.Heartbeat value) next is = so_far_is _ _ is ∙ append-nil _ ∙ ap (λ t. line.Adapter adapter ∷ t) (sym (append_assoc (map line.Output outputs) (map line.Input inputs) (line.Heartbeat value ∷ [])))
+added (Points adapter outputs inputs) (line.Scanner value) next is = absurd (cc)
+added (Points adapter outputs inputs) (line.Slot value) next is = absurd (cc)
+added (Points adapter outputs inputs) (line.Event value) next is = absurd (cc)
+added (Points adapter outputs inputs) (line.Recorded number value) next is = absurd (cc)
+added (Configured adapter outputs inputs point) (line.Adapter value) next is = absurd (cc)
+added (Configured adapter outputs inputs point) (line.Output value) next is = absurd (cc)
+added (Configured adapter outputs inputs point) (line.Input value) next is = absurd (cc)
+added (Configured adapter outputs inputs point) (line.Config value) next is = absurd (cc)
+added (Configured adapter outputs inputs point) (line.Heartbeat value) next is = so_far_is _ _ is ∙ append-nil _ ∙ ap (λ t. line.Adapter adapter ∷ t) (sym (append_assoc (map line.Output outputs) (map line.Input inputs ++ line.Config point ∷ []) (line.Heartbeat value ∷ []) ∙ ap (λ t. map line.Output outputs ++ t) (append_assoc (map line.Input inputs) (line.Config point ∷ []) (line.Heartbeat value ∷ []))))
+added (Configured adapter outputs inputs point) (line.Scanner value) next is = absurd (cc)
+added (Configured adapter outputs inputs point) (line.Slot value) next is = absurd (cc)
+added (Configured adapter outputs inputs point) (line.Event value) next is = absurd (cc)
+added (Configured adapter outputs inputs point) (line.Recorded number value) next is = absurd (cc)
+added (Slots scanner slots) (line.Adapter value) next is = absurd (cc)
+added (Slots scanner slots) (line.Output value) next is = absurd (cc)
+added (Slots scanner slots) (line.Input value) next is = absurd (cc)
+added (Slots scanner slots) (line.Config value) next is = absurd (cc)
+added (Slots scanner slots) (line.Heartbeat value) next is = absurd (cc)
+added (Slots scanner slots) (line.Scanner value) next is = absurd (cc)
+added (Slots scanner slots) (line.Slot value) next is = so_far_is _ _ is ∙ ap (λ t. line.Scanner scanner ∷ t) (map_last line.Slot slots value)
+added (Slots scanner slots) (line.Event value) next is = so_far_is _ _ is
+added (Slots scanner slots) (line.Recorded number value) next is = absurd (cc)
+added (Events made_of entries None) (line.Adapter value) next is = absurd (cc)
+added (Events made_of entries None) (line.Output value) next is = absurd (cc)
+added (Events made_of entries None) (line.Input value) next is = absurd (cc)
+added (Events made_of entries None) (line.Config value) next is = absurd (cc)
+added (Events made_of entries None) (line.Heartbeat value) next is = absurd (cc)
+added (Events made_of entries None) (line.Scanner value) next is = absurd (cc)
+added (Events made_of entries None) (line.Slot value) next is = absurd (cc)
+added (Events made_of entries None) (line.Event value) next is = so_far_is _ _ is ∙ event_added made_of (entries ++ []) value
+added (Events made_of entries None) (line.Recorded number value) next is = absurd (cc)
+added (Events made_of entries (Some (event, recorded))) (line.Adapter value) next is = absurd (cc)
+added (Events made_of entries (Some (event, recorded))) (line.Output value) next is = absurd (cc)
+added (Events made_of entries (Some (event, recorded))) (line.Input value) next is = absurd (cc)
+added (Events made_of entries (Some (event, recorded))) (line.Config value) next is = absurd (cc)
+added (Events made_of entries (Some (event, recorded))) (line.Heartbeat value) next is = absurd (cc)
+added (Events made_of entries (Some (event, recorded))) (line.Scanner value) next is = absurd (cc)
+added (Events made_of entries (Some (event, recorded))) (line.Slot value) next is = absurd (cc)
+added (Events made_of entries (Some (event, recorded))) (line.Event value) next is = so_far_is _ _ is ∙ event_added made_of (entries ++ (event, recorded) ∷ []) value
+added (Events made_of entries (Some (event, recorded))) (line.Recorded number value) next is = part_added made_of entries event recorded number value next is
+
+-- LINES ONE AFTER THE OTHER
+
+-- what was read after these lines; None is what is no line of a trace
+abbrev pub run : TraceBuilder → List (Option TraceLine) → Option TraceBuilder
+run builder [] = Some builder
+run builder (None ∷ lines) = None
+run builder (Some value ∷ lines) = option_and_then (λ next. run next lines) (builder_with builder value)
+
+after_both : (xs ys : List (Option TraceLine)) (go : (next : TraceBuilder) → run next (xs ++ ys) ≡ option_and_then (λ b. run b ys) (run next xs)) (first : Option TraceBuilder) → option_and_then (λ next. run next (xs ++ ys)) first ≡ option_and_then (λ b. run b ys) (option_and_then (λ next. run next xs) first)
+after_both xs ys go None = refl
+after_both xs ys go (Some next) = go next
+
+pub run_both : (builder : TraceBuilder) (xs ys : List (Option TraceLine)) → run builder (xs ++ ys) ≡ option_and_then (λ b. run b ys) (run builder xs)
+run_both builder [] ys = refl
+run_both builder (None ∷ xs) ys = refl
+run_both builder (Some value ∷ xs) ys = after_both xs ys (λ next. run_both next xs ys) (builder_with builder value)
+
+-- what is read adds up to the lines
+pub run_adds : (builder : TraceBuilder) (lines : List (Option TraceLine)) (end : TraceBuilder) → run builder lines ≡ Some end → map Some (so_far builder) ++ lines ≡ map Some (so_far end)
+run_adds builder [] end is = append-nil (map Some (so_far builder)) ∙ ap (λ b. map Some (so_far b)) (some_is builder end is)
+run_adds builder (None ∷ lines) end is = absurd (cc)
+run_adds builder (Some value ∷ lines) end is =
+    let (next, (first, rest)) = found_in (λ next. run next lines) (builder_with builder value) end is in
+    sym (append_assoc (map Some (so_far builder)) (Some value ∷ []) lines)
+    ∙ ap (λ t. t ++ lines) (sym (map_last Some (so_far builder) value) ∙ ap (map Some) (sym (added builder value next first)))
+    ∙ run_adds next lines end rest
+
+-- WHAT IS READ CAN BE COMPLETED
+
+abbrev no_scanner : ScannerProfile
+no_scanner = record { incarnation = 0; node = record { 0 = 0 }; vendor = 0; serial = 0; open_timeout = 0; retry = 0; slots = [] }
+
+abbrev no_points : HeartbeatLine
+no_points = record { input_only = 0; listen_only = 0 }
+
+pub completed : (builder : TraceBuilder) → (trace : Trace) × ((more : List TraceLine) × (so_far builder ++ more ≡ trace_values trace))
+completed Empty = (record { config = config.Scanner no_scanner; events = [] }, (config_values (config.Scanner no_scanner) ++ [], refl))
+completed (Points adapter outputs inputs) =
+    (record { config = config.Adapter (profile_with adapter outputs inputs None no_points); events = [] }, (line.Heartbeat no_points ∷ [], sym (added (Points adapter outputs inputs) (line.Heartbeat no_points) _ refl)))
+completed (Configured adapter outputs inputs point) =
+    (record { config = config.Adapter (profile_with adapter outputs inputs (Some point) no_points); events = [] }, (line.Heartbeat no_points ∷ [], sym (added (Configured adapter outputs inputs point) (line.Heartbeat no_points) _ refl)))
+completed (Slots scanner slots) = (record { config = config.Scanner (scanner_with scanner slots); events = [] }, ([], refl))
+completed (Events made_of entries last) = (record { config = made_of; events = entries ++ option_to_list last }, ([], append-nil _))
+
+-- THE LINES OF A TRACE LEAD TO IT
+
+-- one line, and those behind it
+first_run : (builder next : TraceBuilder) (value : TraceLine) (lines : List (Option TraceLine)) (said : Option TraceBuilder) → builder_with builder value ≡ Some next → run next lines ≡ said → run builder (Some value ∷ lines) ≡ said
+first_run builder next value lines said first rest = ap (option_and_then (λ b. run b lines)) first ∙ rest
+
+-- lines, and those behind them
+both_run : (builder next : TraceBuilder) (xs ys : List TraceLine) (said : Option TraceBuilder) → run builder (map Some xs) ≡ Some next → run next (map Some ys) ≡ said → run builder (map Some (xs ++ ys)) ≡ said
+both_run builder next xs ys said first rest =
+    ap (run builder) (map_both Some xs ys) ∙ run_both builder (map Some xs) (map Some ys) ∙ ap (option_and_then (λ b. run b (map Some ys))) first ∙ rest
+
+outputs_run : (adapter : AdapterLine) (before outputs : List OutputPoint) → run (Points adapter before []) (map Some (map line.Output outputs)) ≡ Some (Points adapter (before ++ outputs) [])
+outputs_run adapter before [] = ap (λ t. Some (Points adapter t [])) (sym (append-nil before))
+outputs_run adapter before (output ∷ outputs) = outputs_run adapter (before ++ output ∷ []) outputs ∙ ap (λ t. Some (Points adapter t [])) (append_assoc before (output ∷ []) outputs)
+
+inputs_run : (adapter : AdapterLine) (outputs : List OutputPoint) (before inputs : List InputPoint) → run (Points adapter outputs before) (map Some (map line.Input inputs)) ≡ Some (Points adapter outputs (before ++ inputs))
+inputs_run adapter outputs before [] = ap (λ t. Some (Points adapter outputs t)) (sym (append-nil before))
+inputs_run adapter outputs before (input ∷ inputs) = inputs_run adapter outputs (before ++ input ∷ []) inputs ∙ ap (λ t. Some (Points adapter outputs t)) (append_assoc before (input ∷ []) inputs)
+
+ends_run : (adapter : AdapterLine) (outputs : List OutputPoint) (inputs : List InputPoint) (settings : Option InputPoint) (points : HeartbeatLine) → run (Points adapter outputs inputs) (map Some (map line.Config (option_to_list settings) ++ line.Heartbeat points ∷ [])) ≡ Some (Events (config.Adapter (profile_with adapter outputs inputs settings points)) [] None)
+ends_run adapter outputs inputs None points = refl
+ends_run adapter outputs inputs (Some point) points = refl
+
+adapter_run : (profile : Profile) → run Empty (map Some (config_values (config.Adapter profile))) ≡ Some (Events (config.Adapter profile) [] None)
+adapter_run profile =
+    both_run (Points (adapter_line_of profile) [] []) (Points (adapter_line_of profile) profile.outputs []) (map line.Output profile.outputs) _ _ (outputs_run (adapter_line_of profile) [] profile.outputs)
+    (both_run (Points (adapter_line_of profile) profile.outputs []) (Points (adapter_line_of profile) profile.outputs profile.inputs) (map line.Input profile.inputs) _ _ (inputs_run (adapter_line_of profile) profile.outputs [] profile.inputs)
+    (ends_run (adapter_line_of profile) profile.outputs profile.inputs profile.config (heartbeat_line_of profile)))
+
+slots_run : (scanner : ScannerLine) (before slots : List SlotConfig) → run (Slots scanner before) (map Some (map line.Slot slots)) ≡ Some (Slots scanner (before ++ slots))
+slots_run scanner before [] = ap (λ t. Some (Slots scanner t)) (sym (append-nil before))
+slots_run scanner before (slot ∷ slots) = slots_run scanner (before ++ slot ∷ []) slots ∙ ap (λ t. Some (Slots scanner t)) (append_assoc before (slot ∷ []) slots)
+
+abbrev answer_of : Verdict → List Frame → List OutgoingDatagram → List Notice → Answer
+answer_of verdict frames datagrams notices = record { frames = frames; datagrams = datagrams; verdict = verdict; notices = notices }
+
+module _ (made_of : Config) (entries : List Entry) (event : Event) (n : ℕ) (number : n ≡ length entries + 1) where
+  abbrev recording : Option Outcome → TraceBuilder
+  recording recorded = Events made_of entries (Some (event, recorded))
+
+  abbrev answering : Verdict → List Frame → List OutgoingDatagram → List Notice → TraceBuilder
+  answering verdict frames datagrams notices = recording (Some (Ok (answer_of verdict frames datagrams notices)))
+
+  abbrev numbered_parts : List Part → List (Option TraceLine)
+  numbered_parts parts = map Some (map (line.Recorded n) parts)
+
+  part_run : (recorded : Option Outcome) (outcome : Outcome) (more : Part) (lines : List (Option TraceLine)) (said : Option TraceBuilder) → recorded_with recorded more ≡ Some outcome → run (recording (Some outcome)) lines ≡ said → run (recording recorded) (Some (line.Recorded n more) ∷ lines) ≡ said
+  part_run recorded outcome more lines said with rest =
+      let built : builder_with (recording recorded) (line.Recorded n more) ≡ Some (recording (Some outcome)) = rw (same_number n (length entries + 1) number, with) refl in
+      first_run (recording recorded) (recording (Some outcome)) (line.Recorded n more) lines said built rest
+
+  parts_run : (builder next : TraceBuilder) (xs ys : List Part) (said : Option TraceBuilder) → run builder (numbered_parts xs) ≡ Some next → run next (numbered_parts ys) ≡ said → run builder (numbered_parts (xs ++ ys)) ≡ said
+  parts_run builder next xs ys said first rest =
+      ap (λ t. run builder (map Some t)) (map_both (line.Recorded n) xs ys) ∙ both_run builder next (map (line.Recorded n) xs) (map (line.Recorded n) ys) said first rest
+
+  frames_run : (verdict : Verdict) (before frames : List Frame) → run (answering verdict before [] []) (numbered_parts (map part.Frame frames)) ≡ Some (answering verdict (before ++ frames) [] [])
+  frames_run verdict before [] = ap (λ t. Some (answering verdict t [] [])) (sym (append-nil before))
+  frames_run verdict before (frame ∷ frames) =
+      part_run (Some (Ok (answer_of verdict before [] []))) (Ok (answer_of verdict (before ++ frame ∷ []) [] [])) (part.Frame frame) _ _ refl
+      (frames_run verdict (before ++ frame ∷ []) frames ∙ ap (λ t. Some (answering verdict t [] [])) (append_assoc before (frame ∷ []) frames))
+
+  datagrams_run : (verdict : Verdict) (frames : List Frame) (before datagrams : List OutgoingDatagram) → run (answering verdict frames before []) (numbered_parts (map part.Datagram datagrams)) ≡ Some (answering verdict frames (before ++ datagrams) [])
+  datagrams_run verdict frames before [] = ap (λ t. Some (answering verdict frames t [])) (sym (append-nil before))
+  datagrams_run verdict frames before (outgoing ∷ datagrams) =
+      part_run (Some (Ok (answer_of verdict frames before []))) (Ok (answer_of verdict frames (before ++ outgoing ∷ []) [])) (part.Datagram outgoing) _ _ refl
+      (datagrams_run verdict frames (before ++ outgoing ∷ []) datagrams ∙ ap (λ t. Some (answering verdict frames t [])) (append_assoc before (outgoing ∷ []) datagrams))
+
+  notices_run : (verdict : Verdict) (frames : List Frame) (datagrams : List OutgoingDatagram) (before notices : List Notice) → run (answering verdict frames datagrams before) (numbered_parts (map part.Notice notices)) ≡ Some (answering verdict frames datagrams (before ++ notices))
+  notices_run verdict frames datagrams before [] = ap (λ t. Some (answering verdict frames datagrams t)) (sym (append-nil before))
+  notices_run verdict frames datagrams before (notice ∷ notices) =
+      part_run (Some (Ok (answer_of verdict frames datagrams before))) (Ok (answer_of verdict frames datagrams (before ++ notice ∷ []))) (part.Notice notice) _ _ refl
+      (notices_run verdict frames datagrams (before ++ notice ∷ []) notices ∙ ap (λ t. Some (answering verdict frames datagrams t)) (append_assoc before (notice ∷ []) notices))
+
+  pub recorded_run : (recorded : Option Outcome) → run (recording None) (numbered_parts (recorded_parts recorded)) ≡ Some (recording recorded)
+  recorded_run None = refl
+  recorded_run (Some (Err why)) = part_run None (Err why) (part.Fault why) [] _ refl refl
+  recorded_run (Some (Ok answer)) =
+      part_run None (Ok (answer_of answer.verdict [] [] [])) (part.Verdict answer.verdict) _ _ refl
+      (parts_run (answering answer.verdict [] [] []) (answering answer.verdict answer.frames [] []) (map part.Frame answer.frames) _ _ (frames_run answer.verdict [] answer.frames)
+      (parts_run (answering answer.verdict answer.frames [] []) (answering answer.verdict answer.frames answer.datagrams []) (map part.Datagram answer.datagrams) _ _ (datagrams_run answer.verdict answer.frames [] answer.datagrams)
+      (notices_run answer.verdict answer.frames answer.datagrams [] answer.notices)))
+
+-- all entries
+abbrev all_entries : List Entry → Option Entry → List Entry
+all_entries entries last = entries ++ option_to_list last
+
+abbrev EntriesRun : Config → List Entry → Option Entry → ℕ → List Entry → Type 0
+EntriesRun made_of entries last n events = (entries' : List Entry) × ((last' : Option Entry) × ((run (Events made_of entries last) (map Some (entries_values n events)) ≡ Some (Events made_of entries' last')) × (all_entries entries' last' ≡ all_entries entries last ++ events)))
+
+entries_run : (made_of : Config) (entries : List Entry) (last : Option Entry) (n : ℕ) (events : List Entry) → n ≡ length (all_entries entries last) + 1 → EntriesRun made_of entries last n events
+entries_run made_of entries last n [] number = (entries, (last, (refl, sym (append-nil (all_entries entries last)))))
+entries_run made_of entries last n ((event, recorded) ∷ events) number =
+    let before : List Entry = all_entries entries last in
+    let more : length (before ++ (event, recorded) ∷ []) ≡ length before + 1 = length-append before ((event, recorded) ∷ []) in
+    let next : n + 1 ≡ length (all_entries (all_entries entries last) (Some (event, recorded))) + 1 = omega (arith, number, more) in
+    let (entries', (last', (runs, all))) = entries_run made_of (all_entries entries last) (Some (event, recorded)) (n + 1) events next in
+    let one : run (Events made_of entries last) (map Some (entry_values n (event, recorded))) ≡ Some (Events made_of (all_entries entries last) (Some (event, recorded))) =
+    recorded_run made_of (all_entries entries last) event n number recorded in
+    (entries', (last', (both_run (Events made_of entries last) (Events made_of (all_entries entries last) (Some (event, recorded))) (entry_values n (event, recorded)) (entries_values (n + 1) events) _ one runs, all ∙ append_assoc (all_entries entries last) ((event, recorded) ∷ []) events)))
+
+-- a trace that is read to its end
+abbrev TraceRun : Config → List Entry → Type 0
+TraceRun made_of events = (end : TraceBuilder) × ((run Empty (map Some (trace_values (record { config = made_of; events = events }))) ≡ Some end) × ((number : ℕ) → parsed number end ≡ judged_by made_of events))
+
+of_entries : (made_of : Config) (values : List TraceLine) (entries : List Entry) (last : Option Entry) (n : ℕ) (events all : List Entry) → run Empty (map Some values) ≡ Some (Events made_of entries last) → n ≡ length (all_entries entries last) + 1 → all_entries entries last ++ events ≡ all → (end : TraceBuilder) × ((run Empty (map Some (values ++ entries_values n events)) ≡ Some end) × ((number : ℕ) → parsed number end ≡ judged_by made_of all))
+of_entries made_of values entries last n events all begun number are =
+    let (entries', (last', (runs, same))) = entries_run made_of entries last n events number in
+    (Events made_of entries' last', (both_run Empty (Events made_of entries last) values (entries_values n events) _ begun runs, λ place. ap (judged_by made_of) (same ∙ are)))
+
+pub trace_run : (made_of : Config) (events : List Entry) → TraceRun made_of events
+trace_run (config.Adapter profile) events = of_entries (config.Adapter profile) (config_values (config.Adapter profile)) [] None 1 events events (adapter_run profile) refl refl
+trace_run (config.Scanner profile) [] =
+    (Slots (scanner_line_of profile) profile.slots, (ap (λ t. run Empty (map Some t)) (append-nil (config_values (config.Scanner profile))) ∙ slots_run (scanner_line_of profile) [] profile.slots, λ place. refl))
+trace_run (config.Scanner profile) ((event, recorded) ∷ events) =
+    let slots : run Empty (map Some (config_values (config.Scanner profile))) ≡ Some (Slots (scanner_line_of profile) profile.slots) = slots_run (scanner_line_of profile) [] profile.slots in
+    let one : run (Slots (scanner_line_of profile) profile.slots) (map Some (entry_values 1 (event, recorded))) ≡ Some (Events (config.Scanner profile) [] (Some (event, recorded))) = recorded_run (config.Scanner profile) [] event 1 refl recorded in
+    let front : run Empty (map Some (config_values (config.Scanner profile) ++ entry_values 1 (event, recorded))) ≡ Some (Events (config.Scanner profile) [] (Some (event, recorded))) = both_run Empty (Slots (scanner_line_of profile) profile.slots) (config_values (config.Scanner profile)) (entry_values 1 (event, recorded)) _ slots one in
+    let (end, (runs, ends)) = of_entries (config.Scanner profile) (config_values (config.Scanner profile) ++ entry_values 1 (event, recorded)) [] (Some (event, recorded)) 2 events ((event, recorded) ∷ events) front refl refl in
+    (end, (ap (λ t. run Empty (map Some t)) (sym (append_assoc (config_values (config.Scanner profile)) (entry_values 1 (event, recorded)) (entries_values 2 events))) ∙ runs, ends))

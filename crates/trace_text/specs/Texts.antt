@@ -1,0 +1,143 @@
+-- Which texts write a trace: the lines of its profile, and then for each event its line and the lines of its recorded
+-- outcome. LF ends each line. Empty lines and lines that begin with `#` are skipped, and counted.
+use Rattle.std.specs.Prelude.{ℕ, ◌+◌, ◌≡◌, ◌≢◌, ◌⊎◌, if◌then◌else◌, false, List, [], ◌∷◌, ◌++◌, length, map, flat_map, option_to_list, Option, Some, None, Result, Ok, Err}
+use Rattle.std.specs.List.{All}
+use Rattle.adapter_table.specs.declared.profile.Profile.{Profile}
+use Rattle.scanner_table.specs.declared.profile.ScannerProfile.{ScannerProfile}
+use Rattle.cip_events.specs.declared.profile_fault.ProfileFault.{ProfileFault}
+use Rattle.cip_events.specs.Faults.{fault_number}
+use Rattle.cip_events.specs.Outcomes.{Outcome}
+use Rattle.cip_tables.specs.declared.table.Config.{Config}
+use Rattle.cip_tables.specs.declared.table.Config.TheVariants as config
+use Rattle.cip_tables.specs.Step.{config_fault}
+use Rattle.trace_profiles.specs.declared.forms.AdapterLine.{AdapterLine}
+use Rattle.trace_profiles.specs.declared.forms.HeartbeatLine.{HeartbeatLine}
+use Rattle.trace_profiles.specs.declared.forms.ScannerLine.{ScannerLine}
+use Rattle.trace_outcomes.specs.declared.part.Part.{Part}
+use Rattle.trace_outcomes.specs.declared.part.Part.TheVariants as part
+use Rattle.trace_text.specs.declared.forms.TraceLine.{TraceLine}
+use Rattle.trace_text.specs.declared.forms.TraceLine.TheVariants as line
+use Rattle.trace_text.specs.declared.trace.Trace.{Trace}
+use Rattle.trace_text.specs.declared.trace.TraceFault.{TraceFault}
+use Rattle.trace_text.specs.declared.trace.TraceFault.TheVariants as fault
+use Rattle.trace_text.specs.Forms.{line_of}
+use Rattle.trace_text.specs.Reading.{Entry, is_line_feed, is_skipped}
+
+-- THE LINES OF A TRACE, IN THEIR ORDER
+
+-- the first line of an adapter's profile, and the last one
+abbrev pub adapter_line_of : Profile → AdapterLine
+adapter_line_of profile = record { incarnation = profile.incarnation; node = profile.node; mask = profile.mask; identity = profile.identity }
+
+abbrev pub heartbeat_line_of : Profile → HeartbeatLine
+heartbeat_line_of profile = record { input_only = profile.input_only; listen_only = profile.listen_only }
+
+-- the first line of a scanner's profile
+abbrev pub scanner_line_of : ScannerProfile → ScannerLine
+scanner_line_of profile = record { incarnation = profile.incarnation; node = profile.node; vendor = profile.vendor; serial = profile.serial; open_timeout = profile.open_timeout; retry = profile.retry }
+
+-- a profile: an adapter's outputs, inputs, configuration and heartbeats, or a scanner's slots
+abbrev pub config_values : Config → List TraceLine
+config_values (config.Adapter profile) =
+    line.Adapter (adapter_line_of profile)
+    ∷ (map line.Output profile.outputs
+    ++ (map line.Input profile.inputs
+    ++ (map line.Config (option_to_list profile.config)
+    ++ line.Heartbeat (heartbeat_line_of profile) ∷ [])))
+config_values (config.Scanner profile) = line.Scanner (scanner_line_of profile) ∷ map line.Slot profile.slots
+
+-- an outcome: the verdict, the frames, the datagrams and the notices, or the fault
+abbrev pub outcome_parts : Outcome → List Part
+outcome_parts (Ok answer) =
+    part.Verdict answer.verdict
+    ∷ (map part.Frame answer.frames
+    ++ (map part.Datagram answer.datagrams
+    ++ map part.Notice answer.notices))
+outcome_parts (Err why) = part.Fault why ∷ []
+
+abbrev pub recorded_parts : Option Outcome → List Part
+recorded_parts None = []
+recorded_parts (Some outcome) = outcome_parts outcome
+
+-- an event of this number, and its outcome if it is recorded
+abbrev pub entry_values : ℕ → Entry → List TraceLine
+entry_values number entry = line.Event entry.0 ∷ map (line.Recorded number) (recorded_parts entry.1)
+
+-- events, the first of this number
+abbrev pub entries_values : ℕ → List Entry → List TraceLine
+entries_values number [] = []
+entries_values number (entry ∷ entries) = entry_values number entry ++ entries_values (number + 1) entries
+
+abbrev pub trace_values : Trace → List TraceLine
+trace_values trace = config_values trace.config ++ entries_values 1 trace.events
+
+-- THE LINES OF A TEXT
+
+-- a line, in which there is no LF
+abbrev pub IsOneLine : List ℕ → Type 0
+IsOneLine text = All (λ byte. is_line_feed byte ≡ false) text
+
+-- lines, each with the LF that ends it
+abbrev pub ended_lines : List (List ℕ) → List ℕ
+ended_lines lines = flat_map (λ text. text ++ 10 ∷ []) lines
+
+-- the values of the lines that are not skipped; None for what is no line of a trace
+abbrev pub said_by : List (List ℕ) → List (Option TraceLine)
+said_by [] = []
+said_by (text ∷ lines) = if is_skipped text then said_by lines else line_of text ∷ said_by lines
+
+-- these lines write the trace
+abbrev pub WriteTrace : List (List ℕ) → Trace → Type 0
+WriteTrace lines trace = said_by lines ≡ map Some (trace_values trace)
+
+-- these lines begin the lines of some trace
+pub record BeginTrace (lines : List (List ℕ)) : Type 0 where
+  pub trace : Trace
+  pub more : List TraceLine
+  pub is : said_by lines ++ map Some more ≡ map Some (trace_values trace)
+
+-- THE TEXT OF A TRACE
+
+-- the text writes the trace
+pub record IsTraceText (text : List ℕ) (trace : Trace) : Type 0 where
+  pub lines : List (List ℕ)
+  pub are_lines : All IsOneLine lines
+  pub are_all : text ≡ ended_lines lines
+  pub write : WriteTrace lines trace
+
+-- the next line begins no trace together with those before it
+pub record IsBadNext (before : List (List ℕ)) (rest : List ℕ) : Type 0 where
+  pub next : List ℕ
+  pub after : List ℕ
+  pub parted : rest ≡ next ++ 10 ∷ after
+  pub is_line : IsOneLine next
+  pub bad : ¬ (BeginTrace (before ++ next ∷ []))
+
+-- there is no next line: bytes follow that no LF ends, or the lines are no whole trace
+abbrev pub IsBadEnd : List (List ℕ) → List ℕ → Type 0
+IsBadEnd before rest = IsOneLine rest × ((rest ≢ []) ⊎ ((trace : Trace) → ¬ (WriteTrace before trace)))
+
+-- the line of this number is the first that is not allowed there: the lines before it begin a trace
+pub record IsBadLine (text : List ℕ) (number : ℕ) : Type 0 where
+  pub before : List (List ℕ)
+  pub rest : List ℕ
+  pub are_lines : All IsOneLine before
+  pub parted : text ≡ ended_lines before ++ rest
+  pub counted : number ≡ 1 + length before
+  pub begin : BeginTrace before
+  pub bad : IsBadNext before rest ⊎ IsBadEnd before rest
+
+-- the text writes a trace whose profile has this first fault
+pub record IsBadProfile (text : List ℕ) (number : ℕ) : Type 0 where
+  pub trace : Trace
+  pub first : ProfileFault
+  pub is_text : IsTraceText text trace
+  pub is_first : config_fault trace.config ≡ Some first
+  pub numbered : number ≡ fault_number first
+
+-- The result is a reading of the text. That an allocation was refused is no reading.
+abbrev pub IsTraceReading : List ℕ → Result Trace TraceFault → Type 0
+IsTraceReading text (Ok trace) = IsTraceText text trace × (config_fault trace.config ≡ None)
+IsTraceReading text (Err (fault.BadLine number)) = IsBadLine text number
+IsTraceReading text (Err (fault.BadProfile number)) = IsBadProfile text number
+IsTraceReading text (Err fault.OutOfMemory) = ⊥
