@@ -1,5 +1,5 @@
 -- ListIdentity requests and their reply, worked by hand from the format.
-use Rattle.std.proofs.Common.{◌≡◌, refl, ℕ, List, [], ◌∷◌, ◌++◌, Some, None}
+use Rattle.std.proofs.Common.{◌≡◌, refl, ℕ, List, [], ◌∷◌, Some, None}
 use Rattle.list_identity.specs.declared.station.StationIdentity.{StationIdentity}
 use Rattle.list_identity.specs.Identity.{answer_to, identity_item, item_head, view_socket, view_device, view_product, view_unit, view_name}
 use Rattle.cip_encap.specs.Reading.{message_reading}
