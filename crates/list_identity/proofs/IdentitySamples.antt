@@ -1,7 +1,7 @@
 -- ListIdentity requests and their reply, worked by hand from the format.
-use Rattle.std.proofs.Common.{◌≡◌, refl, ℕ, List, [], ◌∷◌, ◌++◌, Some, None}
+use Rattle.std.proofs.Common.{◌≡◌, refl, ℕ, List, [], ◌∷◌, Some, None}
 use Rattle.list_identity.specs.declared.station.StationIdentity.{StationIdentity}
-use Rattle.list_identity.specs.Identity.{answer_to, identity_item}
+use Rattle.list_identity.specs.Identity.{answer_to, identity_item, item_head, view_socket, view_device, view_product, view_unit, view_name}
 use Rattle.cip_encap.specs.Reading.{message_reading}
 
 -- a communications adapter named Pump, of vendor 1, product 7, revision 2.3, at 192.168.1.10
@@ -28,7 +28,7 @@ a_request_is_answered : answer_to request pump ≡ Some (
     0x00 ∷ 0x02 ∷ 0xAF ∷ 0x12 ∷ 0xC0 ∷ 0xA8 ∷ 0x01 ∷ 0x0A ∷ 0x00 ∷ 0x00 ∷ 0x00 ∷ 0x00 ∷ 0x00 ∷ 0x00 ∷ 0x00 ∷ 0x00 ∷
     0x01 ∷ 0x00 ∷ 0x0C ∷ 0x00 ∷ 0x07 ∷ 0x00 ∷ 0x02 ∷ 0x03 ∷ 0x30 ∷ 0x00 ∷ 0x78 ∷ 0x56 ∷ 0x34 ∷ 0x12 ∷ 0x04 ∷ 0x50 ∷
     0x75 ∷ 0x6D ∷ 0x70 ∷ 0x03 ∷ [])
-unfolding pump request identity_item message_reading
+unfolding pump request identity_item item_head view_socket view_device view_product view_unit view_name message_reading
 a_request_is_answered = refl
 
 -- a request with a status is none

@@ -16,10 +16,9 @@
 --   serial number        u32
 --   product name               a byte for its length, its bytes
 --   state                u8
-use Rattle.std.specs.Prelude.{ℕ, ◌+◌, Bool, true, false, ◌&&◌, ◌==◌, if◌then◌else◌, List, [], ◌∷◌, ◌++◌, length, replicate, Option, Some, None, Result, Ok, Err}
-use Rattle.std.specs.Int.{w8, w16, w32, to_be_bytes}
+use Rattle.std.specs.Prelude.{ℕ, ◌+◌, Bool, ◌&&◌, ◌==◌, if◌then◌else◌, List, [], ◌∷◌, ◌++◌, length, replicate, Option, Some, None, Result, Ok, Err}
+use Rattle.std.specs.Int.{w16, w32, to_be_bytes, to_le_bytes}
 use Rattle.std.specs.Option.{option_map}
-use Rattle.cip_types.specs.Fields.{fields_text}
 use Rattle.cip_encap.specs.Message.{MessageFields, message_text}
 use Rattle.cip_encap.specs.Reading.{message_reading}
 use Rattle.cip_encap.specs.declared.message.EncapFault.{EncapFault}
@@ -43,25 +42,37 @@ request_of (Err fault) = None
 abbrev pub request_in : List ℕ → Option MessageFields
 request_in bytes = request_of (message_reading bytes)
 
--- the socket address: numbers with the most significant byte first
-abbrev pub view_socket : StationIdentity → List ℕ
-view_socket s = to_be_bytes w16 2 ++ (to_be_bytes w16 s.socket.port ++ (to_be_bytes w32 s.socket.address.0 ++ replicate 8 0))
-
--- the numbers of the Identity object
-abbrev pub view_device : StationIdentity → List ℕ
-view_device s =
-    fields_text (w16 ∷ w16 ∷ w16 ∷ w8 ∷ w8 ∷ w16 ∷ w32 ∷ [])
-    (s.device.vendor ∷ s.device.device_type ∷ s.device.product ∷ s.device.major ∷ s.device.minor ∷ s.status ∷ s.serial ∷ [])
-
 -- the bytes of the item behind its length, but for the name
 abbrev pub fixed_bytes : ℕ
 fixed_bytes = 34
 
+-- the number of items, the item's type and length, and the version of the protocol
+unfoldable pub item_head : StationIdentity → List ℕ
+item_head s = to_le_bytes w16 1 ++ (to_le_bytes w16 0x000C ++ (to_le_bytes w16 (fixed_bytes + length s.name) ++ to_le_bytes w16 1))
+
+-- the socket address: numbers with the most significant byte first
+unfoldable pub view_socket : StationIdentity → List ℕ
+view_socket s = to_be_bytes w16 2 ++ (to_be_bytes w16 s.socket.port ++ (to_be_bytes w32 s.socket.address.0 ++ replicate 8 0))
+
+-- vendor, device type and product
+unfoldable pub view_product : StationIdentity → List ℕ
+view_product s = to_le_bytes w16 s.device.vendor ++ (to_le_bytes w16 s.device.device_type ++ to_le_bytes w16 s.device.product)
+
+-- revision, status word and serial number
+unfoldable pub view_unit : StationIdentity → List ℕ
+view_unit s = s.device.major ∷ s.device.minor ∷ (to_le_bytes w16 s.status ++ to_le_bytes w32 s.serial)
+
+-- what the Identity object says of the device
+unfoldable pub view_device : StationIdentity → List ℕ
+view_device s = view_product s ++ view_unit s
+
+-- the name behind its length, and the state
+unfoldable pub view_name : StationIdentity → List ℕ
+view_name s = length s.name ∷ (s.name ++ s.state ∷ [])
+
 -- the one item
 unfoldable pub identity_item : StationIdentity → List ℕ
-identity_item s =
-    fields_text (w16 ∷ w16 ∷ w16 ∷ w16 ∷ []) (1 ∷ 0x000C ∷ (fixed_bytes + length s.name) ∷ 1 ∷ [])
-    ++ (view_socket s ++ (view_device s ++ (length s.name ∷ (s.name ++ s.state ∷ []))))
+identity_item s = item_head s ++ (view_socket s ++ (view_device s ++ view_name s))
 
 -- the reply to a request
 abbrev pub reply_message : StationIdentity → MessageFields → MessageFields

@@ -2,7 +2,7 @@
 
 ghost use Rattle.std.specs.Prelude.{◌≡◌, ◌++◌, ◌<◌, ◌+◌, length, IfOk, OnOk, OnErr};
 ghost use Rattle.std.specs.Option.{option_map};
-ghost use Rattle.list_identity.specs.Identity.{answer_to, request_in, identity_item, is_request, request_if, view_socket, view_device};
+ghost use Rattle.list_identity.specs.Identity.{answer_to, request_in, identity_item, is_request, item_head, request_if, view_device, view_name, view_product, view_socket, view_unit};
 ghost use Rattle.cip_encap.specs.Message.{view_message};
 
 use crate::station::StationIdentity;
@@ -96,19 +96,30 @@ fn put_identity(out: &mut Vec<u8>, station: &StationIdentity) -> Result<(), OutO
     ensures ok { OnOk result (out.new.items ≡ out.old.items ++ identity_item station.now) }
     ensures few { OnOk result (length (identity_item station.now) < 100) }
 {
-    put_u16(out, 1)?;
-    put_u16(out, IDENTITY_ITEM)?;
-    let name = station.name.as_slice();
-    put_u16(out, FIXED_BYTES + name.len() as u16)?;
-    put_u16(out, PROTOCOL_VERSION)?;
+    // The prover needs that the name is short.
+    let _name = station.name.as_slice();
+    put_head(out, station)?;
     put_socket(out, station)?;
     put_device(out, station)?;
-    put_u8(out, name.len() as u8)?;
-    put_bytes(out, name)?;
-    put_u8(out, station.state)
+    put_name(out, station)?;
+    Ok(())
+}
+
+/// Appends the number of items, the item's type and length, and the version of the protocol.
+#[tactic(auto, unfolding(crate::specs::Identity::item_head))]
+fn put_head(out: &mut Vec<u8>, station: &StationIdentity) -> Result<(), OutOfMemory>
+    ensures ok { OnOk result (out.new.items ≡ out.old.items ++ item_head station.now) }
+{
+    let name = station.name.as_slice();
+    put_u16(out, 1)?;
+    put_u16(out, IDENTITY_ITEM)?;
+    put_u16(out, FIXED_BYTES + name.len() as u16)?;
+    put_u16(out, PROTOCOL_VERSION)?;
+    Ok(())
 }
 
 /// Appends the address at which the station listens, its numbers with the most significant byte first.
+#[tactic(auto, unfolding(crate::specs::Identity::view_socket))]
 fn put_socket(out: &mut Vec<u8>, station: &StationIdentity) -> Result<(), OutOfMemory>
     ensures ok { OnOk result (out.new.items ≡ out.old.items ++ view_socket station.now) }
 {
@@ -118,15 +129,47 @@ fn put_socket(out: &mut Vec<u8>, station: &StationIdentity) -> Result<(), OutOfM
     put_bytes(out, &[0u8; 8])
 }
 
-/// Appends the numbers of the device.
+/// Appends what the Identity object says of the device.
+#[tactic(auto, unfolding(crate::specs::Identity::view_device))]
 fn put_device(out: &mut Vec<u8>, station: &StationIdentity) -> Result<(), OutOfMemory>
     ensures ok { OnOk result (out.new.items ≡ out.old.items ++ view_device station.now) }
+{
+    put_product(out, station)?;
+    put_unit(out, station)?;
+    Ok(())
+}
+
+/// Appends vendor, device type and product.
+#[tactic(auto, unfolding(crate::specs::Identity::view_product))]
+fn put_product(out: &mut Vec<u8>, station: &StationIdentity) -> Result<(), OutOfMemory>
+    ensures ok { OnOk result (out.new.items ≡ out.old.items ++ view_product station.now) }
 {
     put_u16(out, station.device.vendor)?;
     put_u16(out, station.device.device_type)?;
     put_u16(out, station.device.product)?;
+    Ok(())
+}
+
+/// Appends revision, status word and serial number.
+#[tactic(auto, unfolding(crate::specs::Identity::view_unit))]
+fn put_unit(out: &mut Vec<u8>, station: &StationIdentity) -> Result<(), OutOfMemory>
+    ensures ok { OnOk result (out.new.items ≡ out.old.items ++ view_unit station.now) }
+{
     put_u8(out, station.device.major)?;
     put_u8(out, station.device.minor)?;
     put_u16(out, station.status)?;
-    put_u32(out, station.serial)
+    put_u32(out, station.serial)?;
+    Ok(())
+}
+
+/// Appends the name behind its length, and the state.
+#[tactic(auto, unfolding(crate::specs::Identity::view_name))]
+fn put_name(out: &mut Vec<u8>, station: &StationIdentity) -> Result<(), OutOfMemory>
+    ensures ok { OnOk result (out.new.items ≡ out.old.items ++ view_name station.now) }
+{
+    let name = station.name.as_slice();
+    put_u8(out, name.len() as u8)?;
+    put_bytes(out, name)?;
+    put_u8(out, station.state)?;
+    Ok(())
 }
