@@ -68,7 +68,7 @@ enum WordKind {
     Address,
     Addresses,
     Hex,
-    Key,
+    ElectronicKey,
     Action,
     Mode,
     Connection,
@@ -177,7 +177,7 @@ static SLOT: [WordKind; 13] = [
     WordKind::U32,
     WordKind::U8,
     WordKind::Delivery,
-    WordKind::Key,
+    WordKind::ElectronicKey,
     WordKind::Hex,
 ];
 
@@ -275,7 +275,7 @@ fn word_reason(
         )),
         WordKind::Addresses => addresses_reason(alloc, word),
         WordKind::Hex => hex_reason(alloc, word),
-        WordKind::Key => key_reason(alloc, word),
+        WordKind::ElectronicKey => key_reason(alloc, word),
         _ => Ok(name_reason(is_name(kind, word), WordReason::OtherName)),
     }
 }

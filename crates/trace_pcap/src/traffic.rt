@@ -378,13 +378,13 @@ fn push_notice(
     out: &mut Vec<u8>,
     streams: &mut Vec<Stream>,
     moment: Moment,
-    notice: Notice,
+    notice: &Notice,
 ) -> Result<(), OutOfMemory>
-    ensures records { OnOk result (out.new.items ≡ out.old.items ++ notice_records moment notice streams.old.items) }
-    ensures streams { OnOk result (streams.new.items ≡ notice_streams notice streams.old.items) }
+    ensures records { OnOk result (out.new.items ≡ out.old.items ++ notice_records moment notice.now streams.old.items) }
+    ensures streams { OnOk result (streams.new.items ≡ notice_streams notice.now streams.old.items) }
 {
     match notice {
-        Notice::StreamClosed(number) => push_closed(out, streams, moment, number),
+        Notice::StreamClosed(number) => push_closed(out, streams, moment, *number),
         _ => Ok(()),
     }
 }
@@ -399,7 +399,7 @@ fn push_notices(
     ensures streams { OnOk result (streams.new.items ≡ notices_streams notices.now streams.old.items) }
 {
     for notice in notices {
-        push_notice(out, streams, moment, *notice)?;
+        push_notice(out, streams, moment, notice)?;
     }
     Ok(())
 }
