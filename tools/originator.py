@@ -28,7 +28,7 @@ class Session:
     """A TCP connection with a registered session (Volume 2, chapter 2)."""
 
     def __init__(self, args):
-        self.tcp = socket.create_connection((args.target, args.tcp), 5, (args.own, 0))
+        self.tcp = socket.create_connection((args.target, args.tcp), args.patience, (args.own, 0))
         self.handle, self.context = 0, 0
         data = self.call(0x65, struct.pack("<HH", 1, 0), session=None)
         expect("protocol version and options of the session", data, struct.pack("<HH", 1, 0))
@@ -227,11 +227,11 @@ def identity(args):
     asked = struct.pack("<HHII8sI", 0x63, 0, 0, 0, b"\0\0whoami"[:8], 0)
     udp = socket.socket(socket.AF_INET, socket.SOCK_DGRAM)
     udp.bind((args.own, 0))
-    udp.settimeout(3)
+    udp.settimeout(args.patience)
     udp.sendto(asked, (args.target, args.tcp))
-    tcp = socket.create_connection((args.target, args.tcp), 5, (args.own, 0))
+    tcp = socket.create_connection((args.target, args.tcp), args.patience, (args.own, 0))
     tcp.sendall(asked)
-    tcp.settimeout(3)
+    tcp.settimeout(args.patience)
     for how, reply in ("UDP", udp.recv(2048)), ("TCP", tcp.recv(2048)):
         command, length, _, status = struct.unpack("<HHII", reply[:12])
         expect(f"the command, status and length of ListIdentity over {how}",
@@ -281,6 +281,7 @@ def main():
                           ("in-len", 4), ("config", None), ("input-only", 152), ("listen-only", 153), ("rpi-ms", 10)]:
         parser.add_argument(f"--{name}", type=int, default=default)
     parser.add_argument("--seconds", type=float, default=1.0)
+    parser.add_argument("--patience", type=float, default=10.0, help="seconds for a reply")
     parser.add_argument("--list", action="store_true")
     parser.add_argument("--no-multicast", action="store_true")
     try:

@@ -55,6 +55,10 @@ IsWritableFrame frames.other_version = Unit {0}
 IsWritableFrame (frames.router_reply answer address) = IsWritable answer
 IsWritableFrame (frames.refused why) = Unit {0}
 
+-- the numbers of the header of a reply of the router with data of this length
+abbrev pub router_numbers : frames.ReplyHeader → ℕ → List ℕ
+router_numbers e len = e.command ∷ len ∷ e.session ∷ 0 ∷ e.context ∷ 0 ∷ []
+
 -- ROUTES
 
 -- the peer whose request it is

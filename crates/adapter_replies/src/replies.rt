@@ -1,13 +1,16 @@
 //! The messages that answer frames.
 
 ghost use Rattle.std.specs.Prelude.{◌≡◌, ◌≤◌, IfOk, length};
-ghost use Rattle.cip_encap.specs.Message.{message_text};
+ghost use Rattle.cip_encap.specs.Message.{message_text, view_header};
 ghost use Rattle.cip_router.specs.Replies.{view_reply};
 ghost use Rattle.cip_router.specs.Frames.{headed_reply, reply_message, router_reply, socket_of};
-ghost use Rattle.adapter_replies.specs.Routes.{view_reply_header, view_frame_reply, IsWritable, IsWritableFrame};
+ghost use Rattle.adapter_replies.specs.Routes.{view_reply_header, view_frame_reply, router_numbers, IsWritable, IsWritableFrame};
 
 use crate::routes::ReplyHeader;
-use cip_encap::{MessageView, SocketAddress, write_items, write_message};
+use cip_encap::{
+    HEADER_LEN, MessageHeader, MessageView, SocketAddress, items_len, put_items_header,
+    put_message_header, put_socket, write_message,
+};
 use cip_router::{EncapStatus, Reply};
 use cip_types::limits::UDP_PORT;
 use cip_types::{Node, OutOfMemory};
@@ -72,7 +75,22 @@ fn write_headed_reply(
     write_message(alloc, &message)
 }
 
-/// The message of a reply of the message router.
+/// The header of a message with data of this length, which returns the command, the session handle and the sender
+/// context of its request.
+fn router_header(reply_header: ReplyHeader, len: u16) -> MessageHeader
+    ensures { view_header result ≡ router_numbers (view_reply_header reply_header) len }
+{
+    MessageHeader {
+        command: reply_header.command,
+        len,
+        session: reply_header.session,
+        status: 0,
+        context: reply_header.context,
+        options: 0,
+    }
+}
+
+/// The message of a reply of the message router: header, items and reply in one buffer.
 fn write_router(
     alloc: Global,
     reply_header: ReplyHeader,
@@ -83,9 +101,15 @@ fn write_router(
     ensures { IfOk result (λ v. v.items
         ≡ message_text (reply_message (view_reply_header reply_header) (router_reply (view_reply reply.now) address))) }
 {
-    let data = reply.write(alloc)?;
-    let items = write_items(alloc, &data, address.map(socket_of))?;
-    write_headed_reply(alloc, reply_header, reply_header.session, 0, &items)
+    let socket = address.map(socket_of);
+    let reply_len = reply.len();
+    let len = items_len(reply_len, socket);
+    let mut out = Vec::with_capacity(alloc, HEADER_LEN + len)?;
+    put_message_header(&mut out, &router_header(reply_header, len as u16))?;
+    put_items_header(&mut out, reply_len as u16, socket)?;
+    reply.put(&mut out)?;
+    put_socket(&mut out, socket)?;
+    Ok(out)
 }
 
 /// The message of a reply to a frame. Out of memory is the only fault.

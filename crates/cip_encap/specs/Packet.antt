@@ -89,6 +89,10 @@ abbrev pub socket_items : Option SocketAddress → List ℕ
 socket_items None = []
 socket_items (Some s) = socket_item 0x8001 (address_bytes s)
 
+-- the numbers before data of this length, with timeout 0
+abbrev pub written_numbers : ℕ → Option SocketAddress → List ℕ
+written_numbers len socket = 0 ∷ 0 ∷ (2 + socket_count socket) ∷ 0 ∷ 0 ∷ 0xB2 ∷ len ∷ []
+
 -- the bytes of items with timeout 0
 abbrev pub packet_text : List ℕ → Option SocketAddress → List ℕ
 packet_text payload socket =

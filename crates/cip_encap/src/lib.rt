@@ -18,7 +18,10 @@ mod write;
 pub use header::{MessageHeader, read_message_header};
 pub use laws::reads_back;
 pub use message::{EncapFault, MessageView};
-pub use packet::{CommonPacket, ItemFault, SocketAddress, read_items, write_items};
+pub use packet::{
+    CommonPacket, ItemFault, SocketAddress, items_len, put_items_header, put_socket, read_items,
+    write_items,
+};
 pub use read::read_message;
 pub use splitter::{Message, SplitFault, Splitter};
-pub use write::write_message;
+pub use write::{HEADER_LEN, put_message_header, write_message};

@@ -1,9 +1,10 @@
 //! The items of explicit requests and replies outside connections.
 
-ghost use Rattle.std.specs.Prelude.{◌≡◌, ◌≤◌, ◌++◌, Result, Ok, Some, OnOk, IfOk, length};
+ghost use Rattle.std.specs.Prelude.{◌≡◌, ◌≤◌, ◌+◌, ◌++◌, Result, Ok, Some, OnOk, IfOk, length};
+ghost use Rattle.cip_types.specs.Fields.{fields_text};
 ghost use Rattle.std.specs.Option.{option_map};
 ghost use Rattle.cip_encap.specs.declared.packet.ItemFault.{ItemFault};
-ghost use Rattle.cip_encap.specs.Packet.{PacketFields, view_packet, IsPacketText, IsPacketReading, socket_items, packet_text};
+ghost use Rattle.cip_encap.specs.Packet.{PacketFields, view_packet, IsPacketText, IsPacketReading, packet_widths, written_numbers, socket_items, packet_text};
 ghost use Rattle.cip_encap.specs.Reading.{seen};
 ghost use Rattle.cip_encap.specs.PacketReading.{behind_socket, are_sockets as sockets_test, packet_reading};
 
@@ -109,8 +110,43 @@ pub fn read_items(bytes: &[u8]) -> Result<CommonPacket<'_>, ItemFault>
     parsed(bytes)
 }
 
+/// The bytes of the items before the data, and those of a socket address item.
+const ITEMS_HEADER_LEN: usize = 16;
+
+const SOCKET_ITEM_LEN: usize = 20;
+
+/// The number of bytes of the items around data of this length.
+pub fn items_len(len: usize, socket: Option<SocketAddress>) -> usize
+    requires { len ≤ 65535 }
+    ensures { result ≡ 16 + len + length (socket_items socket) }
+{
+    match socket {
+        Some(_) => ITEMS_HEADER_LEN + len + SOCKET_ITEM_LEN,
+        None => ITEMS_HEADER_LEN + len,
+    }
+}
+
+/// Appends what comes before the data of a request or reply: timeout 0, a null address item, and the beginning of an
+/// unconnected data item with data of this length. The data, and a socket address item if there is a socket address,
+/// are to follow. OutOfMemory is the only fault.
+///
+/// Volume 2, chapter 2, common packet format.
+pub fn put_items_header(
+    out: &mut Vec<u8>,
+    len: u16,
+    socket: Option<SocketAddress>,
+) -> Result<(), OutOfMemory>
+    ensures { OnOk result (out.new.items ≡ out.old.items ++ fields_text packet_widths (written_numbers len socket)) }
+{
+    put_bytes(out, &[0, 0, 0, 0, 0, 0])?;
+    put_u16(out, if socket.is_some() { 3 } else { 2 })?;
+    put_bytes(out, &[0, 0, 0, 0])?;
+    put_u16(out, UNCONNECTED_DATA)?;
+    put_u16(out, len)
+}
+
 /// Appends a T->O socket address item.
-fn put_socket(out: &mut Vec<u8>, socket: SocketAddress) -> Result<(), OutOfMemory>
+fn put_socket_item(out: &mut Vec<u8>, socket: SocketAddress) -> Result<(), OutOfMemory>
     ensures { OnOk result (out.new.items ≡ out.old.items ++ socket_items (Some socket)) }
 {
     put_u16(out, T_O_SOCKET_ADDRESS)?;
@@ -118,6 +154,18 @@ fn put_socket(out: &mut Vec<u8>, socket: SocketAddress) -> Result<(), OutOfMemor
     put_bytes(out, &socket.port.to_be_bytes())?;
     put_bytes(out, &socket.address.0.to_be_bytes())?;
     put_bytes(out, &[0; 8])
+}
+
+/// Appends a T->O socket address item, if there is a socket address. OutOfMemory is the only fault.
+///
+/// Volume 2, chapter 2, socket address item.
+pub fn put_socket(out: &mut Vec<u8>, socket: Option<SocketAddress>) -> Result<(), OutOfMemory>
+    ensures { OnOk result (out.new.items ≡ out.old.items ++ socket_items socket) }
+{
+    match socket {
+        Some(socket) => put_socket_item(out, socket),
+        None => Ok(()),
+    }
 }
 
 /// The bytes of the items around the data of a request or reply: timeout 0, and a T->O socket address item
@@ -136,15 +184,9 @@ pub fn write_items(
     ensures is_text { IfOk result (λ v. IsPacketText v.items (record { timeout = 0; payload = «data».now })) }
     ensures read_back { IfOk result (λ v. packet_reading v.items ≡ Ok (record { timeout = 0; payload = «data».now })) }
 {
-    let mut out = Vec::new(alloc);
-    put_bytes(&mut out, &[0, 0, 0, 0, 0, 0])?;
-    put_u16(&mut out, if socket.is_some() { 3 } else { 2 })?;
-    put_bytes(&mut out, &[0, 0, 0, 0])?;
-    put_u16(&mut out, UNCONNECTED_DATA)?;
-    put_u16(&mut out, data.len() as u16)?;
+    let mut out = Vec::with_capacity(alloc, items_len(data.len(), socket))?;
+    put_items_header(&mut out, data.len() as u16, socket)?;
     put_bytes(&mut out, data)?;
-    if let Some(socket) = socket {
-        put_socket(&mut out, socket)?;
-    }
+    put_socket(&mut out, socket)?;
     Ok(out)
 }

@@ -4,14 +4,12 @@ ghost use Rattle.std.specs.Prelude.{◌≡◌, ◌↔◌, ◌+◌, ◌<◌, ◌�
 ghost use Rattle.cip_encap.specs.Stream.{IsShortMessage, BeginsNoMessage, AreMessages, AreOnlyMessages, GoOn, length_field, IsTooLong, EndsTooLong};
 ghost use Rattle.cip_encap.specs.declared.splitter.SplitFault.TheVariants.{OutOfMemory as Memory};
 
+use crate::write::HEADER_LEN;
 use cip_types::limits::LONGEST_MESSAGE;
 use cip_types::{Items, OutOfMemory};
 use std::alloc::Global;
 use std::marker::Model;
 use thiserror::Error;
-
-/// The bytes of a message's header.
-const HEADER_LEN: usize = 24;
 
 /// All bytes of one message.
 pub type Message = Items<u8>;
@@ -106,7 +104,7 @@ fn messages_of(alloc: Global, stream: &[u8]) -> Result<(Vec<Message>, Vec<u8>), 
 }
 
 /// The messages of two slices, one after the other, and the bytes after the last whole one.
-fn split(alloc: Global, kept: &[u8], piece: &[u8]) -> Result<(Vec<Message>, Vec<u8>), OutOfMemory>
+fn parts(alloc: Global, kept: &[u8], piece: &[u8]) -> Result<(Vec<Message>, Vec<u8>), OutOfMemory>
     ensures messages { IfOk result (λ x. AreMessages (kept.now ++ piece.now) x.0.items x.1.items) }
     ensures small { IfOk result (λ x. IsTooLong x.1.items ⊎ (length x.1.items < 24 + 2048)) }
 {
@@ -117,6 +115,34 @@ fn split(alloc: Global, kept: &[u8], piece: &[u8]) -> Result<(Vec<Message>, Vec<
     stream.extend_from_slice(kept)?;
     stream.extend_from_slice(piece)?;
     messages_of(alloc, stream.as_slice())
+}
+
+/// Whether two slices, one after the other, begin with no whole message.
+fn begins_none(kept: &[u8], piece: &[u8]) -> bool
+    ensures none { IsTrue result → BeginsNoMessage (kept.now ++ piece.now) }
+    ensures small { IsTrue result → IsTooLong (kept.now ++ piece.now) ⊎ (length (kept.now ++ piece.now) < 24 + 2048) }
+{
+    let total = kept.len() + piece.len();
+    if total < HEADER_LEN {
+        return true;
+    }
+    total < HEADER_LEN + len_at(kept, piece, 0)
+}
+
+/// The messages that end in the next piece. The bytes after the last whole one are kept: a piece that ends none is
+/// appended in place.
+fn split(alloc: Global, kept: &mut Vec<u8>, piece: &[u8]) -> Result<Vec<Message>, OutOfMemory>
+    ensures messages { IfOk result (λ messages. AreMessages (kept.old.items ++ piece.now) messages.items kept.new.items) }
+    ensures small { IfOk result (λ _. IsTooLong kept.new.items ⊎ (length kept.new.items < 24 + 2048)) }
+    ensures err { OnErr result (kept.new.items ≡ kept.old.items) }
+{
+    if begins_none(kept.as_slice(), piece) {
+        kept.extend_from_slice(piece)?;
+        return Ok(Vec::new(alloc));
+    }
+    let (messages, rest) = parts(alloc, kept.as_slice(), piece)?;
+    *kept = rest;
+    Ok(messages)
 }
 
 /// Splits a stream into messages, whatever its pieces. It keeps the bytes after the last whole message, and
@@ -165,8 +191,7 @@ impl Splitter {
             return Err(SplitFault::TooLong);
         }
         let alloc = *self.kept.allocator();
-        let (messages, rest) = split(alloc, self.kept.as_slice(), piece)?;
-        self.kept = rest;
+        let messages = split(alloc, &mut self.kept, piece)?;
         Ok(messages)
     }
 }

@@ -1,6 +1,6 @@
 //! The data of a Forward_Close, and replies to it.
 
-ghost use Rattle.std.specs.Prelude.{◌≡◌, ◌%◌, ◌≤◌, length, Result, IfOk, Ok};
+ghost use Rattle.std.specs.Prelude.{◌≡◌, ◌%◌, ◌≤◌, ◌++◌, length, Result, IfOk, OnOk, Ok};
 ghost use Rattle.cip_fwdopen.specs.declared.fault.ReadFault.{ReadFault};
 ghost use Rattle.cip_fwdopen.specs.declared.close.CloseReply.{CloseReply};
 ghost use Rattle.cip_fwdopen.specs.Readings.{seen};
@@ -174,14 +174,23 @@ pub fn write_close(alloc: Global, request: &CloseRequest<'_>) -> Result<Vec<u8>,
     close_bytes(alloc, request)
 }
 
+/// Appends the reply to a successful close, with no application reply: 14 bytes. OutOfMemory is the only fault.
+///
+/// Volume 1, chapter 3, Forward_Close service, successful response.
+pub fn put_closed(out: &mut Vec<u8>, triad: Triad) -> Result<(), OutOfMemory>
+    ensures { OnOk result (out.new.items ≡ out.old.items ++ closed_text triad) }
+{
+    put_bytes(out, &[FORWARD_CLOSE | REPLY, 0, 0, 0])?;
+    put_triad(out, triad)?;
+    put_bytes(out, &[0, 0])
+}
+
 /// The bytes of the reply to a successful close.
 fn closed_bytes(alloc: Global, triad: Triad) -> Result<Vec<u8>, OutOfMemory>
     ensures { IfOk result (λ v. v.items ≡ closed_text triad) }
 {
     let mut out = Vec::with_capacity(alloc, CLOSED_LEN)?;
-    put_bytes(&mut out, &[FORWARD_CLOSE | REPLY, 0, 0, 0])?;
-    put_triad(&mut out, triad)?;
-    put_bytes(&mut out, &[0, 0])?;
+    put_closed(&mut out, triad)?;
     Ok(out)
 }
 

@@ -1,6 +1,6 @@
 //! A Get_Attribute_Single and replies to it.
 
-ghost use Rattle.std.specs.Prelude.{◌≡◌, Result, IfOk, Ok};
+ghost use Rattle.std.specs.Prelude.{◌≡◌, ◌++◌, Result, IfOk, OnOk, Ok};
 ghost use Rattle.cip_fwdopen.specs.declared.fault.ReadFault.{ReadFault};
 ghost use Rattle.cip_fwdopen.specs.Readings.{seen};
 ghost use Rattle.cip_fwdopen.specs.Request.{IsRequestText, request_reading};
@@ -14,6 +14,9 @@ use cip_epath::{Target, write_target};
 use cip_types::fields::put_bytes;
 use cip_types::{Fault, OutOfMemory};
 use std::alloc::Global;
+
+/// The length of a successful reply before its value, in bytes.
+const GOT_HEADER_LEN: usize = 4;
 
 /// The answer of a reply to a Get_Attribute_Single.
 #[derive(Clone, Copy, PartialEq, Eq)]
@@ -92,6 +95,25 @@ pub fn write_get(alloc: Global, target: &Target) -> Result<Vec<u8>, OutOfMemory>
     Ok(out)
 }
 
+/// Appends the whole reply with an attribute's value. OutOfMemory is the only fault.
+///
+/// Volume 1, appendix A, Get_Attribute_Single service, successful response.
+pub fn put_got(out: &mut Vec<u8>, value: &[u8]) -> Result<(), OutOfMemory>
+    ensures { OnOk result (out.new.items ≡ out.old.items ++ got_text value.now) }
+{
+    put_bytes(out, &[GET_ATTRIBUTE_SINGLE | REPLY, 0, 0, 0])?;
+    put_bytes(out, value)
+}
+
+/// The bytes of the reply with an attribute's value.
+fn got_bytes(alloc: Global, value: &[u8]) -> Result<Vec<u8>, OutOfMemory>
+    ensures { IfOk result (λ v. v.items ≡ got_text value.now) }
+{
+    let mut out = Vec::with_capacity(alloc, GOT_HEADER_LEN + value.len())?;
+    put_got(&mut out, value)?;
+    Ok(out)
+}
+
 /// Writes the whole reply with an attribute's value.
 ///
 /// Volume 1, appendix A, Get_Attribute_Single service, successful response.
@@ -100,8 +122,5 @@ pub fn write_got(alloc: Global, value: &[u8]) -> Result<Vec<u8>, OutOfMemory>
     ensures is_text { IfOk result (λ v. IsGetReplyText v.items (got_reply value.now)) }
     ensures read_back { IfOk result (λ v. get_reply_reading v.items ≡ Ok (got_reply value.now)) }
 {
-    let mut out = Vec::new(alloc);
-    put_bytes(&mut out, &[GET_ATTRIBUTE_SINGLE | REPLY, 0, 0, 0])?;
-    put_bytes(&mut out, value)?;
-    Ok(out)
+    got_bytes(alloc, value)
 }

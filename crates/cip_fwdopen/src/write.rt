@@ -108,8 +108,11 @@ fn service_of(large: bool) -> u8
     }
 }
 
-/// Appends the whole reply to a successful open.
-fn put_opened(out: &mut Vec<u8>, large: bool, opened: &Opened) -> Result<(), OutOfMemory>
+/// Appends the whole reply to a successful Large_Forward_Open or Forward_Open, with no application reply: 30 bytes.
+/// OutOfMemory is the only fault.
+///
+/// Volume 1, chapter 3, Forward_Open service, successful response.
+pub fn put_opened(out: &mut Vec<u8>, large: bool, opened: &Opened) -> Result<(), OutOfMemory>
     ensures { OnOk result (OpenedFits opened.now
         × (out.new.items ≡ out.old.items ++ opened_text large opened.now)) }
 {
@@ -156,6 +159,23 @@ fn put_failure(out: &mut Vec<u8>, triad: Option<Triad>) -> Result<(), OutOfMemor
     put_bytes(out, &[0, 0])
 }
 
+/// Appends the whole reply that refuses a request of the service. Its data is the triad, if one is given, with
+/// remaining path size 0. OutOfMemory is the only fault.
+///
+/// Volume 1, chapter 3, Forward_Open service, unsuccessful response.
+pub fn put_refused(
+    out: &mut Vec<u8>,
+    service: u8,
+    fault: Fault,
+    triad: Option<Triad>,
+) -> Result<(), OutOfMemory>
+    ensures { OnOk result (out.new.items ≡ out.old.items ++ refused_text service fault triad) }
+{
+    put_bytes(out, &[service | REPLY, 0, fault.general])?;
+    put_extended(out, fault.extended)?;
+    put_failure(out, triad)
+}
+
 /// The bytes of the reply that refuses a request of the service.
 fn refused_bytes(
     alloc: Global,
@@ -166,9 +186,7 @@ fn refused_bytes(
     ensures { IfOk result (λ v. v.items ≡ refused_text service fault triad) }
 {
     let mut out = Vec::new(alloc);
-    put_bytes(&mut out, &[service | REPLY, 0, fault.general])?;
-    put_extended(&mut out, fault.extended)?;
-    put_failure(&mut out, triad)?;
+    put_refused(&mut out, service, fault, triad)?;
     Ok(out)
 }
 

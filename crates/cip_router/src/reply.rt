@@ -1,9 +1,13 @@
 //! Replies to requests.
 
-ghost use Rattle.std.specs.Prelude.{◌≡◌, IfOk};
+ghost use Rattle.std.specs.Prelude.{◌≡◌, ◌++◌, IfOk, OnOk, length};
+ghost use Rattle.cip_fwdopen.specs.Reply.{extended_text, failure_text};
 ghost use Rattle.cip_router.specs.Replies.{view_reply, reply_text, HasStatus};
 
-use cip_fwdopen::{Opened, write_closed, write_got, write_opened, write_refused};
+use cip_fwdopen::{
+    Opened, put_closed, put_got, put_opened, put_refused, write_closed, write_got, write_opened,
+    write_refused,
+};
 use cip_types::{Fault, OutOfMemory, Triad};
 use std::alloc::Global;
 
@@ -22,7 +26,53 @@ pub enum Reply<'a> {
     Refused(u8, Fault, Option<Triad>),
 }
 
+/// The number of bytes of an extended status, with its size.
+fn extended_len(extended: Option<u16>) -> usize
+    ensures { result ≡ length (extended_text extended) }
+{
+    match extended {
+        Some(_) => 3,
+        None => 1,
+    }
+}
+
+/// The number of bytes of the data of a failure.
+fn failure_len(triad: Option<Triad>) -> usize
+    ensures { result ≡ length (failure_text triad) }
+{
+    match triad {
+        Some(_) => 10,
+        None => 0,
+    }
+}
+
 impl Reply<'_> {
+    /// The number of bytes of the reply. Takes no memory.
+    pub fn len(&self) -> usize
+        ensures { result ≡ length (reply_text (view_reply self.now)) }
+    {
+        match self {
+            Reply::Opened(_, _) => 30,
+            Reply::Closed(_) => 14,
+            Reply::Got(value) => 4 + value.len(),
+            Reply::Refused(_, fault, triad) => {
+                3 + extended_len(fault.extended) + failure_len(*triad)
+            }
+        }
+    }
+
+    /// Appends the reply. OutOfMemory is the only fault.
+    pub fn put(&self, out: &mut Vec<u8>) -> Result<(), OutOfMemory>
+        ensures { OnOk result (out.new.items ≡ out.old.items ++ reply_text (view_reply self.now)) }
+    {
+        match self {
+            Reply::Opened(large, opened) => put_opened(out, *large, opened),
+            Reply::Closed(triad) => put_closed(out, *triad),
+            Reply::Got(value) => put_got(out, value),
+            Reply::Refused(service, fault, triad) => put_refused(out, *service, *fault, *triad),
+        }
+    }
+
     /// Writes the reply. OutOfMemory is the only fault.
     pub fn write(&self, alloc: Global) -> Result<Vec<u8>, OutOfMemory>
         requires { HasStatus (view_reply self.now) }

@@ -1,0 +1,2 @@
+mod IdentitySamples
+mod Short

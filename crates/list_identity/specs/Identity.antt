@@ -16,7 +16,7 @@
 --   serial number        u32
 --   product name               a byte for its length, its bytes
 --   state                u8
-use Rattle.std.specs.Prelude.{ℕ, ◌+◌, Bool, true, false, ◌&&◌, nat_eq, if◌then◌else◌, List, [], ◌∷◌, ◌++◌, length, replicate, Option, Some, None, Result, Ok, Err}
+use Rattle.std.specs.Prelude.{ℕ, ◌+◌, Bool, true, false, ◌&&◌, ◌==◌, if◌then◌else◌, List, [], ◌∷◌, ◌++◌, length, replicate, Option, Some, None, Result, Ok, Err}
 use Rattle.std.specs.Int.{w8, w16, w32, to_be_bytes}
 use Rattle.std.specs.Option.{option_map}
 use Rattle.cip_types.specs.Fields.{fields_text}
@@ -30,15 +30,18 @@ list_identity = 0x0063
 
 -- the message is a ListIdentity request: it has no data, status or options
 abbrev pub is_request : MessageFields → Bool
-is_request m = nat_eq m.command list_identity && (nat_eq m.status 0 && (nat_eq m.options 0 && nat_eq (length m.payload) 0))
+is_request m = m.command == list_identity && (m.status == 0 && (m.options == 0 && length m.payload == 0))
+
+abbrev pub request_if : Bool → MessageFields → Option MessageFields
+request_if is_one m = if is_one then Some m else None
 
 abbrev pub request_of : Result MessageFields EncapFault → Option MessageFields
-request_of (Ok m) = if is_request m then Some m else None
+request_of (Ok m) = request_if (is_request m) m
 request_of (Err fault) = None
 
 -- the ListIdentity request of some bytes, if they are one
-unfoldable pub asked_in : List ℕ → Option MessageFields
-asked_in bytes = request_of (message_reading bytes)
+abbrev pub request_in : List ℕ → Option MessageFields
+request_in bytes = request_of (message_reading bytes)
 
 -- the socket address: numbers with the most significant byte first
 abbrev pub view_socket : StationIdentity → List ℕ
@@ -62,8 +65,8 @@ identity_item s =
 
 -- the reply to a request
 abbrev pub reply_message : StationIdentity → MessageFields → MessageFields
-reply_message s asked = record { command = list_identity; session = asked.session; status = 0; context = asked.context; options = 0; payload = identity_item s }
+reply_message s request = record { command = list_identity; session = request.session; status = 0; context = request.context; options = 0; payload = identity_item s }
 
 -- the bytes that answer some bytes: none, unless these are a ListIdentity request
 abbrev pub answer_to : List ℕ → StationIdentity → Option (List ℕ)
-answer_to bytes s = option_map (λ asked. message_text (reply_message s asked)) (asked_in bytes)
+answer_to bytes s = option_map (λ request. message_text (reply_message s request)) (request_in bytes)

@@ -41,7 +41,7 @@ pub struct ProductName {
 }
 
 impl Model for ProductName {
-    ghost use Rattle.std.specs.Prelude.{List, ℕ, ◌≤◌};
+    ghost use Rattle.std.specs.Prelude.{List, ℕ, ◌≤◌, length};
 
     ghost Value = { List ℕ };
 

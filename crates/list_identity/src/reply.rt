@@ -2,7 +2,7 @@
 
 ghost use Rattle.std.specs.Prelude.{◌≡◌, ◌++◌, ◌<◌, ◌+◌, length, IfOk, OnOk, OnErr};
 ghost use Rattle.std.specs.Option.{option_map};
-ghost use Rattle.list_identity.specs.Identity.{answer_to, asked_in, identity_item, view_socket, view_device};
+ghost use Rattle.list_identity.specs.Identity.{answer_to, request_in, identity_item, is_request, request_if, view_socket, view_device};
 ghost use Rattle.cip_encap.specs.Message.{view_message};
 
 use crate::station::StationIdentity;
@@ -32,21 +32,20 @@ const FIXED_BYTES: u16 = 34;
 /// Volume 2, chapter 2, ListIdentity.
 pub fn identity_reply(
     alloc: Global,
-    request: &[u8],
+    message: &[u8],
     station: &StationIdentity,
 ) -> Result<Option<Vec<u8>>, OutOfMemory>
-    ensures { IfOk result (λ reply. option_map (λ v. v.items) reply ≡ answer_to request.now station.now) }
+    ensures { IfOk result (λ reply. option_map (λ v. v.items) reply ≡ answer_to message.now station.now) }
 {
-    let Some(asked) = asked_in(request) else {
+    let Some(request) = request_in(message) else {
         return Ok(None);
     };
-    let mut data = Vec::new(alloc);
-    put_identity(&mut data, station)?;
+    let data = identity_data(alloc, station)?;
     let reply = MessageView {
         command: LIST_IDENTITY,
-        session: asked.session,
+        session: request.session,
         status: 0,
-        context: asked.context,
+        context: request.context,
         options: 0,
         data: data.as_slice(),
     };
@@ -54,26 +53,48 @@ pub fn identity_reply(
 }
 
 /// The ListIdentity request of these bytes.
-fn asked_in(request: &[u8]) -> Option<MessageView<'_>>
-    ensures { option_map view_message result ≡ asked_in request.now }
+fn request_in(message: &[u8]) -> Option<MessageView<'_>>
+    ensures { option_map view_message result ≡ request_in message.now }
 {
-    let Ok(message) = read_message(request) else {
+    let Ok(request) = read_message(message) else {
         return None;
     };
-    if message.command != LIST_IDENTITY
-        || message.status != 0
-        || message.options != 0
-        || !message.data.is_empty()
-    {
-        return None;
-    }
-    Some(message)
+    let is_one = is_request(&request);
+    request_if(request, is_one)
+}
+
+/// The message, if it is a request.
+fn request_if(message: MessageView<'_>, is_one: bool) -> Option<MessageView<'_>>
+    ensures { option_map view_message result ≡ request_if is_one (view_message message.entry) }
+{
+    if is_one { Some(message) } else { None }
+}
+
+/// Whether a message is a ListIdentity request.
+fn is_request(message: &MessageView<'_>) -> bool
+    ensures { result ≡ is_request (view_message message.now) }
+{
+    message.command == LIST_IDENTITY
+        && message.status == 0
+        && message.options == 0
+        && message.data.is_empty()
+}
+
+/// The data of the reply: fewer than 100 bytes.
+fn identity_data(alloc: Global, station: &StationIdentity) -> Result<Vec<u8>, OutOfMemory>
+    ensures item { IfOk result (λ v. v.items ≡ identity_item station.now) }
+    ensures few { IfOk result (λ v. length v.items < 100) }
+{
+    let mut data = Vec::new(alloc);
+    put_identity(&mut data, station)?;
+    Ok(data)
 }
 
 /// Appends the one item of the reply.
+#[tactic(auto, using(crate::proofs::Short::identity_item_few), unfolding(crate::specs::Identity::identity_item))]
 fn put_identity(out: &mut Vec<u8>, station: &StationIdentity) -> Result<(), OutOfMemory>
     ensures ok { OnOk result (out.new.items ≡ out.old.items ++ identity_item station.now) }
-    ensures few { OnOk result (length out.old.items ≡ 0 → length out.new.items < 100) }
+    ensures few { OnOk result (length (identity_item station.now) < 100) }
 {
     put_u16(out, 1)?;
     put_u16(out, IDENTITY_ITEM)?;

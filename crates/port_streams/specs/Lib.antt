@@ -3,4 +3,3 @@ pub mod StreamInputs
 pub mod Slots
 pub mod Routing
 pub mod Polling
-pub mod Links

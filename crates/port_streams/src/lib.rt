@@ -2,7 +2,6 @@
 //! that are sent, the order of their inputs and of the polls, and the destinations of datagrams.
 #![tactic(auto)]
 
-mod links;
 mod poll_order;
 mod port_stream;
 mod routes;
@@ -10,7 +9,6 @@ mod sending;
 mod streams;
 mod waiting;
 
-pub use links::{TargetLink, TargetLinks};
 pub use poll_order::PollOrder;
 pub use port_stream::PortStream;
 pub use routes::{DatagramRoute, DatagramRoutes, Destination};

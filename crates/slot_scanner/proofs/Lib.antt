@@ -1,3 +1,4 @@
 pub mod Kept
 mod Doing
 mod Ticking
+pub mod Waking

@@ -2,11 +2,11 @@
 
 use crate::events::{happened, image_at, written};
 use crate::made::{fresh_state, state_of};
-use crate::ticks::tick;
+use crate::ticks::{quiet_time, tick};
 use cip_tables::{
     Config, Delivery, Device, DeviceTable, Event, NewFault, Outcome, StepFault, TableCopy,
 };
-use cip_types::{Items, Node, OutOfMemory};
+use cip_types::{Items, Ms, Node, OutOfMemory};
 use scanner_laws::{fresh_tables_are_whole, steps_keep_tables_whole};
 use scanner_table::{ScannerProfile, ScannerTable, copy_of_slots};
 use slot_data::receive;
@@ -128,6 +128,11 @@ impl<H: Hints> Device for Scanner<H> {
             next_request: self.scanner.next_request,
             streams: Items::copy_of(self.alloc, &self.scanner.streams)?,
         }))
+    }
+
+    #[tactic(auto, unfolding(cip_tables::specs::Step::step), using(crate::proofs::Waking::device_rests))]
+    fn next_wake(&self) -> Ms {
+        quiet_time(&self.profile, &self.scanner, self.hints.bounds())
     }
 
     fn is_whole(&self) {

@@ -1,6 +1,8 @@
 //! Ticks.
 
-ghost use Rattle.std.specs.Prelude.{IfOk, ◌≡◌, ◌<◌, ◌≤◌, ◌+◌, ◌^◌, Ok, None};
+ghost use Rattle.std.specs.Prelude.{IfOk, ℕ, ◌≡◌, ◌<◌, ◌≤◌, ◌+◌, ◌^◌, min, Ok, None};
+ghost use Rattle.cip_events.specs.Answers.{plain_answer};
+ghost use Rattle.cip_events.specs.Clock.{longest_tick, clock_end};
 ghost use Rattle.cip_events.specs.Outcomes.{Follows};
 ghost use Rattle.scanner_table.specs.Effects.{nothing};
 ghost use Rattle.scanner_table.specs.Ticks.{clocked_table, advanced, ticked, tick};
@@ -101,6 +103,18 @@ fn present_bounds(
     bounds
 }
 
+/// Returns the bounds, taken anew if one of them has come. Takes no memory.
+fn current_bounds(profile: &ScannerProfile, scanner: &ScannerState, bounds: Bounds) -> Bounds
+    requires faultless { profile_fault profile.now ≡ None }
+    requires hints { IsHinted bounds (table_of profile.now scanner.now) }
+    ensures { IsHinted result (table_of profile.now scanner.now) }
+{
+    if bounds.are_after(scanner.clock) {
+        return bounds;
+    }
+    bounds_of(profile, scanner)
+}
+
 /// Performs a tick by which connections may change, or slots may be due. The clock does not pass its end.
 fn advance_within(
     alloc: Global,
@@ -141,6 +155,35 @@ fn reach<H: Hints>(
     let outcome = advance_within(alloc, profile, scanner, hints.bounds(), ms);
     renew(profile, scanner, hints);
     outcome
+}
+
+/// Returns the first of the three bounds.
+fn first(bounds: Bounds) -> Ms
+    ensures value { result.0 ≡ min (min bounds.ends.0 bounds.retries.0) bounds.dues.0 }
+    ensures ends { result.0 ≤ bounds.ends.0 }
+    ensures retries { result.0 ≤ bounds.retries.0 }
+    ensures dues { result.0 ≤ bounds.dues.0 }
+{
+    Ms(bounds.ends.0.min(bounds.retries.0).min(bounds.dues.0))
+}
+
+/// Returns for how long ticks answer nothing and move the clock alone, at most the longest tick. Takes no memory.
+///
+/// The bounds serve if nothing happens by now before them. Otherwise they are taken anew, and the answer is 0 only if a slot
+/// has to act by now.
+#[tactic(auto, unfolding(scanner_table::specs::Ticks::tick))]
+pub fn quiet_time(profile: &ScannerProfile, scanner: &ScannerState, bounds: Bounds) -> Ms
+    requires whole { IsWhole (table_of profile.now scanner.now) }
+    requires hints { IsHinted bounds (table_of profile.now scanner.now) }
+    ensures quiet { let t = table_of profile.now scanner.now in (ms : ℕ) → ms < result.0 → ms ≤ longest_tick → t.clock.0 + ms ≤ clock_end → tick t ms ≡ Ok (plain_answer Verdict.Done, clocked_table t ms) }
+    ensures longest { result.0 ≤ longest_tick }
+{
+    // Before the bounds, no connection changes and no slot produces.
+    connections_rest_before_bounds();
+    producers_rest_before_bounds();
+    let bounds = current_bounds(profile, scanner, bounds);
+    let wait = first(bounds).0.saturating_sub(scanner.clock.0);
+    Ms(wait.min(u64::from(LONGEST_TICK_MS)))
 }
 
 /// Performs a tick by which nothing happens: the clock moves.

@@ -4,6 +4,7 @@
 #![tactic(auto)]
 
 mod bind;
+mod dial;
 mod fault;
 mod finder;
 mod place;

@@ -1,6 +1,6 @@
 //! Which sockets may have something.
 
-use mio::Token;
+use mio::{Events, Token};
 
 /// The token of the listener, and those of the other sockets.
 pub(crate) const LISTENER: Token = Token(0);
@@ -41,6 +41,13 @@ impl Ready {
     /// Whether a socket may have something.
     pub(crate) fn any(&self) -> bool {
         self.listener || self.datagrams || self.streams || self.openings || self.finder
+    }
+
+    /// The sockets of these events were reported.
+    pub(crate) fn mark_all(&mut self, events: &Events) {
+        for event in events.iter() {
+            self.mark(event.token());
+        }
     }
 
     /// The sockets of this token were reported.

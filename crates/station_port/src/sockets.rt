@@ -169,7 +169,10 @@ impl StationSockets {
         let Some(peer) = node_of(from) else {
             return Ok(None);
         };
-        match Items::copy_of(self.alloc, &self.buffer[..count]) {
+        let Some(datagram) = self.buffer.get(..count) else {
+            return Ok(None);
+        };
+        match Items::copy_of(self.alloc, datagram) {
             Ok(bytes) => Ok(Some(Input::Datagram { peer, bytes })),
             Err(OutOfMemory) => Err(PortFault::Memory),
         }

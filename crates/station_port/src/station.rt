@@ -47,7 +47,7 @@ impl<R: System + Net + Drop> StationPort<R> {
         let listener = listen(&rt, address_of(place.address, place.tcp))?;
         let udp = datagrams(&rt, address_of(place.address, place.udp))?;
         let finder = Finder::new(alloc, &rt, place, identity)?;
-        let targets = Targets::new(alloc, &[])?;
+        let targets = Targets::new(alloc, place.address, &[])?;
         let sockets = StationSockets::new(
             alloc,
             Some(listener),
@@ -70,7 +70,7 @@ impl<R: System + Net + Drop> StationPort<R> {
         ensures { IfOk result (λ port. port.failures ≡ 0) }
     {
         let udp = datagrams(&rt, address_of(place.address, place.udp))?;
-        let targets = Targets::new(alloc, targets)?;
+        let targets = Targets::new(alloc, place.address, targets)?;
         let sockets = StationSockets::new(alloc, None, udp, None, targets, place.peer_udp)?;
         StationPort::begin(alloc, rt, sockets, place.multicast)
     }
@@ -140,9 +140,7 @@ impl<R: System + Drop> StationPort<R> {
         if self.poll.poll(&mut self.events, Some(most)).is_err() {
             return false;
         }
-        for event in self.events.iter() {
-            self.sockets.ready.mark(event.token());
-        }
+        self.sockets.ready.mark_all(&self.events);
         // A connection that could not be accepted is asked for again after each wait.
         self.sockets.ready.listener = true;
         !self.events.is_empty()
@@ -153,8 +151,8 @@ impl<R: System + Drop> StationPort<R> {
     fn wait_until(&mut self, end: Instant)
         ensures { self.new.failures ≡ self.old.failures }
     {
-        let whole = Duration::from_millis(self.left(end).as_millis() as u64);
-        if self.look(whole) {
+        let whole_ms = u64::try_from(self.left(end).as_millis()).unwrap_or(0);
+        if self.look(Duration::from_millis(whole_ms)) {
             return;
         }
         let rest = self.left(end);

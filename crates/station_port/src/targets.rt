@@ -1,30 +1,38 @@
 //! The targets of a scanner, and the streams that are being opened to them.
 
-use crate::place::address_of;
+use crate::dial::dial;
 use crate::ready::{OPENINGS, STREAMS};
 use cip_types::{Node, OutOfMemory};
 use mio::net::TcpStream;
 use mio::{Interest, Registry};
-use port_streams::{Destination, PortStreams, TargetLinks};
+use port_streams::{Destination, PortStreams};
 use std::alloc::Global;
 use std::net::Net;
+use target_links::TargetLinks;
 
 /// The targets of a scanner, the links to them, and the streams that are being opened.
 #[derive(Drop)]
 pub(crate) struct Targets {
+    /// The address from which the streams are opened.
+    from: Node,
     targets: Vec<Destination>,
     links: TargetLinks,
     opening: Vec<Option<TcpStream>>,
 }
 
 impl Targets {
-    /// These targets: each stream is to be opened at once.
-    pub(crate) fn new(alloc: Global, targets: &[Destination]) -> Result<Targets, OutOfMemory> {
+    /// These targets, whose streams come from this address: each stream is to be opened at once.
+    pub(crate) fn new(
+        alloc: Global,
+        from: Node,
+        targets: &[Destination],
+    ) -> Result<Targets, OutOfMemory> {
         let mut opening = Vec::with_capacity(alloc, targets.len())?;
         for _ in targets {
             opening.push(None)?;
         }
         Ok(Targets {
+            from,
             targets: Vec::from_slice(alloc, targets)?,
             links: TargetLinks::new(alloc, targets.len())?,
             opening,
@@ -61,7 +69,7 @@ impl Targets {
     /// A stream that is being opened to a target, and is reported once it is open or refused.
     fn connect<R: Net>(&self, rt: &R, registry: &Registry, target: usize) -> Option<TcpStream> {
         let to = self.targets.get(target)?;
-        let mut socket = TcpStream::connect(rt, address_of(to.node, to.port)).ok()?;
+        let mut socket = dial(rt, self.from, *to)?;
         registry
             .register(&mut socket, OPENINGS, Interest::WRITABLE)
             .ok()?;
@@ -72,6 +80,14 @@ impl Targets {
     fn close(&mut self, target: usize, now_ms: u64) {
         self.put(target, None);
         self.links.close(target, now_ms);
+    }
+
+    /// Takes the stream that is being opened to a target, if there is one.
+    fn take(&mut self, target: usize) -> Option<TcpStream> {
+        if target >= self.opening.len() {
+            return None;
+        }
+        self.opening[target].take()
     }
 
     /// Puts the stream that is being opened to a target.
@@ -106,7 +122,7 @@ impl Targets {
         let Some(peer) = self.node_of(target) else {
             return false;
         };
-        let Some(socket) = self.opening.get_mut(target).and_then(|place| place.take()) else {
+        let Some(socket) = self.take(target) else {
             return false;
         };
         match opened(&socket) {
@@ -124,7 +140,10 @@ impl Targets {
 
     /// The address of a target.
     fn node_of(&self, target: usize) -> Option<Node> {
-        self.targets.get(target).map(|to| to.node)
+        match self.targets.get(target) {
+            Some(to) => Some(to.node),
+            None => None,
+        }
     }
 
     /// Adds a stream that has opened. Whether a number was free, and the socket could be prepared.

@@ -1,5 +1,5 @@
 -- The characters of a line that no line of a trace has at their places.
-use Rattle.std.specs.Prelude.{ℕ, ◌+◌, ◌-◌, ◌==◌, ◌&&◌, ◌||◌, not, nat_lt, nat_le, if◌then◌else◌, Bool, true, false, List, [], ◌∷◌, Option, Some, None}
+use Rattle.std.specs.Prelude.{ℕ, ◌+◌, ◌==◌, ◌&&◌, not, nat_lt, if◌then◌else◌, Bool, true, false, List, [], ◌∷◌, Option, Some, None}
 use Rattle.trace_explain.specs.declared.lexical.Character.{Character}
 use Rattle.trace_explain.specs.declared.lexical.Character.TheVariants.{CarriageReturn, Tab, Space, Unprinted}
 
@@ -10,21 +10,20 @@ is_fit before byte = if byte == 32 then not (before == 32) else (nat_lt 32 byte 
 -- what a byte is that may not be at its place, which is in this column
 abbrev pub character_at : ℕ → ℕ → Bool → Character
 character_at byte column is_last =
-    if byte == 13 && is_last then CarriageReturn else
-    if byte == 9 then Tab column else
-    if byte == 32 then Space column else Unprinted column
+    if byte == 13 && is_last then CarriageReturn
+    else (if byte == 9 then Tab column else (if byte == 32 then Space column else Unprinted column))
 
 abbrev pub is_empty : List ℕ → Bool
 is_empty [] = true
 is_empty (byte ∷ bytes) = false
 
--- a space at the end of a line that has the last byte before this column
+-- a space at the end of a line of so many bytes
 abbrev pub last_space : ℕ → ℕ → Option Character
-last_space last column = if last == 32 && nat_lt 1 column then Some (Space (column - 1)) else None
+last_space last done = if last == 32 && nat_lt 0 done then Some (Space done) else None
 
--- The first character of a line that no line of a trace has at its place, from a column on and behind a byte. What is
--- before the line counts as a space.
+-- The first character of a line that no line of a trace has at its place, behind so many bytes, of which this one is
+-- the last. What is before the line counts as a space.
 abbrev pub bad_character : ℕ → ℕ → List ℕ → Option Character
-bad_character before column [] = last_space before column
-bad_character before column (byte ∷ bytes) =
-    if is_fit before byte then bad_character byte (column + 1) bytes else Some (character_at byte column (is_empty bytes))
+bad_character before done [] = last_space before done
+bad_character before done (byte ∷ bytes) =
+    if is_fit before byte then bad_character byte (done + 1) bytes else Some (character_at byte (done + 1) (is_empty bytes))

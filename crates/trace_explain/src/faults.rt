@@ -1,7 +1,7 @@
 //! Why a text is no trace, in words.
 
-ghost use Rattle.std.specs.Prelude.{◌≡◌, ◌<◌, ◌+◌, ◌∷◌, [], length, position, option_map, slice_get, IfSome, IfNone};
-ghost use Rattle.trace_text.specs.Reading.{is_line_feed, parts_of};
+ghost use Rattle.std.specs.Prelude.{◌≡◌, ◌<◌, length, position, IfSome};
+ghost use Rattle.trace_text.specs.Reading.{is_line_feed};
 
 use crate::lexical::Character;
 use crate::shapes::{BadWord, LineReason, WordReason, reason_of};
@@ -65,18 +65,29 @@ enum Place<'a> {
 fn line_at(text: &[u8], number: u64) -> Place<'_> {
     let mut rest = text;
     let mut left = number;
-    while let Some(end) = line_len(rest) {
-        let (line, after) = rest.split_at(end);
+    while let Some((line, after)) = first_line(rest) {
         if left <= 1 {
             return Place::Line(line);
         }
         left -= 1;
-        rest = &after[1..];
+        rest = after;
     }
     if rest.is_empty() {
         Place::Behind
     } else {
         Place::Unended
+    }
+}
+
+/// The first line, without the LF that ends it, and the text behind that. None if no LF is left.
+fn first_line(text: &[u8]) -> Option<(&[u8], &[u8])>
+    ensures { IfSome result (λ got. length got.1.now < length text.now) }
+{
+    let end = line_len(text)?;
+    let (line, after) = text.split_at(end);
+    match after {
+        [_, rest @ ..] => Some((line, rest)),
+        [] => None,
     }
 }
 

@@ -1,6 +1,6 @@
 //! The characters of a line that no line of a trace has.
 
-ghost use Rattle.std.specs.Prelude.{◌≡◌, ◌≤◌};
+ghost use Rattle.std.specs.Prelude.{◌≡◌};
 ghost use Rattle.trace_explain.specs.Lexical.{is_fit, last_space, bad_character, character_at};
 
 /// A character that no line of a trace has at its place. A column counts from 1.
@@ -20,10 +20,10 @@ pub enum Character {
 fn is_fit(before: u8, byte: u8) -> bool
     ensures { result ≡ is_fit before byte }
 {
-    match byte {
-        b' ' => before != b' ',
-        0x21..=0x7E => true,
-        _ => false,
+    if byte == b' ' {
+        before != b' '
+    } else {
+        byte > b' ' && byte < 127
     }
 }
 
@@ -31,8 +31,10 @@ fn is_fit(before: u8, byte: u8) -> bool
 fn character_at(byte: u8, column: usize, is_last: bool) -> Character
     ensures { result ≡ character_at byte column is_last }
 {
+    if byte == b'\r' && is_last {
+        return Character::CarriageReturn;
+    }
     match byte {
-        b'\r' if is_last => Character::CarriageReturn,
         b'\t' => Character::Tab(column),
         b' ' => Character::Space(column),
         _ => Character::Unprinted(column),
@@ -41,29 +43,31 @@ fn character_at(byte: u8, column: usize, is_last: bool) -> Character
 
 /// The first character of a line that no line of a trace has at its place. The line is without its LF.
 pub fn bad_character(line: &[u8]) -> Option<Character>
-    ensures { result ≡ bad_character 32 1 line.now }
+    ensures { result ≡ bad_character 32 0 line.now }
 {
     let mut before = b' ';
-    let mut column = 1;
+    let mut done = 0;
     let mut rest = line;
     while let [byte, after @ ..] = rest {
+        done += 1;
         if !is_fit(before, *byte) {
-            return Some(character_at(*byte, column, after.is_empty()));
+            return Some(character_at(*byte, done, after.is_empty()));
         }
         before = *byte;
-        column += 1;
         rest = after;
     }
-    last_space(before, column)
+    match rest {
+        [] => last_space(before, done),
+        _ => unreachable!(),
+    }
 }
 
-/// A space at the end of a line, if this is the last byte of the line before this column.
-fn last_space(last: u8, column: usize) -> Option<Character>
-    requires { 1 ≤ column }
-    ensures { result ≡ last_space last column }
+/// A space at the end of a line of so many bytes that ends with this one.
+fn last_space(last: u8, done: usize) -> Option<Character>
+    ensures { result ≡ last_space last done }
 {
-    if last == b' ' && column > 1 {
-        Some(Character::Space(column - 1))
+    if last == b' ' && done > 0 {
+        Some(Character::Space(done))
     } else {
         None
     }

@@ -1,7 +1,7 @@
 //! The events of a trace, each in a line with the lines of its outcome.
 
 ghost use Rattle.std.specs.Prelude.{◌≡◌, IfOk, map};
-ghost use Rattle.trace_explain.specs.Lines.{moment_of_line, moments};
+ghost use Rattle.trace_explain.specs.Lines.{moment_of_line, moments, later, is_refused, time_after};
 
 use crate::answers::push_outcome;
 use crate::events::push_event;
@@ -10,7 +10,6 @@ use cip_tables::Config;
 use cip_types::OutOfMemory;
 use std::alloc::Global;
 use trace_outcomes::Recorded;
-use trace_pcap::time_after;
 use trace_text::Trace;
 
 /// An event in words: its number in the trace, from 1, its time in milliseconds, what happened, and what the device
@@ -29,11 +28,22 @@ pub fn event_lines(alloc: Global, trace: &Trace) -> Result<Vec<EventLine>, OutOf
     // Each event has its line, with its number and its time.
     ensures { IfOk result (λ lines. map moment_of_line lines.items ≡ moments 1 0 trace.now.events) }
 {
+    lines_of(alloc, &trace.config, trace.events.as_slice())
+}
+
+/// The events of a device of this configuration in words.
+fn lines_of(
+    alloc: Global,
+    config: &Config,
+    entries: &[(Event, Recorded)],
+) -> Result<Vec<EventLine>, OutOfMemory>
+    ensures { IfOk result (λ lines. map moment_of_line lines.items ≡ moments 1 0 entries.now) }
+{
     let mut lines = Vec::new(alloc);
     let mut time = 0;
-    for (index, entry) in trace.events.as_slice().iter().enumerate() {
+    for (index, entry) in entries.iter().enumerate() {
         time = time_after(time, &entry.0, &entry.1);
-        let words = entry_words(alloc, &trace.config, &entry.0, &entry.1)?;
+        let words = entry_words(alloc, config, &entry.0, &entry.1)?;
         let number = index as u64 + 1;
         lines.push(EventLine {
             number,
@@ -42,6 +52,37 @@ pub fn event_lines(alloc: Global, trace: &Trace) -> Result<Vec<EventLine>, OutOf
         })?;
     }
     Ok(lines)
+}
+
+/// The time of a trace's clock after an event, with its outcome if that is recorded. A refused tick does not pass.
+fn time_after(time: u64, event: &Event, recorded: &Recorded) -> u64
+    ensures { result ≡ time_after time event.now recorded.now }
+{
+    match event {
+        Event::Tick { ms } => later(time, *ms, is_refused(recorded)),
+        _ => time,
+    }
+}
+
+/// The time, this number of milliseconds later if they are not refused.
+fn later(time: u64, ms: u32, refused: bool) -> u64
+    ensures { result ≡ later time ms refused }
+{
+    if refused {
+        time
+    } else {
+        time.wrapping_add(u64::from(ms))
+    }
+}
+
+/// Whether the recorded outcome is a fault.
+fn is_refused(recorded: &Recorded) -> bool
+    ensures { result ≡ is_refused recorded.now }
+{
+    match recorded.get() {
+        Some(Err(_)) => true,
+        _ => false,
+    }
 }
 
 /// An event, and its outcome if that is recorded.

@@ -79,7 +79,7 @@ enum WordKind {
 /// Why a line that is bad is so. The line is without its LF. OutOfMemory is the only fault.
 pub fn reason_of(alloc: Global, line: &[u8]) -> Result<LineReason, OutOfMemory>
     // A character that no line of a trace has at its place comes before all other reasons.
-    ensures { IfOk result (λ reason. IfSome (bad_character 32 1 line.now) (λ bad. reason ≡ LineReason.Character bad)) }
+    ensures { IfOk result (λ reason. IfSome (bad_character 32 0 line.now) (λ bad. reason ≡ LineReason.Character bad)) }
 {
     match bad_character(line) {
         Some(bad) => Ok(LineReason::Character(bad)),

@@ -5,7 +5,7 @@ use Rattle.cip_types.specs.declared.names.Node.{Node}
 use Rattle.cip_events.specs.declared.event.Event.{Event}
 use Rattle.cip_events.specs.declared.event.Event.TheVariants.{StreamOpened, Frame, StreamCut, Datagram}
 use Rattle.cip_events.specs.declared.event.Answer.{Answer}
-use Rattle.cip_events.specs.declared.event.Frame as frame
+use Rattle.cip_events.specs.declared.event.Frame as framed
 use Rattle.cip_events.specs.declared.event.OutgoingDatagram.{OutgoingDatagram}
 use Rattle.cip_events.specs.declared.event.Recipient.{Recipient}
 use Rattle.cip_events.specs.declared.event.Recipient.TheVariants.{Stream, Peer}
@@ -57,15 +57,20 @@ stream_at moment number peer received sent = record { number = number; peer = pe
 
 -- The end that opens sends SYN, the other one SYN and ACK, the first one ACK (RFC 9293, section 3.5). The numbers of
 -- both ends begin at 0, which SYN takes.
-unfoldable pub opening_records : Moment → ℕ → Node → List ℕ
-opening_records moment number peer =
-    if moment.side.opens
-    then from_device_record moment (stream_at moment number peer 0 0) 2 []
+unfoldable pub dialed_records : Moment → ℕ → Node → List ℕ
+dialed_records moment number peer =
+    from_device_record moment (stream_at moment number peer 0 0) 2 []
     ++ (to_device_record moment (stream_at moment number peer 0 1) 18 []
     ++ from_device_record moment (stream_at moment number peer 1 1) 16 [])
-    else to_device_record moment (stream_at moment number peer 0 0) 2 []
+
+unfoldable pub accepted_records : Moment → ℕ → Node → List ℕ
+accepted_records moment number peer =
+    to_device_record moment (stream_at moment number peer 0 0) 2 []
     ++ (from_device_record moment (stream_at moment number peer 1 0) 18 []
     ++ to_device_record moment (stream_at moment number peer 1 1) 16 [])
+
+abbrev pub opening_records : Moment → ℕ → Node → List ℕ
+opening_records moment number peer = if moment.side.opens then dialed_records moment number peer else accepted_records moment number peer
 
 abbrev pub opened_streams : Moment → ℕ → Node → Streams → Streams
 opened_streams moment number peer streams = replaced_stream (stream_at moment number peer 1 1) streams
@@ -128,17 +133,17 @@ recipient_streams (Stream number) bytes streams = sent_streams bytes (stream_of 
 recipient_streams (Peer node) bytes streams = streams
 
 -- a frame over a stream; a reply to a request without a stream is no packet
-abbrev pub frame_records : Moment → frame.Frame → Streams → List ℕ
+abbrev pub frame_records : Moment → framed.Frame → Streams → List ℕ
 frame_records moment frame streams = recipient_records moment frame.to frame.bytes streams
 
-abbrev pub frame_streams : frame.Frame → Streams → Streams
+abbrev pub frame_streams : framed.Frame → Streams → Streams
 frame_streams frame streams = recipient_streams frame.to frame.bytes streams
 
-abbrev pub frames_records : Moment → List frame.Frame → Streams → List ℕ
+abbrev pub frames_records : Moment → List framed.Frame → Streams → List ℕ
 frames_records moment [] streams = []
 frames_records moment (frame ∷ frames) streams = frame_records moment frame streams ++ frames_records moment frames (frame_streams frame streams)
 
-abbrev pub frames_streams : List frame.Frame → Streams → Streams
+abbrev pub frames_streams : List framed.Frame → Streams → Streams
 frames_streams [] streams = streams
 frames_streams (frame ∷ frames) streams = frames_streams frames (frame_streams frame streams)
 

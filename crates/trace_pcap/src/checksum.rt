@@ -18,8 +18,9 @@ pub fn word_sum(bytes: &[u8]) -> u64
         rest = after;
     }
     match rest {
-        [last, ..] => total + u64::from(*last) * 256,
         [] => total,
+        [last] => total + u64::from(*last) * 256,
+        _ => unreachable!(),
     }
 }
 

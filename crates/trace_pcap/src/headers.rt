@@ -33,6 +33,7 @@ fn time_to_live(ends: &Ends) -> u8
 /// The header of an IPv4 packet with this number of bytes behind it, and with this checksum.
 ///
 /// RFC 791, section 3.1.
+#[tactic(auto, unfolding(crate::specs::Headers::ipv4_header))]
 pub fn ipv4_header(ends: &Ends, protocol: u8, len: u16, checksum: u16) -> [u8; 20]
     requires { len + 20 ≤ 65535 }
     ensures { result ≡ ipv4_header ends.now protocol len checksum }
@@ -50,6 +51,7 @@ pub fn ipv4_header(ends: &Ends, protocol: u8, len: u16, checksum: u16) -> [u8; 2
 /// What the checksum of UDP and TCP counts beside header and data.
 ///
 /// RFC 768; RFC 9293, section 3.1.
+#[tactic(auto, unfolding(crate::specs::Headers::pseudo_header))]
 pub fn pseudo_header(ends: &Ends, protocol: u8, len: u16) -> [u8; 12]
     ensures { result ≡ pseudo_header ends.now protocol len }
 {
@@ -62,6 +64,7 @@ pub fn pseudo_header(ends: &Ends, protocol: u8, len: u16) -> [u8; 12]
 /// The header of a UDP datagram of this length, the header included, and with this checksum.
 ///
 /// RFC 768.
+#[tactic(auto, unfolding(crate::specs::Headers::udp_header))]
 pub fn udp_header(ends: &Ends, len: u16, checksum: u16) -> [u8; 8]
     ensures { result ≡ udp_header ends.now len checksum }
 {
@@ -75,6 +78,7 @@ pub fn udp_header(ends: &Ends, len: u16, checksum: u16) -> [u8; 8]
 /// The header of a TCP segment with this checksum: no options, a window of 65,535 bytes, no urgent data.
 ///
 /// RFC 9293, section 3.1.
+#[tactic(auto, unfolding(crate::specs::Headers::tcp_header))]
 pub fn tcp_header(ends: &Ends, control: Control, checksum: u16) -> [u8; 20]
     ensures { result ≡ tcp_header ends.now control checksum }
 {

@@ -10,4 +10,4 @@ mod packets;
 mod traffic;
 mod written;
 
-pub use written::{time_after, write_pcap};
+pub use written::write_pcap;

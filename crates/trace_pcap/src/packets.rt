@@ -37,7 +37,8 @@ pub fn push_file_header(out: &mut Vec<u8>) -> Result<(), OutOfMemory>
     put_u32(out, 0)?;
     put_u32(out, 0)?;
     put_u32(out, 65535)?;
-    put_u32(out, 101)
+    put_u32(out, 101)?;
+    Ok(())
 }
 
 /// Appends the header of a packet of this length, at this time in milliseconds.
@@ -48,7 +49,8 @@ fn push_record_header(out: &mut Vec<u8>, time: u64, len: u32) -> Result<(), OutO
     put_u32(out, (time / 1000 % 0x1_0000_0000) as u32)?;
     put_u32(out, (time % 1000 * 1000) as u32)?;
     put_u32(out, len)?;
-    put_u32(out, len)
+    put_u32(out, len)?;
+    Ok(())
 }
 
 /// The checksum of an IPv4 header.
@@ -78,7 +80,8 @@ fn push_packet(
     push_record_header(out, time, u32::from(len) + 20)?;
     put_bytes(out, &ipv4_header(ends, protocol, len, checksum))?;
     put_bytes(out, header)?;
-    put_bytes(out, payload)
+    put_bytes(out, payload)?;
+    Ok(())
 }
 
 /// The checksum of a header with its own checksum zero, of the data, and of what the protocol counts beside them.

@@ -1,7 +1,7 @@
 //! The packets of a trace's events.
 
 ghost use Rattle.std.specs.Prelude.{◌≡◌, ◌++◌, OnOk, length};
-ghost use Rattle.trace_pcap.specs.Traffic.{without, replaced_stream, stream_of, control_to_device, control_from_device, to_device_record, from_device_record, stream_at, opening_records, opened_streams, received_records, received_streams, sent_records, sent_streams, cut_records, closed_records, event_records, event_streams, frame_records, frame_streams, frames_records, frames_streams, copies_records, outgoing_records, datagrams_records, notice_records, notice_streams, notices_records, notices_streams, answer_records, answer_streams};
+ghost use Rattle.trace_pcap.specs.Traffic.{without, replaced_stream, stream_of, control_to_device, control_from_device, to_device_record, from_device_record, stream_at, dialed_records, accepted_records, opening_records, opened_streams, received_records, received_streams, sent_records, sent_streams, cut_records, closed_records, event_records, event_streams, frame_records, frame_streams, frames_records, frames_streams, copies_records, outgoing_records, datagrams_records, notice_records, notice_streams, notices_records, notices_streams, answer_records, answer_streams};
 
 use crate::ends::{
     Side, Stream, datagram_ends, ends_from_device, ends_to_device, is_multicast, stream_port,
@@ -12,20 +12,23 @@ use cip_events::{Answer, Event, Frame, Notice, OutgoingDatagram, Recipient};
 use cip_types::{Node, OutOfMemory};
 use session_streams::{add_stream, drop_stream, find_stream};
 
-/// The control bit of the last segment of an end.
-pub const FIN: u8 = 1;
+/// The control bit SYN: the first segment of the end that opens a stream.
+const OPENS: u8 = 2;
 
-/// The control bit of the first segment of an end.
-pub const SYN: u8 = 2;
+/// The control bits SYN and ACK: the first segment of the other end.
+const ACCEPTS: u8 = 18;
 
-/// The control bit of a broken stream.
-pub const RST: u8 = 4;
+/// The control bit ACK: the stream is open.
+const CONFIRMS: u8 = 16;
 
-/// The control bit of data for the application.
-pub const PSH: u8 = 8;
+/// The control bits PSH and ACK: data for the application.
+const DATA: u8 = 24;
 
-/// The control bit of an acknowledgement number.
-pub const ACK: u8 = 16;
+/// The control bits RST and ACK: a stream that breaks.
+const BREAKS: u8 = 20;
+
+/// The control bits FIN and ACK: the last segment of an end.
+const CLOSES: u8 = 17;
 
 /// Where and when an event happens: the traced device, the time in milliseconds, and the number of the event.
 #[derive(Clone, Copy)]
@@ -64,6 +67,7 @@ fn control_from_device(stream: &Stream, bits: u8) -> Control
 }
 
 /// Appends a segment from the peer of a stream to the device.
+#[tactic(auto, unfolding(crate::specs::Traffic::to_device_record))]
 fn push_to_device(
     out: &mut Vec<u8>,
     moment: Moment,
@@ -84,6 +88,7 @@ fn push_to_device(
 }
 
 /// Appends a segment from the device to the peer of a stream.
+#[tactic(auto, unfolding(crate::specs::Traffic::from_device_record))]
 fn push_from_device(
     out: &mut Vec<u8>,
     moment: Moment,
@@ -116,6 +121,44 @@ fn stream_at(moment: Moment, number: u16, peer: Node, received: u32, sent: u32) 
     }
 }
 
+/// Appends the three segments by which the device opens a stream.
+#[tactic(auto, unfolding(crate::specs::Traffic::dialed_records))]
+fn push_dialed(
+    out: &mut Vec<u8>,
+    moment: Moment,
+    number: u16,
+    peer: Node,
+) -> Result<(), OutOfMemory>
+    ensures { OnOk result (out.new.items ≡ out.old.items ++ dialed_records moment number peer) }
+{
+    let start = stream_at(moment, number, peer, 0, 0);
+    let half = stream_at(moment, number, peer, 0, 1);
+    let open = stream_at(moment, number, peer, 1, 1);
+    push_from_device(out, moment, &start, OPENS, &[])?;
+    push_to_device(out, moment, &half, ACCEPTS, &[])?;
+    push_from_device(out, moment, &open, CONFIRMS, &[])?;
+    Ok(())
+}
+
+/// Appends the three segments by which a peer opens a stream.
+#[tactic(auto, unfolding(crate::specs::Traffic::accepted_records))]
+fn push_accepted(
+    out: &mut Vec<u8>,
+    moment: Moment,
+    number: u16,
+    peer: Node,
+) -> Result<(), OutOfMemory>
+    ensures { OnOk result (out.new.items ≡ out.old.items ++ accepted_records moment number peer) }
+{
+    let start = stream_at(moment, number, peer, 0, 0);
+    let half = stream_at(moment, number, peer, 1, 0);
+    let open = stream_at(moment, number, peer, 1, 1);
+    push_to_device(out, moment, &start, OPENS, &[])?;
+    push_from_device(out, moment, &half, ACCEPTS, &[])?;
+    push_to_device(out, moment, &open, CONFIRMS, &[])?;
+    Ok(())
+}
+
 /// Appends the three segments that open a stream.
 fn push_opening(
     out: &mut Vec<u8>,
@@ -125,18 +168,10 @@ fn push_opening(
 ) -> Result<(), OutOfMemory>
     ensures { OnOk result (out.new.items ≡ out.old.items ++ opening_records moment number peer) }
 {
-    let start = stream_at(moment, number, peer, 0, 0);
-    let open = stream_at(moment, number, peer, 1, 1);
     if moment.side.opens {
-        let half = stream_at(moment, number, peer, 0, 1);
-        push_from_device(out, moment, &start, SYN, &[])?;
-        push_to_device(out, moment, &half, SYN | ACK, &[])?;
-        push_from_device(out, moment, &open, ACK, &[])
+        push_dialed(out, moment, number, peer)
     } else {
-        let half = stream_at(moment, number, peer, 1, 0);
-        push_to_device(out, moment, &start, SYN, &[])?;
-        push_from_device(out, moment, &half, SYN | ACK, &[])?;
-        push_to_device(out, moment, &open, ACK, &[])
+        push_accepted(out, moment, number, peer)
     }
 }
 
@@ -166,10 +201,10 @@ fn push_received(
     ensures records { OnOk result (out.new.items ≡ out.old.items ++ received_records moment bytes.now (stream_of number streams.old.items)) }
     ensures streams { OnOk result (streams.new.items ≡ received_streams bytes.now (stream_of number streams.old.items) streams.old.items) }
 {
-    let Some(stream) = find_stream(streams, number) else {
+    let Some(stream) = find_stream(streams.as_slice(), number) else {
         return Ok(());
     };
-    push_to_device(out, moment, &stream, PSH | ACK, bytes)?;
+    push_to_device(out, moment, &stream, DATA, bytes)?;
     let len = shown(MOST_TCP, bytes).len() as u32;
     replace_stream(
         streams,
@@ -191,10 +226,10 @@ fn push_sent(
     ensures records { OnOk result (out.new.items ≡ out.old.items ++ sent_records moment bytes.now (stream_of number streams.old.items)) }
     ensures streams { OnOk result (streams.new.items ≡ sent_streams bytes.now (stream_of number streams.old.items) streams.old.items) }
 {
-    let Some(stream) = find_stream(streams, number) else {
+    let Some(stream) = find_stream(streams.as_slice(), number) else {
         return Ok(());
     };
-    push_from_device(out, moment, &stream, PSH | ACK, bytes)?;
+    push_from_device(out, moment, &stream, DATA, bytes)?;
     let len = shown(MOST_TCP, bytes).len() as u32;
     replace_stream(
         streams,
@@ -215,8 +250,8 @@ fn push_cut(
     ensures records { OnOk result (out.new.items ≡ out.old.items ++ cut_records moment (stream_of number streams.old.items)) }
     ensures streams { OnOk result (streams.new.items ≡ without number streams.old.items) }
 {
-    if let Some(stream) = find_stream(streams, number) {
-        push_to_device(out, moment, &stream, RST | ACK, &[])?;
+    if let Some(stream) = find_stream(streams.as_slice(), number) {
+        push_to_device(out, moment, &stream, BREAKS, &[])?;
     }
     drop_stream(streams, number);
     Ok(())
@@ -232,8 +267,8 @@ fn push_closed(
     ensures records { OnOk result (out.new.items ≡ out.old.items ++ closed_records moment (stream_of number streams.old.items)) }
     ensures streams { OnOk result (streams.new.items ≡ without number streams.old.items) }
 {
-    if let Some(stream) = find_stream(streams, number) {
-        push_from_device(out, moment, &stream, FIN | ACK, &[])?;
+    if let Some(stream) = find_stream(streams.as_slice(), number) {
+        push_from_device(out, moment, &stream, CLOSES, &[])?;
     }
     drop_stream(streams, number);
     Ok(())

@@ -53,7 +53,7 @@ fn push_entries(
 }
 
 /// The time of a trace's clock after an event, with its outcome if that is recorded. A refused tick does not pass.
-pub fn time_after(time: u64, event: &Event, recorded: &Recorded) -> u64
+fn time_after(time: u64, event: &Event, recorded: &Recorded) -> u64
     ensures { result ≡ time_after time event.now recorded.now }
 {
     match event {

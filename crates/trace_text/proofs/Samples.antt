@@ -2,7 +2,7 @@
 use Rattle.std.proofs.Common.{◌≡◌, true, false, List, [], ◌∷◌, map, codes, refl, Option, Some, None}
 use Rattle.hex.specs.Hex.{decode_pairs}
 use Rattle.cip_types.specs.declared.names.Mismatch.TheVariants as mismatch
-use Rattle.cip_events.specs.declared.event.Event.TheVariants.{Mode, Start, Stop}
+use Rattle.cip_events.specs.declared.event.Event.TheVariants.{Write, Read, Mode, Start, Stop}
 use Rattle.cip_events.specs.declared.event.Notice.{Notice}
 use Rattle.cip_events.specs.declared.event.Notice.TheVariants.{Slot, Refused, NoIds}
 use Rattle.cip_events.specs.declared.event.Reason.TheVariants.{Encap, Unreadable, Cip, Mismatch}
@@ -10,9 +10,9 @@ use Rattle.cip_events.specs.declared.event.Verdict.TheVariants as verdict
 use Rattle.trace_text.specs.declared.forms.TraceLine.{TraceLine}
 use Rattle.trace_text.specs.declared.forms.TraceLine.TheVariants.{Event as EventLine, Recorded}
 use Rattle.trace_outcomes.specs.declared.part.Part.TheVariants as part
-use Rattle.trace_words.specs.Words.{number_of, general_of, extended_of}
+use Rattle.trace_words.specs.Words.{number_of, bytes_of, general_of, extended_of}
 use Rattle.trace_outcomes.specs.Parts.{mismatch_of, verdict_of}
-use Rattle.trace_text.specs.Forms.{mode_of, line_of}
+use Rattle.trace_text.specs.Forms.{mode_of, line_of, event_of}
 
 -- ---- events
 
@@ -27,6 +27,22 @@ other_modes_and_slots_are_bad :
     map line_of (codes "mode on" ∷ codes "mode" ∷ codes "start" ∷ codes "stop 4294967296" ∷ codes "start 0 0" ∷ []) ≡ None ∷ None ∷ None ∷ None ∷ None ∷ []
 unfolding line_of mode_of number_of
 other_modes_and_slots_are_bad = refl
+
+-- ---- events alone
+
+-- calls of an application
+calls_are_read_alone :
+    map event_of (codes "write 100 05060708" ∷ codes "read 150" ∷ codes "mode run" ∷ codes "start 0" ∷ codes "stop 0" ∷ [])
+    ≡ Some (Write 100 (5 ∷ 6 ∷ 7 ∷ 8 ∷ [])) ∷ Some (Read 150) ∷ Some (Mode true) ∷ Some (Start 0) ∷ Some (Stop 0) ∷ []
+unfolding event_of line_of mode_of number_of bytes_of decode_pairs
+calls_are_read_alone = refl
+
+-- a line of a profile, one of an outcome, a missing word, an LF, no word, and a comment
+other_lines_are_no_events :
+    map event_of (codes "input 100 4" ∷ codes "1 done" ∷ codes "write 100" ∷ codes "read 150\n" ∷ codes "" ∷ codes "# read 150" ∷ [])
+    ≡ None ∷ None ∷ None ∷ None ∷ None ∷ None ∷ []
+unfolding event_of line_of mode_of number_of bytes_of verdict_of decode_pairs
+other_lines_are_no_events = refl
 
 -- ---- outcomes
 

@@ -1,6 +1,6 @@
 -- The lines of a trace: the profile of a device, the events at the device, and their recorded outcomes. A line is a
 -- keyword or the number of an event, and words behind it.
-use Rattle.std.specs.Prelude.{ℕ, nat_lt, Bool, true, false, List, [], ◌∷◌, codes, Option, Some, None, if◌then◌else◌, option_map}
+use Rattle.std.specs.Prelude.{ℕ, nat_lt, Bool, true, false, List, [], ◌∷◌, codes, Option, Some, None, if◌then◌else◌, option_map, option_and_then}
 use Rattle.std.specs.List.{list_all}
 use Rattle.cip_events.specs.declared.event.Event.{Event}
 use Rattle.cip_events.specs.declared.event.Event.TheVariants as event
@@ -123,3 +123,14 @@ is_ascii line = list_all (λ byte. nat_lt byte 128) line
 -- the value of a line
 unfoldable pub line_of : List ℕ → Option TraceLine
 line_of line = if is_ascii line then option_map (λ got. got.0) (line_reader (words_of line)) else None
+
+-- EVENTS ALONE
+
+-- the event of a line, if it is the line of one
+abbrev pub event_only : TraceLine → Option Event
+event_only (line.Event given) = Some given
+event_only other = None
+
+-- the event that a line writes
+unfoldable pub event_of : List ℕ → Option Event
+event_of line = option_and_then event_only (line_of line)

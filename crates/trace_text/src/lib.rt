@@ -8,6 +8,8 @@ mod lines;
 mod trace;
 mod written;
 
+pub use lines::read_event_line;
 pub use trace::{Trace, TraceFault, read_trace};
 pub use trace_outcomes::{Recorded, push_outcome, write_outcome};
-pub use written::write_trace;
+pub use trace_words::LineFault;
+pub use written::{push_config, push_event, write_trace};

@@ -3,13 +3,14 @@
 ghost use Rattle.std.specs.Prelude.{◌≡◌, drop};
 ghost use Rattle.trace_words.specs.Reader.{unread_words, Takes, Finds, meaning};
 ghost use Rattle.trace_words.specs.Words.{number_of};
-ghost use Rattle.trace_text.specs.Forms.{is_ascii, line_of, line_meanings, line_reader, numbered};
+ghost use Rattle.trace_text.specs.Forms.{event_of, is_ascii, line_of, line_meanings, line_reader, numbered};
 
 use crate::event_lines::{
     read_cut, read_datagram, read_frame, read_mode, read_read, read_request, read_start, read_stop,
     read_stream, read_tick, read_write,
 };
 use crate::forms::TraceLine;
+use cip_tables::Event;
 use std::alloc::Global;
 use std::str;
 use trace_outcomes::read_part;
@@ -31,6 +32,19 @@ pub fn read_line(alloc: Global, line: &[u8]) -> Result<TraceLine, LineFault>
     match str::from_utf8(line) {
         Ok(text) => read_words(alloc, &mut Words::of(text)),
         Err(_) => Err(LineFault::Bad),
+    }
+}
+
+/// The event of a line. The line has no LF at its end.
+///
+/// The faults: `Bad` if it is no line of a trace, or that of a profile or of an outcome, and `OutOfMemory`.
+#[tactic(auto, unfolding(crate::specs::Forms::event_of))]
+pub fn read_event_line(alloc: Global, line: &[u8]) -> Result<Event, LineFault>
+    ensures { Finds (event_of line.now) result }
+{
+    match read_line(alloc, line)? {
+        TraceLine::Event(event) => Ok(event),
+        _ => Err(LineFault::Bad),
     }
 }
 

@@ -18,12 +18,14 @@ pub fn write_trace(alloc: Global, trace: &Trace) -> Result<String, OutOfMemory>
     ensures { IfOk result (λ text. string_bytes text ≡ trace_text trace.now) }
 {
     let mut out = String::new(alloc);
-    push_lines(alloc, &mut out, &trace.config)?;
+    push_config(alloc, &mut out, &trace.config)?;
     push_entries(alloc, &mut out, trace.events.as_slice())?;
     Ok(out)
 }
 
-fn push_lines(alloc: Global, out: &mut String, config: &Config) -> Result<(), OutOfMemory>
+/// Appends the lines of a device's profile. They begin the text of each trace of such a device, and are the whole text of
+/// a trace without events. If an allocation is refused, a part of them may be appended.
+pub fn push_config(alloc: Global, out: &mut String, config: &Config) -> Result<(), OutOfMemory>
     ensures { OnOk result (string_bytes out.new ≡ string_bytes out.old ++ config_lines config.now) }
 {
     match config {
@@ -60,7 +62,8 @@ fn push_recorded(
     }
 }
 
-fn push_event(alloc: Global, out: &mut String, event: &Event) -> Result<(), OutOfMemory>
+/// Appends the line of an event, with the LF that ends it. If an allocation is refused, a part of it may be appended.
+pub fn push_event(alloc: Global, out: &mut String, event: &Event) -> Result<(), OutOfMemory>
     ensures { OnOk result (string_bytes out.new ≡ string_bytes out.old ++ line_text (event_words event.now)) }
 {
     match event {

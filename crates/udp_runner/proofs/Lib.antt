@@ -1,2 +1,3 @@
 mod Joining
 mod SentOutputs
+mod Handed

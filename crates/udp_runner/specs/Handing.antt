@@ -13,12 +13,12 @@ Watches {O} notes old (event ∷ events) (outcome ∷ outcomes) new = (mid : O) 
 Watches notes old [] (outcome ∷ outcomes) new = ⊥
 Watches notes old (event ∷ events) [] new = ⊥
 
--- The device ran from the one table to the other by so many events, which are those wanted, and the observer was handed
+-- The device ran from the one table to the other by so many events, which are the required ones, and the observer was handed
 -- each of them with its outcome, in order.
-pub record HandsOut {O : Type 0} (notes : O → Event → Outcome → O → Type 0) (Wanted : List Event → Type 0) (count : ℕ) (old new : O) (before after : DeviceTable) : Type 0 where
+pub record HandsOut {O : Type 0} (notes : O → Event → Outcome → O → Type 0) (Required : List Event → Type 0) (count : ℕ) (old new : O) (before after : DeviceTable) : Type 0 where
   pub events : List Event
   pub outcomes : List Outcome
-  pub wanted : Wanted events
+  pub required : Required events
   pub counts : count ≡ length events
   pub runs : Runs before events outcomes after
   pub watches : Watches notes old events outcomes new

@@ -4,13 +4,15 @@ ghost use Rattle.std.specs.Prelude.{◌≡◌, ◌<◌, ◌+◌, ◌-◌, ◌^�
 ghost use Rattle.udp_runner.specs.Turns.{Blames, Drives, Stops, event_of, events_of, inputs_of, ticks_of, turn_of};
 ghost use Rattle.udp_runner.specs.Tape.{first_or, rest_of};
 ghost use Rattle.udp_runner.specs.Handing.{HandsOut, HandsSome};
+ghost use Rattle.cip_events.specs.Outcomes.{Follows};
+ghost use Rattle.cip_tables.specs.Step.{step};
 
 use crate::fault::RunFault;
 use crate::input::Input;
 use crate::observer::{Observer, Unobserved};
 use crate::outgoing::send_answer;
 use crate::port::{Clock, Port};
-use cip_events::Event;
+use cip_events::{Event, Outcome};
 use cip_tables::Device;
 use cip_types::Ms;
 use cip_types::limits::LONGEST_TICK_MS;
@@ -180,11 +182,14 @@ fn take_input<P: Port, D: Device, O: Observer>(
         count observer.old observer.new (D.table device.old) (D.table device.new)) }
     ensures handed_some { OnErr result (HandsSome O.notes observer.old observer.new (D.table device.old) (D.table device.new)) }
 {
-    let Some(input) = port.receive()? else {
-        return Ok(0);
-    };
-    act(port, device, observer, &input.into_event())?;
-    Ok(1)
+    let came = port.receive()?;
+    match came {
+        None => Ok(0),
+        Some(input) => {
+            act(port, device, observer, &input.into_event())?;
+            Ok(1)
+        }
+    }
 }
 
 /// Steps the device by one event, hands both to the observer, and sends the answer.
@@ -204,9 +209,17 @@ fn act<P: Port, D: Device, O: Observer>(
     ensures handed { OnOk result (HandsOut O.notes (λ events. events ≡ event.now ∷ []) 1 observer.old observer.new (D.table device.old) (D.table device.new)) }
     ensures handed_some { OnErr result (HandsSome O.notes observer.old observer.new (D.table device.old) (D.table device.new)) }
 {
-    let outcome = device.step(event);
-    observer.stepped(event, &outcome);
-    let answer = outcome?;
+    let answer = step_watched(device, observer, event)?;
     send_answer(port, &answer)?;
     Ok(())
+}
+
+/// Steps the device by one event, and hands both to the observer.
+fn step_watched<D: Device, O: Observer>(device: &mut D, observer: &mut O, event: &Event) -> Outcome
+    ensures step { Follows (step (D.table device.old) event.now) (D.table device.old) result (D.table device.new) }
+    ensures noted { O.notes observer.old event.now result observer.new }
+{
+    let outcome = device.step(event);
+    observer.stepped(event, &outcome);
+    outcome
 }

@@ -1,8 +1,8 @@
 //! The links of a scanner to its targets: which one is to be opened now, and when a closed one is tried again.
 
 ghost use Rattle.std.specs.Prelude.{◌≡◌, ◌<◌, length, replicate, position, slice_set, map, IfOk, List};
-ghost use Rattle.port_streams.specs.Links.{closed_link, is_due, is_late, is_of, opening_link, retry_at, wait_of};
-ghost use Rattle.port_streams.specs.declared.links.TargetLink.TheVariants.{Down, Open};
+ghost use Rattle.target_links.specs.Links.{closed_link, is_due, is_late, is_of, opening_link, retry_at, wait_of};
+ghost use Rattle.target_links.specs.declared.links.TargetLink.TheVariants.{Down, Open};
 
 use cip_types::OutOfMemory;
 use std::alloc::Global;
@@ -33,7 +33,7 @@ pub struct TargetLinks {
 
 impl Model for TargetLinks {
     ghost use Rattle.std.specs.Prelude.{List};
-    ghost use Rattle.port_streams.specs.declared.links.TargetLink.{TargetLink};
+    ghost use Rattle.target_links.specs.declared.links.TargetLink.{TargetLink};
 
     ghost Value = { List TargetLink };
 
@@ -113,13 +113,9 @@ impl TargetLinks {
 
     /// The milliseconds until a stream is to be opened or given up: none if one is now. At most so many.
     pub fn wait(&self, now_ms: u64, most_ms: u64) -> u64
-        ensures { result ≡ wait_of now_ms most_ms self.now }
+        ensures { result ≡ wait_of now_ms most_ms most_ms self.now }
     {
-        let mut wait = most_ms;
-        for link in &self.links {
-            wait = wait.min(link.wait(now_ms, most_ms));
-        }
-        wait
+        least_wait(self.links.as_slice(), now_ms, most_ms)
     }
 }
 
@@ -155,4 +151,15 @@ impl TargetLink {
             TargetLink::Open { stream: _ } => most_ms,
         }
     }
+}
+
+/// The least of these links' times, at most so many milliseconds.
+fn least_wait(links: &[TargetLink], now_ms: u64, most_ms: u64) -> u64
+    ensures { result ≡ wait_of now_ms most_ms most_ms links.now }
+{
+    let mut wait = most_ms;
+    for link in links {
+        wait = wait.min(link.wait(now_ms, most_ms));
+    }
+    wait
 }

@@ -1,7 +1,7 @@
 -- The links of a scanner to its targets.
 use Rattle.std.specs.Prelude.{ℕ, ◌+◌, ◌-◌, ◌^◌, min, nat_le, nat_eq, Bool, false, List, [], ◌∷◌}
-use Rattle.port_streams.specs.declared.links.TargetLink.{TargetLink}
-use Rattle.port_streams.specs.declared.links.TargetLink.TheVariants.{Down, Opening, Open}
+use Rattle.target_links.specs.declared.links.TargetLink.{TargetLink}
+use Rattle.target_links.specs.declared.links.TargetLink.TheVariants.{Down, Opening, Open}
 
 -- a closed or refused stream is tried again after so many milliseconds, and one that does not open is given up after so
 -- many
@@ -43,7 +43,7 @@ retry_at now most (Down retry) = retry - now
 retry_at now most (Opening until) = until - now
 retry_at now most (Open stream) = most
 
--- the least of these times, at most so long
-abbrev pub wait_of : ℕ → ℕ → List TargetLink → ℕ
-wait_of now most [] = most
-wait_of now most (link ∷ links) = min (retry_at now most link) (wait_of now most links)
+-- the least of a time and those of these links
+abbrev pub wait_of : ℕ → ℕ → ℕ → List TargetLink → ℕ
+wait_of now most wait [] = wait
+wait_of now most wait (link ∷ links) = wait_of now most (min wait (retry_at now most link)) links

@@ -2,7 +2,7 @@ use Rattle.std.proofs.Common.{arith}
 use Rattle.std.proofs.lemmas.Grind.{common_steps}
 use Rattle.cip_fwdopen.specs.Reply.{refused_text}
 use Rattle.cip_fwdopen.proofs.ByteLaws.{service_bit}
-use Rattle.cip_fwdopen.proofs.write.refused_bytes.Goals as goal
+use Rattle.cip_fwdopen.proofs.write.put_refused.Goals as goal
 
 pub returns : goal.returns
 unfolding refused_text

@@ -1,0 +1,17 @@
+use Rattle.std.proofs.Common.{arith, sym}
+use Rattle.cip_router.proofs.Lengths.{opened_len, closed_len, got_len, refused_len}
+use Rattle.cip_router.proofs.reply.Reply.len.Goals as goal
+
+pub returns-in-Opened : goal.returns-in-Opened
+returns-in-Opened c = rw c.in-Opened.is (sym (opened_len c.in-Opened.field-0 c.in-Opened.field-1))
+
+pub returns-in-Closed : goal.returns-in-Closed
+returns-in-Closed c = rw c.in-Closed.is (sym (closed_len c.in-Closed.field-0))
+
+pub returns-in-Got : goal.returns-in-Got
+returns-in-Got c = rw c.in-Got.is (sym (got_len c.in-Got.value.now))
+
+pub returns-in-Refused : goal.returns-in-Refused
+returns-in-Refused c =
+    let sum = refused_len c.in-Refused.field-0 c.in-Refused.fault c.in-Refused.triad in
+    rw c.in-Refused.is (omega (arith, sum, c.extended_len.ensures, c.failure_len.ensures))
