@@ -6,6 +6,8 @@ use Rattle.trace_words.specs.Reader.{Meanings, meaning}
 use Rattle.station_words.specs.declared.options.Options.{Options}
 use Rattle.station_words.specs.declared.options.Setting.{Setting}
 use Rattle.station_words.specs.declared.options.Setting.TheVariants as setting
+use Rattle.station_words.specs.declared.options.OptionName.{OptionName}
+use Rattle.station_words.specs.declared.options.OptionName.TheVariants as name
 use Rattle.station_words.specs.declared.options.Misuse.{Misuse}
 use Rattle.station_words.specs.declared.options.Misuse.TheVariants as misuse
 
@@ -26,19 +28,19 @@ seconds_of word = number_within 1000000000 word
 -- OPTIONS
 
 -- the options by their names
-abbrev pub setting_meanings : Meanings (Option Setting)
-setting_meanings =
-    (codes "--address", Some setting.Address)
-    ∷ (codes "--tcp", Some setting.Tcp)
-    ∷ (codes "--udp", Some setting.Udp)
-    ∷ (codes "--peer-udp", Some setting.PeerUdp)
-    ∷ (codes "--seconds", Some setting.Seconds)
-    ∷ (codes "--record", Some setting.Record)
-    ∷ (codes "--multicast", Some setting.Multicast)
+abbrev pub option_meanings : Meanings (Option OptionName)
+option_meanings =
+    (codes "--address", Some (name.Valued setting.Address))
+    ∷ (codes "--tcp", Some (name.Valued setting.Tcp))
+    ∷ (codes "--udp", Some (name.Valued setting.Udp))
+    ∷ (codes "--peer-udp", Some (name.Valued setting.PeerUdp))
+    ∷ (codes "--seconds", Some (name.Valued setting.Seconds))
+    ∷ (codes "--record", Some (name.Valued setting.Record))
+    ∷ (codes "--multicast", Some name.Multicast)
     ∷ []
 
-unfoldable pub setting_of : List ℕ → Option Setting
-setting_of word = meaning setting_meanings None word
+unfoldable pub option_of : List ℕ → Option OptionName
+option_of word = meaning option_meanings None word
 
 -- the usual values
 abbrev pub usual : Options
@@ -60,29 +62,23 @@ with_port options setting.PeerUdp port = record options { peer_udp = port }
 with_port options other port = options
 
 abbrev pub with_port_word : Options → Setting → ℕ → Option ℕ → Result Options Misuse
-with_port_word options name left None = Err (misuse.BadValue left)
-with_port_word options name left (Some port) = Ok (with_port options name port)
+with_port_word options named left None = Err (misuse.BadValue left)
+with_port_word options named left (Some port) = Ok (with_port options named port)
 
 -- the options with the value of one of them; so many words are left, from the value on
 abbrev pub with_value : Options → Setting → List ℕ → ℕ → Result Options Misuse
 with_value options setting.Address word left = with_address options left (node_of word)
 with_value options setting.Seconds word left = with_seconds options left (seconds_of word)
 with_value options setting.Record word left = Ok (record options { record_left = Some left })
-with_value options setting.Multicast word left = Ok (record options { multicast = true })
 with_value options setting.Tcp word left = with_port_word options setting.Tcp left (port_of word)
 with_value options setting.Udp word left = with_port_word options setting.Udp left (port_of word)
 with_value options setting.PeerUdp word left = with_port_word options setting.PeerUdp left (port_of word)
 
 -- one of three: the word names no option, the one without a value, or one with a value
-abbrev pub chosen : {A : Type 0} → A → A → (Setting → A) → Option Setting → A
+abbrev pub chosen : {A : Type 0} → A → A → (Setting → A) → Option OptionName → A
 chosen unknown lone valued None = unknown
-chosen unknown lone valued (Some setting.Multicast) = lone
-chosen unknown lone valued (Some setting.Address) = valued setting.Address
-chosen unknown lone valued (Some setting.Tcp) = valued setting.Tcp
-chosen unknown lone valued (Some setting.Udp) = valued setting.Udp
-chosen unknown lone valued (Some setting.PeerUdp) = valued setting.PeerUdp
-chosen unknown lone valued (Some setting.Seconds) = valued setting.Seconds
-chosen unknown lone valued (Some setting.Record) = valued setting.Record
+chosen unknown lone valued (Some name.Multicast) = lone
+chosen unknown lone valued (Some (name.Valued named)) = valued named
 
 -- an option behind another
 abbrev pub and_then : {A B : Type 0} → (A → Result B Misuse) → Result A Misuse → Result B Misuse
@@ -92,9 +88,9 @@ and_then next (Err fault) = Err fault
 -- the options with those of the words
 abbrev pub options_after : Options → List (List ℕ) → Result Options Misuse
 options_after options [] = Ok options
-options_after options (name ∷ []) = chosen (Err (misuse.NoSuchOption 1)) (Ok (record options { multicast = true })) (λ _. Err (misuse.NoValue 1)) (setting_of name)
-options_after options (name ∷ value ∷ rest) =
-    chosen (Err (misuse.NoSuchOption (length (name ∷ value ∷ rest))))
+options_after options (first ∷ []) = chosen (Err (misuse.NoSuchOption 1)) (Ok (record options { multicast = true })) (λ _. Err (misuse.NoValue 1)) (option_of first)
+options_after options (first ∷ value ∷ rest) =
+    chosen (Err (misuse.NoSuchOption (length (first ∷ value ∷ rest))))
     (options_after (record options { multicast = true }) (value ∷ rest))
     (λ named. and_then (λ next. options_after next rest) (with_value options named value (length (value ∷ rest))))
-    (setting_of name)
+    (option_of first)

@@ -1,7 +1,7 @@
 //! The options of a station.
 
 ghost use Rattle.std.specs.Prelude.{◌≡◌, ◌≤◌, ◌+◌, ◌∷◌, Err, true, length, map, IfOk, IfErr};
-ghost use Rattle.station_words.specs.Options.{options_after, setting_of, usual, with_port, with_value};
+ghost use Rattle.station_words.specs.Options.{option_of, options_after, usual, with_port, with_value};
 
 use crate::numbers::{address_of, port_of, seconds_of};
 use cip_types::Node;
@@ -28,7 +28,7 @@ pub struct Options {
     pub multicast: bool,
 }
 
-/// The name of an option.
+/// The name of an option that has a value.
 #[derive(Clone, Copy, PartialEq, Eq)]
 pub enum Setting {
     Address,
@@ -37,7 +37,15 @@ pub enum Setting {
     PeerUdp,
     Seconds,
     Record,
+}
+
+/// The name of an option.
+#[derive(Clone, Copy, PartialEq, Eq)]
+pub enum OptionName {
+    /// The option that has no value.
     Multicast,
+    /// An option with a value, which is the next word.
+    Valued(Setting),
 }
 
 /// Why words request no task. A number says how many words are left, from the wrong one on.
@@ -82,18 +90,18 @@ fn usual() -> Options
 }
 
 /// The option that a word names.
-#[tactic(auto, unfolding(crate::specs::Options::setting_of))]
-fn setting_of(word: &str) -> Option<Setting>
-    ensures { result ≡ setting_of word.now }
+#[tactic(auto, unfolding(crate::specs::Options::option_of))]
+fn option_of(word: &str) -> Option<OptionName>
+    ensures { result ≡ option_of word.now }
 {
     match word {
-        "--address" => Some(Setting::Address),
-        "--tcp" => Some(Setting::Tcp),
-        "--udp" => Some(Setting::Udp),
-        "--peer-udp" => Some(Setting::PeerUdp),
-        "--seconds" => Some(Setting::Seconds),
-        "--record" => Some(Setting::Record),
-        "--multicast" => Some(Setting::Multicast),
+        "--address" => Some(OptionName::Valued(Setting::Address)),
+        "--tcp" => Some(OptionName::Valued(Setting::Tcp)),
+        "--udp" => Some(OptionName::Valued(Setting::Udp)),
+        "--peer-udp" => Some(OptionName::Valued(Setting::PeerUdp)),
+        "--seconds" => Some(OptionName::Valued(Setting::Seconds)),
+        "--record" => Some(OptionName::Valued(Setting::Record)),
+        "--multicast" => Some(OptionName::Multicast),
         _ => None,
     }
 }
@@ -128,10 +136,10 @@ fn with_option<'a, S: AsStr>(
     ensures shorter { IfOk result (λ next. length next.1.now ≤ length after.now) }
     ensures fault { IfErr result (λ fault. options_after options (name.now ∷ map S.text after.now) ≡ Err fault) }
 {
-    match setting_of(name) {
+    match option_of(name) {
         None => Err(Misuse::NoSuchOption(left)),
-        Some(Setting::Multicast) => Ok((with_flag(options), after)),
-        Some(setting) => {
+        Some(OptionName::Multicast) => Ok((with_flag(options), after)),
+        Some(OptionName::Valued(setting)) => {
             let Some((value, behind)) = after.split_first() else {
                 return Err(Misuse::NoValue(left));
             };
@@ -179,10 +187,6 @@ fn with_value(
         },
         Setting::Record => Ok(Options {
             record_left: Some(left),
-            ..options
-        }),
-        Setting::Multicast => Ok(Options {
-            multicast: true,
             ..options
         }),
         Setting::Tcp | Setting::Udp | Setting::PeerUdp => match port_of(word) {
