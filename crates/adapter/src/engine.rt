@@ -728,6 +728,12 @@ impl<T: ConnectionTable> Device for Adapter<T> {
         }))
     }
 
+    fn next_wake(&self) -> Ms {
+        let change = self.table.next_change();
+        let wait = change.0.saturating_sub(self.clock.0);
+        Ms(wait.min(u64::from(LONGEST_TICK_MS)))
+    }
+
     fn is_whole(&self) {
         // Gives the prover the invariant of the adapter.
         let _clock = self.clock;

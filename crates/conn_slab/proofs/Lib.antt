@@ -12,3 +12,4 @@ mod DueBounds
 mod Ends
 mod Listening
 mod Producing
+mod Members

@@ -20,7 +20,7 @@ passes_step : (number : ℕ) (b : Bool) (x g : Group) (rest : Option Group) → 
 passes_step number true x g rest has more some = subst (λ (y : Group). has_number number y ≡ true) (some_is x g some) has
 passes_step number false x g rest has more some = more some
 
-found_passes : (number : ℕ) (pool : List Group) (g : Group) → numbered number pool ≡ Some g → has_number number g ≡ true
+pub found_passes : (number : ℕ) (pool : List Group) (g : Group) → numbered number pool ≡ Some g → has_number number g ≡ true
 found_passes number [] g is = absurd cc
 found_passes number (x ∷ pool) g is = passes_step number (has_number number x) x g (numbered number pool) refl (found_passes number pool g) is
 

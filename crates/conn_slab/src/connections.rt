@@ -1,11 +1,11 @@
 //! The connections of an adapter.
 
-ghost use Rattle.std.specs.Prelude.{◌≡◌, ◌≤◌, ◌<◌, ◌^◌, ◌++◌, ◌∷◌, [], Some, true, OnOk, OnErr, IfOk, find, map, length};
+ghost use Rattle.std.specs.Prelude.{◌≡◌, ◌≤◌, ◌<◌, ◌==◌, ◌^◌, ◌++◌, ◌∷◌, [], Some, true, OnOk, OnErr, IfOk, find, map, length};
 ghost use Rattle.std.specs.List.{list_any};
 ghost use Rattle.slab.specs.Slab.{HasRoomFor};
 ghost use Rattle.indexmap.specs.IndexMap.{spare};
 ghost use Rattle.adapter_table.specs.Rows.{has_triad, holds_triad, written_row};
-ghost use Rattle.adapter_table.specs.Productions.{is_produced_by, produced_row, changed_row};
+ghost use Rattle.adapter_table.specs.Productions.{is_produced_by, group, produced_row, changed_row};
 ghost use Rattle.adapter_table.specs.Closing.{without_triad};
 ghost use Rattle.adapter_table.specs.Datagrams.{is_for};
 ghost use Rattle.adapter_table.specs.Whole.{RowsFit};
@@ -369,6 +369,18 @@ impl Connections {
         ensures { Some result ≡ producer_by number self.now }
     {
         self.pool.producer_with_hint(number, hint)
+    }
+
+    /// Whether one connection alone has the producer of a number. The search tries one index first. Takes no memory.
+    ///
+    /// Volume 2, chapter 3, multicast connections.
+    pub fn is_single(&self, number: u32, hint: usize) -> bool
+        ensures { result ≡ (length (group number self.now) == 1) }
+    {
+        match self.pool.group_with_hint(number, hint) {
+            Some(group) => group.subscribers == 1,
+            None => false,
+        }
     }
 
     /// The producers that are due have produced. Takes no memory.

@@ -4,3 +4,4 @@ pub mod Support
 pub mod Without
 pub mod Passing
 pub mod Advancing
+pub mod Quiet

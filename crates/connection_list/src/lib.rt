@@ -11,6 +11,7 @@ mod changes;
 mod deliveries;
 mod dropping;
 mod expiries;
+mod next_change;
 mod order;
 mod plain;
 mod producers;

@@ -4,6 +4,7 @@ use crate::changes::{produces_at_once, sent_on_change, write_and_change_rows, wr
 use crate::deliveries::{accept_rows, find_target};
 use crate::dropping::drop_unsupported;
 use crate::expiries::expire_rows;
+use crate::next_change::next_change;
 use crate::productions::{produce_rows, sent_when_due};
 use crate::rows::{
     append_row, closed_notices, copied, find_row, remove_triad, replaced, reserve_row,
@@ -111,6 +112,10 @@ impl ConnectionTable for ConnectionList {
 
     fn is_due(&self, clock: Ms) -> bool {
         self.0.iter().any(|row| is_due(row, clock))
+    }
+
+    fn next_change(&self) -> Ms {
+        next_change(&self.0)
     }
 
     fn sent_when_due(

@@ -12,6 +12,7 @@ ghost use Rattle.adapter_table.specs.Closing.{without_triad, staying, unsupporte
 ghost use Rattle.adapter_table.specs.Datagrams.{is_for};
 ghost use Rattle.adapter_table.specs.Productions.{is_due, due_productions, produced_row, produces_on_change, productions_on_change, changed_row};
 ghost use Rattle.adapter_table.specs.Ticks.{has_expired};
+ghost use Rattle.connection_list.specs.Changes.{IsQuietBefore};
 ghost use Rattle.connection_list.specs.Tables.{AreWhole, advanced_rows};
 ghost use Rattle.connection_list.specs.Receiving.{received_by, receiving};
 
@@ -114,6 +115,14 @@ pub trait ConnectionTable: ConnectionsView + Drop {
     /// Whether a producer is due. Takes no memory.
     fn is_due(&self, clock: Ms) -> bool
         ensures { result ≡ list_any (is_due clock) (Self.rows self.now) };
+
+    /// A time before which no deadline of an established connection is reached and no producer is due; `u64::MAX` if
+    /// there is none. It may be too early, but is later once `has_expired` and then `produce` or `advance` have been
+    /// called at that time. Takes no memory.
+    ///
+    /// Volume 1, chapter 3, inactivity watchdog and production triggers.
+    fn next_change(&self) -> Ms
+        ensures { IsQuietBefore result.0 (Self.rows self.now) };
 
     /// The datagrams of the producers that are due, one each. Out of memory is the only fault.
     ///

@@ -45,17 +45,24 @@ last_nodes nodes added entry first count =
     ∙ ap (take entry.count) (drop_front nodes added)
     ∙ ap (λ (n : ℕ). take n added) count ∙ take_whole added
 
-pub entry_added : (rows : List Row) (number : ℕ) (entries new : List Entry) (nodes old : List Node) (entry : Entry) (all : ℕ) → AreWithin (length old) entries → nodes ≡ old ++ consumers number rows → new ≡ entries ++ entry ∷ [] → entry.number ≡ number → entry.first ≡ length old → all ≡ length nodes → entry.count ≡ all - entry.first → (map (consumers_in nodes) new ≡ map (consumers_in old) entries ++ consumers_of rows number ∷ []) × AreWithin (length nodes) new
-entry_added rows number entries new nodes old entry all within are is same first whole count =
-    let added = consumers number rows in
-    let len : length nodes ≡ length old + length (consumers number rows) = ap (length {A = Node}) are ∙ length_append old (consumers number rows) in
-    let long : entry.count ≡ length (consumers number rows) = omega (arith, len, first, whole, count) in (
+-- one more entry, whose nodes are put last
+pub entry_more : (added : List Node) (entries new : List Entry) (nodes old : List Node) (entry : Entry) → AreWithin (length old) entries → nodes ≡ old ++ added → new ≡ entries ++ entry ∷ [] → entry.first ≡ length old → entry.count ≡ length added → (map (consumers_in nodes) new ≡ map (consumers_in old) entries ++ (record { number = entry.number; nodes = added }) ∷ []) × AreWithin (length nodes) new
+entry_more added entries new nodes old entry within are is first count =
+    let len : length nodes ≡ length old + length added = ap (length {A = Node}) are ∙ length_append old added in (
       ap (map (consumers_in nodes)) is
           ∙ map_append (consumers_in nodes) entries (entry ∷ [])
           ∙ ap (λ (l : List Node). map (consumers_in l) entries ++ consumers_in l entry ∷ []) are
-          ∙ ap (λ (l : List ProducerConsumers). l ++ consumers_in (old ++ consumers number rows) entry ∷ []) (served_still old (consumers number rows) entries within)
-          ∙ ap (λ (s : ProducerConsumers). map (consumers_in old) entries ++ s ∷ []) (ap (λ (l : List Node). record { number = entry.number; nodes = l }) (last_nodes old (consumers number rows) entry first long) ∙ ap (λ (n : ℕ). record { number = n; nodes = consumers number rows }) same),
-      subst (AreWithin (length nodes)) (sym is) (within_last (length nodes) entries entry (within_more (length old) (length nodes) entries within (omega (arith, len))) (omega (arith, len, long, first))),
+          ∙ ap (λ (l : List ProducerConsumers). l ++ consumers_in (old ++ added) entry ∷ []) (served_still old added entries within)
+          ∙ ap (λ (l : List Node). let it : ProducerConsumers = record { number = entry.number; nodes = l } in map (consumers_in old) entries ++ it ∷ []) (last_nodes old added entry first count),
+      subst (AreWithin (length nodes)) (sym is) (within_last (length nodes) entries entry (within_more (length old) (length nodes) entries within (omega (arith, len))) (omega (arith, len, count, first))),
+    )
+
+pub entry_added : (rows : List Row) (number : ℕ) (entries new : List Entry) (nodes old : List Node) (entry : Entry) (all : ℕ) → AreWithin (length old) entries → nodes ≡ old ++ consumers number rows → new ≡ entries ++ entry ∷ [] → entry.number ≡ number → entry.first ≡ length old → all ≡ length nodes → entry.count ≡ all - entry.first → (map (consumers_in nodes) new ≡ map (consumers_in old) entries ++ consumers_of rows number ∷ []) × AreWithin (length nodes) new
+entry_added rows number entries new nodes old entry all within are is same first whole count =
+    let len : length nodes ≡ length old + length (consumers number rows) = ap (length {A = Node}) are ∙ length_append old (consumers number rows) in
+    let more = entry_more (consumers number rows) entries new nodes old entry within are is first (omega (arith, len, first, whole, count)) in (
+      more.0 ∙ ap (λ (n : ℕ). let it : ProducerConsumers = record { number = n; nodes = consumers number rows } in map (consumers_in old) entries ++ it ∷ []) same,
+      more.1,
     )
 
 pub any_entry : (number : ℕ) (nodes : List Node) (entries : List Entry) → list_any (has_number number) (map (consumers_in nodes) entries) ≡ list_any (is_of number) entries
@@ -67,7 +74,7 @@ any_entry number nodes (entry ∷ entries) = ap (λ b. is_of number entry || b) 
 numbers_transitive : IsTransitive same_number
 numbers_transitive = λ x y z xy yz. same_by x y z xy yz
 
-any_producer : (rows : List Row) (number : ℕ) (known : List ℕ) → list_any (has_number number) (map (consumers_of rows) known) ≡ list_any (λ first. same_number first number) known
+pub any_producer : (rows : List Row) (number : ℕ) (known : List ℕ) → list_any (has_number number) (map (consumers_of rows) known) ≡ list_any (λ first. same_number first number) known
 any_producer rows number [] = refl
 any_producer rows number (n ∷ known) = ap (λ b. (n == number) || b) (any_producer rows number known)
 

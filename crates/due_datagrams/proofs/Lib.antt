@@ -6,3 +6,4 @@ mod Settling
 mod Keyed
 mod Due
 mod DueInOrder
+mod Singles

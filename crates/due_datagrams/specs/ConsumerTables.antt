@@ -1,11 +1,11 @@
 -- The consumers of each producer, in the order of their first connections (Volume 1, chapter 3, class 1
 -- transport; Volume 2, chapter 3, multicast connections).
-use Rattle.std.specs.Prelude.{ℕ, ◌≤◌, ◌+◌, ◌==◌, Bool, if◌then◌else◌, List, [], ◌∷◌, map, take, drop, Option, Some, None}
+use Rattle.std.specs.Prelude.{ℕ, ◌≡◌, ◌≤◌, ◌+◌, ◌==◌, Bool, true, if◌then◌else◌, List, [], ◌∷◌, map, length, take, drop, Option, Some, None}
 use Rattle.std.specs.List.{list_any, filter_map}
 use Rattle.cip_types.specs.declared.names.Node.{Node}
 use Rattle.cip_types.specs.Order.{first_of_each, unless}
 use Rattle.adapter_table.specs.declared.row.Row.{Row}
-use Rattle.adapter_table.specs.Productions.{producer_number, is_produced_by, same_node, consumers}
+use Rattle.adapter_table.specs.Productions.{producer_number, is_produced_by, group, same_node, consumers}
 use Rattle.due_datagrams.specs.declared.consumer_table.Entry.{Entry}
 
 -- the number of a producer, and the nodes that consume its datagrams
@@ -58,3 +58,8 @@ one_consumer number row known = if is_produced_by number row then unless (list_a
 abbrev pub more_by : List Row → List ProducerConsumers → Option ℕ → List ProducerConsumers
 more_by rows known None = []
 more_by rows known (Some number) = unless (list_any (has_number number) known) (consumers_of rows number)
+
+-- if the connection alone has its producer, the known ones are without it, and the peer of the connection is its consumer
+abbrev pub IsNewIfSingle : List Row → List ProducerConsumers → Row → Option ℕ → Type 0
+IsNewIfSingle rows known row None = Unit {0}
+IsNewIfSingle rows known row (Some number) = (length (group number rows) == 1) ≡ true → unless (list_any (has_number number) known) (consumers_of rows number) ≡ (record { number = number; nodes = row.peer ∷ [] }) ∷ []

@@ -4,7 +4,7 @@ ghost use Rattle.std.specs.Prelude.{◌≡◌, ◌≤◌, ◌++◌, ◌∷◌, [
 ghost use Rattle.std.specs.List.{list_any};
 ghost use Rattle.cip_types.specs.Order.{unless};
 ghost use Rattle.adapter_table.specs.Productions.{same_node, consumers};
-ghost use Rattle.due_datagrams.specs.ConsumerTables.{number_in, consumers_by_producer, consumers_in, consumers_of, is_of, more_by, one_consumer, AreWithin};
+ghost use Rattle.due_datagrams.specs.ConsumerTables.{number_in, consumers_by_producer, consumers_in, consumers_of, is_of, more_by, one_consumer, AreWithin, IsNewIfSingle};
 
 use adapter_table::{Row, State, has_node, is_produced_by};
 use cip_types::limits::MOST_CONNECTIONS;
@@ -114,14 +114,37 @@ fn add_entry(
     true
 }
 
+/// Adds a producer that one node alone consumes. False without spare capacity.
+fn add_single(entries: &mut Vec<Entry>, nodes: &mut Vec<Node>, number: u32, node: Node) -> bool
+    requires { AreWithin (length nodes.old.items) entries.old.items }
+    ensures within { result ≡ true → AreWithin (length nodes.new.items) entries.new.items }
+    ensures added { result ≡ true → map (consumers_in nodes.new.items) entries.new.items
+        ≡ map (consumers_in nodes.old.items) entries.old.items ++ (record { number = number; nodes = node ∷ [] }) ∷ [] }
+{
+    let first = nodes.len();
+    if entries.len() >= entries.capacity() || first >= nodes.capacity() {
+        return false;
+    }
+    nodes.push_reserved(node);
+    entries.push_reserved(Entry {
+        number,
+        first,
+        count: 1,
+    });
+    true
+}
+
 /// Adds the producer of a connection, unless it is there. False without spare capacity.
+///
+/// The producer of one connection alone is looked for neither among the entries nor in other connections.
 fn add_producer(
     entries: &mut Vec<Entry>,
     nodes: &mut Vec<Node>,
     connections: &Connections,
     row: &Row,
 ) -> bool
-    requires { AreWithin (length nodes.old.items) entries.old.items }
+    requires within { AreWithin (length nodes.old.items) entries.old.items }
+    requires single { IsNewIfSingle connections.now (map (consumers_in nodes.old.items) entries.old.items) row.now (number_in row.now) }
     ensures within { result ≡ true → AreWithin (length nodes.new.items) entries.new.items }
     ensures added { result ≡ true
         → map (consumers_in nodes.new.items) entries.new.items ≡ map (consumers_in nodes.old.items) entries.old.items
@@ -130,10 +153,14 @@ fn add_producer(
     let State::Established(production) = &row.state else {
         return true;
     };
-    if has_entry(entries, production.producer) {
+    let number = production.producer;
+    if connections.is_single(number, entries.len()) {
+        return add_single(entries, nodes, number, row.peer);
+    }
+    if has_entry(entries, number) {
         return true;
     }
-    add_entry(entries, nodes, connections, production.producer)
+    add_entry(entries, nodes, connections, number)
 }
 
 /// Adds the producers of connections. False without spare capacity.

@@ -267,6 +267,10 @@ impl ConnectionTable for IndexedConnections {
         is_any_due(self.connections.rows(), clock)
     }
 
+    fn next_change(&self) -> Ms {
+        Ms(self.next_watchdog.min(self.next_production))
+    }
+
     fn sent_when_due(
         &self,
         alloc: Global,

@@ -115,6 +115,13 @@ impl Pool {
         find_group(&self.groups, number)
     }
 
+    /// The same. The search tries one index first. Takes no memory.
+    pub fn group_with_hint(&self, number: u32, hint: usize) -> Option<Group>
+        ensures { result ≡ numbered number self.now }
+    {
+        find_with_hint(&self.groups, number, hint)
+    }
+
     /// A connection joins the group of its producer's point, if it shares its producer and there is such a group;
     /// else it starts its own producer, with its own id, number and production. Takes no memory.
     ///

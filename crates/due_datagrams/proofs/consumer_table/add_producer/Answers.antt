@@ -1,7 +1,13 @@
-use Rattle.std.proofs.Common.{ap}
+use Rattle.std.proofs.Common.{ap, map}
 use Rattle.adapter_table.specs.Productions.{producer_number}
+use Rattle.due_datagrams.specs.ConsumerTables.{consumers_in}
 use Rattle.due_datagrams.proofs.Entries.{known, added}
+use Rattle.due_datagrams.proofs.Singles.{single_added}
 use Rattle.due_datagrams.proofs.consumer_table.add_producer.Goals as goal
+
+pub returns-then-is_single-clause-added : goal.returns-then-is_single-clause-added
+returns-then-is_single-clause-added c is =
+    single_added c.args.connections.now (map (consumers_in c.args.nodes.now.items) c.args.entries.now.items) _ c.args.row.now _ c.in-Established.production.producer c.is_single.result (ap producer_number c.in-Established.is) c.requires.single c.is_single.ensures c.if-is_single.true (c.add_single.ensures.added is)
 
 pub returns-then-has_entry-clause-added : goal.returns-then-has_entry-clause-added
 returns-then-has_entry-clause-added c _ =

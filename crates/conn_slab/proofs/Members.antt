@@ -1,0 +1,33 @@
+-- The connections of a producer are as many as its group in the pool counts.
+use Rattle.std.proofs.Common.{◌≡◌, ℕ, ◌+◌, ◌==◌, Bool, true, false, cond, List, [], ◌∷◌, length, map, Option, Some, None, refl, sym, ◌∙◌, ap, subst, arith}
+use Rattle.std.specs.List.{AllByRecursion}
+use Rattle.std.proofs.lemmas.Bool.{eqb-true}
+use Rattle.adapter_table.specs.declared.row.Row.{Row}
+use Rattle.adapter_table.specs.Productions.{group, is_produced_by, has_number as made_by}
+use Rattle.mcast_pool.specs.declared.group.Group.{Group}
+use Rattle.mcast_pool.specs.Groups.{number_of, numbered}
+use Rattle.conn_slab.specs.declared.record.Record.{Record}
+use Rattle.conn_slab.specs.Records.{row_of, state_of, production_in}
+use Rattle.conn_slab.specs.Layout.{IsServed, SharesBy, SharesFound, IsBalanced, is_number, members, count_in}
+use Rattle.conn_slab.proofs.Producing.{found_passes}
+
+made_found : (number m : ℕ) (pool : List Group) (r : Record) (found : Option Group) → numbered m pool ≡ found → SharesFound r found → (production_in found).producer == number ≡ m == number
+made_found number m pool r None is shares = absurd shares
+made_found number m pool r (Some g) is shares = ap (λ n. n == number) (eqb-true (number_of g) m (found_passes m pool g is))
+
+made : (number : ℕ) (pool : List Group) (r : Record) (n : Option ℕ) → SharesBy pool r n → made_by number (state_of pool n) ≡ is_number number n
+made number pool r None shares = refl
+made number pool r (Some m) shares = made_found number m pool r (numbered m pool) refl shares
+
+count_step : (b : Bool) (row : Row) (rest : List Row) (count : ℕ) → count ≡ length rest → cond b 1 0 + count ≡ length (cond b (row ∷ rest) rest)
+count_step true row rest count is = omega arith
+count_step false row rest count is = omega arith
+
+members_are : (number : ℕ) (pool : List Group) (rs : List Record) → AllByRecursion (IsServed pool) rs → members number rs ≡ length (group number (map (row_of pool) rs))
+members_are number pool [] served = refl
+members_are number pool (r ∷ rs) served =
+    count_step (is_number number r.producer) (row_of pool r) (group number (map (row_of pool) rs)) (members number rs) (members_are number pool rs served.1)
+    ∙ ap (λ (b : Bool). length (cond b (row_of pool r ∷ group number (map (row_of pool) rs)) (group number (map (row_of pool) rs)))) (sym (made number pool r r.producer served.0))
+
+pub members_of : (number : ℕ) (pool : List Group) (rs : List Record) → IsBalanced pool rs → length (group number (map (row_of pool) rs)) ≡ count_in (numbered number pool)
+members_of number pool rs balanced = sym (balanced.counted number ∙ members_are number pool rs balanced.served)
