@@ -5,6 +5,12 @@ use Rattle.scanner_table.specs.declared.profile.SlotConfig.{SlotConfig}
 use Rattle.scanner_table.specs.declared.slot.Slot.{Slot}
 use Rattle.scanner_table.specs.Slots.{IndexedSlot, indexed_slots, indexed_from, slot_at}
 use Rattle.scanner_table.specs.Effects.{Effect, done}
+use Rattle.cip_encap.specs.Message.{MessageFields}
+use Rattle.scanner_table.specs.declared.slot.PendingClose.{PendingClose}
+use Rattle.scanner_table.specs.declared.slot.SlotState.{SlotState}
+use Rattle.scanner_table.specs.declared.slot.SlotState.TheVariants.{Closing}
+use Rattle.scanner_table.specs.Closing.{given_up, given_up_state}
+use Rattle.scanner_table.specs.Encapsulation.{replied, replied_to}
 use Rattle.slot_transactions.specs.Transactions.{Progress, begun, followed, at_found, after_at}
 use Rattle.slot_runs.specs.FrameOutcomes.{progress_next}
 use Rattle.slot_runs.proofs.SlotNumbers.{Each, StandsIn, slots_stand}
@@ -37,3 +43,16 @@ found_stands t test indexed is = each_found (StandsIn t) test (indexed_slots t) 
 pub searched_stands : (t : ScannerTable) (test : IndexedSlot → Bool) (configs : List SlotConfig) (slots : List Slot) (indexed : IndexedSlot) → configs ≡ t.profile.slots → slots ≡ t.slots → Some indexed ≡ find test (indexed_from 0 configs slots) → slot_at t indexed.number ≡ Some indexed
 searched_stands t test configs slots indexed same are is =
     found_stands t test indexed (is ∙ ap (λ (cs : List SlotConfig). find test (indexed_from 0 cs slots)) same ∙ ap (λ (ss : List Slot). find test (indexed_from 0 t.profile.slots ss)) are)
+
+-- the slot that waits for the message, by the lists that were searched
+pub searched_is : (t : ScannerTable) (test : IndexedSlot → Bool) (configs : List SlotConfig) (slots : List Slot) (indexed : IndexedSlot) → configs ≡ t.profile.slots → slots ≡ t.slots → Some indexed ≡ find test (indexed_from 0 configs slots) → Some indexed ≡ find test (indexed_slots t)
+searched_is t test configs slots indexed same are is =
+    is ∙ ap (λ (cs : List SlotConfig). find test (indexed_from 0 cs slots)) same ∙ ap (λ (ss : List Slot). find test (indexed_from 0 t.profile.slots ss)) are
+
+-- the reply at a slot that was found in this state
+pub awaited : (t : ScannerTable) (m : MessageFields) (indexed : IndexedSlot) (state : SlotState) (found : Option IndexedSlot) → Some indexed ≡ found → indexed.slot.state ≡ state → replied t indexed m state ≡ replied_to t m found
+awaited t m indexed state found is at = ap (replied t indexed m) (sym at) ∙ ap (replied_to t m) is
+
+-- any reply ends a slot that closes
+pub closes : (t : ScannerTable) (m : MessageFields) (indexed : IndexedSlot) (c : PendingClose) → indexed.slot.state ≡ Closing c → done (given_up t indexed) ≡ replied t indexed m (Closing c)
+closes t m indexed c at = ap (λ (s : SlotState). done (given_up_state t indexed s)) at

@@ -6,6 +6,7 @@ ghost use Rattle.scanner_table.specs.Slots.{indexed_slots};
 ghost use Rattle.scanner_table.specs.Ticks.{has_expired, deadline_of, all_expired, advanced};
 ghost use Rattle.slot_places.specs.Views.{view_slot, table_of};
 ghost use Rattle.slot_transactions.specs.Transactions.{view_transaction, followed};
+ghost use Rattle.slot_transactions.specs.Undoing.{state_before};
 ghost use Rattle.slot_runs.specs.Expiries.{expiry_of, expires_before};
 
 use crate::running::{act_on_slot, give_up_overdue, open_ready};
@@ -95,6 +96,7 @@ pub fn expire_all(
     requires time { transaction.old.scanner.clock.0 ≤ 2 ^ 48 }
     ensures effect { let d = view_transaction profile.now transaction.old in IfOk result (λ _. view_transaction profile.now transaction.new ≡ followed d (all_expired d.table)) }
     ensures clock { transaction.new.scanner.clock ≡ transaction.old.scanner.clock }
+    ensures kept { state_before transaction.new ≡ state_before transaction.old }
 {
     let alloc = transaction.alloc();
     let found = expiries(alloc, profile, &transaction.scanner)?;
@@ -112,6 +114,7 @@ pub fn advance(transaction: &mut Transaction, profile: &ScannerProfile) -> Resul
     requires time { transaction.old.scanner.clock.0 ≤ 2 ^ 48 }
     ensures effect { let d = view_transaction profile.now transaction.old in IfOk result (λ _. view_transaction profile.now transaction.new ≡ followed d (advanced d.table)) }
     ensures clock { transaction.new.scanner.clock ≡ transaction.old.scanner.clock }
+    ensures kept { state_before transaction.new ≡ state_before transaction.old }
 {
     expire_all(transaction, profile)?;
     give_up_overdue(transaction, profile)?;

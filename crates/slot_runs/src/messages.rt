@@ -1,175 +1,130 @@
 //! The frames that targets send.
 
-ghost use Rattle.std.specs.Prelude.{◌≡◌, ◌≤◌, ◌^◌, None, Some, IfOk, find};
+ghost use Rattle.std.specs.Prelude.{◌≡◌, ◌≤◌, ◌^◌, None, IfOk, find};
 ghost use Rattle.cip_encap.specs.Message.{view_message};
 ghost use Rattle.cip_encap.specs.Reading.{message_reading};
 ghost use Rattle.scanner_table.specs.declared.table.Stage.TheVariants.{Waiting};
-ghost use Rattle.scanner_table.specs.Requests.{is_large};
-ghost use Rattle.scanner_table.specs.Effects.{done};
-ghost use Rattle.scanner_table.specs.Closing.{given_up};
-ghost use Rattle.scanner_table.specs.Replies.{open_answer, answered};
-ghost use Rattle.scanner_table.specs.Encapsulation.{is_awaiting, replied, replied_to, reported, frame_answer};
+ghost use Rattle.scanner_table.specs.Encapsulation.{is_awaiting, replied_to, reported, frame_answer};
 ghost use Rattle.scanner_table.specs.Profiles.{profile_fault};
-ghost use Rattle.scanner_table.specs.Slots.{slot_at, indexed_slots};
-ghost use Rattle.slot_places.specs.Views.{table_of, view_slot};
+ghost use Rattle.scanner_table.specs.Slots.{indexed_slots};
+ghost use Rattle.slot_places.specs.Views.{table_of};
+ghost use Rattle.slot_transactions.specs.Transactions.{begun, view_transaction};
+ghost use Rattle.slot_transactions.specs.Undoing.{state_before};
 ghost use Rattle.slot_runs.specs.FrameOutcomes.{frame_next};
 
 use crate::sessions::register;
 use cip_encap::{MessageView, read_message};
 use cip_types::{Node, OutOfMemory};
-use scanner_table::{PendingOpen, ScannerProfile, SlotState, Stage, TargetStream};
-use slot_places::{ScannerState, SlotTest, SlotView, find_slot};
+use scanner_table::{ScannerProfile, SlotState, Stage, TargetStream};
+use slot_places::{SlotTest, find_slot};
 use slot_requests::{is_large, open_answer};
 use slot_transactions::Transaction;
-use std::alloc::Global;
 
 /// The outcome of a frame.
-#[derive(Drop)]
+#[derive(Clone, Copy, PartialEq, Eq)]
 pub enum FrameOutcome {
     /// The frame is no whole message.
     BadFrame,
     /// Nothing waits for the message.
     Ignored,
-    /// The message is a reply that a slot or a registration waited for.
-    Answered(Transaction),
+    /// The message is a reply that a slot or a registration waited for. Its effect is in the transaction.
+    Answered,
 }
 
-/// Takes the reply to a slot's Forward_Open.
-fn open_replied(
-    alloc: Global,
+/// Takes the reply of a target to a request of one of its slots. Any reply to a Forward_Close ends the connection.
+#[tactic(auto, using(crate::proofs::Few::few_slots))]
+fn replied_to(
+    transaction: &mut Transaction,
     profile: &ScannerProfile,
-    scanner: &ScannerState,
-    indexed: SlotView<'_>,
-    opening: &PendingOpen,
+    target: Node,
     message: &MessageView<'_>,
 ) -> Result<FrameOutcome, OutOfMemory>
     requires faultless { profile_fault profile.now ≡ None }
-    requires time { scanner.now.clock.0 ≤ 2 ^ 48 }
-    requires stands { slot_at (table_of profile.now scanner.now) indexed.number ≡ Some (view_slot indexed) }
-    ensures { let t = table_of profile.now scanner.now in let reported = open_answer (is_large indexed.entry.config.now) (view_message message.now) in IfOk result (λ h. frame_next profile.now t h ≡ done (answered t (view_slot indexed.entry) opening.now reported)) }
+    requires time { transaction.old.scanner.clock.0 ≤ 2 ^ 48 }
+    requires fresh { view_transaction profile.now transaction.old ≡ begun (table_of profile.now transaction.old.scanner) }
+    ensures effect { let t = table_of profile.now transaction.old.scanner in let m = view_message message.now in IfOk result (λ outcome. frame_next t outcome (view_transaction profile.now transaction.new) ≡ replied_to t m (find (is_awaiting target m.context) (indexed_slots t))) }
+    ensures kept { state_before transaction.new ≡ state_before transaction.old }
 {
-    let reported = open_answer(is_large(indexed.config), message);
-    let mut transaction = Transaction::begin(alloc, scanner)?;
-    transaction.answer(profile, indexed.number, opening, reported)?;
-    Ok(FrameOutcome::Answered(transaction))
-}
-
-/// Takes the reply to a slot's Forward_Close, whatever it says.
-fn given_up(
-    alloc: Global,
-    profile: &ScannerProfile,
-    scanner: &ScannerState,
-    indexed: SlotView<'_>,
-) -> Result<FrameOutcome, OutOfMemory>
-    requires faultless { profile_fault profile.now ≡ None }
-    requires time { scanner.now.clock.0 ≤ 2 ^ 48 }
-    requires stands { slot_at (table_of profile.now scanner.now) indexed.number ≡ Some (view_slot indexed) }
-    ensures { let t = table_of profile.now scanner.now in IfOk result (λ h. frame_next profile.now t h ≡ done (given_up t (view_slot indexed.entry))) }
-{
-    let mut transaction = Transaction::begin(alloc, scanner)?;
-    transaction.give_up(profile, indexed.number)?;
-    Ok(FrameOutcome::Answered(transaction))
-}
-
-/// Takes the reply to a slot's request.
-fn replied(
-    alloc: Global,
-    profile: &ScannerProfile,
-    scanner: &ScannerState,
-    indexed: SlotView<'_>,
-    message: &MessageView<'_>,
-) -> Result<FrameOutcome, OutOfMemory>
-    requires faultless { profile_fault profile.now ≡ None }
-    requires time { scanner.now.clock.0 ≤ 2 ^ 48 }
-    requires stands { slot_at (table_of profile.now scanner.now) indexed.number ≡ Some (view_slot indexed) }
-    ensures { let t = table_of profile.now scanner.now in IfOk result (λ h. frame_next profile.now t h ≡ replied t (view_slot indexed.entry) (view_message message.now) indexed.entry.slot.now.state) }
-{
+    let test = SlotTest::Awaiting(target, message.context);
+    let slots = &transaction.scanner.slots;
+    let Some(indexed) = find_slot(profile.slots.as_slice(), slots, test) else {
+        return Ok(FrameOutcome::Ignored);
+    };
+    let number = indexed.number;
     match indexed.slot.state {
         SlotState::Opening(opening) => {
-            open_replied(alloc, profile, scanner, indexed, &opening, message)
+            let reported = open_answer(is_large(indexed.config), message);
+            transaction.answer(profile, number, &opening, reported)?;
+            Ok(FrameOutcome::Answered)
         }
-        SlotState::Closing(_) => given_up(alloc, profile, scanner, indexed),
+        SlotState::Closing(_) => {
+            transaction.give_up(profile, number)?;
+            Ok(FrameOutcome::Answered)
+        }
         SlotState::Idle | SlotState::Established(_) | SlotState::TimedOut(_) => Ok(
             FrameOutcome::Ignored,
         ),
     }
 }
 
-/// Takes the reply of a target to a request of one of its slots.
-#[tactic(auto, using(crate::proofs::Few::few_slots))]
-fn replied_to(
-    alloc: Global,
-    profile: &ScannerProfile,
-    scanner: &ScannerState,
-    target: Node,
-    message: &MessageView<'_>,
-) -> Result<FrameOutcome, OutOfMemory>
-    requires faultless { profile_fault profile.now ≡ None }
-    requires time { scanner.now.clock.0 ≤ 2 ^ 48 }
-    ensures { let t = table_of profile.now scanner.now in let m = view_message message.now in IfOk result (λ h. frame_next profile.now t h ≡ replied_to t m (find (is_awaiting target m.context) (indexed_slots t))) }
-{
-    let test = SlotTest::Awaiting(target, message.context);
-    match find_slot(profile.slots.as_slice(), &scanner.slots, test) {
-        Some(indexed) => replied(alloc, profile, scanner, indexed, message),
-        None => Ok(FrameOutcome::Ignored),
-    }
-}
-
 /// Takes the reply to a registration, which has sender context 0.
 fn registered(
-    alloc: Global,
+    transaction: &mut Transaction,
     profile: &ScannerProfile,
-    scanner: &ScannerState,
     stream: TargetStream,
     message: &MessageView<'_>,
 ) -> Result<FrameOutcome, OutOfMemory>
     requires faultless { profile_fault profile.now ≡ None }
-    requires time { scanner.now.clock.0 ≤ 2 ^ 48 }
-    ensures { let t = table_of profile.now scanner.now in IfOk result (λ h. frame_next profile.now t h ≡ reported t stream (view_message message.now) Waiting) }
+    requires time { transaction.old.scanner.clock.0 ≤ 2 ^ 48 }
+    requires fresh { view_transaction profile.now transaction.old ≡ begun (table_of profile.now transaction.old.scanner) }
+    ensures effect { let t = table_of profile.now transaction.old.scanner in IfOk result (λ outcome. frame_next t outcome (view_transaction profile.now transaction.new) ≡ reported t stream (view_message message.now) Waiting) }
+    ensures kept { state_before transaction.new ≡ state_before transaction.old }
 {
     if message.context != 0 {
         return Ok(FrameOutcome::Ignored);
     }
-    let mut transaction = Transaction::begin(alloc, scanner)?;
-    register(&mut transaction, profile, stream, message)?;
-    Ok(FrameOutcome::Answered(transaction))
+    register(transaction, profile, stream, message)?;
+    Ok(FrameOutcome::Answered)
 }
 
 /// Takes a message of the target of an open stream, by the stage of the stream's session.
 fn reported(
-    alloc: Global,
+    transaction: &mut Transaction,
     profile: &ScannerProfile,
-    scanner: &ScannerState,
     stream: TargetStream,
     message: &MessageView<'_>,
 ) -> Result<FrameOutcome, OutOfMemory>
     requires faultless { profile_fault profile.now ≡ None }
-    requires time { scanner.now.clock.0 ≤ 2 ^ 48 }
-    ensures { let t = table_of profile.now scanner.now in IfOk result (λ h. frame_next profile.now t h ≡ reported t stream (view_message message.now) stream.stage) }
+    requires time { transaction.old.scanner.clock.0 ≤ 2 ^ 48 }
+    requires fresh { view_transaction profile.now transaction.old ≡ begun (table_of profile.now transaction.old.scanner) }
+    ensures effect { let t = table_of profile.now transaction.old.scanner in IfOk result (λ outcome. frame_next t outcome (view_transaction profile.now transaction.new) ≡ reported t stream (view_message message.now) stream.stage) }
+    ensures kept { state_before transaction.new ≡ state_before transaction.old }
 {
     match stream.stage {
-        Stage::Waiting => registered(alloc, profile, scanner, stream, message),
-        Stage::Up(_) => replied_to(alloc, profile, scanner, stream.peer, message),
+        Stage::Waiting => registered(transaction, profile, stream, message),
+        Stage::Up(_) => replied_to(transaction, profile, stream.peer, message),
         Stage::Unused => Ok(FrameOutcome::Ignored),
     }
 }
 
-/// Takes a frame of an open stream. `OutOfMemory` is the only error.
+/// Takes a frame of an open stream, in a transaction that has just begun. `OutOfMemory` is the only error; the transaction
+/// must be undone then.
 ///
 /// Volume 2, chapter 2, encapsulation messages.
 pub fn receive_frame(
-    alloc: Global,
+    transaction: &mut Transaction,
     profile: &ScannerProfile,
-    scanner: &ScannerState,
     stream: TargetStream,
     bytes: &[u8],
 ) -> Result<FrameOutcome, OutOfMemory>
     requires faultless { profile_fault profile.now ≡ None }
-    requires time { scanner.now.clock.0 ≤ 2 ^ 48 }
-    ensures { let t = table_of profile.now scanner.now in IfOk result (λ h. frame_next profile.now t h ≡ frame_answer t stream (message_reading bytes.now)) }
+    requires time { transaction.old.scanner.clock.0 ≤ 2 ^ 48 }
+    requires fresh { view_transaction profile.now transaction.old ≡ begun (table_of profile.now transaction.old.scanner) }
+    ensures effect { let t = table_of profile.now transaction.old.scanner in IfOk result (λ outcome. frame_next t outcome (view_transaction profile.now transaction.new) ≡ frame_answer t stream (message_reading bytes.now)) }
+    ensures kept { state_before transaction.new ≡ state_before transaction.old }
 {
     match read_message(bytes) {
-        Ok(message) => reported(alloc, profile, scanner, stream, &message),
+        Ok(message) => reported(transaction, profile, stream, &message),
         Err(_) => Ok(FrameOutcome::BadFrame),
     }
 }

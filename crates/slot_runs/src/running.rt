@@ -6,6 +6,7 @@ ghost use Rattle.scanner_table.specs.Opening.{ready_opened, target_opened};
 ghost use Rattle.scanner_table.specs.Closing.{target_lost};
 ghost use Rattle.scanner_table.specs.Ticks.{all_given_up};
 ghost use Rattle.slot_transactions.specs.Transactions.{view_transaction, followed, after_at};
+ghost use Rattle.slot_transactions.specs.Undoing.{state_before};
 ghost use Rattle.slot_runs.specs.Runs.{effect_of, run};
 
 use crate::slot_filter::{SlotAction, SlotFilter};
@@ -24,6 +25,7 @@ pub fn act_on_slot(
     requires time { transaction.old.scanner.clock.0 ≤ 2 ^ 48 }
     ensures effect { IfOk result (λ _. view_transaction profile.now transaction.new ≡ after_at (effect_of action) number (view_transaction profile.now transaction.old)) }
     ensures clock { transaction.new.scanner.clock ≡ transaction.old.scanner.clock }
+    ensures kept { state_before transaction.new ≡ state_before transaction.old }
 {
     match action {
         SlotAction::Open => transaction.open(profile, number),
@@ -44,6 +46,7 @@ fn run(
     requires time { transaction.old.scanner.clock.0 ≤ 2 ^ 48 }
     ensures effect { let d = view_transaction profile.now transaction.old in IfOk result (λ _. view_transaction profile.now transaction.new ≡ followed d (run action which d.table)) }
     ensures clock { transaction.new.scanner.clock ≡ transaction.old.scanner.clock }
+    ensures kept { state_before transaction.new ≡ state_before transaction.old }
 {
     let count = profile.slots.as_slice().len() as u32;
     for number in 0..count {
@@ -55,7 +58,7 @@ fn run(
 }
 
 /// Opens all ready slots. `OutOfMemory` is the only error, here and in the functions below; the transaction must be
-/// dropped then.
+/// undone then.
 ///
 /// Volume 1, chapter 3, Forward_Open service.
 pub fn open_ready(
@@ -66,6 +69,7 @@ pub fn open_ready(
     requires time { transaction.old.scanner.clock.0 ≤ 2 ^ 48 }
     ensures effect { let d = view_transaction profile.now transaction.old in IfOk result (λ _. view_transaction profile.now transaction.new ≡ followed d (ready_opened d.table)) }
     ensures clock { transaction.new.scanner.clock ≡ transaction.old.scanner.clock }
+    ensures kept { state_before transaction.new ≡ state_before transaction.old }
 {
     let ready = SlotFilter::Ready(transaction.scanner.clock);
     run(transaction, profile, SlotAction::Open, ready)
@@ -83,6 +87,7 @@ pub fn open_target(
     requires time { transaction.old.scanner.clock.0 ≤ 2 ^ 48 }
     ensures effect { let d = view_transaction profile.now transaction.old in IfOk result (λ _. view_transaction profile.now transaction.new ≡ followed d (target_opened target d.table)) }
     ensures clock { transaction.new.scanner.clock ≡ transaction.old.scanner.clock }
+    ensures kept { state_before transaction.new ≡ state_before transaction.old }
 {
     let ready = SlotFilter::ReadyWith(target, transaction.scanner.clock);
     run(transaction, profile, SlotAction::Open, ready)
@@ -99,6 +104,7 @@ pub fn lose_target(
     requires time { transaction.old.scanner.clock.0 ≤ 2 ^ 48 }
     ensures effect { let d = view_transaction profile.now transaction.old in IfOk result (λ _. view_transaction profile.now transaction.new ≡ followed d (target_lost target d.table)) }
     ensures clock { transaction.new.scanner.clock ≡ transaction.old.scanner.clock }
+    ensures kept { state_before transaction.new ≡ state_before transaction.old }
 {
     run(
         transaction,
@@ -118,6 +124,7 @@ pub fn give_up_overdue(
     requires time { transaction.old.scanner.clock.0 ≤ 2 ^ 48 }
     ensures effect { let d = view_transaction profile.now transaction.old in IfOk result (λ _. view_transaction profile.now transaction.new ≡ followed d (all_given_up d.table)) }
     ensures clock { transaction.new.scanner.clock ≡ transaction.old.scanner.clock }
+    ensures kept { state_before transaction.new ≡ state_before transaction.old }
 {
     let overdue = SlotFilter::Overdue(transaction.scanner.clock);
     run(transaction, profile, SlotAction::GiveUp, overdue)

@@ -7,6 +7,7 @@ ghost use Rattle.scanner_table.specs.Encapsulation.{registered, session_begun, s
 ghost use Rattle.scanner_table.specs.Closing.{target_lost};
 ghost use Rattle.cip_encap.specs.Message.{view_message};
 ghost use Rattle.slot_transactions.specs.Transactions.{view_transaction, followed};
+ghost use Rattle.slot_transactions.specs.Undoing.{state_before};
 
 use crate::running::{lose_target, open_target};
 use cip_encap::MessageView;
@@ -26,21 +27,28 @@ fn begin_session(
     requires time { transaction.old.scanner.clock.0 ≤ 2 ^ 48 }
     ensures effect { let d = view_transaction profile.now transaction.old in IfOk result (λ _. view_transaction profile.now transaction.new ≡ followed d (session_begun d.table stream handle)) }
     ensures clock { transaction.new.scanner.clock ≡ transaction.old.scanner.clock }
+    ensures kept { state_before transaction.new ≡ state_before transaction.old }
 {
-    transaction.set_stage(stream.number, Stage::Up(handle));
+    transaction.set_stage(stream.number, Stage::Up(handle))?;
     open_target(transaction, profile, stream.peer)
 }
 
 /// Records that the registration on a stream failed.
 #[tactic(auto, using(crate::proofs::Remaining::adds_nothing))]
-fn fail_session(transaction: &mut Transaction, profile: &ScannerProfile, stream: TargetStream)
-    ensures effect { let d = view_transaction profile.now transaction.old in view_transaction profile.now transaction.new ≡ followed d (session_failed d.table stream) }
+fn fail_session(
+    transaction: &mut Transaction,
+    profile: &ScannerProfile,
+    stream: TargetStream,
+) -> Result<(), OutOfMemory>
+    ensures effect { let d = view_transaction profile.now transaction.old in IfOk result (λ _. view_transaction profile.now transaction.new ≡ followed d (session_failed d.table stream)) }
     ensures clock { transaction.new.scanner.clock ≡ transaction.old.scanner.clock }
+    ensures kept { state_before transaction.new ≡ state_before transaction.old }
 {
-    transaction.set_stage(stream.number, Stage::Unused);
+    transaction.set_stage(stream.number, Stage::Unused)?;
+    Ok(())
 }
 
-/// Takes the reply to a registration. `OutOfMemory` is the only error; the transaction must be dropped then.
+/// Takes the reply to a registration. `OutOfMemory` is the only error; the transaction must be undone then.
 ///
 /// Volume 2, chapter 2, RegisterSession.
 pub fn register(
@@ -53,16 +61,16 @@ pub fn register(
     requires time { transaction.old.scanner.clock.0 ≤ 2 ^ 48 }
     ensures effect { let d = view_transaction profile.now transaction.old in IfOk result (λ _. view_transaction profile.now transaction.new ≡ followed d (registered d.table stream (view_message message.now))) }
     ensures clock { transaction.new.scanner.clock ≡ transaction.old.scanner.clock }
+    ensures kept { state_before transaction.new ≡ state_before transaction.old }
 {
     if is_registered(message) {
         return begin_session(transaction, profile, stream, message.session);
     }
-    fail_session(transaction, profile, stream);
-    Ok(())
+    fail_session(transaction, profile, stream)
 }
 
 /// Removes a stream, and lets its target's slots give up the replies that they wait for. `OutOfMemory` is the only error;
-/// the transaction must be dropped then.
+/// the transaction must be undone then.
 pub fn cut_stream(
     transaction: &mut Transaction,
     profile: &ScannerProfile,
@@ -72,7 +80,8 @@ pub fn cut_stream(
     requires time { transaction.old.scanner.clock.0 ≤ 2 ^ 48 }
     ensures effect { let d = view_transaction profile.now transaction.old in IfOk result (λ _. view_transaction profile.now transaction.new ≡ followed d (target_lost stream.peer (without_stream d.table stream.number))) }
     ensures clock { transaction.new.scanner.clock ≡ transaction.old.scanner.clock }
+    ensures kept { state_before transaction.new ≡ state_before transaction.old }
 {
-    transaction.cut_stream(stream.number);
+    transaction.cut_stream(stream.number)?;
     lose_target(transaction, profile, stream.peer)
 }

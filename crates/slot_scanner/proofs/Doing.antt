@@ -10,7 +10,6 @@ use Rattle.scanner_table.specs.declared.slot.SlotState.{SlotState}
 use Rattle.scanner_table.specs.declared.slot.SlotState.TheVariants.{Idle, Opening, Established, TimedOut, Closing}
 use Rattle.scanner_table.specs.declared.table.ScannerTable.{ScannerTable}
 use Rattle.cip_encap.specs.Reading.{message_reading}
-use Rattle.scanner_table.specs.declared.profile.ScannerProfile.{ScannerProfile}
 use Rattle.scanner_table.specs.declared.table.TargetStream.{TargetStream}
 use Rattle.scanner_table.specs.Closing.{stopped, stopped_at, slot_resigned, closed_within, target_lost}
 use Rattle.scanner_table.specs.Encapsulation.{stream_cut, cut_of, frame, frame_of, frame_answer}
@@ -18,11 +17,7 @@ use Rattle.scanner_table.specs.Effects.{Next, Effect, done}
 use Rattle.scanner_table.specs.Points.{start, start_at, start_state, stop, stop_of, write, write_at, write_length, output_written}
 use Rattle.scanner_table.specs.Sessions.{session_with, is_stream, without_stream}
 use Rattle.scanner_table.specs.Slots.{IndexedSlot, slot_at}
-use Rattle.slot_runs.specs.declared.messages.FrameOutcome.{FrameOutcome}
-use Rattle.slot_runs.specs.declared.messages.FrameOutcome.TheVariants.{Answered}
-use Rattle.slot_runs.specs.FrameOutcomes.{progress_next, frame_next}
-use Rattle.slot_transactions.specs.declared.transaction.Transaction.{Transaction}
-use Rattle.slot_transactions.specs.Transactions.{Progress, view_transaction, begun, followed, at_number, at_found, after_at, freshly_started, progress_answer, Adds}
+use Rattle.slot_transactions.specs.Transactions.{Progress, begun, followed, at_number, at_found, after_at, freshly_started, progress_answer, Adds}
 use Rattle.slot_scanner.specs.Allowed.{can_start, can_stop}
 
 abbrev Said : Type 0
@@ -120,11 +115,16 @@ cut_taken t number stream first last answer new found begins ends reported left 
     let is : last ≡ followed (begun t) (target_lost stream.peer (without_stream t stream.number)) = ends ∙ ap (λ (d : Progress). followed d (target_lost stream.peer (without_stream d.table stream.number))) begins in
     ap (cut_of t) found ∙ ap as_ok (transaction_done t (target_lost stream.peer (without_stream t stream.number)) last answer new is reported left)
 
-pub frame_taken : (profile : ScannerProfile) (t : ScannerTable) (number : ℕ) (bytes : List ℕ) (stream : TargetStream) (frame_outcome : FrameOutcome) (transaction : Transaction) (answer : Answer) (new : ScannerTable) → find (is_stream number) t.streams ≡ Some stream → frame_outcome ≡ Answered transaction → frame_next profile t frame_outcome ≡ frame_answer t stream (message_reading bytes) → answer ≡ progress_answer (view_transaction profile transaction) [] → new ≡ (view_transaction profile transaction).table → frame t number bytes ≡ Ok (answer, new)
+pub frame_taken : (t : ScannerTable) (number : ℕ) (bytes : List ℕ) (stream : TargetStream) (next : Next) → find (is_stream number) t.streams ≡ Some stream → next ≡ frame_answer t stream (message_reading bytes) → frame t number bytes ≡ Ok next
 unfolding frame
-frame_taken profile t number bytes stream frame_outcome transaction answer new found is said reported left =
-    let next : progress_next (view_transaction profile transaction) ≡ (answer, new) = rw (reported, left) refl in
-    ap (frame_of t bytes) found ∙ ap as_ok (sym said ∙ ap (frame_next profile t) is ∙ next)
+frame_taken t number bytes stream next found said = ap (frame_of t bytes) found ∙ ap as_ok (sym said)
+
+pub frame_ok : (t : ScannerTable) (number : ℕ) (bytes : List ℕ) (stream : TargetStream) → find (is_stream number) t.streams ≡ Some stream → IsOk (frame t number bytes)
+frame_ok t number bytes stream found = rw (frame_taken t number bytes stream (frame_answer t stream (message_reading bytes)) found refl) refl
+
+pub cut_ok : (t : ScannerTable) (number : ℕ) (stream : TargetStream) → find (is_stream number) t.streams ≡ Some stream → IsOk (stream_cut t number)
+unfolding stream_cut
+cut_ok t number stream found = rw found refl
 
 -- ---- writes
 

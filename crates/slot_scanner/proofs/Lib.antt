@@ -1,4 +1,5 @@
 pub mod Kept
 mod Doing
 mod Ticking
+mod Undone
 pub mod Waking

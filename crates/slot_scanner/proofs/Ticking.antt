@@ -25,11 +25,10 @@ with_table t d = record d { table = t }
 pub tick_taken : (t : ScannerTable) (effect : Effect) (d : Progress) (datagrams : List OutgoingDatagram) (answer : Answer) (made new : ScannerTable) → d ≡ followed (begun t) effect → datagrams ≡ map sent (due_productions d.table) → made ≡ produced_table d.table → answer ≡ progress_answer (with_table made d) datagrams → new ≡ made → ◌≡◌ {A = Result Next StepFault} (Ok (ticked effect)) (Ok (answer, new))
 tick_taken t effect d datagrams answer made new is sends makes reported left = rw (reported, left, makes, sends, is) refl
 
-pub advanced_made : (t : ScannerTable) (ms n : ℕ) (first last : Progress) → first ≡ begun t → n ≡ ms → last ≡ followed (with_clock (record { 0 = t.clock.0 + n }) first) (advanced (with_clock (record { 0 = t.clock.0 + n }) first).table) → last ≡ followed (begun (clocked_table t ms)) (advanced (clocked_table t ms))
-advanced_made t ms n first last begins same is =
-    is
-    ∙ ap (λ (d : Progress). followed (with_clock (record { 0 = t.clock.0 + n }) d) (advanced (with_clock (record { 0 = t.clock.0 + n }) d).table)) begins
-    ∙ ap (λ (m : ℕ). followed (begun (clocked_table t m)) (advanced (clocked_table t m))) same
+-- a transaction that has just begun, after the clock has moved
+pub clock_moved : (t : ScannerTable) (ms n : ℕ) (first : Progress) → first ≡ begun t → n ≡ ms → with_clock (record { 0 = t.clock.0 + n }) first ≡ begun (clocked_table t ms)
+clock_moved t ms n first begins same =
+    ap (with_clock (record { 0 = t.clock.0 + n })) begins ∙ ap (λ (m : ℕ). begun (clocked_table t m)) same
 
 abbrev as_ok : Next → Result Next StepFault
 as_ok next = Ok next

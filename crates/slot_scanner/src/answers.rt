@@ -1,11 +1,13 @@
 //! Answers.
 
 ghost use Rattle.std.specs.Prelude.{◌≡◌, []};
+ghost use Rattle.cip_events.specs.Answers.{plain_answer};
 ghost use Rattle.scanner_table.specs.declared.profile.ScannerProfile.{ScannerProfile};
 ghost use Rattle.slot_transactions.specs.Transactions.{view_transaction, progress_answer};
+ghost use Rattle.slot_transactions.specs.Undoing.{state_of, state_before};
 ghost use Rattle.slot_places.specs.Views.{table_of};
 
-use cip_events::{Answer, OutgoingDatagram, Verdict};
+use cip_events::{Answer, OutgoingDatagram, StepFault, Verdict};
 use cip_types::Items;
 use slot_places::ScannerState;
 use slot_transactions::Transaction;
@@ -19,6 +21,29 @@ pub fn sent_answer(alloc: Global, datagrams: Vec<OutgoingDatagram>) -> Answer
         datagrams: Items::from_vec(datagrams),
         ..Answer::plain(alloc, Verdict::Done)
     }
+}
+
+/// Takes a transaction back: the scanner is as it was before. Returns the fault. Takes no memory.
+pub fn undone(transaction: Transaction, scanner: &mut ScannerState) -> StepFault
+    ensures fault { result ≡ StepFault.OutOfMemory }
+    ensures state { state_of scanner.new ≡ state_before transaction }
+{
+    *scanner = transaction.undo();
+    StepFault::OutOfMemory
+}
+
+/// Ends a transaction of an event that changes nothing. Returns the answer with this verdict. Takes no memory.
+pub fn unchanged(
+    alloc: Global,
+    transaction: Transaction,
+    scanner: &mut ScannerState,
+    verdict: Verdict,
+) -> Answer
+    ensures answer { result ≡ plain_answer verdict }
+    ensures state { state_of scanner.new ≡ state_before transaction }
+{
+    *scanner = transaction.undo();
+    Answer::plain(alloc, verdict)
 }
 
 /// Ends a transaction: its table becomes the present one. Returns its answer. Takes no memory.

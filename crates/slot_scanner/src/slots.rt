@@ -7,7 +7,7 @@ ghost use Rattle.scanner_table.specs.Whole.{IsWhole};
 ghost use Rattle.slot_places.specs.Views.{table_of};
 ghost use Rattle.slot_scanner.specs.Allowed.{can_start, can_stop};
 
-use crate::answers::taken;
+use crate::answers::{taken, undone};
 use cip_events::{Outcome, StepFault};
 use scanner_table::{ScannerProfile, Slot, SlotState};
 use slot_places::{ScannerState, slot_at};
@@ -55,9 +55,11 @@ pub fn start(
     if !can_start(indexed.slot) {
         return Err(StepFault::NotAllowedNow);
     }
-    let mut transaction = Transaction::begin(alloc, scanner)?;
-    transaction.start(profile, number)?;
-    Ok(taken(transaction, scanner, Vec::new(alloc)))
+    let mut transaction = Transaction::begin(alloc, scanner);
+    match transaction.start(profile, number) {
+        Ok(()) => Ok(taken(transaction, scanner, Vec::new(alloc))),
+        Err(_) => Err(undone(transaction, scanner)),
+    }
 }
 
 /// Stops a slot.
@@ -77,9 +79,10 @@ pub fn stop(
     if !can_stop(indexed.slot) {
         return Err(StepFault::NotAllowedNow);
     }
-    let mut transaction = Transaction::begin(alloc, scanner)?;
+    let mut transaction = Transaction::begin(alloc, scanner);
     match transaction.stop(profile, number) {
         Ok(()) => Ok(taken(transaction, scanner, Vec::new(alloc))),
-        Err(_) => Err(StepFault::OutOfMemory),
+        // The slot can be stopped, so memory ran out.
+        Err(_) => Err(undone(transaction, scanner)),
     }
 }

@@ -6,9 +6,13 @@ ghost use Rattle.cip_events.specs.Outcomes.{Follows};
 ghost use Rattle.scanner_table.specs.Encapsulation.{stream_opened, stream_cut, frame};
 ghost use Rattle.scanner_table.specs.Sessions.{is_stream, is_to, is_taken};
 ghost use Rattle.scanner_table.specs.Whole.{IsWhole};
+ghost use Rattle.scanner_table.specs.declared.profile.ScannerProfile.{ScannerProfile};
 ghost use Rattle.slot_places.specs.Views.{table_of};
+ghost use Rattle.slot_runs.specs.FrameOutcomes.{frame_next};
+ghost use Rattle.slot_transactions.specs.Transactions.{view_transaction};
+ghost use Rattle.slot_transactions.specs.Undoing.{state_before, table_with};
 
-use crate::answers::taken;
+use crate::answers::{taken, unchanged, undone};
 use cip_events::{Answer, Outcome, StepFault, Verdict};
 use cip_types::limits::MOST_STREAMS;
 use cip_types::{Items, Node, OutOfMemory};
@@ -97,9 +101,27 @@ pub fn cut(
     let Some(stream) = find_stream(&scanner.streams, number) else {
         return Err(StepFault::NotAllowedNow);
     };
-    let mut transaction = Transaction::begin(alloc, scanner)?;
-    cut_stream(&mut transaction, profile, stream)?;
-    Ok(taken(transaction, scanner, Vec::new(alloc)))
+    let mut transaction = Transaction::begin(alloc, scanner);
+    match cut_stream(&mut transaction, profile, stream) {
+        Ok(()) => Ok(taken(transaction, scanner, Vec::new(alloc))),
+        Err(_) => Err(undone(transaction, scanner)),
+    }
+}
+
+/// Ends the transaction of a frame with this outcome. Returns the answer. Takes no memory.
+fn answer_of(
+    alloc: Global,
+    transaction: Transaction,
+    scanner: &mut ScannerState,
+    outcome: FrameOutcome,
+) -> Answer
+    ensures { (profile : ScannerProfile) → (result, table_of profile scanner.new) ≡ frame_next (table_with profile (state_before transaction)) outcome (view_transaction profile transaction) }
+{
+    match outcome {
+        FrameOutcome::Answered => taken(transaction, scanner, Vec::new(alloc)),
+        FrameOutcome::Ignored => unchanged(alloc, transaction, scanner, Verdict::Ignored),
+        FrameOutcome::BadFrame => unchanged(alloc, transaction, scanner, Verdict::BadFrame),
+    }
 }
 
 /// Takes a frame of a stream.
@@ -117,9 +139,9 @@ pub fn frame(
     let Some(stream) = find_stream(&scanner.streams, number) else {
         return Err(StepFault::NotAllowedNow);
     };
-    match receive_frame(alloc, profile, scanner, stream, bytes)? {
-        FrameOutcome::BadFrame => Ok(Answer::plain(alloc, Verdict::BadFrame)),
-        FrameOutcome::Ignored => Ok(Answer::plain(alloc, Verdict::Ignored)),
-        FrameOutcome::Answered(transaction) => Ok(taken(transaction, scanner, Vec::new(alloc))),
+    let mut transaction = Transaction::begin(alloc, scanner);
+    match receive_frame(&mut transaction, profile, stream, bytes) {
+        Ok(outcome) => Ok(answer_of(alloc, transaction, scanner, outcome)),
+        Err(_) => Err(undone(transaction, scanner)),
     }
 }

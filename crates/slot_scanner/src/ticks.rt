@@ -1,6 +1,6 @@
 //! Ticks.
 
-ghost use Rattle.std.specs.Prelude.{IfOk, ℕ, ◌≡◌, ◌<◌, ◌≤◌, ◌+◌, ◌^◌, min, Ok, None};
+ghost use Rattle.std.specs.Prelude.{IfOk, ℕ, ◌≡◌, ◌<◌, ◌≤◌, ◌+◌, ◌^◌, map, min, Ok, None};
 ghost use Rattle.cip_events.specs.Answers.{plain_answer};
 ghost use Rattle.cip_events.specs.Clock.{longest_tick, clock_end};
 ghost use Rattle.cip_events.specs.Outcomes.{Follows};
@@ -9,11 +9,14 @@ ghost use Rattle.scanner_table.specs.Ticks.{clocked_table, advanced, ticked, tic
 ghost use Rattle.scanner_table.specs.Profiles.{profile_fault};
 ghost use Rattle.scanner_table.specs.Whole.{IsWhole};
 ghost use Rattle.slot_hints.specs.Bounding.{IsHinted, at_time};
+ghost use Rattle.cip_productions.specs.Productions.{sent};
+ghost use Rattle.scanner_table.specs.Productions.{due_productions};
 ghost use Rattle.slot_transactions.specs.Transactions.{begun, followed, view_transaction};
+ghost use Rattle.slot_transactions.specs.Undoing.{state_before};
 ghost use Rattle.slot_places.specs.Views.{table_of};
 
-use crate::answers::{sent_answer, taken};
-use cip_events::{Answer, Outcome, StepFault, Verdict};
+use crate::answers::{sent_answer, taken, undone};
+use cip_events::{Answer, Outcome, OutgoingDatagram, StepFault, Verdict};
 use cip_types::limits::{CLOCK_END_MS, LONGEST_TICK_MS};
 use cip_types::{Ms, OutOfMemory};
 use scanner_table::{ScannerProfile, advancing_keeps_tables_whole};
@@ -39,21 +42,43 @@ fn pass(alloc: Global, profile: &ScannerProfile, scanner: &mut ScannerState, clo
     Ok(sent_answer(alloc, datagrams))
 }
 
-/// Performs the part of a tick before its productions. The clock does not pass its end.
+/// Performs the part of a tick before its productions, in a transaction that has just begun. The clock does not pass its end.
 fn advanced(
-    alloc: Global,
+    transaction: &mut Transaction,
     profile: &ScannerProfile,
-    scanner: &ScannerState,
     ms: u32,
-) -> Result<Transaction, OutOfMemory>
-    requires whole { IsWhole (table_of profile.now scanner.now) }
-    requires time { scanner.now.clock.0 + ms ≤ 2 ^ 48 }
-    ensures effect { let t = clocked_table (table_of profile.now scanner.now) ms in IfOk result (λ transaction. view_transaction profile.now transaction ≡ followed (begun t) (advanced t)) }
+) -> Result<(), OutOfMemory>
+    requires faultless { profile_fault profile.now ≡ None }
+    requires fresh { view_transaction profile.now transaction.old ≡ begun (table_of profile.now transaction.old.scanner) }
+    requires time { transaction.old.scanner.clock.0 + ms ≤ 2 ^ 48 }
+    ensures effect { let t = clocked_table (table_of profile.now transaction.old.scanner) ms in IfOk result (λ _. view_transaction profile.now transaction.new ≡ followed (begun t) (advanced t)) }
+    ensures kept { state_before transaction.new ≡ state_before transaction.old }
 {
-    let mut transaction = Transaction::begin(alloc, scanner)?;
-    transaction.scanner.clock = Ms(scanner.clock.0 + u64::from(ms));
-    advance(&mut transaction, profile)?;
-    Ok(transaction)
+    transaction.scanner.clock = Ms(transaction.scanner.clock.0 + u64::from(ms));
+    advance(transaction, profile)
+}
+
+/// Performs the part of a tick before its productions, and makes the datagrams of the slots that are due then.
+fn advanced_with_datagrams(
+    alloc: Global,
+    transaction: &mut Transaction,
+    profile: &ScannerProfile,
+    ms: u32,
+) -> Result<Vec<OutgoingDatagram>, OutOfMemory>
+    requires whole { IsWhole (table_of profile.now transaction.old.scanner) }
+    requires fresh { view_transaction profile.now transaction.old ≡ begun (table_of profile.now transaction.old.scanner) }
+    requires time { transaction.old.scanner.clock.0 + ms ≤ 2 ^ 48 }
+    ensures effect { let t = clocked_table (table_of profile.now transaction.old.scanner) ms in IfOk result (λ _. view_transaction profile.now transaction.new ≡ followed (begun t) (advanced t)) }
+    ensures datagrams { IfOk result (λ datagrams. datagrams.items ≡ map sent (due_productions (table_of profile.now transaction.new.scanner))) }
+    ensures whole { IfOk result (λ _. IsWhole (table_of profile.now transaction.new.scanner)) }
+    ensures kept { state_before transaction.new ≡ state_before transaction.old }
+{
+    // The due slots produce from a whole table.
+    advancing_keeps_tables_whole();
+    advanced(transaction, profile, ms)?;
+    let scanner = &transaction.scanner;
+    let datagrams = due_datagrams(alloc, profile, scanner, scanner.clock)?;
+    Ok(datagrams)
 }
 
 /// Performs a tick in which connections change: then due slots send. The clock does not pass its end.
@@ -67,13 +92,15 @@ fn advance_by(
     requires time { scanner.old.clock.0 + ms ≤ 2 ^ 48 }
     ensures { Follows (Ok (ticked (advanced (clocked_table (table_of profile.now scanner.old) ms)))) (table_of profile.now scanner.old) result (table_of profile.now scanner.new) }
 {
-    // The due slots produce from a whole table.
-    advancing_keeps_tables_whole();
-    let mut transaction = advanced(alloc, profile, scanner, ms)?;
-    let clock = transaction.scanner.clock;
-    let datagrams = due_datagrams(alloc, profile, &transaction.scanner, clock)?;
-    produce(&mut transaction.scanner, clock);
-    Ok(taken(transaction, scanner, datagrams))
+    let mut transaction = Transaction::begin(alloc, scanner);
+    match advanced_with_datagrams(alloc, &mut transaction, profile, ms) {
+        Ok(datagrams) => {
+            let clock = transaction.scanner.clock;
+            produce(&mut transaction.scanner, clock);
+            Ok(taken(transaction, scanner, datagrams))
+        }
+        Err(_) => Err(undone(transaction, scanner)),
+    }
 }
 
 /// Takes the bounds of the slots anew.

@@ -2,3 +2,4 @@ pub mod Found
 pub mod Steps
 pub mod RequestSteps
 pub mod Faultless
+mod Undone

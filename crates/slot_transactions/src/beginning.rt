@@ -1,26 +1,56 @@
 //! The beginning of a transaction.
 
-ghost use Rattle.std.specs.Prelude.{◌≡◌, IfOk};
+ghost use Rattle.std.specs.Prelude.{◌≡◌};
 ghost use Rattle.scanner_table.specs.declared.profile.ScannerProfile.{ScannerProfile};
 ghost use Rattle.slot_places.specs.Views.{table_of};
 ghost use Rattle.slot_transactions.specs.Transactions.{begun, view_transaction};
+ghost use Rattle.slot_transactions.specs.Undoing.{state_of, state_before};
 
 use crate::transaction::Transaction;
-use cip_types::OutOfMemory;
+use crate::undo::Undo;
+use cip_types::Ms;
 use slot_places::ScannerState;
 use std::alloc::Global;
+use std::mem;
+
+/// Returns a table without slots and streams. Takes no memory.
+fn empty(alloc: Global) -> ScannerState {
+    ScannerState {
+        slots: Vec::new(alloc),
+        run: false,
+        clock: Ms(0),
+        next_id: 0,
+        next_serial: 0,
+        next_request: 0,
+        streams: Vec::new(alloc),
+    }
+}
 
 impl Transaction {
-    /// Begins a transaction with a copy of the table, without requests and notices. `OutOfMemory` is the only error.
-    pub fn begin(alloc: Global, scanner: &ScannerState) -> Result<Transaction, OutOfMemory>
-        ensures effect { IfOk result (λ transaction. (profile : ScannerProfile) → view_transaction profile transaction ≡ begun (table_of profile scanner.now)) }
-        ensures clock { IfOk result (λ transaction. transaction.scanner.clock ≡ scanner.now.clock) }
+    /// Begins a transaction on the table, without requests and notices. Takes no memory.
+    ///
+    /// It takes the table over, and leaves one without slots and streams until the transaction ends.
+    pub fn begin(alloc: Global, scanner: &mut ScannerState) -> Transaction
+        ensures effect { (profile : ScannerProfile) → view_transaction profile result ≡ begun (table_of profile scanner.old) }
+        ensures scanner { result.scanner ≡ scanner.old }
+        ensures clock { result.scanner.clock ≡ scanner.old.clock }
+        ensures kept { state_before result ≡ state_of scanner.old }
     {
-        Ok(Transaction {
+        let scanner = mem::replace(scanner, empty(alloc));
+        let undo = Undo {
+            slots: Vec::new(alloc),
+            streams: None,
+            clock: scanner.clock,
+            next_id: scanner.next_id,
+            next_serial: scanner.next_serial,
+            next_request: scanner.next_request,
+        };
+        Transaction {
             alloc,
-            scanner: scanner.copy(alloc)?,
+            scanner,
             frames: Vec::new(alloc),
             notices: Vec::new(alloc),
-        })
+            undo,
+        }
     }
 }

@@ -9,6 +9,7 @@ ghost use Rattle.scanner_table.specs.Closing.{given_up, slot_resigned, stopped_a
 ghost use Rattle.scanner_table.specs.Opening.{exhausted};
 ghost use Rattle.slot_places.specs.Views.{table_of};
 ghost use Rattle.slot_transactions.specs.Transactions.{view_transaction, after_at, resigned_change, closing_change, close_requested_within, closed, faulted, Adds};
+ghost use Rattle.slot_transactions.specs.Undoing.{state_before};
 
 use crate::new_request::{LAST_REQUEST, NewRequest};
 use crate::transaction::{SlotChange, Transaction};
@@ -85,6 +86,7 @@ impl Transaction {
         requires time { self.old.scanner.clock.0 ≤ 2 ^ 48 }
         ensures effect { IfOk result (λ _. view_transaction profile.now self.new ≡ after_at given_up number (view_transaction profile.now self.old)) }
         ensures clock { self.new.scanner.clock ≡ self.old.scanner.clock }
+        ensures kept { state_before self.new ≡ state_before self.old }
     {
         let Some(indexed) = slot_at(profile.slots.as_slice(), &self.scanner.slots, number) else {
             return Ok(());
@@ -108,6 +110,7 @@ impl Transaction {
     pub fn resign(&mut self, profile: &ScannerProfile, number: u32) -> Result<(), OutOfMemory>
         ensures effect { IfOk result (λ _. view_transaction profile.now self.new ≡ after_at slot_resigned number (view_transaction profile.now self.old)) }
         ensures clock { self.new.scanner.clock ≡ self.old.scanner.clock }
+        ensures kept { state_before self.new ≡ state_before self.old }
     {
         let Some(indexed) = slot_at(profile.slots.as_slice(), &self.scanner.slots, number) else {
             return Ok(());
@@ -124,6 +127,7 @@ impl Transaction {
     ) -> Result<(), OutOfMemory>
         ensures effect { IfOk result (λ _. view_transaction profile.now self.new ≡ after_at exhausted number (view_transaction profile.now self.old)) }
         ensures clock { self.new.scanner.clock ≡ self.old.scanner.clock }
+        ensures kept { state_before self.new ≡ state_before self.old }
     {
         let Some(indexed) = slot_at(profile.slots.as_slice(), &self.scanner.slots, number) else {
             return Ok(());
@@ -148,6 +152,7 @@ impl Transaction {
         requires left { self.old.scanner.next_request ≤ 2 ^ 48 }
         ensures effect { IfOk result (λ _. view_transaction profile.now self.new ≡ after_at (close_requested_within connection.now session) number (view_transaction profile.now self.old)) }
         ensures clock { self.new.scanner.clock ≡ self.old.scanner.clock }
+        ensures kept { state_before self.new ≡ state_before self.old }
     {
         let config = &profile.slots.as_slice()[number as usize];
         let new_request = closing(
@@ -176,6 +181,7 @@ impl Transaction {
         requires time { self.old.scanner.clock.0 ≤ 2 ^ 48 }
         ensures effect { IfOk result (λ _. view_transaction profile.now self.new ≡ after_at (closed connection.now) number (view_transaction profile.now self.old)) }
         ensures clock { self.new.scanner.clock ≡ self.old.scanner.clock }
+        ensures kept { state_before self.new ≡ state_before self.old }
     {
         let Some(indexed) = slot_at(profile.slots.as_slice(), &self.scanner.slots, number) else {
             return Ok(());
@@ -199,6 +205,7 @@ impl Transaction {
         requires time { self.old.scanner.clock.0 ≤ 2 ^ 48 }
         ensures effect { let t = table_of profile.now self.old.scanner in Adds (stopped_at t (slot_at t number)) (view_transaction profile.now self.old) result (view_transaction profile.now self.new) }
         ensures clock { self.new.scanner.clock ≡ self.old.scanner.clock }
+        ensures kept { state_before self.new ≡ state_before self.old }
     {
         let Some(indexed) = slot_at(profile.slots.as_slice(), &self.scanner.slots, number) else {
             return Err(StepFault::NoSuchSlot);

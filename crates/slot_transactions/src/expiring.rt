@@ -4,6 +4,7 @@ ghost use Rattle.std.specs.Prelude.{◌≡◌, ◌≤◌, ◌^◌, None, IfOk};
 ghost use Rattle.scanner_table.specs.Profiles.{profile_fault};
 ghost use Rattle.scanner_table.specs.Ticks.{expired};
 ghost use Rattle.slot_transactions.specs.Transactions.{view_transaction, after_at};
+ghost use Rattle.slot_transactions.specs.Undoing.{state_before};
 
 use crate::transaction::{SlotChange, Transaction};
 use crate::waits::later;
@@ -21,6 +22,7 @@ impl Transaction {
         requires time { self.old.scanner.clock.0 ≤ 2 ^ 48 }
         ensures effect { IfOk result (λ _. view_transaction profile.now self.new ≡ after_at expired number (view_transaction profile.now self.old)) }
         ensures clock { self.new.scanner.clock ≡ self.old.scanner.clock }
+        ensures kept { state_before self.new ≡ state_before self.old }
     {
         let Some(indexed) = slot_at(profile.slots.as_slice(), &self.scanner.slots, number) else {
             return Ok(());

@@ -2,6 +2,7 @@
 
 ghost use Rattle.std.specs.Prelude.{◌≡◌, ◌≤◌, ◌^◌, None, IfOk};
 ghost use Rattle.slot_transactions.specs.Transactions.{view_transaction, after_at, slot_changed, with_request};
+ghost use Rattle.slot_transactions.specs.Undoing.{state_before};
 
 use crate::transaction::{SlotChange, Transaction};
 use cip_events::Frame;
@@ -29,6 +30,7 @@ impl Transaction {
         requires { self.old.scanner.next_request ≤ 2 ^ 48 }
         ensures effect { IfOk result (λ _. view_transaction profile.now self.new ≡ after_at (slot_changed new_request.slot_change None) number (with_request new_request.frame (view_transaction profile.now self.old))) }
         ensures clock { self.new.scanner.clock ≡ self.old.scanner.clock }
+        ensures kept { state_before self.new ≡ state_before self.old }
     {
         self.frames.push(new_request.frame)?;
         self.scanner.next_request += 1;

@@ -8,9 +8,11 @@ ghost use Rattle.scanner_table.specs.Profiles.{profile_fault, has_lengths};
 ghost use Rattle.scanner_table.specs.Slots.{slot_at};
 ghost use Rattle.slot_places.specs.Views.{table_of};
 ghost use Rattle.slot_transactions.specs.Transactions.{view_transaction, after_at, opening_change, open_requested_within, freshly_started};
+ghost use Rattle.slot_transactions.specs.Undoing.{state_before};
 
 use crate::new_request::{LAST_REQUEST, NewRequest};
 use crate::transaction::{SlotChange, Transaction, change_slot};
+use crate::undo::keep_slot;
 use crate::waits::later;
 use cip_types::limits::IDS_PER_INCARNATION;
 use cip_types::{ConnId, OutOfMemory, Triad};
@@ -133,6 +135,7 @@ impl Transaction {
         requires left { let t = table_of profile.now self.old.scanner in ForSome (slot_at t number) (λ indexed. IsTrue (can_open t indexed.config)) }
         ensures effect { IfOk result (λ _. view_transaction profile.now self.new ≡ after_at (open_requested_within session) number (view_transaction profile.now self.old)) }
         ensures clock { self.new.scanner.clock ≡ self.old.scanner.clock }
+        ensures kept { state_before self.new ≡ state_before self.old }
     {
         let config = &profile.slots.as_slice()[number as usize];
         let new_request = opening(self.alloc, profile, &self.scanner, config, number, session)?;
@@ -151,6 +154,7 @@ impl Transaction {
         requires time { self.old.scanner.clock.0 ≤ 2 ^ 48 }
         ensures effect { IfOk result (λ _. view_transaction profile.now self.new ≡ after_at opened number (view_transaction profile.now self.old)) }
         ensures clock { self.new.scanner.clock ≡ self.old.scanner.clock }
+        ensures kept { state_before self.new ≡ state_before self.old }
     {
         let Some(indexed) = slot_at(profile.slots.as_slice(), &self.scanner.slots, number) else {
             return Ok(());
@@ -172,6 +176,7 @@ impl Transaction {
         requires time { self.old.scanner.clock.0 ≤ 2 ^ 48 }
         ensures effect { IfOk result (λ _. view_transaction profile.now self.new ≡ after_at freshly_started number (view_transaction profile.now self.old)) }
         ensures clock { self.new.scanner.clock ≡ self.old.scanner.clock }
+        ensures kept { state_before self.new ≡ state_before self.old }
     {
         let Some(indexed) = slot_at(profile.slots.as_slice(), &self.scanner.slots, number) else {
             return Ok(());
@@ -181,6 +186,7 @@ impl Transaction {
             desired_up: true,
             retry_at: self.scanner.clock,
         };
+        keep_slot(&mut self.undo.slots, number, indexed.slot)?;
         change_slot(&mut self.scanner.slots, number, slot_change);
         self.open(profile, number)
     }

@@ -1,6 +1,6 @@
 //! Replies to a Forward_Open.
 
-ghost use Rattle.std.specs.Prelude.{◌≡◌, ◌<◌, ◌≤◌, ◌^◌, None, IfOk, length, slice_get, slice_set};
+ghost use Rattle.std.specs.Prelude.{◌≡◌, ◌<◌, ◌≤◌, ◌^◌, ◌++◌, ◌∷◌, [], None, IfOk, OnOk, OnErr, length, slice_get, slice_set};
 ghost use Rattle.std.specs.Option.{ForSome};
 ghost use Rattle.cip_types.specs.Cases.{first_case};
 ghost use Rattle.cip_netparams.specs.Rate.{interval_ms, timeout};
@@ -8,8 +8,10 @@ ghost use Rattle.cip_productions.specs.Watchdog.{first_deadline};
 ghost use Rattle.conn_state.specs.Answers.{answer_tests, link_of};
 ghost use Rattle.scanner_table.specs.Profiles.{profile_fault};
 ghost use Rattle.slot_transactions.specs.Transactions.{view_transaction, after_at, answered_by, refused_by, established_by, judged_by, link_or_why, occupied, connection_of, production_of};
+ghost use Rattle.slot_transactions.specs.Undoing.{kept_with_image, state_before};
 
 use crate::transaction::{SlotChange, Transaction, report};
+use crate::undo::SlotBefore;
 use crate::waits::later;
 use cip_events::{Notice, Reason};
 use cip_fwdopen::service::{FORWARD_OPEN, REPLY};
@@ -22,6 +24,7 @@ use conn_state::{Idle, Link, Requested};
 use scanner_table::{Connection, PendingOpen, ScannerProfile, Slot, SlotConfig, SlotState};
 use slot_places::{SlotTest, any_passes, slot_at};
 use std::alloc::Global;
+use std::mem;
 
 /// Returns the triad and ids of the connection that a successful reply opens, or the mismatch of the reply.
 fn linked(requested: Requested, opened: &Opened, id_free: bool) -> Result<Link, Mismatch>
@@ -102,14 +105,32 @@ fn new_connection(
     }
 }
 
-/// Gives the slot of a number its new connection, and these bytes as its image. Takes no memory.
-fn occupy(slots: &mut Vec<Slot>, number: u32, state: SlotState, image: Items<u8>)
+/// Gives the slot of a number its new connection, and these bytes as its image. Keeps what the slot held.
+fn occupy(
+    slots: &mut Vec<Slot>,
+    kept: &mut Vec<SlotBefore>,
+    number: u32,
+    state: SlotState,
+    image: Items<u8>,
+) -> Result<(), OutOfMemory>
     requires { number < length slots.old.items }
-    ensures { ForSome (slice_get slots.old.items number) (λ slot. slots.new.items ≡ slice_set slots.old.items number (occupied state image slot)) }
+    ensures slot { OnOk result (ForSome (slice_get slots.old.items number) (λ slot. slots.new.items ≡ slice_set slots.old.items number (occupied state image slot))) }
+    ensures before { OnOk result (ForSome (slice_get slots.old.items number) (λ slot. kept.new.items ≡ kept.old.items ++ kept_with_image number slot ∷ [])) }
+    ensures same { OnErr result (slots.new.items ≡ slots.old.items) }
+    ensures none { OnErr result (kept.new.items ≡ kept.old.items) }
 {
+    kept.reserve(1)?;
     let slot = &mut slots[number as usize];
+    let before = SlotBefore {
+        number,
+        state: slot.state,
+        desired_up: slot.desired_up,
+        retry_at: slot.retry_at,
+        image: Some(mem::replace(&mut slot.image, image)),
+    };
     slot.state = state;
-    slot.image = image;
+    kept.push_reserved(before);
+    Ok(())
 }
 
 impl Transaction {
@@ -124,6 +145,7 @@ impl Transaction {
         requires time { self.old.scanner.clock.0 ≤ 2 ^ 48 }
         ensures effect { IfOk result (λ _. view_transaction profile.now self.new ≡ after_at (refused_by why) number (view_transaction profile.now self.old)) }
         ensures clock { self.new.scanner.clock ≡ self.old.scanner.clock }
+        ensures kept { state_before self.new ≡ state_before self.old }
     {
         let Some(indexed) = slot_at(profile.slots.as_slice(), &self.scanner.slots, number) else {
             return Ok(());
@@ -152,6 +174,7 @@ impl Transaction {
         requires interval { interval_ms opened.now.t_o_api_us ≤ 10000 }
         ensures effect { IfOk result (λ _. view_transaction profile.now self.new ≡ after_at (established_by opening.now opened.now) number (view_transaction profile.now self.old)) }
         ensures clock { self.new.scanner.clock ≡ self.old.scanner.clock }
+        ensures kept { state_before self.new ≡ state_before self.old }
     {
         let Some(indexed) = slot_at(profile.slots.as_slice(), &self.scanner.slots, number) else {
             return Ok(());
@@ -168,7 +191,13 @@ impl Transaction {
         let old = indexed.slot.state;
         let new = SlotState::Established(connection);
         report(&mut self.notices, None, number, &old, &new)?;
-        occupy(&mut self.scanner.slots, number, new, image);
+        occupy(
+            &mut self.scanner.slots,
+            &mut self.undo.slots,
+            number,
+            new,
+            image,
+        )?;
         Ok(())
     }
 
@@ -184,6 +213,7 @@ impl Transaction {
         requires time { self.old.scanner.clock.0 ≤ 2 ^ 48 }
         ensures effect { IfOk result (λ _. view_transaction profile.now self.new ≡ after_at (judged_by opening.now opened.now) number (view_transaction profile.now self.old)) }
         ensures clock { self.new.scanner.clock ≡ self.old.scanner.clock }
+        ensures kept { state_before self.new ≡ state_before self.old }
     {
         let Some(indexed) = slot_at(profile.slots.as_slice(), &self.scanner.slots, number) else {
             return Ok(());
@@ -212,6 +242,7 @@ impl Transaction {
         requires time { self.old.scanner.clock.0 ≤ 2 ^ 48 }
         ensures effect { IfOk result (λ _. view_transaction profile.now self.new ≡ after_at (answered_by opening.now reported) number (view_transaction profile.now self.old)) }
         ensures clock { self.new.scanner.clock ≡ self.old.scanner.clock }
+        ensures kept { state_before self.new ≡ state_before self.old }
     {
         match reported {
             Err(why) => self.refuse(profile, number, why),

@@ -3,15 +3,17 @@
 ghost use Rattle.std.specs.Prelude.{◌≡◌, ◌++◌, ◌∷◌, ◌<◌, [], length, slice_set, slice_get, IfOk, if◌then◌else◌, ◌==◌};
 ghost use Rattle.std.specs.Option.{ForSome};
 ghost use Rattle.slot_transactions.specs.Transactions.{view_transaction, after_at, with_change, listed, slot_changed};
+ghost use Rattle.slot_transactions.specs.Undoing.{state_before};
 ghost use Rattle.scanner_table.specs.Effects.{state_notices};
 
+use crate::undo::{Undo, keep_slot};
 use cip_events::{Frame, Notice};
 use cip_types::{Ms, OutOfMemory};
 use scanner_table::{ScannerProfile, Slot, SlotState};
 use slot_places::{ScannerState, number_of, slot_at};
 use std::alloc::Global;
 
-/// A changed copy of a scanner's table, with the requests and notices so far.
+/// A scanner's table as changed so far, with the requests and notices so far, and with what the changed parts held before.
 ///
 /// It keeps the allocator that it was made with.
 #[derive(Drop)]
@@ -20,6 +22,7 @@ pub struct Transaction {
     pub scanner: ScannerState,
     pub(crate) frames: Vec<Frame>,
     pub(crate) notices: Vec<Notice>,
+    pub(crate) undo: Undo,
 }
 
 /// The new state of a slot, whether its connection is desired, and its retry time.
@@ -72,6 +75,7 @@ impl Transaction {
     ) -> Result<(), OutOfMemory>
         ensures effect { IfOk result (λ _. view_transaction profile.now self.new ≡ after_at (slot_changed slot_change reported) number (view_transaction profile.now self.old)) }
         ensures clock { self.new.scanner.clock ≡ self.old.scanner.clock }
+        ensures kept { state_before self.new ≡ state_before self.old }
     {
         let Some(indexed) = slot_at(profile.slots.as_slice(), &self.scanner.slots, number) else {
             return Ok(());
@@ -84,6 +88,7 @@ impl Transaction {
             &old,
             &slot_change.state,
         )?;
+        keep_slot(&mut self.undo.slots, number, indexed.slot)?;
         change_slot(&mut self.scanner.slots, number, slot_change);
         Ok(())
     }

@@ -7,7 +7,7 @@ use Rattle.slot_runs.proofs.Ordered.{expiries_are, all_remain, one_expires, all_
 use Rattle.slot_runs.proofs.expiries.expire_all.Goals as goal
 
 pub loop-expiry-init : goal.loop-expiry-init
-loop-expiry-init c = record { remains = all_remain (view_transaction c.args.profile.now c.args.transaction.now); clock = refl }
+loop-expiry-init c = record { remains = all_remain (view_transaction c.args.profile.now c.args.transaction.now); clock = refl; kept = refl }
 
 pub loop-expiry-preserved : goal.loop-expiry-preserved
 loop-expiry-preserved c =
@@ -17,6 +17,7 @@ loop-expiry-preserved c =
     record {
       remains = one_expires _ (view_transaction c.args.profile.now c.loop-expiry.transaction) (view_transaction c.args.profile.now c.act_on_slot.new.transaction) t c.in_ok-ordered.ordered.items c.loop-expiry.expiry-index _ none are (omega arith) (ap (λ (es : List Expiry). get_or es c.loop-expiry.expiry-index none) c.deref-expiry-items.ensures.value) c.loop-expiry.invariant.remains c.in_ok-act_on_slot.ensures.effect;
       clock = c.in_ok-act_on_slot.ensures.clock ∙ c.loop-expiry.invariant.clock;
+      kept = c.in_ok-act_on_slot.ensures.kept ∙ c.loop-expiry.invariant.kept;
     }
 
 pub returns-clause-effect : goal.returns-clause-effect

@@ -1,10 +1,13 @@
-use Rattle.std.proofs.Common.{◌≡◌, find, Some, refl, subst}
+use Rattle.std.proofs.Common.{◌≡◌, find, Some, refl, subst, List, ap, ◌∙◌}
 use Rattle.std.specs.Result.{IfOk}
 use Rattle.scanner_table.specs.Slots.{is_numbered, indexed_from}
 use Rattle.slot_places.specs.Views.{view_slot}
 use Rattle.slot_transactions.specs.Transactions.{Progress, view_transaction}
 use Rattle.slot_transactions.proofs.Found.{found}
 use Rattle.slot_transactions.proofs.RequestSteps.{starts}
+use Rattle.scanner_table.specs.declared.slot.Slot.{Slot}
+use Rattle.slot_transactions.specs.Undoing.{State, state_before}
+use Rattle.slot_transactions.proofs.Undone.{change_leads_back}
 use Rattle.slot_transactions.proofs.transaction.Transaction.start.Goals as goal
 
 pub change_slot-requires : goal.change_slot-requires
@@ -18,3 +21,9 @@ returns-clause-effect c =
     let indexed = view_slot c.in-Some.indexed in
     let is : Some indexed ≡ find (is_numbered c.args.number) (indexed_from 0 c.args.profile.now.slots c.args.self.now.scanner.slots.items) = rw (← c.as_slice.ensures, ← c.deref.ensures.value) c.in-Some.ensures in
     subst (λ (d : Progress). IfOk c.open.result (λ x. view_transaction c.args.profile.now c.open.new.self ≡ d)) (starts so_far c.args.number indexed _ c.change_slot.new.slots.items is refl c.change_slot.ensures) c.open.ensures.effect
+
+pub returns-clause-kept : goal.returns-clause-kept
+returns-clause-kept c =
+    let is : Some (view_slot c.in-Some.indexed) ≡ find (is_numbered c.args.number) (indexed_from 0 c.args.profile.now.slots c.args.self.now.scanner.slots.items) = rw (← c.as_slice.ensures, ← c.deref.ensures.value) c.in-Some.ensures in
+    let known = found _ _ _ _ is in
+    c.open.ensures.kept ∙ ap (λ (l : List Slot). let s : State = record (state_before c.args.self.now) { slots = l } in s) (change_leads_back c.args.self.now.undo.slots.items c.keep_slot.new.kept.items c.args.self.now.scanner.slots.items c.change_slot.new.slots.items c.args.number (view_slot c.in-Some.indexed).slot _ known.slot_in known.slot c.in_ok-keep_slot.ensures.ok c.change_slot.ensures)
