@@ -1,6 +1,7 @@
 -- An event that is written is read as itself.
 use Rattle.std.proofs.Common.{◌≡◌, ℕ, ◌<◌, ◌^◌, ◌+◌, Bool, true, false, List, [], ◌∷◌, ◌++◌, length, Option, Some, None, refl, ap, ◌∙◌, arith, eqb}
 use Rattle.std.specs.Prelude.{decimal, codes, option_and_then, option_to_list}
+use Rattle.std.specs.List.{join_with_byte}
 use Rattle.std.proofs.lemmas.Bool.Decides.{nat_tests}
 use Rattle.cip_events.specs.declared.event.Event.{Event}
 use Rattle.cip_events.specs.declared.event.Event.TheVariants as event
@@ -15,7 +16,7 @@ use Rattle.trace_text.specs.declared.builder.TraceBuilder.{TraceBuilder}
 use Rattle.trace_text.specs.declared.builder.TraceBuilder.TheVariants.{Events}
 use Rattle.trace_text.specs.declared.forms.TraceLine.{TraceLine}
 use Rattle.trace_text.specs.declared.forms.TraceLine.TheVariants as line
-use Rattle.trace_text.specs.Forms.{line_reader, line_meanings, numbered, mode_of}
+use Rattle.trace_text.specs.Forms.{line_reader, line_meanings, numbered, mode_of, event_only, event_of}
 use Rattle.trace_text.specs.Reading.{Entry, builder_with}
 use Rattle.trace_text.specs.Written.{event_words, mode_word}
 use Rattle.trace_laws.specs.TraceBack.{EventFits}
@@ -23,7 +24,7 @@ use Rattle.trace_laws.proofs.WordLaws.{node_back, bytes_back}
 use Rattle.trace_laws.proofs.CleanWords.{decimal_clean, node_clean, bytes_clean}
 use Rattle.trace_laws.proofs.LineLaws.{is_clean, are_clean}
 use Rattle.trace_laws.proofs.ProfileLaws.{n16, n32, n64, c16, c32}
-use Rattle.trace_laws.proofs.TextLaws.{Reads, line_reads, none_meant, decimal_low, decimal_begins}
+use Rattle.trace_laws.proofs.TextLaws.{Reads, IsLine, line_is, line_reads, none_meant, decimal_low, decimal_begins}
 
 mode_back : (run : Bool) → mode_of (mode_word run) ≡ Some run
 unfolding mode_of
@@ -34,19 +35,28 @@ mode_clean : (run : Bool) → is_clean (mode_word run) ≡ true
 mode_clean true = refl
 mode_clean false = refl
 
+-- the line of an event
+pub event_is : (given : Event) → EventFits given → IsLine (event_words given) (line.Event given)
+event_is (event.Request peer bytes) fits = line_is (codes "request") (node_word peer ∷ bytes_word bytes ∷ []) (line.Event (event.Request peer bytes)) refl refl (rw (node_clean peer, bytes_clean bytes fits.1) refl) (rw (node_back peer fits.0, bytes_back bytes fits.1) refl)
+event_is (event.StreamOpened stream peer) fits = line_is (codes "stream") (decimal stream ∷ node_word peer ∷ []) (line.Event (event.StreamOpened stream peer)) refl refl (rw (c16 stream fits.0, node_clean peer) refl) (rw (n16 stream fits.0, node_back peer fits.1) refl)
+event_is (event.Frame stream bytes) fits = line_is (codes "frame") (decimal stream ∷ bytes_word bytes ∷ []) (line.Event (event.Frame stream bytes)) refl refl (rw (c16 stream fits.0, bytes_clean bytes fits.1) refl) (rw (n16 stream fits.0, bytes_back bytes fits.1) refl)
+event_is (event.StreamCut stream) fits = line_is (codes "cut") (decimal stream ∷ []) (line.Event (event.StreamCut stream)) refl refl (rw (c16 stream fits) refl) (rw (n16 stream fits) refl)
+event_is (event.Datagram peer bytes) fits = line_is (codes "datagram") (node_word peer ∷ bytes_word bytes ∷ []) (line.Event (event.Datagram peer bytes)) refl refl (rw (node_clean peer, bytes_clean bytes fits.1) refl) (rw (node_back peer fits.0, bytes_back bytes fits.1) refl)
+event_is (event.Write point bytes) fits = line_is (codes "write") (decimal point ∷ bytes_word bytes ∷ []) (line.Event (event.Write point bytes)) refl refl (rw (c32 point fits.0, bytes_clean bytes fits.1) refl) (rw (n32 point fits.0, bytes_back bytes fits.1) refl)
+event_is (event.Read point) fits = line_is (codes "read") (decimal point ∷ []) (line.Event (event.Read point)) refl refl (rw (c32 point fits) refl) (rw (n32 point fits) refl)
+event_is (event.Tick ms) fits = line_is (codes "tick") (decimal ms ∷ []) (line.Event (event.Tick ms)) refl refl (rw (c32 ms fits) refl) (rw (n32 ms fits) refl)
+event_is (event.Mode run) fits = line_is (codes "mode") (mode_word run ∷ []) (line.Event (event.Mode run)) refl refl (rw (mode_clean run) refl) (rw (mode_back run) refl)
+event_is (event.Start slot) fits = line_is (codes "start") (decimal slot ∷ []) (line.Event (event.Start slot)) refl refl (rw (c32 slot fits) refl) (rw (n32 slot fits) refl)
+event_is (event.Stop slot) fits = line_is (codes "stop") (decimal slot ∷ []) (line.Event (event.Stop slot)) refl refl (rw (c32 slot fits) refl) (rw (n32 slot fits) refl)
+
 -- an event, wherever it is allowed
 pub event_reads : (builder builder' : TraceBuilder) (given : Event) → EventFits given → builder_with builder (line.Event given) ≡ Some builder' → Reads builder (line_text (event_words given)) builder'
-event_reads builder builder' (event.Request peer bytes) fits built = line_reads builder builder' (codes "request") (node_word peer ∷ bytes_word bytes ∷ []) (line.Event (event.Request peer bytes)) refl refl (rw (node_clean peer, bytes_clean bytes fits.1) refl) (rw (node_back peer fits.0, bytes_back bytes fits.1) refl) built
-event_reads builder builder' (event.StreamOpened stream peer) fits built = line_reads builder builder' (codes "stream") (decimal stream ∷ node_word peer ∷ []) (line.Event (event.StreamOpened stream peer)) refl refl (rw (c16 stream fits.0, node_clean peer) refl) (rw (n16 stream fits.0, node_back peer fits.1) refl) built
-event_reads builder builder' (event.Frame stream bytes) fits built = line_reads builder builder' (codes "frame") (decimal stream ∷ bytes_word bytes ∷ []) (line.Event (event.Frame stream bytes)) refl refl (rw (c16 stream fits.0, bytes_clean bytes fits.1) refl) (rw (n16 stream fits.0, bytes_back bytes fits.1) refl) built
-event_reads builder builder' (event.StreamCut stream) fits built = line_reads builder builder' (codes "cut") (decimal stream ∷ []) (line.Event (event.StreamCut stream)) refl refl (rw (c16 stream fits) refl) (rw (n16 stream fits) refl) built
-event_reads builder builder' (event.Datagram peer bytes) fits built = line_reads builder builder' (codes "datagram") (node_word peer ∷ bytes_word bytes ∷ []) (line.Event (event.Datagram peer bytes)) refl refl (rw (node_clean peer, bytes_clean bytes fits.1) refl) (rw (node_back peer fits.0, bytes_back bytes fits.1) refl) built
-event_reads builder builder' (event.Write point bytes) fits built = line_reads builder builder' (codes "write") (decimal point ∷ bytes_word bytes ∷ []) (line.Event (event.Write point bytes)) refl refl (rw (c32 point fits.0, bytes_clean bytes fits.1) refl) (rw (n32 point fits.0, bytes_back bytes fits.1) refl) built
-event_reads builder builder' (event.Read point) fits built = line_reads builder builder' (codes "read") (decimal point ∷ []) (line.Event (event.Read point)) refl refl (rw (c32 point fits) refl) (rw (n32 point fits) refl) built
-event_reads builder builder' (event.Tick ms) fits built = line_reads builder builder' (codes "tick") (decimal ms ∷ []) (line.Event (event.Tick ms)) refl refl (rw (c32 ms fits) refl) (rw (n32 ms fits) refl) built
-event_reads builder builder' (event.Mode run) fits built = line_reads builder builder' (codes "mode") (mode_word run ∷ []) (line.Event (event.Mode run)) refl refl (rw (mode_clean run) refl) (rw (mode_back run) refl) built
-event_reads builder builder' (event.Start slot) fits built = line_reads builder builder' (codes "start") (decimal slot ∷ []) (line.Event (event.Start slot)) refl refl (rw (c32 slot fits) refl) (rw (n32 slot fits) refl) built
-event_reads builder builder' (event.Stop slot) fits built = line_reads builder builder' (codes "stop") (decimal slot ∷ []) (line.Event (event.Stop slot)) refl refl (rw (c32 slot fits) refl) (rw (n32 slot fits) refl) built
+event_reads builder builder' given fits built = (event_is given fits).reads builder builder' built
+
+-- the line of an event, alone
+pub event_back : (given : Event) → EventFits given → event_of (join_with_byte 32 (event_words given)) ≡ Some given
+unfolding event_of
+event_back given fits = ap (option_and_then event_only) (event_is given fits).found
 
 -- an event behind those before it
 pub event_read : (made_of : Config) (entries : List Entry) (last : Option Entry) (given : Event) → EventFits given → Reads (Events made_of entries last) (line_text (event_words given)) (Events made_of (entries ++ option_to_list last) (Some (given, None)))

@@ -1,4 +1,5 @@
 mod CleanWords
+mod EntryLaws
 mod EventLaws
 mod LineLaws
 mod NodeLaws

@@ -78,7 +78,8 @@ kept_line : (c : ℕ) (cs : List ℕ) (words : List (List ℕ)) → eqb c 35 ≡
 kept_line c cs [] other = other
 kept_line c cs (next ∷ words) other = other
 
-line_found : (word : List ℕ) (words : List (List ℕ)) (line : TraceLine) → is_clean word ≡ true → are_clean words ≡ true → line_reader (word ∷ words) ≡ Some (line, []) → line_of (join_with_byte 32 (word ∷ words)) ≡ Some line
+-- a line of clean words is read by its words
+pub line_found : (word : List ℕ) (words : List (List ℕ)) (line : TraceLine) → is_clean word ≡ true → are_clean words ≡ true → line_reader (word ∷ words) ≡ Some (line, []) → line_of (join_with_byte 32 (word ∷ words)) ≡ Some line
 unfolding line_of
 line_found word words line clean all read =
     rw (line_ascii word words clean all, words_back word words clean all, read) refl

@@ -12,9 +12,9 @@ use Rattle.trace_words.specs.Words.{line_text, is_word}
 use Rattle.trace_words.specs.Reader.{Reader, ◌>>=◌, next_word, Meanings, meaning}
 use Rattle.trace_text.specs.declared.forms.TraceLine.{TraceLine}
 use Rattle.trace_text.specs.declared.builder.TraceBuilder.{TraceBuilder}
-use Rattle.trace_text.specs.Forms.{line_reader}
+use Rattle.trace_text.specs.Forms.{line_reader, line_of}
 use Rattle.trace_text.specs.Reading.{builder_with}
-use Rattle.trace_laws.proofs.LineLaws.{is_clean, are_clean, both, Leads, stays, goes_on, line_leads}
+use Rattle.trace_laws.proofs.LineLaws.{is_clean, are_clean, both, Leads, stays, goes_on, line_found, line_leads}
 
 -- EACH OF A LIST
 
@@ -53,6 +53,17 @@ line_reads builder builder' [] words line begins clean all read built = absurd (
 line_reads builder builder' (c ∷ cs) words line begins clean all read built = record {
   leads = λ rest.
       subst (λ text. Leads builder text builder' rest) (sym (append_assoc (join_with_byte 32 ((c ∷ cs) ∷ words)) (10 ∷ []) rest)) (line_leads builder builder' c cs words line rest (not_hash (eqb c 35) begins) clean all read built);
+}
+
+-- these words make this line: where it is allowed, and alone
+pub record IsLine (words : List (List ℕ)) (line : TraceLine) : Type 0 where
+  pub reads : (builder builder' : TraceBuilder) → builder_with builder line ≡ Some builder' → Reads builder (line_text words) builder'
+  pub found : line_of (join_with_byte 32 words) ≡ Some line
+
+pub line_is : (word : List ℕ) (words : List (List ℕ)) (line : TraceLine) → begins_line word ≡ true → is_clean word ≡ true → are_clean words ≡ true → line_reader (word ∷ words) ≡ Some (line, []) → IsLine (word ∷ words) line
+line_is word words line begins clean all read = record {
+  reads = λ builder builder' built. line_reads builder builder' word words line begins clean all read built;
+  found = line_found word words line clean all read;
 }
 
 -- READERS

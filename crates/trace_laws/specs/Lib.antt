@@ -1,2 +1,3 @@
+pub mod Recording
 pub mod TraceBack
 pub mod WordsBack

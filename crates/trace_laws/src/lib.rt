@@ -3,4 +3,4 @@
 
 mod laws;
 
-pub use laws::reads_back;
+pub use laws::{reads_back, writes_piece_by_piece};
