@@ -16,12 +16,12 @@ frames_more moment out new streams after frames i frame lt is new_is after_is =
 pub frame_streams_more : (streams after : Streams) (frames : List Frame) (i : ℕ) (frame : Frame) → i < length frames → frame ≡ get_or frames i frame → after ≡ frame_streams frame streams → frames_streams (drop (i + 1) frames) after ≡ frames_streams (drop i frames) streams
 frame_streams_more streams after frames i frame lt is after_is = rw (after_is, drop_more frames i frame lt, ← is) refl
 
-pub notices_more : (moment : Moment) (out new : List ℕ) (streams after : Streams) (notices : List Notice) (i : ℕ) (notice : Notice) → i < length notices → notice ≡ get_or notices i notice → new ≡ out ++ notice_records moment notice streams → after ≡ notice_streams notice streams → new ++ notices_records moment (drop (i + 1) notices) after ≡ out ++ notices_records moment (drop i notices) streams
-notices_more moment out new streams after notices i notice lt is new_is after_is =
-    rw (new_is, after_is, drop_more notices i notice lt, ← is) (append_assoc out (notice_records moment notice streams) (notices_records moment (drop (i + 1) notices) (notice_streams notice streams)))
+pub notices_more : (moment : Moment) (out new : List ℕ) (streams after : Streams) (notices : List Notice) (i : ℕ) (d : Notice) → i < length notices → new ≡ out ++ notice_records moment (get_or notices i d) streams → after ≡ notice_streams (get_or notices i d) streams → new ++ notices_records moment (drop (i + 1) notices) after ≡ out ++ notices_records moment (drop i notices) streams
+notices_more moment out new streams after notices i d lt new_is after_is =
+    rw (new_is, after_is, drop_more notices i d lt) (append_assoc out (notice_records moment (get_or notices i d) streams) (notices_records moment (drop (i + 1) notices) (notice_streams (get_or notices i d) streams)))
 
-pub notice_streams_more : (streams after : Streams) (notices : List Notice) (i : ℕ) (notice : Notice) → i < length notices → notice ≡ get_or notices i notice → after ≡ notice_streams notice streams → notices_streams (drop (i + 1) notices) after ≡ notices_streams (drop i notices) streams
-notice_streams_more streams after notices i notice lt is after_is = rw (after_is, drop_more notices i notice lt, ← is) refl
+pub notice_streams_more : (streams after : Streams) (notices : List Notice) (i : ℕ) (d : Notice) → i < length notices → after ≡ notice_streams (get_or notices i d) streams → notices_streams (drop (i + 1) notices) after ≡ notices_streams (drop i notices) streams
+notice_streams_more streams after notices i d lt after_is = rw (after_is, drop_more notices i d lt) refl
 
 -- the event at a moment, and those behind it
 pub entries_more : (side : Side) (time later : ℕ) (out new : List ℕ) (streams after : Streams) (entries : List Entry) (i : ℕ) (entry : Entry) → i < length entries → entry ≡ get_or entries i entry → later ≡ time_after time entry.0 entry.1 → new ≡ out ++ entry_records (record { side = side; time = later; number = i }) entry.0 entry.1 streams → after ≡ entry_streams (record { side = side; time = later; number = i }) entry.0 entry.1 streams → new ++ entries_records side later (i + 1) after (drop (i + 1) entries) ≡ out ++ entries_records side time i streams (drop i entries)
