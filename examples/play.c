@@ -208,6 +208,18 @@ static void bytes_event(const char *word, const char *one, char *two)
         print_answer(eip_write(&device, n, bytes, len, answer, room, &size));
 }
 
+/* Time passes. A tick that comes before the device needs one answers nothing. */
+static uint32_t passed(uint32_t ms)
+{
+    uint32_t quiet = 0, status;
+    if (eip_next_wake(&device, &quiet) != EIP_DONE)
+        stop("no next wake");
+    status = asked_again(eip_tick(&device, ms, answer, room, &size));
+    if (status == EIP_DONE && ms < quiet && size != EIP_ITEM_HEAD)
+        stop("a tick that was not needed answers more");
+    return status;
+}
+
 /* Performs an event of words alone. */
 static void plain_event(const char *word, const char *one, const char *two)
 {
@@ -217,7 +229,7 @@ static void plain_event(const char *word, const char *one, const char *two)
     else if (!strcmp(word, "cut"))
         status = eip_cut(&device, (uint16_t)n, answer, room, &size);
     else if (!strcmp(word, "tick"))
-        status = eip_tick(&device, n, answer, room, &size);
+        status = passed(n);
     else if (!strcmp(word, "mode"))
         status = eip_mode(&device, !strcmp(one, "run"), answer, room, &size);
     else if (!strcmp(word, "start"))

@@ -162,8 +162,7 @@ static uint64_t pass(uint64_t told)
 {
     uint64_t ms = now_ms() - told;
     ms = ms < 60000 ? ms : 60000;
-    if (ms)
-        done(eip_tick(&device, (uint32_t)ms, answer, sizeof answer, &size));
+    done(eip_tick(&device, (uint32_t)ms, answer, sizeof answer, &size));
     return told + ms;
 }
 
@@ -172,7 +171,7 @@ int main(int count, char **words)
     static const char points[] = "output 150 4 zero zero\ninput 100 4\nconfig 151 0\nheartbeat 152 153\n";
     char profile[256];
     uint64_t wrong = 0, told = now_ms();
-    uint32_t node = count > 1 ? ntohl(inet_addr(words[1])) : INADDR_LOOPBACK;
+    uint32_t node = count > 1 ? ntohl(inet_addr(words[1])) : INADDR_LOOPBACK, wait = 0;
     uint16_t i;
     int len = snprintf(profile, sizeof profile, "adapter 16 %u.%u.%u.%u 255.255.255.0 1 12 7 2 3\n%s", node >> 24,
                        node >> 16 & 255, node >> 8 & 255, node & 255, points);
@@ -184,7 +183,7 @@ int main(int count, char **words)
     udp_port = count > 3 ? (uint16_t)atoi(words[3]) : udp_port;
     sockets[UDP].fd = bound(SOCK_DGRAM, node, udp_port);
     sockets[LISTENER].fd = bound(SOCK_STREAM, node, count > 2 ? (uint16_t)atoi(words[2]) : 44818);
-    while (poll(sockets, SOCKETS, 1) >= 0) {
+    while (poll(sockets, SOCKETS, (int)wait) >= 0) {
         told = pass(told);
         if (sockets[UDP].revents)
             read_datagram();
@@ -193,6 +192,8 @@ int main(int count, char **words)
                 read_stream(i);
         if (sockets[LISTENER].revents)
             accept_stream();
+        /* Until then no tick is needed. */
+        eip_next_wake(&device, &wait);
     }
     return perror("poll"), 1;
 }

@@ -86,6 +86,7 @@ uint32_t eip_c_write(eip_device *device, uint32_t point, const uint8_t *bytes, s
                      size_t *size);
 uint32_t eip_c_read(eip_device *device, uint32_t point, uint8_t *out, size_t room, size_t *size);
 uint32_t eip_c_tick(eip_device *device, uint32_t ms, uint8_t *out, size_t room, size_t *size);
+uint32_t eip_c_next_wake(eip_device *device);
 uint32_t eip_c_mode(eip_device *device, bool run, uint8_t *out, size_t room, size_t *size);
 uint32_t eip_c_start(eip_device *device, uint32_t slot, uint8_t *out, size_t room, size_t *size);
 uint32_t eip_c_stop(eip_device *device, uint32_t slot, uint8_t *out, size_t room, size_t *size);
@@ -200,10 +201,21 @@ static inline uint32_t eip_read(eip_device *device, uint32_t point, uint8_t *out
 }
 
 /* Milliseconds pass, at most 60,000. EIP_TICK_TOO_LONG, EIP_CLOCK_END. Connections expire and cyclic data are sent in a
- * tick, and at no other time. No call says when a device next needs one: tick it every millisecond or so. */
+ * tick, and at no other time. eip_next_wake says when the next one is needed. */
 static inline uint32_t eip_tick(eip_device *device, uint32_t ms, uint8_t *out, size_t room, size_t *size)
 {
     EIP_CALL(out, room, eip_c_tick(device, ms, out, room, size));
+}
+
+/* Answers at *ms for how many milliseconds the device needs no tick: one of fewer milliseconds answers EIP_ITEM_DONE alone,
+ * and moves the clock alone. At most 60,000. An event may shorten the time, so ask again behind it. The time may end before
+ * anything is due: tick then, and ask again. Takes no memory, and changes nothing. EIP_DONE or EIP_NULL. */
+static inline uint32_t eip_next_wake(eip_device *device, uint32_t *ms)
+{
+    if (!device || !device->at || !ms)
+        return EIP_NULL;
+    *ms = eip_c_next_wake(device);
+    return EIP_DONE;
 }
 
 /* The application of a scanner starts to run, or becomes idle. */

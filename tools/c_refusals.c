@@ -50,7 +50,15 @@ static void check_refusals(eip_device *device)
     check(eip_tick(device, 1, out, sizeof out, NULL) == EIP_NULL, "a size NULL");
     check(eip_request(device, 1, NULL, 1, out, sizeof out, &size) == EIP_NULL, "bytes NULL");
     check(eip_datagram(device, 1, four, 4, NULL) == EIP_NULL, "a delivery NULL");
+    check(eip_next_wake(device, NULL) == EIP_NULL, "a time NULL");
     check(size == 77 && out[0] == 9 && out[63] == 9, "memory after refused calls");
+}
+
+/* A device without connections needs no tick as long as one may last. */
+static void check_wake(eip_device *device)
+{
+    uint32_t ms = 0;
+    check(eip_next_wake(device, &ms) == EIP_DONE && ms == 60000, "the time without a tick");
 }
 
 static void check_room(eip_device *device)
@@ -79,12 +87,15 @@ int main(void)
     uint64_t number;
     uint8_t out[64];
     size_t size;
+    uint32_t ms = 77;
     check_profiles();
     check(eip_new(&device, profile, strlen(profile), &number) == EIP_DONE && device.at, "a device");
     check_refusals(&device);
+    check_wake(&device);
     check_room(&device);
     eip_free(&device);
     check(device.at == NULL && eip_tick(&device, 1, out, sizeof out, &size) == EIP_NULL, "a device that was freed");
+    check(eip_next_wake(&device, &ms) == EIP_NULL && ms == 77, "the time of a device that was freed");
     eip_free(&device);
     return failed;
 }

@@ -3,11 +3,13 @@
 //! `include/eip.h` declares these functions, and lists their numbers. What C reads is what the contracts here say.
 #![tactic(auto)]
 
-ghost use Rattle.std.specs.Prelude.{◌≡◌, Ok};
+ghost use Rattle.std.specs.Prelude.{◌≡◌, ◌≤◌, Ok};
 ghost use Rattle.cip_events.specs.declared.event.Event.TheVariants.{Request, StreamOpened, Frame, StreamCut, Datagram, Write, Tick, Mode, Start, Stop};
 ghost use Rattle.cip_events.specs.declared.event.Verdict.TheVariants.{Delivered};
 ghost use Rattle.cip_events.specs.Answers.{plain_answer};
+ghost use Rattle.cip_events.specs.Clock.{longest_tick};
 ghost use Rattle.cip_tables.specs.Step.{step};
+ghost use Rattle.cip_tables.specs.Wakes.{IsQuietFor};
 ghost use Rattle.trace_text.specs.Reading.{trace_reading};
 ghost use Rattle.flat_answers.specs.Flat.{delivery_number, delivery_of};
 ghost use Rattle.eip_c.specs.Statuses.{status_of};
@@ -208,6 +210,17 @@ pub extern "C" fn eip_c_tick(
 {
     let event = Event::Tick { ms };
     device.holder().answered(alloc, &event, out, size)
+}
+
+/// Answers for how many milliseconds the device needs no tick: each tick of fewer answers nothing, and moves the clock alone.
+/// Takes no memory.
+#[unsafe(no_mangle)]
+pub extern "C" fn eip_c_next_wake(device: &mut Held) -> u32
+    ensures quiet { IsQuietFor (table_of device.old.value.station) result }
+    ensures longest { result ≤ longest_tick }
+    ensures unchanged { device.new.value ≡ device.old.value }
+{
+    device.holder().station.next_wake().0 as u32
 }
 
 // THE APPLICATION OF A SCANNER

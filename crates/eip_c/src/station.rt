@@ -1,17 +1,19 @@
 //! A device of either kind.
 
-ghost use Rattle.std.specs.Prelude.{◌≡◌, Ok, Err, IfOk, IfErr};
+ghost use Rattle.std.specs.Prelude.{◌≡◌, ◌≤◌, Ok, Err, IfOk, IfErr};
 ghost use Rattle.cip_events.specs.declared.event.Event.TheVariants.{Datagram, Read, Write};
 ghost use Rattle.cip_events.specs.declared.event.Verdict.TheVariants.{Delivered};
 ghost use Rattle.cip_events.specs.Answers.{plain_answer, value_answer};
+ghost use Rattle.cip_events.specs.Clock.{longest_tick};
 ghost use Rattle.cip_events.specs.Outcomes.{Follows};
 ghost use Rattle.cip_tables.specs.Step.{step};
+ghost use Rattle.cip_tables.specs.Wakes.{IsQuietFor};
 ghost use Rattle.eip_c.specs.Calls.{table_of};
 
 use adapter_engine::FastAdapter;
 use cip_events::{Delivery, Event, Outcome, StepFault};
 use cip_tables::Device;
-use cip_types::Node;
+use cip_types::{Ms, Node};
 use scanner_engine::FastScanner;
 
 /// The scanner of a profile that begins with `scanner`.
@@ -66,6 +68,17 @@ impl Station {
         match self {
             Station::Adapter(device) => device.deliver(peer, bytes),
             Station::Scanner(device) => device.deliver(peer, bytes),
+        }
+    }
+
+    /// Returns for how long the device needs no tick, as `Device::next_wake` does. Takes no memory.
+    pub fn next_wake(&self) -> Ms
+        ensures quiet { IsQuietFor (table_of self.now) result.0 }
+        ensures longest { result.0 ≤ longest_tick }
+    {
+        match self {
+            Station::Adapter(device) => device.next_wake(),
+            Station::Scanner(device) => device.next_wake(),
         }
     }
 }
