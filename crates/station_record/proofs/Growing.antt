@@ -41,9 +41,9 @@ begins config = append-nil (config_lines config)
 
 -- a record that begins
 pub begun : {W : Type 0} (contents : W → Option (List ℕ)) (old new : W) (recorder : Recorder W) (config : Config) (text : List ℕ) → contents old ≡ Some [] → text ≡ config_lines config → AppendsWithin (contents old) 16777216 text (contents new) recorder.left → recorder.out ≡ Some new → recorder.count ≡ 0 → Records contents recorder config []
-begun {W} contents old new recorder config text empty is more open count = record {
+begun {W} contents old new recorder config text empty is more opened count = record {
   counts = count;
-  text = subst (λ out. IfSome out (λ w. IsTraceOf (contents w) recorder.left config [])) (sym open) (first (contents new) (subst (λ known. AppendsWithin known 16777216 text (contents new) recorder.left) empty more));
+  text = subst (λ out. IfSome out (λ w. IsTraceOf (contents w) recorder.left config [])) (sym opened) (first (contents new) (subst (λ known. AppendsWithin known 16777216 text (contents new) recorder.left) empty more));
 }
   where
     first : (known : Option (List ℕ)) → AppendsWithin (Some []) 16777216 text known recorder.left → IsTraceOf known recorder.left config []
