@@ -29,13 +29,24 @@ pub at_rest : {W : Type 0} (contents : W → Option (List ℕ)) (recorder : Reco
 at_rest contents recorder table = record { events = []; outcomes = []; runs = refl; notes = refl }
 
 -- one run behind another
-pub then : {W : Type 0} (contents : W → Option (List ℕ)) (first second third : Recorder W) (before between after : DeviceTable) → Recorded contents first second before between → Recorded contents second third between after → Recorded contents first third before after
-then contents first second third before between after one two = record {
+pub recorded_on : {W : Type 0} (contents : W → Option (List ℕ)) (first second third : Recorder W) (before between after : DeviceTable) → Recorded contents first second before between → Recorded contents second third between after → Recorded contents first third before after
+recorded_on contents first second third before between after one two = record {
   events = one.events ++ two.events;
   outcomes = one.outcomes ++ two.outcomes;
   runs = runs_on before between after one.events two.events one.outcomes two.outcomes one.runs two.runs;
   notes = watches_on (Notes contents) first second third one.events two.events one.outcomes two.outcomes one.notes two.notes;
 }
+
+-- nothing more has happened
+pub kept_after : {W D : Type 0} (contents : W → Option (List ℕ)) (table : D → DeviceTable) (old first second : Recorder W) (before : DeviceTable) (one two : D) → Recorded contents old first before (table one) → second ≡ first → two ≡ one → Recorded contents old second before (table two)
+kept_after {W} {D} contents table old first second before one two ran recorder device =
+    let P : Recorder W → Type 0 = λ r. Recorded contents old r before (table one) in
+    let Q : D → Type 0 = λ d. Recorded contents old second before (table d) in
+    subst Q (sym device) (subst P (sym recorder) ran)
+
+-- both are kept
+pub kept : {W D : Type 0} (contents : W → Option (List ℕ)) (table : D → DeviceTable) (old new : Recorder W) (one two : D) → new ≡ old → two ≡ one → Recorded contents old new (table one) (table two)
+kept contents table old new one two recorder device = kept_after contents table old old new (table one) one two (at_rest contents old (table one)) recorder device
 
 -- one event
 pub stepped : {W : Type 0} (contents : W → Option (List ℕ)) (old new : Recorder W) (before after : DeviceTable) (event : Event) (outcome : Outcome) → Follows (step before event) before outcome after → Notes contents old event outcome new → Recorded contents old new before after
