@@ -105,10 +105,10 @@ stayed = (stay_dropped (plain (λ _. Given)) yes, tt)
 let_go : {M : Type 1} (𝓤 : Ura M) (𝓛 : Logic 𝓤) (𝓜 : Model 𝓤 𝓛.H) (𝓡 : Running 𝓤 𝓛.H 𝓜) → Wired 𝓡.env code.code → Met 𝓛 𝓜 𝓡 𝓡.env T dx
 unfolding tables_of code.code
 let_go {M = M} 𝓤 𝓛 𝓜 𝓡 wired =
-    let w : World = record { M = M; 𝓤 = 𝓤; 𝓛 = 𝓛; 𝓜 = 𝓜; 𝓡 = 𝓡 } in let k = method dx 0 (layouts [] tt) in let gone = ended_of 0 drop_kinds.ps drop_kinds.r in let calls = code.calls-eip_c::eip_c++holder++Holder+Destruct::drop 𝓡.env wired in
-    glue_by T LT w dx 𝓡.env (λ κs a. Lasts gone tt a) (λ κs a. lasts gone tt a) (λ κs a x ws. Fit gone (stays drop_kinds.ps) tt a ws × drop_reads.Learnt tt a x (at_exit gone tt a ws))
+    let w : World = record { M = M; 𝓤 = 𝓤; 𝓛 = 𝓛; 𝓜 = 𝓜; 𝓡 = 𝓡 } in let k = method dx 0 (layouts [] tt) in let at_end = ended_of 0 drop_kinds.ps drop_kinds.r in let calls = code.calls-eip_c::eip_c++holder++Holder+Destruct::drop 𝓡.env wired in
+    glue_by T LT w dx 𝓡.env (λ κs a. Lasts at_end tt a) (λ κs a. lasts at_end tt a) (λ κs a x ws. Fit at_end (stays drop_kinds.ps) tt a ws × drop_reads.Learnt tt a x (at_exit at_end tt a ws))
     (λ κs a. AllWithin 1 (κs.0, tt) (T.lives, tt) × Unit {0}) 0 tt (λ κs a h. ((h, tt), tt))
-    (via_longer 𝓛 (Over 𝓛 𝓜 𝓡 𝓡.env) 1 (glue_ps T LT) r_unit (λ κs a. Lasts gone tt a) (λ κs a. lasts gone tt a) (λ κs a x ws. Fit gone (stays drop_kinds.ps) tt a ws × drop_reads.Learnt tt a x (at_exit gone tt a ws))
+    (via_longer 𝓛 (Over 𝓛 𝓜 𝓡 𝓡.env) 1 (glue_ps T LT) r_unit (λ κs a. Lasts at_end tt a) (λ κs a. lasts at_end tt a) (λ κs a x ws. Fit at_end (stays drop_kinds.ps) tt a ws × drop_reads.Learnt tt a x (at_exit at_end tt a ws))
     (λ κs a. AllWithin 1 (κs.0, tt) (T.lives, tt) × Unit {0}) k 0 tt (λ κs. tt) (λ κs a. drop_reads.Asked tt a) (λ κs a p. (tt, tt))
     (λ κs bd inside a vss qs. method_Known 0 drop_kinds.ps drop_kinds.r drop_reads.requires drop_reads.ensures drop_reads.Asked drop_reads.Learnt drop_reads.known w drop_symbol.name k
     (drop_symbol.as_method 𝓡.env calls k refl) (drop_met.met 𝓤 𝓛 𝓜 𝓡 calls) ((tt, qs, tt, a, vss), tt)))
