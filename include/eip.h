@@ -72,7 +72,7 @@ enum eip_delivery {
 
 /* THE LIBRARY: what the proofs speak of. The inline functions below test pointers for NULL and call these. */
 
-uint32_t eip_c_new(const uint8_t *profile, size_t len, void **at, uint64_t *number);
+uint32_t eip_c_new(const uint8_t *profile, size_t len, eip_device *place, uint64_t *number);
 void eip_c_free(eip_device device);
 uint32_t eip_c_answer(eip_device *device, uint8_t *out, size_t room, size_t *size);
 uint32_t eip_c_request(eip_device *device, uint32_t peer, const uint8_t *bytes, size_t len, uint8_t *out, size_t room,
@@ -122,7 +122,7 @@ static inline uint32_t eip_new(eip_device *device, const char *profile, size_t l
 {
     if (!device || (!profile && len) || !number)
         return EIP_NULL;
-    return eip_c_new(eip_bytes(profile), len, &device->at, number);
+    return eip_c_new(eip_bytes(profile), len, device, number);
 }
 
 /* Frees a device, and makes its pointer NULL. Does nothing where that is NULL. */

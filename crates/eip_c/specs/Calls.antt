@@ -112,3 +112,7 @@ Opens said status number = ⊥
 abbrev pub IsOpened : Result Trace TraceFault → State → Type 0
 IsOpened (Ok trace) opened = opened ≡ (opening_table trace.config, None)
 IsOpened (Err fault) opened = ⊥
+
+-- A device is there, in the state of one that opens from a text.
+abbrev pub HasOpened : Result Trace TraceFault → Option Holder → Type 0
+HasOpened said device = (holder : Holder) × (device ≡ Some holder) × IsOpened said (state holder)

@@ -1,6 +1,6 @@
 //! A device behind a pointer that C holds.
 
-ghost use Rattle.std.specs.Prelude.{◌≡◌};
+ghost use Rattle.std.specs.Prelude.{◌≡◌, Option, Some};
 ghost use Rattle.eip_c.specs.declared.holder.Holder.{Holder};
 
 use crate::holder::Holder;
@@ -42,5 +42,34 @@ impl Held {
         ensures value { result.now ≡ self.old.value }
     {
         unsafe { &mut *(self.at as *mut Holder) }
+    }
+}
+
+/// The place of a handle in memory of C. In C it is the struct of a handle: a place that has a device owns what the handle
+/// of that device owns. A place without a device owns nothing, and any pointer may stand there.
+#[repr(C)]
+#[derive(Drop)]
+pub struct HandlePlace {
+    at: *mut u8,
+    alloc: Global,
+    ghost value: { Option Holder },
+}
+
+impl Model for HandlePlace {
+    ghost use Rattle.eip_c.specs.Places.{place_owns};
+
+    ghost also_owns = { λ p. place_owns p.alloc p.at p.value };
+}
+
+impl HandlePlace {
+    /// The place of a device.
+    pub fn of(holder: Box<Holder>) -> HandlePlace
+        ensures { result.value ≡ Some holder.value }
+    {
+        let (at, alloc) = Box::into_raw_with_allocator(holder);
+        HandlePlace {
+            at: at as *mut u8,
+            alloc,
+        }
     }
 }

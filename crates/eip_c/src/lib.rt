@@ -3,7 +3,7 @@
 //! `include/eip.h` declares these functions, and lists their numbers. What C reads is what the contracts here say.
 #![tactic(auto)]
 
-ghost use Rattle.std.specs.Prelude.{◌≡◌, ◌≤◌, Ok};
+ghost use Rattle.std.specs.Prelude.{◌≡◌, ◌<◌, ◌≤◌, Ok};
 ghost use Rattle.cip_events.specs.declared.event.Event.TheVariants.{Request, StreamOpened, Frame, StreamCut, Datagram, Write, Tick, Mode, Start, Stop};
 ghost use Rattle.cip_events.specs.declared.event.Verdict.TheVariants.{Delivered};
 ghost use Rattle.cip_events.specs.Answers.{plain_answer};
@@ -13,7 +13,7 @@ ghost use Rattle.cip_tables.specs.Wakes.{IsQuietFor};
 ghost use Rattle.trace_text.specs.Reading.{trace_reading};
 ghost use Rattle.flat_answers.specs.Flat.{delivery_number, delivery_of};
 ghost use Rattle.eip_c.specs.Statuses.{status_of};
-ghost use Rattle.eip_c.specs.Calls.{table_of, state, node, Answers, Reports, Reads, Opens};
+ghost use Rattle.eip_c.specs.Calls.{table_of, state, node, Answers, Reports, Reads, Opens, HasOpened};
 
 mod held;
 mod holder;
@@ -25,7 +25,7 @@ mod status;
 use cip_events::Event;
 use cip_types::{Items, Node};
 use flat_answers::delivery_number;
-use held::Held;
+use held::{HandlePlace, Held};
 use opening::opened;
 use room::report;
 use status::{DONE, OUT_OF_MEMORY};
@@ -33,22 +33,24 @@ use std::alloc::Global;
 
 // DEVICES
 
-/// Makes a device from the lines of a profile, as they stand at the head of a trace, and writes its pointer.
+/// Makes a device from the lines of a profile, as they stand at the head of a trace, and writes its handle.
 ///
-/// The statuses: `Done`; `BadLine` and `BadProfile`, with their number; out of memory. Only `Done` writes a pointer.
+/// The statuses: `Done`; `BadLine` and `BadProfile`, with their number; out of memory. Only `Done` writes a handle.
 /// Lines of events are read, and not performed.
 #[unsafe(no_mangle)]
 pub extern "C" fn eip_c_new(
     alloc: Global,
     profile: &[u8],
-    at: &mut *mut u8,
+    at: &mut HandlePlace,
     number: &mut u64,
 ) -> u32
-    ensures { Opens (trace_reading profile.now) (status_of result) number.new }
+    ensures status { Opens (trace_reading profile.now) (status_of result) number.new }
+    ensures device { result ≡ 0 → HasOpened (trace_reading profile.now) at.new.value }
+    ensures unchanged { 0 < result → at.new.value ≡ at.old.value }
 {
     match opened(alloc, profile, number) {
         Ok(holder) => {
-            *at = Box::into_raw(holder) as *mut u8;
+            *at = HandlePlace::of(holder);
             DONE
         }
         Err(status) => status,

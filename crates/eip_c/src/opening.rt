@@ -1,6 +1,6 @@
 //! Devices from the text of a profile.
 
-ghost use Rattle.std.specs.Prelude.{◌≡◌, true, Option, None, Err, IfOk, IfErr};
+ghost use Rattle.std.specs.Prelude.{◌≡◌, ◌<◌, true, Option, None, Err, IfOk, IfErr};
 ghost use Rattle.cip_events.specs.Faults.{IsRefusedAs};
 ghost use Rattle.cip_events.specs.declared.profile_fault.ProfileFault.{ProfileFault};
 ghost use Rattle.cip_tables.specs.Step.{config_fault, opening_table};
@@ -22,6 +22,7 @@ use trace_text::{TraceFault, read_trace};
 pub fn opened(alloc: Global, profile: &[u8], number: &mut u64) -> Result<Box<Holder>, u32>
     ensures opens { IfOk result (λ holder. IsOpened (trace_reading profile.now) (state holder.value)) }
     ensures refused { IfErr result (λ status. Opens (trace_reading profile.now) (status_of status) number.new) }
+    ensures no_device { IfErr result (λ status. 0 < status) }
 {
     match read_trace(alloc, profile) {
         Ok(trace) => boxed(alloc, trace.config, number),
@@ -31,7 +32,8 @@ pub fn opened(alloc: Global, profile: &[u8], number: &mut u64) -> Result<Box<Hol
 
 /// The status of a text that is not read, and its number.
 fn refusal(fault: TraceFault, number: &mut u64) -> u32
-    ensures { Opens (Err fault) (status_of result) number.new }
+    ensures refused { Opens (Err fault) (status_of result) number.new }
+    ensures no_device { 0 < result }
 {
     match fault {
         TraceFault::BadLine(line) => {
@@ -49,6 +51,7 @@ fn refusal(fault: TraceFault, number: &mut u64) -> u32
 fn boxed(alloc: Global, config: Config, number: &mut u64) -> Result<Box<Holder>, u32>
     ensures opens { IfOk result (λ holder. state holder.value ≡ (opening_table config, None)) }
     ensures refused { IfErr result (λ status. Refuses (config_fault config) (status_of status) number.new) }
+    ensures no_device { IfErr result (λ status. 0 < status) }
 {
     match fresh(alloc, config) {
         Ok(station) => {
@@ -76,7 +79,8 @@ fn fresh(alloc: Global, config: Config) -> Result<Station, NewFault>
 
 /// The status of a device that is not created, and its number.
 fn new_refusal(fault: NewFault, number: &mut u64) -> u32
-    ensures { (wrong : Option ProfileFault) → IsRefusedAs wrong true fault → Refuses wrong (status_of result) number.new }
+    ensures refused { (wrong : Option ProfileFault) → IsRefusedAs wrong true fault → Refuses wrong (status_of result) number.new }
+    ensures no_device { 0 < result }
 {
     match fault {
         NewFault::Profile(first) => {
