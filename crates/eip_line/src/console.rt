@@ -1,15 +1,15 @@
 //! The program, over any streams.
 
-ghost use Rattle.std.specs.Prelude.{◌≡◌, ◌<◌, ◌≤◌, ◌⊎◌, map, ◌≢◌, ◌++◌, [], true, length, codes, decimal, IfOk, IfErr, OnOk, IfSome};
+ghost use Rattle.std.specs.Prelude.{◌≡◌, ◌<◌, ◌≤◌, ◌⊎◌, map, None, ◌≢◌, ◌++◌, [], true, length, codes, decimal, IfOk, IfErr, OnOk, IfSome};
 ghost use Rattle.std.specs.Io.KnownBytes.{Appends, Keeps};
 ghost use Rattle.trace_stepper.specs.Playing.{IsPlayed};
 ghost use Rattle.trace_stepper.specs.Written.{BeginsToWrite, IsTaken};
 ghost use Rattle.eip_line.specs.Faults.{fault_line};
 ghost use Rattle.eip_line.specs.Printed.{longest_trace, PrintsRun, Fails, IsStepped, IsFinished, IsTraceRead, IsTextFault, IsStop};
-ghost use Rattle.eip_line.specs.Tasks.{FailsTask, HasFailed, IsAlone, IsDone, Prints};
+ghost use Rattle.eip_line.specs.Tasks.{FailsTask, HasFailed, IsDone, Prints};
+ghost use Rattle.line_words.specs.Tasks.{IsAlone, task_of};
 ghost use Rattle.eip_line.specs.Usage.{usage_text};
 
-use crate::commands::{Misuse, Task, read_task};
 use crate::lines::line_status;
 use crate::loops::loop_status;
 use crate::usage::write_usage;
@@ -17,6 +17,7 @@ use adapter_engine::FastAdapter;
 use cip_tables::Config;
 use cip_types::limits::LONGEST_TRACE;
 use itoa::Buffer;
+use line_words::{Misuse, Task, read_task};
 use scanner_engine::FastScanner;
 use std::alloc::Global;
 use std::convert::AsStr;
@@ -126,6 +127,7 @@ where
     ensures usage { result ≡ 2 → (out.new ≡ out.old)
         × BeginsToWrite (E.contents err.old) usage_text (E.contents err.new) }
     ensures step { IsAlone (map S.text words.now) (codes "step") → result ≤ 1 }
+    ensures misused { result ≡ 2 → task_of (map S.text words.now) ≡ None }
 {
     match read_task(rt.alloc(), words) {
         Ok(task) => perform(rt, task, reader, out, err),

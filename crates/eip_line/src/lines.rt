@@ -7,12 +7,12 @@ ghost use Rattle.segment_world.specs.Configs.{world_fault};
 ghost use Rattle.settling.specs.Histories.{configs_of};
 ghost use Rattle.eip_line.specs.Lined.{FailsLine, HasSettled, IsLined, SettlesLine, failure_line, line_end_line};
 
-use crate::commands::LineTask;
 use adapter_engine::FastAdapter;
 use cip_tables::Device;
 use cip_types::OutOfMemory;
 use line_setup::{line_of, scripts};
 use line_threads::{LineFault, LineRun, Open, run_line};
+use line_words::LineTask;
 use scanner_engine::FastScanner;
 use segment_world::WorldFault;
 use settling::{Unsettled, settle};

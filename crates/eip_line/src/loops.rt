@@ -5,9 +5,9 @@ ghost use Rattle.std.specs.Io.KnownBytes.{Appends, Keeps};
 ghost use Rattle.trace_stepper.specs.Written.{IsTaken};
 ghost use Rattle.eip_line.specs.Looped.{FailsLoop, IsLooped, end_line, turns_line};
 
-use crate::commands::LoopTask;
 use crate::console::write_numbered;
 use adapter_engine::FastAdapter;
+use line_words::LoopTask;
 use scanner_engine::FastScanner;
 use socket_loop::{LoopFault, run_loop};
 use std::io::Write;

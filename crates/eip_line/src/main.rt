@@ -2,7 +2,6 @@
 //! host, or runs an adapter and scanners in threads and settles what they did.
 #![tactic(auto)]
 
-mod commands;
 mod console;
 mod lines;
 mod loops;
