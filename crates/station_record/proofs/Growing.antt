@@ -1,7 +1,6 @@
 -- A record with one entry more.
-use Rattle.std.proofs.Common.{append_assoc, ◌≡◌, ◌≢◌, ℕ, ◌+◌, ◌-◌, ◌<◌, ◌^◌, min, List, [], ◌∷◌, ◌++◌, length, Option, Some, None, Ok, Err, refl, sym, ap, subst, ◌∙◌, arith}
-use Rattle.std.specs.Prelude.{IfSome, IsSomeAnd}
-use Rattle.std.specs.Io.KnownBytes.{Appends}
+use Rattle.std.proofs.Common.{append_assoc, ◌≡◌, ◌≢◌, ℕ, ◌+◌, ◌-◌, ◌^◌, min, List, [], ◌∷◌, ◌++◌, length, Option, Some, None, Ok, Err, refl, sym, ap, subst, ◌∙◌, arith}
+use Rattle.std.specs.Prelude.{IfSome}
 use Rattle.std.proofs.lemmas.List.{append-nil, length-append}
 use Rattle.cip_events.specs.declared.event.Event.{Event}
 use Rattle.cip_events.specs.declared.event.StepFault.TheVariants as fault
@@ -41,9 +40,9 @@ begins config = append-nil (config_lines config)
 
 -- a record that begins
 pub begun : {W : Type 0} (contents : W → Option (List ℕ)) (old new : W) (recorder : Recorder W) (config : Config) (text : List ℕ) → contents old ≡ Some [] → text ≡ config_lines config → AppendsWithin (contents old) 16777216 text (contents new) recorder.left → recorder.out ≡ Some new → recorder.count ≡ 0 → Records contents recorder config []
-begun {W} contents old new recorder config text empty is more open count = record {
+begun {W} contents old new recorder config text empty is more opened count = record {
   counts = count;
-  text = subst (λ out. IfSome out (λ w. IsTraceOf (contents w) recorder.left config [])) (sym open) (first (contents new) (subst (λ known. AppendsWithin known 16777216 text (contents new) recorder.left) empty more));
+  text = subst (λ out. IfSome out (λ w. IsTraceOf (contents w) recorder.left config [])) (sym opened) (first (contents new) (subst (λ known. AppendsWithin known 16777216 text (contents new) recorder.left) empty more));
 }
   where
     first : (known : Option (List ℕ)) → AppendsWithin (Some []) 16777216 text known recorder.left → IsTraceOf known recorder.left config []
@@ -88,12 +87,12 @@ notes_nothing contents recorder event outcome is config entries few had =
     subst (Records contents recorder config) (sym same) had
 
 -- each other event is an entry more
-pub notes_entry : {W : Type 0} (contents : W → Option (List ℕ)) (old new : Recorder W) (event : Event) (outcome : Outcome) → outcome ≢ Err fault.OutOfMemory → new.count ≡ min (old.count + 1) (2 ^ 64 - 1) → IsRecordedAs contents old.out old.left new.out new.left (entry_text new.count event outcome) → Notes contents old event outcome new
-notes_entry contents old new event outcome other count more config entries few had =
-    let number : new.count ≡ length entries + 1 = grind (arith, count, had.counts, few) in
+pub notes_entry : {W : Type 0} (contents : W → Option (List ℕ)) (old new : Recorder W) (event : Event) (outcome : Outcome) (number : ℕ) → outcome ≢ Err fault.OutOfMemory → number ≡ min (old.count + 1) (2 ^ 64 - 1) → new.count ≡ number → IsRecordedAs contents old.out old.left new.out new.left (entry_text number event outcome) → Notes contents old event outcome new
+notes_entry contents old new event outcome number other rises count more config entries few had =
+    let next : number ≡ length entries + 1 = grind (arith, rises, had.counts, few) in
     let longer : length (entries ++ (event, Some outcome) ∷ []) ≡ length entries + 1 = length-append entries _ in
     subst (λ last. Records contents new config (entries ++ last)) (sym (entry_is event outcome other))
     (record {
-      counts = number ∙ sym longer;
-      text = recorded contents old.out new.out old.left new.left new.count config entries event outcome number had.text more;
+      counts = count ∙ next ∙ sym longer;
+      text = recorded contents old.out new.out old.left new.left number config entries event outcome next had.text more;
     })

@@ -43,7 +43,6 @@ impl<W: Write + Drop> Recorder<W> {
     /// Begins a record with the lines of a profile.
     ///
     /// The faults: `Full` if they are longer than a trace may be, `Write`, `OutOfMemory`.
-    #[tactic(auto, using(crate::proofs::Growing::begun))]
     pub fn begin(alloc: Global, config: &Config, out: W) -> Result<Recorder<W>, RecordFault>
         ensures { IfOk result (λ recorder. W.contents out ≡ Some [] → Records W.contents recorder config.now []) }
     {
@@ -69,7 +68,7 @@ impl<W: Write + Drop> Recorder<W> {
 
     /// Notes an event with its outcome, and answers why the record ended with it, if it did. An event for which the device
     /// had no memory changed nothing: it is not counted, and not recorded.
-    #[tactic(auto, using(crate::proofs::Growing::notes_nothing, crate::proofs::Growing::notes_entry))]
+    #[tactic(auto, using(crate::proofs::Growing::notes_nothing))]
     pub fn note(&mut self, event: &Event, outcome: &Outcome) -> Option<RecordFault>
         ensures noted { Notes W.contents self.old event.now outcome.now self.new }
         ensures open { result ≡ None → IsSome self.old.out → IsSome self.new.out }
