@@ -1,5 +1,5 @@
 -- Runs whose events a recorder notes, one behind another.
-use Rattle.std.proofs.Common.{◌≡◌, ℕ, List, [], ◌∷◌, ◌++◌, Option, refl, sym, ap, subst, ◌∙◌}
+use Rattle.std.proofs.Common.{◌≡◌, ℕ, List, [], ◌∷◌, ◌++◌, Option, Result, Ok, Err, IfOk, OnErr, refl, sym, ap, subst}
 use Rattle.cip_events.specs.declared.event.Event.{Event}
 use Rattle.cip_events.specs.Outcomes.{Outcome, Follows}
 use Rattle.cip_tables.specs.declared.table.DeviceTable.{DeviceTable}
@@ -9,6 +9,7 @@ use Rattle.station_record.specs.Records.{Notes}
 use Rattle.station_record.specs.declared.recorder.Recorder.{Recorder}
 use Rattle.station.specs.declared.witness.Witness.{Witness}
 use Rattle.station.specs.Recorded.{Recorded}
+use Rattle.udp_runner.specs.declared.fault.RunFault.{RunFault}
 use Rattle.udp_runner.specs.Handing.{HandsOut, HandsSome, Watches}
 
 -- two runs, one behind the other
@@ -29,13 +30,24 @@ pub at_rest : {W : Type 0} (contents : W → Option (List ℕ)) (recorder : Reco
 at_rest contents recorder table = record { events = []; outcomes = []; runs = refl; notes = refl }
 
 -- one run behind another
-pub then : {W : Type 0} (contents : W → Option (List ℕ)) (first second third : Recorder W) (before between after : DeviceTable) → Recorded contents first second before between → Recorded contents second third between after → Recorded contents first third before after
-then contents first second third before between after one two = record {
+pub recorded_on : {W : Type 0} (contents : W → Option (List ℕ)) (first second third : Recorder W) (before between after : DeviceTable) → Recorded contents first second before between → Recorded contents second third between after → Recorded contents first third before after
+recorded_on contents first second third before between after one two = record {
   events = one.events ++ two.events;
   outcomes = one.outcomes ++ two.outcomes;
   runs = runs_on before between after one.events two.events one.outcomes two.outcomes one.runs two.runs;
   notes = watches_on (Notes contents) first second third one.events two.events one.outcomes two.outcomes one.notes two.notes;
 }
+
+-- nothing more has happened
+pub kept_after : {W D : Type 0} (contents : W → Option (List ℕ)) (table : D → DeviceTable) (old first second : Recorder W) (before : DeviceTable) (one two : D) → Recorded contents old first before (table one) → second ≡ first → two ≡ one → Recorded contents old second before (table two)
+kept_after {W} {D} contents table old first second before one two ran recorder device =
+    let P : Recorder W → Type 0 = λ r. Recorded contents old r before (table one) in
+    let Q : D → Type 0 = λ d. Recorded contents old second before (table d) in
+    subst Q (sym device) (subst P (sym recorder) ran)
+
+-- both are kept
+pub kept : {W D : Type 0} (contents : W → Option (List ℕ)) (table : D → DeviceTable) (old new : Recorder W) (one two : D) → new ≡ old → two ≡ one → Recorded contents old new (table one) (table two)
+kept contents table old new one two recorder device = kept_after contents table old old new (table one) one two (at_rest contents old (table one)) recorder device
 
 -- one event
 pub stepped : {W : Type 0} (contents : W → Option (List ℕ)) (old new : Recorder W) (before after : DeviceTable) (event : Event) (outcome : Outcome) → Follows (step before event) before outcome after → Notes contents old event outcome new → Recorded contents old new before after
@@ -53,8 +65,13 @@ watched contents old new [] (outcome ∷ outcomes) is = absurd is
 watched contents old new (event ∷ events) [] is = absurd is
 watched contents old new (event ∷ events) (outcome ∷ outcomes) (mid, noted, rest) = (mid.recorder, noted, watched contents mid new events outcomes rest)
 
-pub handed : {W O E : Type 0} (contents : W → Option (List ℕ)) (Expected : List Event → Type 0) (count : ℕ) (old new : Witness W O E) (before after : DeviceTable) → HandsOut (λ one event outcome other. Notes contents one.recorder event outcome other.recorder) Expected count old new before after → Recorded contents old.recorder new.recorder before after
+handed : {W O E : Type 0} (contents : W → Option (List ℕ)) (Expected : List Event → Type 0) (count : ℕ) (old new : Witness W O E) (before after : DeviceTable) → HandsOut (λ one event outcome other. Notes contents one.recorder event outcome other.recorder) Expected count old new before after → Recorded contents old.recorder new.recorder before after
 handed contents Expected count old new before after hands = record { events = hands.events; outcomes = hands.outcomes; runs = hands.runs; notes = watched contents old new hands.events hands.outcomes hands.watches }
 
-pub handed_some : {W O E : Type 0} (contents : W → Option (List ℕ)) (old new : Witness W O E) (before after : DeviceTable) → HandsSome (λ one event outcome other. Notes contents one.recorder event outcome other.recorder) old new before after → Recorded contents old.recorder new.recorder before after
+handed_some : {W O E : Type 0} (contents : W → Option (List ℕ)) (old new : Witness W O E) (before after : DeviceTable) → HandsSome (λ one event outcome other. Notes contents one.recorder event outcome other.recorder) old new before after → Recorded contents old.recorder new.recorder before after
 handed_some contents old new before after hands = record { events = hands.events; outcomes = hands.outcomes; runs = hands.runs; notes = watched contents old new hands.events hands.outcomes hands.watches }
+
+-- a turn that was made, or ended early
+pub turned : {W O E : Type 0} (contents : W → Option (List ℕ)) (Expected : List Event → Type 0) (made : Result ℕ RunFault) (old new : Witness W O E) (before after : DeviceTable) → IfOk made (λ count. HandsOut (λ one event outcome other. Notes contents one.recorder event outcome other.recorder) Expected count old new before after) → OnErr made (HandsSome (λ one event outcome other. Notes contents one.recorder event outcome other.recorder) old new before after) → Recorded contents old.recorder new.recorder before after
+turned contents Expected (Ok count) old new before after whole some = handed contents Expected count old new before after whole
+turned contents Expected (Err fault) old new before after whole some = handed_some contents old new before after some

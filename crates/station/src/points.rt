@@ -1,7 +1,7 @@
 //! The points whose changes a station prints: the outputs of an adapter, the images of a scanner's slots.
 
 ghost use Rattle.std.specs.Prelude.{◌≡◌, ◌++◌, [], OnOk, IfOk, string_bytes};
-ghost use Rattle.station.specs.Points.{change_text, word_of};
+ghost use Rattle.station.specs.Points.{change_text, point_line, word_of};
 
 use cip_tables::{Config, Device};
 use cip_types::{Items, OutOfMemory};
@@ -101,12 +101,26 @@ fn push_change(
         return Ok(());
     }
     let copy = Items::copy_of(alloc, bytes)?;
-    let word = word_of(watched.kind);
-    let point = watched.point;
-    write!(out, "{number} at {ms} {word} {point}")?;
-    push_last_bytes(alloc, out, bytes)?;
+    push_line(alloc, out, number, ms, watched.kind, watched.point, bytes)?;
     watched.bytes = copy;
     Ok(())
+}
+
+/// Appends the line of a point.
+fn push_line(
+    alloc: Global,
+    out: &mut String,
+    number: u64,
+    ms: u64,
+    kind: PointKind,
+    point: u32,
+    bytes: &[u8],
+) -> Result<(), OutOfMemory>
+    ensures { OnOk result (string_bytes out.new ≡ string_bytes out.old ++ point_line number ms kind point bytes.now) }
+{
+    let word = word_of(kind);
+    write!(out, "{number} at {ms} {word} {point}")?;
+    push_last_bytes(alloc, out, bytes)
 }
 
 /// The word of a kind of point.

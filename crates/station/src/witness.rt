@@ -120,6 +120,21 @@ impl<W: Write + Drop, O: Write, E: Write> Witness<W, O, E> {
         }
     }
 
+    /// Tells what has happened: why the record has ended, if it has, and the outcome, if it is printed.
+    fn tell(&mut self, event: &Event, outcome: &Outcome, ended: Option<RecordFault>)
+        ensures kept { self.new.recorder ≡ self.old.recorder }
+    {
+        if let Some(fault) = ended {
+            self.report_end(fault);
+        }
+        self.see(event, outcome);
+        if has_news(event, outcome) {
+            if let Err(fault) = self.print_outcome(outcome) {
+                self.fault = Some(fault);
+            }
+        }
+    }
+
     /// Reports why the record has ended.
     fn report_end(&mut self, fault: RecordFault)
         ensures kept { self.new.recorder ≡ self.old.recorder }
@@ -145,14 +160,7 @@ impl<W: Write + Drop, O: Write, E: Write> Observer for Witness<W, O, E> {
     ghost notes = { λ old event outcome new. Notes W.contents old.recorder event outcome new.recorder };
 
     fn stepped(&mut self, event: &Event, outcome: &Outcome) {
-        if let Some(fault) = self.recorder.note(event, outcome) {
-            self.report_end(fault);
-        }
-        self.see(event, outcome);
-        if has_news(event, outcome) {
-            if let Err(fault) = self.print_outcome(outcome) {
-                self.fault = Some(fault);
-            }
-        }
+        let ended = self.recorder.note(event, outcome);
+        self.tell(event, outcome, ended);
     }
 }
