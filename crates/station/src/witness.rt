@@ -120,8 +120,8 @@ impl<W: Write + Drop, O: Write, E: Write> Witness<W, O, E> {
         }
     }
 
-    /// Tells what has happened: why the record has ended, if it has, and the outcome, if it is printed.
-    fn tell(&mut self, event: &Event, outcome: &Outcome, ended: Option<RecordFault>)
+    /// Reports what has happened: why the record has ended, if it has, and the outcome, if it is printed.
+    fn report_step(&mut self, event: &Event, outcome: &Outcome, ended: Option<RecordFault>)
         ensures kept { self.new.recorder ≡ self.old.recorder }
     {
         if let Some(fault) = ended {
@@ -161,6 +161,6 @@ impl<W: Write + Drop, O: Write, E: Write> Observer for Witness<W, O, E> {
 
     fn stepped(&mut self, event: &Event, outcome: &Outcome) {
         let ended = self.recorder.note(event, outcome);
-        self.tell(event, outcome, ended);
+        self.report_step(event, outcome, ended);
     }
 }
