@@ -1,5 +1,5 @@
 -- Runs whose events a recorder notes, one behind another.
-use Rattle.std.proofs.Common.{◌≡◌, ℕ, List, [], ◌∷◌, ◌++◌, Option, refl, sym, ap, subst, ◌∙◌}
+use Rattle.std.proofs.Common.{◌≡◌, ℕ, List, [], ◌∷◌, ◌++◌, Option, Result, Ok, Err, IfOk, OnErr, refl, sym, ap, subst, ◌∙◌}
 use Rattle.cip_events.specs.declared.event.Event.{Event}
 use Rattle.cip_events.specs.Outcomes.{Outcome, Follows}
 use Rattle.cip_tables.specs.declared.table.DeviceTable.{DeviceTable}
@@ -9,6 +9,7 @@ use Rattle.station_record.specs.Records.{Notes}
 use Rattle.station_record.specs.declared.recorder.Recorder.{Recorder}
 use Rattle.station.specs.declared.witness.Witness.{Witness}
 use Rattle.station.specs.Recorded.{Recorded}
+use Rattle.udp_runner.specs.declared.fault.RunFault.{RunFault}
 use Rattle.udp_runner.specs.Handing.{HandsOut, HandsSome, Watches}
 
 -- two runs, one behind the other
@@ -64,8 +65,13 @@ watched contents old new [] (outcome ∷ outcomes) is = absurd is
 watched contents old new (event ∷ events) [] is = absurd is
 watched contents old new (event ∷ events) (outcome ∷ outcomes) (mid, noted, rest) = (mid.recorder, noted, watched contents mid new events outcomes rest)
 
-pub handed : {W O E : Type 0} (contents : W → Option (List ℕ)) (Expected : List Event → Type 0) (count : ℕ) (old new : Witness W O E) (before after : DeviceTable) → HandsOut (λ one event outcome other. Notes contents one.recorder event outcome other.recorder) Expected count old new before after → Recorded contents old.recorder new.recorder before after
+handed : {W O E : Type 0} (contents : W → Option (List ℕ)) (Expected : List Event → Type 0) (count : ℕ) (old new : Witness W O E) (before after : DeviceTable) → HandsOut (λ one event outcome other. Notes contents one.recorder event outcome other.recorder) Expected count old new before after → Recorded contents old.recorder new.recorder before after
 handed contents Expected count old new before after hands = record { events = hands.events; outcomes = hands.outcomes; runs = hands.runs; notes = watched contents old new hands.events hands.outcomes hands.watches }
 
-pub handed_some : {W O E : Type 0} (contents : W → Option (List ℕ)) (old new : Witness W O E) (before after : DeviceTable) → HandsSome (λ one event outcome other. Notes contents one.recorder event outcome other.recorder) old new before after → Recorded contents old.recorder new.recorder before after
+handed_some : {W O E : Type 0} (contents : W → Option (List ℕ)) (old new : Witness W O E) (before after : DeviceTable) → HandsSome (λ one event outcome other. Notes contents one.recorder event outcome other.recorder) old new before after → Recorded contents old.recorder new.recorder before after
 handed_some contents old new before after hands = record { events = hands.events; outcomes = hands.outcomes; runs = hands.runs; notes = watched contents old new hands.events hands.outcomes hands.watches }
+
+-- a turn that was made, or ended early
+pub turned : {W O E : Type 0} (contents : W → Option (List ℕ)) (Expected : List Event → Type 0) (made : Result ℕ RunFault) (old new : Witness W O E) (before after : DeviceTable) → IfOk made (λ count. HandsOut (λ one event outcome other. Notes contents one.recorder event outcome other.recorder) Expected count old new before after) → OnErr made (HandsSome (λ one event outcome other. Notes contents one.recorder event outcome other.recorder) old new before after) → Recorded contents old.recorder new.recorder before after
+turned contents Expected (Ok count) old new before after whole some = handed contents Expected count old new before after whole
+turned contents Expected (Err fault) old new before after whole some = handed_some contents old new before after some

@@ -42,13 +42,12 @@ where
     O: Write,
     E: Write,
     L: CallLines,
-    ensures recorded { Recorded W.contents station.old.witness.recorder station.new.witness.recorder
+    ensures { Recorded W.contents station.old.witness.recorder station.new.witness.recorder
         (D.table station.old.device) (D.table station.new.device) }
 {
     let served = serve_all(station, lines, ending);
     let closed = close(station, ending.slots);
-    served?;
-    closed
+    served.and(closed)
 }
 
 /// Opens the slots, and serves until the time is over or the input ends.
@@ -65,19 +64,40 @@ where
     O: Write,
     E: Write,
     L: CallLines,
-    ensures recorded { Recorded W.contents station.old.witness.recorder station.new.witness.recorder
+    ensures { Recorded W.contents station.old.witness.recorder station.new.witness.recorder
         (D.table station.old.device) (D.table station.new.device) }
 {
     station.start(ending.slots)?;
+    serve_on(station, lines, ending.ms)
+}
+
+/// Serves until the time is over or the input ends.
+fn serve_on<P, C, D, W, O, E, L>(
+    station: &mut Station<P, C, D, W, O, E>,
+    lines: &mut L,
+    end_ms: Option<u64>,
+) -> Result<(), EarlyEnd>
+where
+    P: Port,
+    C: Clock,
+    D: Device,
+    W: Write + Drop,
+    O: Write,
+    E: Write,
+    L: CallLines,
+    ensures { Recorded W.contents station.old.witness.recorder station.new.witness.recorder
+        (D.table station.old.device) (D.table station.new.device) }
+{
     for _ in 0..u64::MAX {
-        if is_over(station.now_ms(), ending.ms) || !serve(station, lines, ending.ms)? {
-            break;
+        if !serve(station, lines, end_ms)? {
+            return Ok(());
         }
     }
     Ok(())
 }
 
-/// Performs the next call, if there is one, and makes a turn. False if the input has ended.
+/// Performs the next call, if there is one, and makes a turn. False if the time is over or the input has ended.
+#[tactic(auto, using(crate::proofs::Noting::at_rest))]
 fn serve<P, C, D, W, O, E, L>(
     station: &mut Station<P, C, D, W, O, E>,
     lines: &mut L,
@@ -91,21 +111,56 @@ where
     O: Write,
     E: Write,
     L: CallLines,
-    ensures recorded { Recorded W.contents station.old.witness.recorder station.new.witness.recorder
+    ensures { Recorded W.contents station.old.witness.recorder station.new.witness.recorder
         (D.table station.old.device) (D.table station.new.device) }
 {
+    if is_over(station.now_ms(), end_ms) {
+        return Ok(false);
+    }
     match lines.next_line()? {
         NextLine::End => Ok(false),
-        NextLine::Nothing => {
-            station.turn(pause_ms(station.now_ms(), end_ms))?;
-            Ok(true)
-        }
-        NextLine::Line(line) => {
-            station.call(line.as_slice())?;
-            station.turn(0)?;
-            Ok(true)
-        }
+        NextLine::Nothing => wait(station, end_ms),
+        NextLine::Line(line) => perform(station, line.as_slice()),
     }
+}
+
+/// Makes a turn that waits, at most until the end.
+fn wait<P, C, D, W, O, E>(
+    station: &mut Station<P, C, D, W, O, E>,
+    end_ms: Option<u64>,
+) -> Result<bool, EarlyEnd>
+where
+    P: Port,
+    C: Clock,
+    D: Device,
+    W: Write + Drop,
+    O: Write,
+    E: Write,
+    ensures { Recorded W.contents station.old.witness.recorder station.new.witness.recorder
+        (D.table station.old.device) (D.table station.new.device) }
+{
+    station.turn(pause_ms(station.now_ms(), end_ms))?;
+    Ok(true)
+}
+
+/// Performs the call of a line, and makes a turn that does not wait.
+fn perform<P, C, D, W, O, E>(
+    station: &mut Station<P, C, D, W, O, E>,
+    line: &[u8],
+) -> Result<bool, EarlyEnd>
+where
+    P: Port,
+    C: Clock,
+    D: Device,
+    W: Write + Drop,
+    O: Write,
+    E: Write,
+    ensures { Recorded W.contents station.old.witness.recorder station.new.witness.recorder
+        (D.table station.old.device) (D.table station.new.device) }
+{
+    station.call(line)?;
+    station.turn(0)?;
+    Ok(true)
 }
 
 /// Closes the slots, waits a bounded time for the replies, and ends the sessions.
@@ -120,18 +175,34 @@ where
     W: Write + Drop,
     O: Write,
     E: Write,
-    ensures recorded { Recorded W.contents station.old.witness.recorder station.new.witness.recorder
+    ensures { Recorded W.contents station.old.witness.recorder station.new.witness.recorder
         (D.table station.old.device) (D.table station.new.device) }
 {
     station.stop(slots)?;
+    wait_closed(station)?;
+    station.unregister()
+}
+
+/// Waits until no slot is being closed, for a bounded time.
+fn wait_closed<P, C, D, W, O, E>(station: &mut Station<P, C, D, W, O, E>) -> Result<(), EarlyEnd>
+where
+    P: Port,
+    C: Clock,
+    D: Device,
+    W: Write + Drop,
+    O: Write,
+    E: Write,
+    ensures { Recorded W.contents station.old.witness.recorder station.new.witness.recorder
+        (D.table station.old.device) (D.table station.new.device) }
+{
     let until_ms = station.now_ms().saturating_add(CLOSE_MS);
     for _ in 0..u64::MAX {
         if !station.is_closing() || station.now_ms() >= until_ms {
-            break;
+            return Ok(());
         }
         station.turn(pause_ms(station.now_ms(), Some(until_ms)))?;
     }
-    station.unregister()
+    Ok(())
 }
 
 /// Whether a station's time is over.

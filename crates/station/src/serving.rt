@@ -8,7 +8,7 @@ use crate::fault::{EarlyEnd, end_after};
 use crate::points::Points;
 use crate::witness::Witness;
 use cip_encap::{MessageView, command, write_message};
-use cip_tables::{Answer, Config, Device, Event, StepFault};
+use cip_tables::{Answer, Config, Device, Event, Outcome, StepFault};
 use cip_types::limits::MOST_STREAMS;
 use cip_types::{Ms, OutOfMemory};
 use station_record::RecordFault;
@@ -78,7 +78,7 @@ impl<P: Port, C: Clock, D: Device, W: Write + Drop, O: Write, E: Write> Station<
 
     /// Makes a turn that waits at most so many milliseconds, and prints what has changed.
     pub fn turn(&mut self, most_ms: u64) -> Result<(), EarlyEnd>
-        ensures recorded { Recorded W.contents self.old.witness.recorder self.new.witness.recorder
+        ensures { Recorded W.contents self.old.witness.recorder self.new.witness.recorder
             (D.table self.old.device) (D.table self.new.device) }
     {
         self.wait_and_step(most_ms)?;
@@ -86,8 +86,9 @@ impl<P: Port, C: Clock, D: Device, W: Write + Drop, O: Write, E: Write> Station<
     }
 
     /// Makes a turn that waits at most so many milliseconds.
+    #[tactic(auto, using(crate::proofs::Noting::at_rest))]
     fn wait_and_step(&mut self, most_ms: u64) -> Result<(), EarlyEnd>
-        ensures recorded { Recorded W.contents self.old.witness.recorder self.new.witness.recorder
+        ensures { Recorded W.contents self.old.witness.recorder self.new.witness.recorder
             (D.table self.old.device) (D.table self.new.device) }
     {
         // (`turn_waiting` requires that the count of failures can rise)
@@ -101,20 +102,18 @@ impl<P: Port, C: Clock, D: Device, W: Write + Drop, O: Write, E: Write> Station<
             &mut self.witness,
             Ms(most_ms),
         );
-        match made {
-            Ok(_) => {
-                self.failures = 0;
-                Ok(())
-            }
-            Err(fault) => self.weather(fault),
-        }
+        self.weather(made)
     }
 
-    /// Goes on after a fault of a turn, if the station does not end with it.
-    fn weather(&mut self, fault: RunFault) -> Result<(), EarlyEnd>
+    /// Goes on after a turn, if the station does not end with it.
+    fn weather(&mut self, made: Result<u64, RunFault>) -> Result<(), EarlyEnd>
         ensures recorder { self.new.witness.recorder ≡ self.old.witness.recorder }
         ensures device { self.new.device ≡ self.old.device }
     {
+        let Err(fault) = made else {
+            self.failures = 0;
+            return Ok(());
+        };
         match end_after(fault) {
             Some(end) => Err(end),
             None => self.fail(),
@@ -123,8 +122,9 @@ impl<P: Port, C: Clock, D: Device, W: Write + Drop, O: Write, E: Write> Station<
 
     /// Performs the call of a line, and prints its outcome and what has changed. An empty line and a comment are skipped.
     /// A line that is no call is reported.
+    #[tactic(auto, using(crate::proofs::Noting::at_rest, crate::proofs::Noting::kept))]
     pub fn call(&mut self, line: &[u8]) -> Result<(), EarlyEnd>
-        ensures recorded { Recorded W.contents self.old.witness.recorder self.new.witness.recorder
+        ensures { Recorded W.contents self.old.witness.recorder self.new.witness.recorder
             (D.table self.old.device) (D.table self.new.device) }
     {
         self.lines = self.lines.saturating_add(1);
@@ -140,17 +140,36 @@ impl<P: Port, C: Clock, D: Device, W: Write + Drop, O: Write, E: Write> Station<
 
     /// Steps the device by an event of the application, and sends the answer.
     pub fn act(&mut self, event: &Event) -> Result<(), EarlyEnd>
-        ensures recorded { Recorded W.contents self.old.witness.recorder self.new.witness.recorder
+        ensures { Recorded W.contents self.old.witness.recorder self.new.witness.recorder
+            (D.table self.old.device) (D.table self.new.device) }
+    {
+        let outcome = self.step(event);
+        self.follow(&outcome)
+    }
+
+    /// Steps the device by an event, before its witness.
+    fn step(&mut self, event: &Event) -> Outcome
+        ensures { Recorded W.contents self.old.witness.recorder self.new.witness.recorder
             (D.table self.old.device) (D.table self.new.device) }
     {
         let outcome = self.device.step(event);
         self.witness.stepped(event, &outcome);
-        match &outcome {
-            Ok(answer) => self.send(answer)?,
-            Err(StepFault::OutOfMemory) => return Err(EarlyEnd::OutOfMemory),
-            Err(_) => {}
+        outcome
+    }
+
+    /// Sends the answer of a step, and prints what has changed.
+    fn follow(&mut self, outcome: &Outcome) -> Result<(), EarlyEnd>
+        ensures recorder { self.new.witness.recorder ≡ self.old.witness.recorder }
+        ensures device { self.new.device ≡ self.old.device }
+    {
+        match outcome {
+            Ok(answer) => {
+                self.send(answer)?;
+                self.show()
+            }
+            Err(StepFault::OutOfMemory) => Err(EarlyEnd::OutOfMemory),
+            Err(_) => self.show(),
         }
-        self.show()
     }
 
     /// Sends an answer. What cannot be sent is lost, as it may be on the network.
@@ -170,7 +189,7 @@ impl<P: Port, C: Clock, D: Device, W: Write + Drop, O: Write, E: Write> Station<
 
     /// Asks a scanner to open each slot.
     pub fn start(&mut self, slots: u32) -> Result<(), EarlyEnd>
-        ensures recorded { Recorded W.contents self.old.witness.recorder self.new.witness.recorder
+        ensures { Recorded W.contents self.old.witness.recorder self.new.witness.recorder
             (D.table self.old.device) (D.table self.new.device) }
     {
         for slot in 0..slots {
@@ -181,7 +200,7 @@ impl<P: Port, C: Clock, D: Device, W: Write + Drop, O: Write, E: Write> Station<
 
     /// Asks a scanner to close each slot.
     pub fn stop(&mut self, slots: u32) -> Result<(), EarlyEnd>
-        ensures recorded { Recorded W.contents self.old.witness.recorder self.new.witness.recorder
+        ensures { Recorded W.contents self.old.witness.recorder self.new.witness.recorder
             (D.table self.old.device) (D.table self.new.device) }
     {
         for slot in 0..slots {

@@ -1,5 +1,5 @@
 use Rattle.station.specs.Recorded.{Recorded}
-use Rattle.station.proofs.run.serve_all.Given as goal
+use Rattle.station.proofs.run.wait_closed.Given as goal
 
 -- the recorder has noted what the device did so far
 abbrev pub invariant-loop : goal.invariant-loop
