@@ -1,5 +1,5 @@
 -- Runs whose events a recorder notes, one behind another.
-use Rattle.std.proofs.Common.{◌≡◌, ℕ, List, [], ◌∷◌, ◌++◌, Option, Result, Ok, Err, IfOk, OnErr, refl, sym, ap, subst, ◌∙◌}
+use Rattle.std.proofs.Common.{◌≡◌, ℕ, List, [], ◌∷◌, ◌++◌, Option, Result, Ok, Err, IfOk, OnErr, refl, sym, ap, subst}
 use Rattle.cip_events.specs.declared.event.Event.{Event}
 use Rattle.cip_events.specs.Outcomes.{Outcome, Follows}
 use Rattle.cip_tables.specs.declared.table.DeviceTable.{DeviceTable}

@@ -9,3 +9,6 @@ loop-preserved g c = recorded_on (g.W.Write.contents) _ _ _ _ _ _ c.loop.invaria
 
 pub returns-in_err-serve : goal.returns-in_err-serve
 returns-in_err-serve g c = recorded_on (g.W.Write.contents) _ _ _ _ _ _ c.loop.invariant c.serve.ensures
+
+pub returns-then-not-branch : goal.returns-then-not-branch
+returns-then-not-branch g c = recorded_on (g.W.Write.contents) _ _ _ _ _ _ c.loop.invariant c.serve.ensures
