@@ -17,6 +17,6 @@ status_of failure.Events = 3
 status_of failure.WrongKind = 3
 status_of failure.NoTrace = 3
 status_of (failure.Socket socket cause.NoAddress) = 4
-status_of (failure.Socket socket other) = 5
+status_of (failure.Socket socket _) = 5
 status_of failure.Record = 6
 status_of failure.OutOfMemory = 7

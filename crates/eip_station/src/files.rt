@@ -37,7 +37,10 @@ pub struct ExplainedFile {
 }
 
 /// The trace of a file in words, or why the file is none.
-pub fn explained_trace<R: Files + AllocGlobal>(rt: &R, path: &str) -> Result<ExplainedFile, Failure> {
+pub fn explained_trace<R: Files + AllocGlobal>(
+    rt: &R,
+    path: &str,
+) -> Result<ExplainedFile, Failure> {
     let text = bytes_of(rt, path)?;
     let alloc = rt.alloc();
     match read_trace(alloc, text.as_slice()) {

@@ -1,17 +1,17 @@
 //! The program, at its command line and its streams.
 
 use crate::failure::{Failure, status_of, subject_of};
-use crate::files::{pcap_of, profile_of, explained_trace};
-use crate::inbox::read_input;
+use crate::files::{explained_trace, pcap_of, profile_of};
+use crate::inbox::{Inbox, read_input};
 use crate::opening::{adapter_port, place_of, scanner_port};
 use crate::usage::USAGE;
 use adapter_engine::FastAdapter;
 use cip_tables::{Config, Device, Profile, ScannerProfile};
 use scanner_engine::FastScanner;
 use socket_port::SystemClock;
-use station::{Ending, Station, Witness, run_station};
+use station::{EarlyEnd, Ending, Station, Witness, run_station};
 use station_port::StationPort;
-use station_record::Recorder;
+use station_record::{RecordFault, Recorder};
 use station_words::{Options, StationTask, Task, read_task};
 use std::alloc::Global;
 use std::env::{self, Env};
@@ -80,9 +80,19 @@ where
     match read_task(words)? {
         Task::Help => print(out, USAGE.as_bytes()),
         Task::Station(task) => station(rt, words, task, out, err),
-        Task::Pcap => print(out, pcap_of(&rt, file_of(words))?.as_slice()),
+        Task::Pcap => pcap(&rt, file_of(words), out),
         Task::Explain => explain(&rt, file_of(words), out),
     }
+}
+
+/// Writes the capture file of a file's trace.
+fn pcap<R, O>(rt: &R, path: &str, out: O) -> Result<(), Failure>
+where
+    R: AllocGlobal + Files<File = File>,
+    O: Write + Drop,
+{
+    let capture = pcap_of(rt, path)?;
+    print(out, capture.as_slice())
 }
 
 /// Explains the trace of a file in words, or why the file is none.
@@ -105,7 +115,7 @@ fn print<O: Write + Drop>(out: O, text: &[u8]) -> Result<(), Failure> {
     let mut out = out;
     match out.write_all(text) {
         Ok(()) => Ok(()),
-        Err(_) => Err(Failure::Early(station::EarlyEnd::Write)),
+        Err(_) => Err(Failure::Early(EarlyEnd::Write)),
     }
 }
 
@@ -258,12 +268,40 @@ where
     E: Write + Drop,
 {
     let alloc = rt.alloc();
-    let mut lines = read_input(rt, port.waker()?)?;
-    let device = D::new(alloc, config.copy(alloc)?)?;
+    let lines = read_input(rt, port.waker()?)?;
+    let device = device_of::<D>(alloc, &config)?;
     let clock = SystemClock::new(rt);
-    let mut station = Station::new(alloc, &config, port, clock, device, witness)?;
-    run_station(&mut station, &mut lines, ending)?;
-    match station.record_fault() {
+    let station = Station::new(alloc, &config, port, clock, device, witness)?;
+    run_to_end(station, lines, ending)
+}
+
+/// A device of a configuration.
+fn device_of<D: Device + Drop>(alloc: Global, config: &Config) -> Result<D, Failure> {
+    Ok(D::new(alloc, config.copy(alloc)?)?)
+}
+
+/// Runs a station to its end.
+fn run_to_end<D, R, O, E>(
+    station: Station<StationPort<R>, SystemClock<R>, D, File, O, E>,
+    lines: Inbox<R>,
+    ending: Ending,
+) -> Result<(), Failure>
+where
+    D: Device + Drop,
+    R: AllocGlobal + Clock + Net + Wait + Copy + Drop,
+    O: Write + Drop,
+    E: Write + Drop,
+{
+    let mut station = station;
+    let mut lines = lines;
+    let ended = run_station(&mut station, &mut lines, ending);
+    outcome_of(ended, station.record_fault())
+}
+
+/// What is left to report after a run: its early end, or else that of its record.
+fn outcome_of(ended: Result<(), EarlyEnd>, record: Option<RecordFault>) -> Result<(), Failure> {
+    ended?;
+    match record {
         Some(_) => Err(Failure::Record),
         None => Ok(()),
     }
