@@ -8,77 +8,111 @@ use std::io::{ErrorKind, Read};
 use std::rt::Clock;
 use std::sync::{Arc, Mutex, Wait};
 use std::thread;
-use std::thread::Threads;
 use std::time::Duration;
 
 /// A read takes at most so many bytes.
 const CHUNK_BYTES: usize = 4_096;
 
+/// What was read and not yet taken, and what wakes the station that takes it.
+#[derive(Drop)]
+struct Unread {
+    buffer: CallBuffer,
+    waker: Option<Waker>,
+}
+
+/// An input that one thread reads and a station takes line by line.
+#[derive(Drop)]
+pub struct SharedInput {
+    alloc: Global,
+    unread: Arc<Mutex<Unread>, Global>,
+}
+
+impl SharedInput {
+    /// An input of which nothing was read. OutOfMemory is the only fault.
+    pub fn new(alloc: Global) -> Result<SharedInput, OutOfMemory> {
+        let unread = Mutex::new(Unread {
+            buffer: CallBuffer::new(alloc),
+            waker: None,
+        });
+        match Arc::new(alloc, unread) {
+            Ok(unread) => Ok(SharedInput { alloc, unread }),
+            Err(_) => Err(OutOfMemory),
+        }
+    }
+
+    /// The same input, for another thread. OutOfMemory is the only fault.
+    pub fn share(&self) -> Result<SharedInput, OutOfMemory> {
+        match Arc::try_clone(&self.unread) {
+            Ok(unread) => Ok(SharedInput {
+                alloc: self.alloc,
+                unread,
+            }),
+            Err(_) => Err(OutOfMemory),
+        }
+    }
+
+    /// The lines of the input, for a station that this waker wakes.
+    pub fn lines<R: Wait + Drop>(self, rt: R, waker: Waker) -> Inbox<R> {
+        self.unread.lock(&rt).waker = Some(waker);
+        Inbox { rt, input: self }
+    }
+
+    /// Reads the standard input to its end.
+    pub fn fill<R: Input + Clock + Wait>(&self, rt: &R) {
+        let mut reader = rt.reader();
+        let mut chunk = [0u8; CHUNK_BYTES];
+        for _ in 0..u64::MAX {
+            match reader.read(&mut chunk) {
+                Ok(0) => break,
+                Ok(count) => {
+                    if self.push(rt, &chunk[..count]).is_err() {
+                        break;
+                    }
+                }
+                Err(error) if error.kind() == ErrorKind::Interrupted => {}
+                Err(_) => break,
+            }
+        }
+        self.end(rt);
+    }
+
+    /// Appends bytes once the buffer is not full, and wakes the station.
+    fn push<R: Clock + Wait>(&self, rt: &R, bytes: &[u8]) -> Result<(), OutOfMemory> {
+        for _ in 0..u64::MAX {
+            if !self.unread.lock(rt).buffer.is_full() {
+                break;
+            }
+            thread::sleep(rt, Duration::from_millis(1));
+        }
+        let pushed = self.unread.lock(rt).buffer.push(bytes);
+        self.wake(rt);
+        pushed
+    }
+
+    /// Ends the input, and wakes the station.
+    fn end<R: Wait>(&self, rt: &R) {
+        self.unread.lock(rt).buffer.end();
+        self.wake(rt);
+    }
+
+    /// Wakes the station, if it waits at a port already.
+    fn wake<R: Wait>(&self, rt: &R) {
+        if let Some(waker) = &self.unread.lock(rt).waker {
+            let _ = waker.wake();
+        }
+    }
+}
+
 /// The lines of an input that another thread reads.
 #[derive(Drop)]
 pub struct Inbox<R: Wait + Drop> {
     rt: R,
-    alloc: Global,
-    buffer: Arc<Mutex<CallBuffer>, Global>,
+    input: SharedInput,
 }
 
 impl<R: Wait + Drop> CallLines for Inbox<R> {
     fn next_line(&mut self) -> Result<NextLine, OutOfMemory> {
-        self.buffer.lock(&self.rt).next_line(self.alloc)
+        let alloc = self.input.alloc;
+        self.input.unread.lock(&self.rt).buffer.next_line(alloc)
     }
-}
-
-/// Starts a thread that reads the standard input and wakes the station. The fault: an allocation was refused, or no thread
-/// can be made. The thread is not joined: it ends with the program.
-pub fn read_input<R>(rt: R, waker: Waker) -> Result<Inbox<R>, OutOfMemory>
-where
-    R: AllocGlobal + Input + Clock + Threads + Wait + Copy + Send + Drop + 'static,
-{
-    let alloc = rt.alloc();
-    let Ok(buffer) = Arc::new(alloc, Mutex::new(CallBuffer::new(alloc))) else {
-        return Err(OutOfMemory);
-    };
-    let Ok(theirs) = Arc::try_clone(&buffer) else {
-        return Err(OutOfMemory);
-    };
-    match thread::spawn(&rt, move || fill(&rt, &theirs, &waker)) {
-        Ok(_thread) => Ok(Inbox { rt, alloc, buffer }),
-        Err(_) => Err(OutOfMemory),
-    }
-}
-
-/// Reads the standard input to its end into a buffer.
-fn fill<R: Input + Clock + Wait>(rt: &R, buffer: &Mutex<CallBuffer>, waker: &Waker) {
-    let mut reader = rt.reader();
-    let mut chunk = [0u8; CHUNK_BYTES];
-    for _ in 0..u64::MAX {
-        match reader.read(&mut chunk) {
-            Ok(0) => break,
-            Ok(count) => {
-                if hand_in(rt, buffer, &chunk[..count]).is_err() {
-                    break;
-                }
-                let _ = waker.wake();
-            }
-            Err(error) if error.kind() == ErrorKind::Interrupted => {}
-            Err(_) => break,
-        }
-    }
-    buffer.lock(rt).end();
-    let _ = waker.wake();
-}
-
-/// Appends bytes to a buffer, once it is not full.
-fn hand_in<R: Clock + Wait>(
-    rt: &R,
-    buffer: &Mutex<CallBuffer>,
-    bytes: &[u8],
-) -> Result<(), OutOfMemory> {
-    for _ in 0..u64::MAX {
-        if !buffer.lock(rt).is_full() {
-            break;
-        }
-        thread::sleep(rt, Duration::from_millis(1));
-    }
-    buffer.lock(rt).push(bytes)
 }

@@ -2,7 +2,7 @@
 
 use crate::failure::{Failure, status_of, subject_of};
 use crate::files::{explained_trace, pcap_of, profile_of};
-use crate::inbox::{Inbox, read_input};
+use crate::inbox::{Inbox, SharedInput};
 use crate::opening::{adapter_port, place_of, scanner_port};
 use crate::usage::USAGE;
 use adapter_engine::FastAdapter;
@@ -21,23 +21,11 @@ use std::net::Net;
 use std::process::ExitCode;
 use std::rt::{Clock, Files};
 use std::sync::Wait;
-use std::thread::Threads;
 
 /// Performs what the command line requests, and answers the status. A failure is one line on `err`.
-pub fn run<R, O, E>(rt: R, out: O, err: E) -> ExitCode
+pub fn run<R, O, E>(rt: R, input: SharedInput, out: O, err: E) -> ExitCode
 where
-    R: AllocGlobal
-        + Env
-        + Files<File = File>
-        + Clock
-        + Net
-        + Input
-        + Threads
-        + Wait
-        + Copy
-        + Send
-        + Drop
-        + 'static,
+    R: AllocGlobal + Env + Files<File = File> + Clock + Net + Wait + Copy + Drop,
     O: Write + Drop,
     E: Write + Copy + Drop,
 {
@@ -46,12 +34,20 @@ where
         let _ = stream.write_all(b"eip_station: no memory\n");
         return ExitCode::from(status_of(Failure::OutOfMemory));
     };
-    match perform(rt, words.as_slice(), out, err) {
+    match perform(rt, words.as_slice(), input, out, err) {
         Ok(()) => ExitCode::SUCCESS,
         Err(failure) => {
             report(rt.alloc(), &mut stream, words.as_slice(), failure);
             ExitCode::from(status_of(failure))
         }
+    }
+}
+
+/// Whether the command line requests a station, which takes calls from the standard input.
+pub fn takes_calls<R: AllocGlobal + Env>(rt: &R) -> bool {
+    match words_of(rt) {
+        Some(words) => matches!(read_task(words.as_slice()), Ok(Task::Station(_))),
+        None => false,
     }
 }
 
@@ -61,25 +57,21 @@ fn words_of<R: AllocGlobal + Env>(rt: &R) -> Option<Vec<String>> {
 }
 
 /// Performs the task of the words.
-fn perform<R, O, E>(rt: R, words: &[String], out: O, err: E) -> Result<(), Failure>
+fn perform<R, O, E>(
+    rt: R,
+    words: &[String],
+    input: SharedInput,
+    out: O,
+    err: E,
+) -> Result<(), Failure>
 where
-    R: AllocGlobal
-        + Files<File = File>
-        + Clock
-        + Net
-        + Input
-        + Threads
-        + Wait
-        + Copy
-        + Send
-        + Drop
-        + 'static,
+    R: AllocGlobal + Files<File = File> + Clock + Net + Wait + Copy + Drop,
     O: Write + Drop,
     E: Write + Drop,
 {
     match read_task(words)? {
         Task::Help => print(out, USAGE.as_bytes()),
-        Task::Station(task) => station(rt, words, task, out, err),
+        Task::Station(task) => station(rt, words, task, input, out, err),
         Task::Pcap => pcap(&rt, file_of(words), out),
         Task::Explain => explain(&rt, file_of(words), out),
     }
@@ -124,29 +116,20 @@ fn station<R, O, E>(
     rt: R,
     words: &[String],
     task: StationTask,
+    input: SharedInput,
     out: O,
     err: E,
 ) -> Result<(), Failure>
 where
-    R: AllocGlobal
-        + Files<File = File>
-        + Clock
-        + Net
-        + Input
-        + Threads
-        + Wait
-        + Copy
-        + Send
-        + Drop
-        + 'static,
+    R: AllocGlobal + Files<File = File> + Clock + Net + Wait + Copy + Drop,
     O: Write + Drop,
     E: Write + Drop,
 {
     let path = file_of(words);
     let record = task.options.record_left.map(|left| word_left(words, left));
     match profile_of(&rt, path, task.scanner)? {
-        Config::Adapter(profile) => adapter(rt, profile, &task.options, record, out, err),
-        Config::Scanner(profile) => scanner(rt, profile, &task.options, record, out, err),
+        Config::Adapter(profile) => adapter(rt, profile, &task.options, record, input, out, err),
+        Config::Scanner(profile) => scanner(rt, profile, &task.options, record, input, out, err),
     }
 }
 
@@ -169,21 +152,12 @@ fn adapter<R, O, E>(
     profile: Profile,
     options: &Options,
     record: Option<&str>,
+    input: SharedInput,
     out: O,
     err: E,
 ) -> Result<(), Failure>
 where
-    R: AllocGlobal
-        + Files<File = File>
-        + Clock
-        + Net
-        + Input
-        + Threads
-        + Wait
-        + Copy
-        + Send
-        + Drop
-        + 'static,
+    R: AllocGlobal + Files<File = File> + Clock + Net + Wait + Copy + Drop,
     O: Write + Drop,
     E: Write + Drop,
 {
@@ -193,7 +167,7 @@ where
     let recorder = recorder_of(&rt, &config, record)?;
     let witness = Witness::new(rt.alloc(), recorder, out, err);
     let ending = ending_of(options, 0);
-    serve::<FastAdapter, _, _, _>(rt, config, port, witness, ending)
+    serve::<FastAdapter, _, _, _>(rt, config, port, witness, input, ending)
 }
 
 /// Runs a scanner.
@@ -202,21 +176,12 @@ fn scanner<R, O, E>(
     profile: ScannerProfile,
     options: &Options,
     record: Option<&str>,
+    input: SharedInput,
     out: O,
     err: E,
 ) -> Result<(), Failure>
 where
-    R: AllocGlobal
-        + Files<File = File>
-        + Clock
-        + Net
-        + Input
-        + Threads
-        + Wait
-        + Copy
-        + Send
-        + Drop
-        + 'static,
+    R: AllocGlobal + Files<File = File> + Clock + Net + Wait + Copy + Drop,
     O: Write + Drop,
     E: Write + Drop,
 {
@@ -227,7 +192,7 @@ where
     let recorder = recorder_of(&rt, &config, record)?;
     let witness = Witness::new(rt.alloc(), recorder, out, err);
     let ending = ending_of(options, slots);
-    serve::<FastScanner, _, _, _>(rt, config, port, witness, ending)
+    serve::<FastScanner, _, _, _>(rt, config, port, witness, input, ending)
 }
 
 /// When a station of so many slots ends.
@@ -259,16 +224,17 @@ fn serve<D, R, O, E>(
     config: Config,
     port: StationPort<R>,
     witness: Witness<File, O, E>,
+    input: SharedInput,
     ending: Ending,
 ) -> Result<(), Failure>
 where
     D: Device + Drop,
-    R: AllocGlobal + Clock + Net + Input + Threads + Wait + Copy + Send + Drop + 'static,
+    R: AllocGlobal + Clock + Net + Wait + Copy + Drop,
     O: Write + Drop,
     E: Write + Drop,
 {
     let alloc = rt.alloc();
-    let lines = read_input(rt, port.waker()?)?;
+    let lines = input.lines(rt, port.waker()?);
     let device = device_of::<D>(alloc, &config)?;
     let clock = SystemClock::new(rt);
     let station = Station::new(alloc, &config, port, clock, device, witness)?;
