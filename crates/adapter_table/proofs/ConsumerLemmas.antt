@@ -5,7 +5,7 @@ use Rattle.cip_types.specs.declared.names.Ms.{Ms}
 use Rattle.cip_fwdopen.specs.Open.{OpenFields}
 use Rattle.adapter_table.specs.declared.profile.OutputPoint.{OutputPoint}
 use Rattle.adapter_table.specs.declared.profile.Profile.{Profile}
-use Rattle.adapter_table.specs.declared.row.Row.{Row}
+use Rattle.adapter_table.specs.Connections.{Row}
 use Rattle.cip_productions.specs.declared.kind.Kind.{Kind}
 use Rattle.cip_productions.specs.declared.kind.Kind.TheVariants.{InputOnly, ListenOnly}
 use Rattle.adapter_table.specs.declared.row.State.TheVariants.{TimedOut}

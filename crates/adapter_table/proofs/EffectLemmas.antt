@@ -13,7 +13,7 @@ use Rattle.cip_events.specs.declared.event.Event.TheVariants.{Request, StreamOpe
 use Rattle.cip_events.specs.declared.event.StepFault.{StepFault}
 use Rattle.cip_events.specs.declared.event.StepFault.TheVariants.{TickTooLong, ClockEnd, WrongLength}
 use Rattle.adapter_table.specs.declared.profile.InputPoint.{InputPoint}
-use Rattle.adapter_table.specs.declared.row.Row.{Row}
+use Rattle.adapter_table.specs.Connections.{Row}
 use Rattle.adapter_table.specs.declared.table.AdapterTable.{AdapterTable}
 use Rattle.adapter_table.specs.Profiles.{is_at}
 use Rattle.adapter_table.specs.Points.{bytes_at}

@@ -1,5 +1,8 @@
 -- Tables that pass the derived test for equal values are equal, and equal ones pass it.
 use Rattle.std.proofs.Common.{◌≡◌, Option, rules}
+use mir.Syntax.{Dict}
+use denote.RattleType.{RattleType}
+use Rattle.std.specs.declared.cmp.PartialEq.{Ghosts}
 use Rattle.std.specs.Bool.{Decides}
 use Rattle.std.specs.Option.{option_eq}
 use Rattle.std.specs.Cmp.{booleans_Decides}
@@ -14,7 +17,7 @@ use Rattle.cip_netparams.specs.declared.Trigger.{Trigger}
 use Rattle.cip_productions.specs.declared.kind.Kind.{Kind}
 use Rattle.adapter_table.specs.declared.row.State.{State}
 use Rattle.cip_productions.specs.declared.production.Production.{Production}
-use Rattle.adapter_table.specs.declared.row.Row.{Row}
+use Rattle.adapter_table.specs.declared.row.Connection.{Connection}
 use Rattle.cip_productions.specs.declared.acceptance.Accepted.{Accepted}
 use Rattle.adapter_table.specs.declared.profile.Action.{Action}
 use Rattle.adapter_table.specs.declared.profile.OutputPoint.{OutputPoint}
@@ -34,10 +37,11 @@ use Rattle.adapter_table.specs.contracts.profile.OutputPointPartialEq.TheImpl as
 use Rattle.adapter_table.specs.contracts.profile.InputPointPartialEq.TheImpl as input
 use Rattle.adapter_table.specs.contracts.profile.ProfilePartialEq.TheImpl as profile
 use Rattle.cip_productions.specs.contracts.kind.KindPartialEq.TheImpl as kind
+use Rattle.adapter_table.specs.contracts.row.State.{the_row as state_row}
 use Rattle.adapter_table.specs.contracts.row.StatePartialEq.TheImpl as state
 use Rattle.cip_productions.specs.contracts.production.ProductionPartialEq.TheImpl as production
 use Rattle.cip_productions.specs.contracts.acceptance.AcceptedPartialEq.TheImpl as accepted
-use Rattle.adapter_table.specs.contracts.row.RowPartialEq.TheImpl as row
+use Rattle.adapter_table.specs.contracts.row.ConnectionPartialEq.TheImpl as connection
 use Rattle.adapter_table.specs.contracts.table.PointValuePartialEq.TheImpl as value
 use Rattle.adapter_table.specs.contracts.table.StreamPartialEq.TheImpl as stream
 use Rattle.adapter_table.specs.contracts.table.AdapterTablePartialEq.TheImpl as adapter
@@ -106,9 +110,10 @@ production_decides a b =
 state_decides : (a b : State) → Decides ((state.ghosts).eq a b) (a ≡ b)
 state_decides a b = search (rules, production_decides)
 
-row_decides : (a b : Row) → Decides ((row.ghosts).eq a b) (a ≡ b)
-row_decides a b =
-    Decides-like ((row.ghosts).eq a b) (λ p. search rules) (λ e. search rules)
+-- connections of any states, if the test of states decides
+connection_decides : (P : RattleType) (states : Ghosts P.Denot) (d : Dict) → ((x y : P.Denot) → Decides (states.eq x y) (x ≡ y)) → (a b : Connection P.Denot) → Decides ((connection.ghosts P states d).eq a b) (a ≡ b)
+connection_decides P states d decides a b =
+    Decides-like ((connection.ghosts P states d).eq a b) (λ p. search rules) (λ e. search rules)
     (Decides-and _ _ (triad_decides a.triad b.triad)
     (Decides-and _ _ (node_decides a.peer b.peer)
     (Decides-and _ _ (kind_decides a.kind b.kind)
@@ -118,12 +123,12 @@ row_decides a b =
     (Decides-and _ _ (id_decides a.t_o_id b.t_o_id)
     (Decides-and _ _ (Decides-eqb a.o_t_api_ms b.o_t_api_ms)
     (Decides-and _ _ (Decides-eqb a.t_o_api_ms b.t_o_api_ms)
-    (Decides-and _ _ (Decides-eqb a.multiplier b.multiplier)
+    (Decides-and _ _ (ms_decides a.watchdog b.watchdog)
     (Decides-and _ _ (booleans_Decides a.multicast b.multicast)
     (Decides-and _ _ (Decides-eqb a.opening b.opening)
     (Decides-and _ _ (last_decides a.last b.last)
     (Decides-and _ _ (ms_decides a.deadline b.deadline)
-    (state_decides a.state b.state)))))))))))))))
+    (decides a.state b.state)))))))))))))))
 
 -- ---- tables
 
@@ -151,7 +156,7 @@ pub adapter_decides : (a b : AdapterTable) → Decides ((adapter.ghosts).eq a b)
 adapter_decides a b =
     Decides-like ((adapter.ghosts).eq a b) (λ p. search rules) (λ e. search rules)
     (Decides-and _ _ (profile_decides a.profile b.profile)
-    (Decides-and _ _ (pointwise_decides row_decides a.rows b.rows)
+    (Decides-and _ _ (pointwise_decides (connection_decides state_row state.ghosts state.dict state_decides) a.rows b.rows)
     (Decides-and _ _ (pointwise_decides value_decides a.values b.values)
     (Decides-and _ _ (ms_decides a.clock b.clock)
     (Decides-and _ _ (Decides-eqb a.next_id b.next_id)

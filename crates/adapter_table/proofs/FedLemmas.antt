@@ -11,7 +11,7 @@ use Rattle.cip_events.specs.declared.event.Delivery.{Delivery}
 use Rattle.cip_events.specs.declared.event.Delivery.TheVariants.{Applied, Idle, Heartbeat, Duplicate, Old, UnknownId, WrongSize, Malformed}
 use Rattle.adapter_table.specs.declared.profile.OutputPoint.{OutputPoint}
 use Rattle.adapter_table.specs.declared.profile.Profile.{Profile}
-use Rattle.adapter_table.specs.declared.row.Row.{Row}
+use Rattle.adapter_table.specs.Connections.{Row}
 use Rattle.adapter_table.specs.declared.table.PointValue.{PointValue}
 use Rattle.adapter_table.specs.Profiles.{is_output_at}
 use Rattle.adapter_table.specs.Points.{bytes_at}

@@ -1,7 +1,7 @@
 -- The connections of one multicast producer share it, whatever is taken out or appended.
 use Rattle.std.proofs.Common.{◌≡◌, ℕ, ◌==◌, Bool, true, false, cond, ◌&&◌, List, [], ◌∷◌, ◌++◌, filter, find, Option, Some, None, refl, sym, ◌∙◌, subst, arith}
 use Rattle.std.proofs.lemmas.Bool.Decides.{nat_tests}
-use Rattle.adapter_table.specs.declared.row.Row.{Row}
+use Rattle.adapter_table.specs.Connections.{Row}
 use Rattle.adapter_table.specs.Rows.{is_established, is_member}
 use Rattle.adapter_table.specs.Sound.{SharesProducer, Agree, AllAgree, GroupsAgree}
 

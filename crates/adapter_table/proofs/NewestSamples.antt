@@ -5,7 +5,7 @@ use Rattle.cip_productions.specs.declared.kind.Kind.{Kind}
 use Rattle.cip_productions.specs.declared.kind.Kind.TheVariants.{ExclusiveOwner, InputOnly}
 use Rattle.adapter_table.specs.declared.profile.Action.TheVariants.{Zero}
 use Rattle.adapter_table.specs.declared.profile.Profile.{Profile}
-use Rattle.adapter_table.specs.declared.row.Row.{Row}
+use Rattle.adapter_table.specs.Connections.{Row}
 use Rattle.adapter_table.specs.declared.row.State.TheVariants.{TimedOut}
 use Rattle.adapter_table.specs.Newest.{accepted_found}
 
@@ -35,7 +35,7 @@ opened_fifth kind consumed = record {
   t_o_id = record { 0 = 9 };
   o_t_api_ms = 10;
   t_o_api_ms = 10;
-  multiplier = 0;
+  watchdog = record { 0 = 0 };
   multicast = false;
   opening = 5;
   last = Some (record { number = 7; count = 3 });

@@ -8,7 +8,7 @@ use Rattle.std.proofs.lemmas.List.Folds.{list_any-append}
 use Rattle.cip_types.specs.declared.names.Triad.{Triad}
 use Rattle.cip_types.specs.declared.names.ConnId.{ConnId}
 use Rattle.adapter_table.specs.declared.profile.Profile.{Profile}
-use Rattle.adapter_table.specs.declared.row.Row.{Row}
+use Rattle.adapter_table.specs.Connections.{Row}
 use Rattle.adapter_table.specs.Rows.{same_triad, has_triad, drives, drivers, others, is_timed_out}
 use Rattle.adapter_table.specs.Opening.{connection_id, is_opened_as, is_replaced_by}
 use Rattle.adapter_table.specs.Sound.{TriadsDiffer, has_o_t_id, IdsDiffer, IdsAreDrawn}

@@ -10,7 +10,7 @@ use Rattle.cip_fwdopen.specs.Open.{OpenFields}
 use Rattle.cip_datagram.specs.Datagram.{DatagramFields}
 use Rattle.cip_events.specs.declared.event.Delivery.{Delivery}
 use Rattle.adapter_table.specs.declared.profile.Profile.{Profile}
-use Rattle.adapter_table.specs.declared.row.Row.{Row}
+use Rattle.adapter_table.specs.Connections.{Row}
 use Rattle.adapter_table.specs.declared.table.AdapterTable.{AdapterTable}
 use Rattle.adapter_table.specs.declared.table.PointValue.{PointValue}
 use Rattle.adapter_table.specs.declared.table.Stream.{Stream}

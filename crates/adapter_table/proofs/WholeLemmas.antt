@@ -15,7 +15,7 @@ use Rattle.cip_fwdopen.specs.Open.{OpenFields}
 use Rattle.adapter_table.specs.declared.profile.InputPoint.{InputPoint}
 use Rattle.adapter_table.specs.declared.profile.Profile.{Profile}
 use Rattle.cip_productions.specs.declared.production.Production.{Production}
-use Rattle.adapter_table.specs.declared.row.Row.{Row}
+use Rattle.adapter_table.specs.Connections.{Row}
 use Rattle.adapter_table.specs.declared.row.State.{State}
 use Rattle.adapter_table.specs.declared.row.State.TheVariants.{Established, TimedOut}
 use Rattle.adapter_table.specs.declared.table.AdapterTable.{AdapterTable}
@@ -82,7 +82,7 @@ fits_changed clock point time row fits =
 -- ---- a datagram is accepted
 
 fed_step : (b : Bool) (clock : Ms) (d : DatagramFields) (row : Row) → FitsRow row → FitsRow (cond b (accepted_row clock d row) row)
-fed_step true clock d row fits = record { multiplier = fits.multiplier; o_t_api_ms = fits.o_t_api_ms; t_o_api_ms = fits.t_o_api_ms; due = fits.due }
+fed_step true clock d row fits = record { watchdog = fits.watchdog; o_t_api_ms = fits.o_t_api_ms; t_o_api_ms = fits.t_o_api_ms; due = fits.due }
 fed_step false clock d row fits = fits
 
 pub fits_fed : (clock : Ms) (peer : Node) (d : DatagramFields) (row : Row) → FitsRow row → FitsRow (accepted_if_for clock peer d row)
@@ -132,7 +132,7 @@ fits_opened t peer request admitted e fit time =
     let is = admitted_is t request admitted e in
     let timed = is_timed t request admitted e in
     record {
-      multiplier = timed.multiplier;
+      watchdog = timed.watchdog;
       o_t_api_ms = timed.o_t_api_ms;
       t_o_api_ms = timed.t_o_api_ms;
       due = due_opened t peer admitted admitted.group is.group_is fit time;

@@ -4,7 +4,6 @@
 use Rattle.std.specs.Prelude.{ℕ, ◌+◌, ◌==◌, ◌&&◌, Bool, false, if◌then◌else◌, List, [], length, map, find, Option, Some, None, Result, Ok, Err}
 use Rattle.cip_types.specs.declared.names.Node.{Node}
 use Rattle.cip_types.specs.declared.names.Ms.{Ms}
-use Rattle.cip_netparams.specs.Rate.{timeout}
 use Rattle.cip_datagram.specs.declared.datagram.DatagramFault.{DatagramFault}
 use Rattle.cip_datagram.specs.Datagram.{DatagramFields}
 use Rattle.cip_datagram.specs.Header.{header_at}
@@ -14,7 +13,8 @@ use Rattle.cip_events.specs.declared.event.Delivery.TheVariants.{Applied, Idle, 
 use Rattle.cip_events.specs.declared.event.Verdict.TheVariants.{Delivered}
 use Rattle.adapter_table.specs.declared.profile.OutputPoint.{OutputPoint}
 use Rattle.adapter_table.specs.declared.profile.Profile.{Profile}
-use Rattle.adapter_table.specs.declared.row.Row.{Row}
+use Rattle.adapter_table.specs.declared.row.Connection.{Connection}
+use Rattle.adapter_table.specs.Connections.{Row}
 use Rattle.adapter_table.specs.declared.table.PointValue.{PointValue}
 use Rattle.adapter_table.specs.declared.table.AdapterTable.{AdapterTable}
 use Rattle.adapter_table.specs.Profiles.{is_output_at}
@@ -36,7 +36,7 @@ output_len None = 0
 output_len (Some output) = output.len
 
 -- the bytes behind the sequence count: an owner's are a run/idle header and its output, a heartbeat has none
-abbrev pub expected_len : Profile → Row → ℕ
+abbrev pub expected_len : {P : Type 0} → Profile → Connection P → ℕ
 expected_len profile row = if is_owner row.kind then output_len (find (is_output_at row.consumed) profile.outputs) + 4 else 0
 
 -- the run bit of a run/idle header, which data of an owner's size have
@@ -49,27 +49,27 @@ abbrev pub moded : Option (Bool × List ℕ) → Delivery
 moded header = if run_bit header then Applied else Idle
 
 -- the delivery of an owner's accepted datagram
-abbrev pub owned_delivery : Row → DatagramFields → Delivery
+abbrev pub owned_delivery : {P : Type 0} → Connection P → DatagramFields → Delivery
 owned_delivery row d = if is_duplicate row.last d.count then Duplicate else moded (header_at d.payload)
 
 -- the delivery of an accepted datagram
-abbrev pub accepted_delivery : Row → DatagramFields → Delivery
+abbrev pub accepted_delivery : {P : Type 0} → Connection P → DatagramFields → Delivery
 accepted_delivery row d = if is_owner row.kind then owned_delivery row d else Heartbeat
 
 -- the delivery of a datagram that has the connection's size
-abbrev pub sized_delivery : Row → DatagramFields → Delivery
+abbrev pub sized_delivery : {P : Type 0} → Connection P → DatagramFields → Delivery
 sized_delivery row d = if accepts_sequence row.last d.sequence then accepted_delivery row d else Old
 
-abbrev pub row_delivery : Profile → Row → DatagramFields → Delivery
+abbrev pub row_delivery : {P : Type 0} → Profile → Connection P → DatagramFields → Delivery
 row_delivery profile row d = if length d.payload == expected_len profile row then sized_delivery row d else WrongSize
 
 -- WHAT IT CHANGES
 
-abbrev pub later_deadline : Ms → Row → Ms
-later_deadline clock row = record { 0 = clock.0 + timeout row.multiplier row.o_t_api_ms }
+abbrev pub later_deadline : {P : Type 0} → Ms → Connection P → Ms
+later_deadline clock row = record { 0 = clock.0 + row.watchdog.0 }
 
 -- the datagram is the last that the connection accepted, and its watchdog begins again
-abbrev pub accepted_row : Ms → DatagramFields → Row → Row
+abbrev pub accepted_row : {P : Type 0} → Ms → DatagramFields → Connection P → Connection P
 accepted_row clock d row = record row {
   last = Some (record { number = d.sequence; count = d.count });
   deadline = later_deadline clock row;

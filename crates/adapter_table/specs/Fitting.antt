@@ -10,7 +10,7 @@ use Rattle.adapter_table.specs.declared.profile.Action.TheVariants.{Hold, Zero}
 use Rattle.adapter_table.specs.declared.profile.Profile.{Profile}
 use Rattle.adapter_table.specs.declared.profile.InputPoint.{InputPoint}
 use Rattle.adapter_table.specs.declared.profile.OutputPoint.{OutputPoint}
-use Rattle.adapter_table.specs.declared.row.Row.{Row}
+use Rattle.adapter_table.specs.Connections.{Row}
 use Rattle.adapter_table.specs.declared.table.PointValue.{PointValue}
 use Rattle.adapter_table.specs.Profiles.{is_at, is_output_at, as_point, are_distinct, profile_fault}
 use Rattle.adapter_table.specs.Points.{data_points, zeros, opening_values, is_value_of, put_value, bytes_of, bytes_at, zeroed_value, acted_values, fault_values, lost_values, idle_action_values, idle_values}

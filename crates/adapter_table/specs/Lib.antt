@@ -1,7 +1,9 @@
 pub mod Checks
 pub mod Closing
+pub mod Connections
 pub mod Datagrams
 pub mod Encapsulation
+pub mod Judging
 pub mod Opening
 pub mod Points
 pub mod Productions

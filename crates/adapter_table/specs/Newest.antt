@@ -15,7 +15,7 @@ use Rattle.cip_events.specs.declared.event.Event.TheVariants.{Request, StreamOpe
 use Rattle.cip_events.specs.Answers.{is_accepted}
 use Rattle.cip_productions.specs.declared.acceptance.Accepted.{Accepted}
 use Rattle.adapter_table.specs.declared.profile.Profile.{Profile}
-use Rattle.adapter_table.specs.declared.row.Row.{Row}
+use Rattle.adapter_table.specs.Connections.{Row}
 use Rattle.adapter_table.specs.declared.table.AdapterTable.{AdapterTable}
 use Rattle.adapter_table.specs.Rows.{Each}
 use Rattle.adapter_table.specs.Datagrams.{is_for, run_bit, row_delivery}

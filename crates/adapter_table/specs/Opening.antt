@@ -14,7 +14,7 @@ use Rattle.cip_events.specs.declared.event.Notice.{Notice}
 use Rattle.cip_events.specs.declared.event.Notice.TheVariants as notice
 use Rattle.adapter_table.specs.declared.profile.InputPoint.{InputPoint}
 use Rattle.adapter_table.specs.declared.profile.Profile.{Profile}
-use Rattle.adapter_table.specs.declared.row.Row.{Row}
+use Rattle.adapter_table.specs.Connections.{Row}
 use Rattle.cip_productions.specs.declared.production.Production.{Production}
 use Rattle.adapter_table.specs.declared.row.State.{State}
 use Rattle.adapter_table.specs.declared.row.State.TheVariants.{Established, TimedOut}
@@ -108,7 +108,7 @@ opened_row t peer request admitted = record {
   t_o_id = opened_t_o_id t request admitted.multicast admitted.group;
   o_t_api_ms = admitted.o_t_api_ms;
   t_o_api_ms = admitted.t_o_api_ms;
-  multiplier = request.multiplier;
+  watchdog = admitted.watchdog;
   multicast = admitted.multicast;
   opening = t.next_id;
   last = None;

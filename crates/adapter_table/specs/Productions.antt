@@ -8,7 +8,7 @@ use Rattle.cip_types.specs.declared.names.Ms.{Ms}
 use Rattle.cip_types.specs.Order.{in_order, first_of_each}
 use Rattle.cip_productions.specs.declared.production.Producer.{Producer}
 use Rattle.cip_productions.specs.Productions.{produced, is_production_due, changed, is_produced_on_change, Produced, produced_by, same_producer, by_number, by_due}
-use Rattle.adapter_table.specs.declared.row.Row.{Row}
+use Rattle.adapter_table.specs.Connections.{Row}
 use Rattle.adapter_table.specs.declared.row.State.{State}
 use Rattle.adapter_table.specs.declared.row.State.TheVariants.{Established, TimedOut}
 use Rattle.adapter_table.specs.declared.table.PointValue.{PointValue}

@@ -1,7 +1,7 @@
 -- Connections that are written or go on in time stay within the limits of their adapter.
 use Rattle.std.proofs.Common.{◌≡◌, ◌≤◌, ℕ, ◌+◌, ◌^◌, ◌==◌, Bool, true, false, cond, List, map, refl, arith}
 use Rattle.cip_types.specs.declared.names.Ms.{Ms}
-use Rattle.adapter_table.specs.declared.row.Row.{Row}
+use Rattle.adapter_table.specs.Connections.{Row}
 use Rattle.adapter_table.specs.declared.row.State.{State}
 use Rattle.adapter_table.specs.declared.row.State.TheVariants.{Established, TimedOut}
 use Rattle.adapter_table.specs.Rows.{written_state, written_row}
@@ -14,7 +14,7 @@ use Rattle.adapter_table.specs.EachLemmas.{each_filter, each_map}
 -- where the state alone is changed
 
 pub fits_stated : (row : Row) (state : State) → due_of state ≤ 2 ^ 48 + 10000 → FitsRow row → FitsRow (record row { state = state })
-fits_stated row state due fits = record { multiplier = fits.multiplier; o_t_api_ms = fits.o_t_api_ms; t_o_api_ms = fits.t_o_api_ms; due = due }
+fits_stated row state due fits = record { watchdog = fits.watchdog; o_t_api_ms = fits.o_t_api_ms; t_o_api_ms = fits.t_o_api_ms; due = due }
 
 pub fits_chosen : (b : Bool) (row : Row) (state : State) → due_of state ≤ 2 ^ 48 + 10000 → FitsRow row → FitsRow (cond b (record row { state = state }) row)
 fits_chosen true row state due fits = fits_stated row state due fits

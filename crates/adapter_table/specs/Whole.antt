@@ -2,7 +2,7 @@
 -- their bytes, owners that consume outputs, and numbers within their limits.
 use Rattle.std.specs.Prelude.{◌≡◌, ◌≤◌, ◌+◌, ◌^◌, true, List, find, is_some}
 use Rattle.adapter_table.specs.declared.profile.Profile.{Profile}
-use Rattle.adapter_table.specs.declared.row.Row.{Row}
+use Rattle.adapter_table.specs.Connections.{Row}
 use Rattle.adapter_table.specs.declared.table.AdapterTable.{AdapterTable}
 use Rattle.adapter_table.specs.Profiles.{is_output_at}
 use Rattle.adapter_table.specs.Rows.{Each}
@@ -11,10 +11,10 @@ use Rattle.cip_productions.specs.Kinds.{is_owner}
 use Rattle.adapter_table.specs.Shapes.{IsShaped}
 use Rattle.adapter_table.specs.Sound.{IsSound}
 
--- a connection within the limits of an adapter: packet intervals in milliseconds, the place of the
--- multiplier, when its producer is due
+-- a connection within the limits of an adapter: packet intervals and time-out in milliseconds, when its producer is
+-- due
 pub record FitsRow (row : Row) : Type 0 where
-  pub multiplier : row.multiplier ≤ 7
+  pub watchdog : row.watchdog.0 ≤ 5120000
   pub o_t_api_ms : row.o_t_api_ms ≤ 10000
   pub t_o_api_ms : row.t_o_api_ms ≤ 10000
   pub due : due_of row.state ≤ 2 ^ 48 + 10000

@@ -1,21 +1,54 @@
-//! The delivery of a datagram to one connection, and the connection that has accepted it.
+//! The judgement of a datagram that is for a connection, and the connection that has accepted it.
 
 ghost use Rattle.std.specs.Prelude.{◌≡◌, ◌≤◌, ◌+◌, ◌==◌, ◌^◌};
 ghost use Rattle.cip_datagram.specs.Datagram.{view_datagram};
 ghost use Rattle.cip_datagram.specs.Header.{header_at};
-ghost use Rattle.adapter_table.specs.Datagrams.{is_for, output_len, expected_len, run_bit, owned_delivery, accepted_delivery, sized_delivery, row_delivery, later_deadline, accepted_row, accepted_if_for};
+ghost use Rattle.adapter_table.specs.Datagrams.{is_for, output_len, expected_len, run_data, owned_delivery, accepted_delivery, sized_delivery, row_delivery, later_deadline, accepted_row, accepted_if_for};
+ghost use Rattle.adapter_table.specs.Judging.{IsJudged, judged_delivery};
 
 use crate::profile::Profile;
-use crate::row::Row;
+use crate::row::{Connection, Row};
 use crate::rows::is_established;
 use cip_datagram::{Datagram, read_header};
 use cip_events::Delivery;
-use cip_netparams::timeout_of;
 use cip_productions::{Accepted, Kind, accepts_sequence, is_duplicate};
 use cip_types::{ConnId, Ms, Node};
 
 /// The bytes of a run/idle header.
 const HEADER: u64 = 4;
+
+/// The judgement of a datagram that is for a connection.
+#[derive(Clone, Copy)]
+pub enum Judgement<'a> {
+    /// It is accepted, and the output takes these data of run mode.
+    Applied(&'a [u8]),
+    /// It is accepted in idle mode, and the idle action is done.
+    Idle,
+    /// It is accepted, and brings no output data.
+    Heartbeat,
+    /// It is accepted, and its data are those of the last one.
+    Duplicate,
+    /// Its sequence number is not newer than the last accepted one.
+    Old,
+    /// It has another size than the connection's datagrams.
+    WrongSize,
+}
+
+impl Judgement<'_> {
+    /// The delivery of the datagram. Takes no memory.
+    pub fn delivery(&self) -> Delivery
+        ensures { result ≡ judged_delivery self.now }
+    {
+        match self {
+            Judgement::Applied(_) => Delivery::Applied,
+            Judgement::Idle => Delivery::Idle,
+            Judgement::Heartbeat => Delivery::Heartbeat,
+            Judgement::Duplicate => Delivery::Duplicate,
+            Judgement::Old => Delivery::Old,
+            Judgement::WrongSize => Delivery::WrongSize,
+        }
+    }
+}
 
 /// Whether a connection is established, is of the peer, and has this O->T id. Takes no memory.
 ///
@@ -27,7 +60,7 @@ pub fn is_for(row: &Row, peer: Node, id: ConnId) -> bool
 }
 
 /// Whether the O->T datagrams of a connection have so many bytes behind the sequence count.
-fn has_expected_len(profile: &Profile, row: &Row, len: u64) -> bool
+fn has_expected_len<P>(profile: &Profile, row: &Connection<P>, len: u64) -> bool
     ensures { result ≡ (len == expected_len profile.now row.now) }
 {
     if row.kind != Kind::ExclusiveOwner {
@@ -39,81 +72,70 @@ fn has_expected_len(profile: &Profile, row: &Row, len: u64) -> bool
     }
 }
 
-/// The run bit of a datagram's run/idle header.
-fn run_bit(datagram: &Datagram<'_>) -> bool
-    ensures { result ≡ run_bit (header_at (view_datagram datagram.now).payload) }
-{
-    match read_header(datagram.data) {
-        Some((run, _)) => run,
-        None => false,
-    }
-}
-
-/// The delivery of an owner's accepted datagram.
-fn owned_delivery(row: &Row, datagram: &Datagram<'_>) -> Delivery
-    ensures { result ≡ owned_delivery row.now (view_datagram datagram.now) }
+/// The judgement of an owner's datagram that is newer than the last accepted one.
+fn judge_owned<'a, P>(row: &Connection<P>, datagram: &Datagram<'a>) -> Judgement<'a>
+    ensures { IsJudged (owned_delivery row.now (view_datagram datagram.now))
+        (run_data (header_at (view_datagram datagram.now).payload)) result }
 {
     if is_duplicate(row.last, datagram.count) {
-        Delivery::Duplicate
-    } else if run_bit(datagram) {
-        Delivery::Applied
-    } else {
-        Delivery::Idle
+        return Judgement::Duplicate;
+    }
+    match read_header(datagram.data) {
+        Some((true, data)) => Judgement::Applied(data),
+        Some((false, _)) | None => Judgement::Idle,
     }
 }
 
-/// The delivery of a datagram that is for a connection. It is refused if it has another size than the
-/// connection's (`WrongSize`), then if its number is not newer than the last accepted one (`Old`); otherwise it
-/// is accepted. Takes no memory.
+/// The judgement of a datagram that is for a connection. It is refused if it has another size than the connection's
+/// (`WrongSize`), then if its number is not newer than the last accepted one (`Old`); otherwise it is accepted. Takes
+/// no memory.
 ///
 /// Volume 1, chapter 3, class 1 transport and run/idle.
-pub fn row_delivery(profile: &Profile, row: &Row, datagram: &Datagram<'_>) -> Delivery
-    ensures { result ≡ row_delivery profile.now row.now (view_datagram datagram.now) }
+pub fn judge<'a, P>(
+    profile: &Profile,
+    row: &Connection<P>,
+    datagram: &Datagram<'a>,
+) -> Judgement<'a>
+    ensures { IsJudged (row_delivery profile.now row.now (view_datagram datagram.now))
+        (run_data (header_at (view_datagram datagram.now).payload)) result }
 {
     if !has_expected_len(profile, row, datagram.data.len() as u64) {
-        return Delivery::WrongSize;
+        return Judgement::WrongSize;
     }
     if !accepts_sequence(row.last, datagram.sequence) {
-        return Delivery::Old;
+        return Judgement::Old;
     }
     if row.kind != Kind::ExclusiveOwner {
-        return Delivery::Heartbeat;
+        return Judgement::Heartbeat;
     }
-    owned_delivery(row, datagram)
+    judge_owned(row, datagram)
 }
 
-/// A connection that has accepted a datagram: it keeps the datagram's number and count, and its watchdog begins
-/// again. Takes no memory.
-///
-/// Volume 1, chapter 3, inactivity watchdog.
-pub fn accepted_row(row: Row, clock: Ms, datagram: &Datagram<'_>) -> Row
-    requires waits { row.multiplier ≤ 7 }
-    requires interval { row.o_t_api_ms ≤ 10000 }
-    requires time { clock.0 ≤ 2 ^ 48 }
-    ensures { result ≡ accepted_row clock (view_datagram datagram.now) row }
-{
-    // A multiplier of at most 7 has a time-out.
-    let timeout = timeout_of(row.multiplier, row.o_t_api_ms).unwrap();
-    Row {
-        last: Some(Accepted {
+impl<P> Connection<P> {
+    /// The connection accepts a datagram: it keeps the datagram's number and count, and its watchdog begins again.
+    /// Takes no memory.
+    ///
+    /// Volume 1, chapter 3, inactivity watchdog.
+    pub fn accept(&mut self, clock: Ms, datagram: &Datagram<'_>)
+        requires waits { self.old.watchdog.0 ≤ 5120000 }
+        requires time { clock.0 ≤ 2 ^ 48 }
+        ensures { self.new ≡ accepted_row clock (view_datagram datagram.now) self.old }
+    {
+        self.last = Some(Accepted {
             number: datagram.sequence,
             count: datagram.count,
-        }),
-        deadline: Ms(clock.0 + timeout.0),
-        ..row
+        });
+        self.deadline = Ms(clock.0 + self.watchdog.0);
     }
 }
 
-/// The same if the datagram is for the connection; any other connection stays.
-pub fn accepted_if_for(row: Row, clock: Ms, peer: Node, datagram: &Datagram<'_>) -> Row
-    requires waits { row.multiplier ≤ 7 }
-    requires interval { row.o_t_api_ms ≤ 10000 }
+/// The connection accepts a datagram if it is for it. Takes no memory.
+pub fn accept_if_for(row: &mut Row, clock: Ms, peer: Node, datagram: &Datagram<'_>)
+    requires waits { row.old.watchdog.0 ≤ 5120000 }
     requires time { clock.0 ≤ 2 ^ 48 }
-    ensures { result ≡ accepted_if_for clock peer (view_datagram datagram.now) row }
+    ensures { row.new ≡ accepted_if_for clock peer (view_datagram datagram.now) row.old }
 {
-    if is_for(&row, peer, datagram.connection) {
-        accepted_row(row, clock, datagram)
-    } else {
-        row
+    if is_for(row, peer, datagram.connection) {
+        row.accept(clock, datagram);
     }
 }

@@ -36,6 +36,8 @@ pub struct Admission<'a> {
     pub watchdog: Ms,
     /// The connection whose producer it shares, if it joins a group.
     pub group: Option<Row>,
+    /// How many ids its opening draws.
+    pub drawn: u32,
     /// The data segment to store at the configuration.
     pub segment: Option<&'a [u8]>,
 }

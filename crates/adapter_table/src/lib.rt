@@ -14,7 +14,7 @@ mod row;
 mod rows;
 mod table;
 
-pub use acceptance::{accepted_if_for, accepted_row, is_for, row_delivery};
+pub use acceptance::{Judgement, accept_if_for, is_for, judge};
 pub use admission::{Admission, ConsumedPoint};
 pub use expiry::{by_deadline, expired_row, has_expired};
 pub use producing::{
@@ -22,7 +22,7 @@ pub use producing::{
     produces_on_change, written_row,
 };
 pub use profile::{Action, InputPoint, OutputPoint, Profile};
-pub use row::{Row, State};
+pub use row::{Connection, Row, State};
 pub use rows::{
     drives, has_triad, holds_triad, is_established, is_member, is_supported, is_timed_out, supports,
 };

@@ -1,5 +1,8 @@
 //! One connection.
 
+ghost use Rattle.std.specs.Prelude.{◌≡◌};
+ghost use Rattle.adapter_table.specs.Connections.{with_state};
+
 use cip_productions::{Accepted, Kind, Production};
 use cip_types::{ConnId, Ms, Node, Triad};
 
@@ -13,12 +16,12 @@ pub enum State {
 }
 
 /// One connection: its triad and peer, its application type and points, its ids, its actual packet intervals in
-/// milliseconds and its time-out multiplier, the number of its opening, the last datagram that it accepted, its
-/// deadline and its state.
+/// milliseconds and the time-out of its inactivity watchdog, the number of its opening, the last datagram that it
+/// accepted, its deadline, and what is known of its production.
 ///
 /// Volume 1, chapter 3, connection object attributes.
 #[derive(Clone, Copy, PartialEq, Eq)]
-pub struct Row {
+pub struct Connection<P> {
     pub triad: Triad,
     pub peer: Node,
     pub kind: Kind,
@@ -28,10 +31,38 @@ pub struct Row {
     pub t_o_id: ConnId,
     pub o_t_api_ms: u32,
     pub t_o_api_ms: u32,
-    pub multiplier: u8,
+    pub watchdog: Ms,
     pub multicast: bool,
     pub opening: u32,
     pub last: Option<Accepted>,
     pub deadline: Ms,
-    pub state: State,
+    pub state: P,
 }
+
+impl<P> Connection<P> {
+    /// The same connection, with another knowledge of its production. Takes no memory.
+    pub fn with_state<Q>(&self, state: Q) -> Connection<Q>
+        ensures { result ≡ with_state state self.now }
+    {
+        Connection {
+            triad: self.triad,
+            peer: self.peer,
+            kind: self.kind,
+            consumed: self.consumed,
+            produced: self.produced,
+            o_t_id: self.o_t_id,
+            t_o_id: self.t_o_id,
+            o_t_api_ms: self.o_t_api_ms,
+            t_o_api_ms: self.t_o_api_ms,
+            watchdog: self.watchdog,
+            multicast: self.multicast,
+            opening: self.opening,
+            last: self.last,
+            deadline: self.deadline,
+            state,
+        }
+    }
+}
+
+/// A connection with its production, if it is established.
+pub type Row = Connection<State>;

@@ -10,7 +10,7 @@ use Rattle.cip_fwdopen.specs.Open.{OpenFields}
 use Rattle.cip_router.specs.declared.refusal.Refusal.{Refusal}
 use Rattle.cip_router.specs.declared.refusal.Refusal.TheVariants as refusal
 use Rattle.adapter_table.specs.Checks.{View, Points, Check, check, first_of, is_point_to_point, is_produced_type, joins, has_other_trigger, has_other_inhibit, checks, segment_check, points_of, served_trigger, stored, Admitted, admitted_at}
-use Rattle.adapter_table.specs.declared.row.Row.{Row}
+use Rattle.adapter_table.specs.Connections.{Row}
 use Rattle.app_rules.specs.declared.request.Timing.{Timing}
 
 -- the next result, if the check passes

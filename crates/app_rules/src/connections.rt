@@ -2,7 +2,7 @@
 
 ghost use Rattle.std.specs.Prelude.{◌≡◌, List, length, nat_le};
 ghost use Rattle.std.specs.List.{list_any};
-ghost use Rattle.adapter_table.specs.declared.row.Row.{Row};
+ghost use Rattle.adapter_table.specs.Connections.{Row};
 ghost use Rattle.cip_productions.specs.declared.kind.Kind.{Kind};
 ghost use Rattle.adapter_table.specs.Rows.{most_rows, holds_triad, is_established, is_timed_out, drives, is_supported};
 ghost use Rattle.adapter_table.specs.Checks.{group_of};

@@ -7,7 +7,7 @@ use Rattle.cip_events.specs.declared.event.StepFault.TheVariants.{OutOfMemory, T
 use Rattle.cip_events.specs.Outcomes.{Outcome, Follows}
 use Rattle.cip_productions.specs.declared.acceptance.Accepted.{Accepted}
 use Rattle.adapter_table.specs.declared.profile.Profile.{Profile}
-use Rattle.adapter_table.specs.declared.row.Row.{Row}
+use Rattle.adapter_table.specs.Connections.{Row}
 use Rattle.adapter_table.specs.Rows.{Each}
 use Rattle.adapter_table.specs.Requests.{Next}
 use Rattle.adapter_table.specs.Step.{adapter_step}

@@ -12,7 +12,7 @@ use Rattle.cip_types.specs.declared.names.Ms.{Ms}
 use Rattle.cip_productions.specs.declared.acceptance.Accepted.{Accepted}
 use Rattle.mcast_pool.specs.declared.group.Group.{Group}
 use Rattle.mcast_pool.specs.Groups.{left, AreGroups, IsInUse}
-use Rattle.adapter_table.specs.declared.row.Row.{Row}
+use Rattle.adapter_table.specs.Connections.{Row}
 use Rattle.adapter_table.specs.Rows.{holds_triad}
 use Rattle.adapter_table.specs.Datagrams.{is_for}
 use Rattle.conn_slab.specs.declared.record.Record.{Record}

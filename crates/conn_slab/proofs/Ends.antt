@@ -1,6 +1,6 @@
 -- No watchdog runs out after the end of time.
 use Rattle.std.proofs.Common.{◌≡◌, ◌≤◌, ℕ, min, List, [], ◌∷◌, arith}
-use Rattle.adapter_table.specs.declared.row.Row.{Row}
+use Rattle.adapter_table.specs.Connections.{Row}
 use Rattle.conn_slab.specs.Bounds.{never, first_end}
 
 within : (rows : List Row) → first_end rows ≤ never

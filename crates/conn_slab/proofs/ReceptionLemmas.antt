@@ -13,7 +13,7 @@ use Rattle.cip_events.specs.declared.event.Delivery.{Delivery}
 use Rattle.cip_events.specs.Answers.{is_accepted}
 use Rattle.mcast_pool.specs.declared.group.Group.{Group}
 use Rattle.adapter_table.specs.declared.profile.Profile.{Profile}
-use Rattle.adapter_table.specs.declared.row.Row.{Row}
+use Rattle.adapter_table.specs.Connections.{Row}
 use Rattle.adapter_table.specs.Datagrams.{is_for, row_delivery, accepted_row, accepted_if_for}
 use Rattle.adapter_table.specs.Whole.{FitsRow, RowsFit}
 use Rattle.conn_slab.specs.declared.reception.Received.{Received}

@@ -6,7 +6,7 @@ use Rattle.std.proofs.lemmas.Map.Keys.{IsDistinct-head, IsDistinct-tail}
 use Rattle.cip_types.specs.declared.names.Triad.{Triad}
 use Rattle.cip_types.specs.declared.names.Ms.{Ms}
 use Rattle.cip_productions.specs.declared.acceptance.Accepted.{Accepted}
-use Rattle.adapter_table.specs.declared.row.Row.{Row}
+use Rattle.adapter_table.specs.Connections.{Row}
 use Rattle.adapter_table.specs.Rows.{Each, has_triad, lives}
 use Rattle.adapter_table.specs.Closing.{without_triad}
 use Rattle.adapter_table.specs.Sound.{TriadsDiffer, IdsDiffer, GroupsAgree, AllAgree, GroupsAloneShare, Agree, ShareInGroup, has_o_t_id}

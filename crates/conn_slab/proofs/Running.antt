@@ -4,7 +4,7 @@ use Rattle.std.specs.Map.{lookup}
 use Rattle.slab.specs.Slab.{Slab, get, Updates}
 use Rattle.cip_types.specs.declared.names.Triad.{Triad}
 use Rattle.cip_types.specs.declared.names.Node.{Node}
-use Rattle.adapter_table.specs.declared.row.Row.{Row}
+use Rattle.adapter_table.specs.Connections.{Row}
 use Rattle.adapter_table.specs.Rows.{holds_triad}
 use Rattle.adapter_table.specs.Datagrams.{is_for}
 use Rattle.mcast_pool.specs.declared.group.Group.{Group}

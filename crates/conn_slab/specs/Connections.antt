@@ -4,7 +4,7 @@ use Rattle.cip_types.specs.declared.names.Triad.{Triad}
 use Rattle.cip_types.specs.declared.names.Ms.{Ms}
 use Rattle.cip_types.specs.declared.names.Node.{Node}
 use Rattle.cip_productions.specs.Kinds.{is_listener}
-use Rattle.adapter_table.specs.declared.row.Row.{Row}
+use Rattle.adapter_table.specs.Connections.{Row}
 use Rattle.adapter_table.specs.declared.row.State.TheVariants.{TimedOut}
 use Rattle.adapter_table.specs.Rows.{most_rows, is_established, holds_triad}
 use Rattle.adapter_table.specs.Closing.{without_triad}

@@ -3,7 +3,7 @@ use Rattle.std.specs.Prelude.{ℕ, ◌≡◌, ◌≤◌, ◌+◌, ◌==◌, Bool
 use Rattle.std.specs.List.{AllByRecursion}
 use Rattle.slab.specs.Slab.{Slab, get}
 use Rattle.cip_productions.specs.declared.production.Producer.{Producer}
-use Rattle.adapter_table.specs.declared.row.Row.{Row}
+use Rattle.adapter_table.specs.Connections.{Row}
 use Rattle.adapter_table.specs.Productions.{producer_in}
 use Rattle.mcast_pool.specs.declared.group.Group.{Group}
 use Rattle.mcast_pool.specs.Groups.{numbered, IsInUse, subscribers, joined_group, begun, FitsGroup}

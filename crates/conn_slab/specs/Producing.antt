@@ -2,7 +2,7 @@
 use Rattle.std.specs.Prelude.{ℕ, ◌==◌, Bool, List, find, Option}
 use Rattle.std.specs.List.{filter_map}
 use Rattle.cip_productions.specs.declared.production.Producer.{Producer}
-use Rattle.adapter_table.specs.declared.row.Row.{Row}
+use Rattle.adapter_table.specs.Connections.{Row}
 use Rattle.adapter_table.specs.Productions.{producer_in}
 
 -- this is the producer's number

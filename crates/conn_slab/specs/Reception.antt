@@ -6,7 +6,7 @@ use Rattle.cip_netparams.specs.Rate.{timeout}
 use Rattle.cip_datagram.specs.Datagram.{DatagramFields}
 use Rattle.cip_events.specs.Answers.{is_accepted}
 use Rattle.adapter_table.specs.declared.profile.Profile.{Profile}
-use Rattle.adapter_table.specs.declared.row.Row.{Row}
+use Rattle.adapter_table.specs.Connections.{Row}
 use Rattle.adapter_table.specs.Datagrams.{row_delivery, accepted_row, accepted_if_for}
 use Rattle.conn_slab.specs.declared.reception.Received.{Received}
 use Rattle.conn_slab.specs.declared.record.Record.{Record}

@@ -5,7 +5,7 @@ use Rattle.cip_netparams.specs.declared.Trigger.TheVariants.{Cyclic}
 use Rattle.cip_productions.specs.declared.production.Production.{Production}
 use Rattle.cip_productions.specs.declared.production.Producer.{Producer}
 use Rattle.cip_productions.specs.Kinds.{is_listener}
-use Rattle.adapter_table.specs.declared.row.Row.{Row}
+use Rattle.adapter_table.specs.Connections.{Row}
 use Rattle.adapter_table.specs.declared.row.State.{State}
 use Rattle.adapter_table.specs.declared.row.State.TheVariants.{Established, TimedOut}
 use Rattle.adapter_table.specs.Productions.{producer_in, producer_number}

@@ -56,7 +56,7 @@ pub struct Connections {
 
 impl Model for Connections {
     ghost use Rattle.std.specs.Prelude.{List, map};
-    ghost use Rattle.adapter_table.specs.declared.row.Row.{Row};
+    ghost use Rattle.adapter_table.specs.Connections.{Row};
     ghost use Rattle.conn_slab.specs.Index.{items_of};
     ghost use Rattle.conn_slab.specs.Records.{row_of};
     ghost use Rattle.conn_slab.specs.Layout.{IsConsistent};

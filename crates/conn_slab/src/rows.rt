@@ -22,7 +22,7 @@ pub struct Rows<'a> {
 
 impl<'a> Model for Rows<'a> {
     ghost use Rattle.std.specs.Prelude.{List, map};
-    ghost use Rattle.adapter_table.specs.declared.row.Row.{Row};
+    ghost use Rattle.adapter_table.specs.Connections.{Row};
 
     ghost Value = { List Row };
 

@@ -3,7 +3,7 @@ use Rattle.std.proofs.Common.{◌≡◌, ℕ, List, ◌++◌, length, take, drop
 use Rattle.std.proofs.lemmas.List.{length-map}
 use Rattle.cip_types.specs.declared.names.Ms.{Ms}
 use Rattle.cip_types.specs.Indices.{written_back}
-use Rattle.adapter_table.specs.declared.row.Row.{Row}
+use Rattle.adapter_table.specs.Connections.{Row}
 use Rattle.adapter_table.specs.Closing.{staying}
 use Rattle.adapter_table.specs.RowLimits.{staying_rows_fit}
 use Rattle.adapter_table.specs.Ticks.{expired_row, expired_rows}

@@ -3,7 +3,7 @@ use Rattle.std.proofs.Common.{ℕ, ◌≡◌, Bool, true, false, cond, not, ◌&
 use Rattle.std.specs.List.{list_any}
 use Rattle.cip_types.specs.declared.names.Triad.{Triad}
 use Rattle.cip_productions.specs.declared.kind.Kind.{Kind}
-use Rattle.adapter_table.specs.declared.row.Row.{Row}
+use Rattle.adapter_table.specs.Connections.{Row}
 use Rattle.adapter_table.specs.Rows.{has_triad, supports, is_supported, is_unsupported}
 use Rattle.adapter_table.specs.Closing.{without_triad, unsupported}
 use Rattle.connection_list.specs.Without.{supports_without, loses_support}

@@ -5,7 +5,7 @@ use Rattle.cip_types.specs.declared.names.Node.{Node}
 use Rattle.cip_datagram.specs.Datagram.{DatagramFields}
 use Rattle.cip_events.specs.Answers.{is_accepted}
 use Rattle.adapter_table.specs.declared.profile.Profile.{Profile}
-use Rattle.adapter_table.specs.declared.row.Row.{Row}
+use Rattle.adapter_table.specs.Connections.{Row}
 use Rattle.adapter_table.specs.Datagrams.{row_delivery, accepted_if_for}
 use Rattle.connection_list.specs.declared.table.ReceivedDatagram.{ReceivedDatagram}
 

@@ -1,7 +1,7 @@
 -- Connections that an adapter can have, and the connections after time has passed.
 use Rattle.std.specs.Prelude.{◌≡◌, List, map}
 use Rattle.cip_types.specs.declared.names.Ms.{Ms}
-use Rattle.adapter_table.specs.declared.row.Row.{Row}
+use Rattle.adapter_table.specs.Connections.{Row}
 use Rattle.adapter_table.specs.declared.table.AdapterTable.{AdapterTable}
 use Rattle.adapter_table.specs.Closing.{staying}
 use Rattle.adapter_table.specs.Productions.{produced_row}

@@ -2,7 +2,7 @@
 use Rattle.std.specs.Prelude.{ℕ, ◌&&◌, not, Bool, List}
 use Rattle.cip_types.specs.declared.names.Triad.{Triad}
 use Rattle.cip_productions.specs.declared.kind.Kind.{Kind}
-use Rattle.adapter_table.specs.declared.row.Row.{Row}
+use Rattle.adapter_table.specs.Connections.{Row}
 use Rattle.adapter_table.specs.Rows.{has_triad, supports, is_unsupported}
 use Rattle.adapter_table.specs.Closing.{without_triad}
 

@@ -22,7 +22,7 @@ use Rattle.cip_router.specs.Commands.{command_of, is_silent}
 use Rattle.cip_router.specs.Frames.{ReplyHeader, FrameFields, headless, misfit, whole, FrameReply, router_reply, socket_of, protocol_text, reply_message, frame_reading}
 use Rattle.cip_router.specs.Replies.{got, reply_text, GetsFew}
 use Rattle.cip_router.specs.ReplyLaws.{items_length, reply_is_short}
-use Rattle.adapter_table.specs.declared.row.Row.{Row}
+use Rattle.adapter_table.specs.Connections.{Row}
 use Rattle.adapter_table.specs.declared.table.Stream.{Stream}
 use Rattle.adapter_table.specs.declared.table.AdapterTable.{AdapterTable}
 use Rattle.adapter_table.specs.Checks.{Admitted, admission}

@@ -51,7 +51,7 @@ use Rattle.cip_router.specs.Refusals.{status_fault, refusal_fault, status_code}
 use Rattle.cip_router.specs.Replies.{ReplyFields, opened, closed, got, reply_text}
 use Rattle.cip_router.specs.Replies as replies
 use Rattle.adapter_table.specs.declared.profile.InputPoint.{InputPoint}
-use Rattle.adapter_table.specs.declared.row.Row.{Row}
+use Rattle.adapter_table.specs.Connections.{Row}
 use Rattle.adapter_table.specs.declared.row.State.{State}
 use Rattle.adapter_table.specs.declared.row.State.TheVariants.{Established, TimedOut}
 use Rattle.adapter_table.specs.declared.table.AdapterTable.{AdapterTable}

@@ -30,7 +30,7 @@ use Rattle.cip_router.specs.Requests.{RouterRequestFields, nothing, refused, clo
 use Rattle.cip_router.specs.Commands.{command_of, is_silent}
 use Rattle.cip_router.specs.Frames.{ReplyHeader, FrameFields, headless, misfit, whole, frame_reading, protocol_text}
 use Rattle.adapter_table.specs.declared.profile.InputPoint.{InputPoint}
-use Rattle.adapter_table.specs.declared.row.Row.{Row}
+use Rattle.adapter_table.specs.Connections.{Row}
 use Rattle.adapter_table.specs.declared.table.AdapterTable.{AdapterTable}
 use Rattle.adapter_table.specs.declared.table.Stream.{Stream}
 use Rattle.adapter_table.specs.Profiles.{is_at}

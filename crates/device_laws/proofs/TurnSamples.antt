@@ -17,7 +17,7 @@ use Rattle.adapter_table.specs.Datagrams.{accepted_table, received}
 use Rattle.adapter_table.specs.Opening.{opened_row, opened_table}
 use Rattle.adapter_table.specs.Requests.{admitted_open, served_open, served_close, requested}
 use Rattle.adapter_table.specs.Ticks.{clocked_table, expired_table, produced_table, tick}
-use Rattle.adapter_table.specs.declared.row.Row.{Row}
+use Rattle.adapter_table.specs.Connections.{Row}
 use Rattle.cip_tables.specs.Step.{step}
 use Rattle.table_samples.specs.Datagrams.{datagram, running}
 use Rattle.table_samples.specs.Devices.{common, fresh, own, peer}

@@ -16,7 +16,7 @@ use Rattle.cip_events.specs.declared.event.Notice.TheVariants as notice
 use Rattle.cip_events.specs.declared.event.StepFault.{StepFault}
 use Rattle.cip_events.specs.Outcomes.{Outcome}
 use Rattle.adapter_table.specs.declared.profile.Profile.{Profile}
-use Rattle.adapter_table.specs.declared.row.Row.{Row}
+use Rattle.adapter_table.specs.Connections.{Row}
 use Rattle.adapter_table.specs.declared.table.AdapterTable.{AdapterTable}
 use Rattle.adapter_table.specs.Rows.{same_triad, drives, drivers}
 use Rattle.adapter_table.specs.Datagrams.{is_for, row_delivery}

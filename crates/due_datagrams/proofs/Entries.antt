@@ -6,7 +6,7 @@ use Rattle.std.proofs.lemmas.List.Elements.{filter_map-append}
 use Rattle.cip_types.specs.declared.names.Node.{Node}
 use Rattle.cip_types.specs.Firsts.{IsTransitive, first_more}
 use Rattle.cip_types.specs.Order.{first_of_each, unless}
-use Rattle.adapter_table.specs.declared.row.Row.{Row}
+use Rattle.adapter_table.specs.Connections.{Row}
 use Rattle.adapter_table.specs.Productions.{consumers}
 use Rattle.due_datagrams.specs.declared.consumer_table.Entry.{Entry}
 use Rattle.due_datagrams.specs.ConsumerTables.{ProducerConsumers, number_in, same_number, numbers, consumers_of, consumers_by_producer, nodes_in, consumers_in, AreWithin, has_number, is_of, more_by}

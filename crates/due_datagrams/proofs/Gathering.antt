@@ -6,7 +6,7 @@ use Rattle.std.proofs.lemmas.List.Elements.{filter-append}
 use Rattle.cip_types.specs.declared.names.Node.{Node}
 use Rattle.cip_types.specs.Firsts.{IsTransitive, first_more}
 use Rattle.cip_types.specs.Order.{first_of_each, unless}
-use Rattle.adapter_table.specs.declared.row.Row.{Row}
+use Rattle.adapter_table.specs.Connections.{Row}
 use Rattle.adapter_table.specs.Productions.{is_produced_by, group, same_node, peer_of, consumers}
 use Rattle.due_datagrams.specs.ConsumerTables.{one_consumer}
 use Rattle.due_datagrams.proofs.Logic.{same_by, map_append, drop_front}

@@ -7,7 +7,7 @@ use Rattle.cip_events.specs.Answers.{is_accepted}
 use Rattle.cip_productions.specs.declared.kind.Kind.TheVariants.{ListenOnly}
 use Rattle.cip_productions.specs.Productions.{produced, is_production_due}
 use Rattle.adapter_table.specs.declared.profile.Profile.{Profile}
-use Rattle.adapter_table.specs.declared.row.Row.{Row}
+use Rattle.adapter_table.specs.Connections.{Row}
 use Rattle.adapter_table.specs.declared.row.State.{State}
 use Rattle.adapter_table.specs.declared.row.State.TheVariants.{Established, TimedOut}
 use Rattle.adapter_table.specs.Rows.{lives, is_established, drives, supports, written_state, written_row}

@@ -9,7 +9,7 @@ use Rattle.cip_netparams.specs.declared.Trigger.TheVariants.{Cyclic, ChangeOfSta
 use Rattle.cip_productions.specs.declared.production.Production.{Production}
 use Rattle.cip_productions.specs.Productions.{produced, deferred, is_free, changed_by, is_production_due}
 use Rattle.adapter_table.specs.declared.profile.Profile.{Profile}
-use Rattle.adapter_table.specs.declared.row.Row.{Row}
+use Rattle.adapter_table.specs.Connections.{Row}
 use Rattle.adapter_table.specs.declared.row.State.{State}
 use Rattle.adapter_table.specs.declared.row.State.TheVariants.{Established, TimedOut}
 use Rattle.adapter_table.specs.Rows.{written_state, written_row}

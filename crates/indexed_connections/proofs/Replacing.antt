@@ -4,7 +4,7 @@ use Rattle.std.specs.Option.{option_map}
 use Rattle.std.specs.List.{list_any}
 use Rattle.std.proofs.lemmas.Bool.Decides.{nat_tests, Decides-eqb}
 use Rattle.cip_types.specs.declared.names.Triad.{Triad}
-use Rattle.adapter_table.specs.declared.row.Row.{Row}
+use Rattle.adapter_table.specs.Connections.{Row}
 use Rattle.adapter_table.specs.Rows.{most_rows, Each, has_triad, same_triad, is_timed_out, others}
 use Rattle.adapter_table.specs.Opening.{is_opened_as, is_replaced_by, is_replaced, replaced_triad, triad_of}
 use Rattle.adapter_table.specs.Sound.{TriadsDiffer, OpeningsRise}

@@ -1,6 +1,6 @@
 -- Facts of the connections of a whole table.
 use Rattle.std.proofs.Common.{List, subst}
-use Rattle.adapter_table.specs.declared.row.Row.{Row}
+use Rattle.adapter_table.specs.Connections.{Row}
 use Rattle.adapter_table.specs.Sound.{TriadsDiffer, IdsDiffer, GroupsAloneShare, OpeningsRise}
 use Rattle.adapter_table.specs.Whole.{RowsFit}
 use Rattle.connection_list.specs.Tables.{AreWhole}

@@ -1,7 +1,7 @@
 -- Running counts as connections are removed.
 use Rattle.std.specs.Prelude.{◌≡◌, List, ◌∷◌, ◌++◌, find, Option, Some, None}
 use Rattle.cip_types.specs.declared.names.Triad.{Triad}
-use Rattle.adapter_table.specs.declared.row.Row.{Row}
+use Rattle.adapter_table.specs.Connections.{Row}
 use Rattle.adapter_table.specs.Rows.{has_triad}
 use Rattle.owner_counts.specs.Counts.{Counts, AreCounted, HasJoined}
 

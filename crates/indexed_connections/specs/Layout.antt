@@ -1,7 +1,7 @@
 -- The invariant of `IndexedConnections`. No public clause cites this module.
 use Rattle.std.specs.Prelude.{ℕ, ◌≡◌, ◌≤◌, Bool, true, false, List}
 use Rattle.std.specs.List.{list_any}
-use Rattle.adapter_table.specs.declared.row.Row.{Row}
+use Rattle.adapter_table.specs.Connections.{Row}
 use Rattle.conn_slab.specs.Bounds.{first_end, AllNotDueBefore}
 use Rattle.conn_slab.specs.Connections.{is_listening}
 use Rattle.owner_counts.specs.Counts.{Counts, AreCounted}

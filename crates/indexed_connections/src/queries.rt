@@ -3,7 +3,7 @@
 ghost use Rattle.std.specs.Prelude.{◌≡◌, ◌≤◌, ◌^◌, List, find};
 ghost use Rattle.std.specs.List.{list_any};
 ghost use Rattle.adapter_table.specs.Rows.{is_established, is_timed_out, is_member, is_unsupported};
-ghost use Rattle.adapter_table.specs.declared.row.Row.{Row};
+ghost use Rattle.adapter_table.specs.Connections.{Row};
 ghost use Rattle.adapter_table.specs.Productions.{is_due, produces_on_change};
 ghost use Rattle.adapter_table.specs.Ticks.{has_expired};
 ghost use Rattle.conn_slab.specs.Connections.{is_listening};

@@ -51,7 +51,7 @@ pub struct IndexedConnections {
 
 impl Model for IndexedConnections {
     ghost use Rattle.std.specs.Prelude.{List};
-    ghost use Rattle.adapter_table.specs.declared.row.Row.{Row};
+    ghost use Rattle.adapter_table.specs.Connections.{Row};
     ghost use Rattle.indexed_connections.specs.Layout.{AreConsistent};
 
     ghost Value = { List Row };

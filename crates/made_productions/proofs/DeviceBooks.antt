@@ -3,7 +3,7 @@
 use Rattle.std.proofs.Common.{◌≡◌, ◌≢◌, ℕ, zero, suc, Bool, true, false, ◌++◌, List, [], ◌∷◌, map, slice_get, Some, sym, ap, subst}
 use Rattle.std.specs.List.{AllByRecursion}
 use Rattle.cip_productions.specs.declared.production.Production as cip
-use Rattle.adapter_table.specs.declared.row.Row.{Row}
+use Rattle.adapter_table.specs.Connections.{Row}
 use Rattle.adapter_table.specs.declared.row.State.{State}
 use Rattle.adapter_table.specs.declared.row.State.TheVariants as row_state
 use Rattle.scanner_table.specs.declared.profile.ScannerProfile.{ScannerProfile}

@@ -1,7 +1,7 @@
 -- The half-circle condition: one schedule that keeps it, one that does not, and what happens without it.
 use Rattle.std.proofs.Common.{◌≡◌, ℕ, Bool, false, List, [], ◌∷◌, ◌++◌, map, Some, Result, Ok, Err, refl, arith}
 use Rattle.cip_events.specs.declared.event.Delivery.TheVariants.{Applied}
-use Rattle.adapter_table.specs.declared.row.Row.{Row}
+use Rattle.adapter_table.specs.Connections.{Row}
 use Rattle.cip_tables.specs.declared.table.DeviceTable.{DeviceTable}
 use Rattle.cip_tables.specs.declared.table.DeviceTable.TheVariants.{Adapter, Scanner}
 use Rattle.segment_world.specs.declared.act.Act.TheVariants.{Deliver}

@@ -3,7 +3,7 @@ use Rattle.std.proofs.Common.{◌≡◌, ◌<◌, ◌≤◌, ℕ, ◌+◌, ◌==
 use Rattle.cip_productions.specs.declared.kind.Kind.{Kind}
 use Rattle.cip_productions.specs.declared.kind.Kind.TheVariants.{ListenOnly}
 use Rattle.cip_productions.specs.Kinds.{is_owner, same_kind}
-use Rattle.adapter_table.specs.declared.row.Row.{Row}
+use Rattle.adapter_table.specs.Connections.{Row}
 use Rattle.adapter_table.specs.Rows.{is_established, drives, supports}
 use Rattle.std.proofs.lemmas.Bool.Decides.{Decides-eqb}
 use Rattle.owner_counts.specs.declared.counts.Count.{Count}

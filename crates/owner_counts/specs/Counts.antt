@@ -2,7 +2,7 @@
 -- connections of each input (Volume 1, chapter 3, application connection types).
 use Rattle.std.specs.Prelude.{ℕ, ◌≡◌, ◌≤◌, ◌+◌, ◌-◌, ◌==◌, Bool, true, false, if◌then◌else◌, List, [], ◌∷◌, length, filter, find, Option, Some, None}
 use Rattle.cip_productions.specs.declared.kind.Kind.TheVariants.{ListenOnly}
-use Rattle.adapter_table.specs.declared.row.Row.{Row}
+use Rattle.adapter_table.specs.Connections.{Row}
 use Rattle.adapter_table.specs.Rows.{drives, supports}
 use Rattle.owner_counts.specs.declared.counts.Count.{Count}
 

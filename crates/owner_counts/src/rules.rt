@@ -1,7 +1,7 @@
 //! Running counts of owners and supporters.
 
 ghost use Rattle.std.specs.Prelude.{◌≡◌, ◌≤◌, ◌<◌, ◌++◌, ◌∷◌, [], List, IfOk};
-ghost use Rattle.adapter_table.specs.declared.row.Row.{Row};
+ghost use Rattle.adapter_table.specs.Connections.{Row};
 ghost use Rattle.adapter_table.specs.Rows.{drives, supports};
 ghost use Rattle.cip_productions.specs.declared.kind.Kind.{Kind};
 ghost use Rattle.owner_counts.specs.Counts.{number_at, total, AreCounted, HasJoined};

@@ -7,7 +7,7 @@ use Rattle.cip_types.specs.declared.names.Node.{Node}
 use Rattle.cip_epath.specs.Reading.{path_reading}
 use Rattle.cip_fwdopen.specs.Open.{OpenFields}
 use Rattle.cip_router.specs.declared.refusal.Refusal.{Refusal}
-use Rattle.adapter_table.specs.declared.row.Row.{Row}
+use Rattle.adapter_table.specs.Connections.{Row}
 use Rattle.adapter_table.specs.declared.table.AdapterTable.{AdapterTable}
 use Rattle.adapter_table.specs.Checks.{Check, Points, Admitted, admitted_at, drawn_ids, group_of, is_multicast, joined, judged, points_of, view_of, verdict, admission}
 use Rattle.adapter_table.specs.Opening.{opened_state, opened_t_o_id, opened_row, opened_table}

@@ -41,7 +41,7 @@ use Rattle.cip_events.specs.declared.event.Verdict.TheVariants.{Done}
 use Rattle.cip_router.specs.Requests.{router_request_reading}
 use Rattle.cip_types.specs.declared.names.Node.{Node}
 use Rattle.std.proofs.Common.{nat_lt}
-use Rattle.adapter_table.specs.declared.row.Row.{Row}
+use Rattle.adapter_table.specs.Connections.{Row}
 use Rattle.adapter_table.specs.Points.{bytes_at}
 use Rattle.adapter_table.specs.Profiles.{is_at}
 use Rattle.adapter_table.specs.Requests.{Served, served, answered, requested}

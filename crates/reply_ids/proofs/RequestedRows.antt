@@ -29,7 +29,7 @@ use Rattle.cip_router.specs.Commands.{command_of, is_silent}
 use Rattle.cip_router.specs.Frames.{ReplyHeader, reply_header_of, reply_header_in, misfit_of, frame_fields, protocol_text, frame_reading}
 use Rattle.cip_router.specs.Replies.{got}
 use Rattle.adapter_table.specs.declared.profile.Profile.{Profile}
-use Rattle.adapter_table.specs.declared.row.Row.{Row}
+use Rattle.adapter_table.specs.Connections.{Row}
 use Rattle.adapter_table.specs.declared.table.AdapterTable.{AdapterTable}
 use Rattle.adapter_table.specs.declared.table.Stream.{Stream}
 use Rattle.adapter_table.specs.Checks.{Admitted, drawn_ids, group_of, joined, admission}

@@ -39,7 +39,7 @@ use Rattle.cip_router.specs.Commands.{command_of, is_silent}
 use Rattle.cip_router.specs.Frames.{ReplyHeader, reply_header_of, reply_header_in, misfit_of, frame_fields, protocol_text, frame_reading}
 use Rattle.cip_router.specs.Replies.{got}
 use Rattle.adapter_table.specs.declared.profile.InputPoint.{InputPoint}
-use Rattle.adapter_table.specs.declared.row.Row.{Row}
+use Rattle.adapter_table.specs.Connections.{Row}
 use Rattle.adapter_table.specs.declared.row.State.{State}
 use Rattle.adapter_table.specs.declared.row.State.TheVariants.{Established, TimedOut}
 use Rattle.adapter_table.specs.declared.table.AdapterTable.{AdapterTable}

@@ -15,7 +15,7 @@ use Rattle.cip_router.specs.Requests.{RouterRequestFields, nothing, refused, clo
 use Rattle.cip_router.specs.Refusals.{status_code}
 use Rattle.cip_router.specs.Replies.{got}
 use Rattle.adapter_table.specs.declared.profile.Profile.{Profile}
-use Rattle.adapter_table.specs.declared.row.Row.{Row}
+use Rattle.adapter_table.specs.Connections.{Row}
 use Rattle.adapter_table.specs.declared.table.AdapterTable.{AdapterTable}
 use Rattle.adapter_table.specs.Checks.{Admitted, admission}
 use Rattle.adapter_table.specs.Newest.{was_opened_as}

@@ -5,7 +5,7 @@ use Rattle.std.specs.List.{AllByRecursion, Contains, list_any}
 use Rattle.cip_datagram.specs.Datagram.{DatagramFields}
 use Rattle.cip_datagram.specs.Reading.{datagram_reading}
 use Rattle.cip_events.specs.declared.event.Event.TheVariants.{Datagram}
-use Rattle.adapter_table.specs.declared.row.Row.{Row}
+use Rattle.adapter_table.specs.Connections.{Row}
 use Rattle.adapter_table.specs.declared.table.AdapterTable.{AdapterTable}
 use Rattle.adapter_table.specs.Newest.{was_opened_as, accepted_at}
 use Rattle.adapter_table.specs.Productions.{producer_of}

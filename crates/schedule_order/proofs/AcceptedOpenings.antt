@@ -9,7 +9,7 @@ use Rattle.cip_datagram.specs.declared.datagram.DatagramFault.{DatagramFault}
 use Rattle.cip_datagram.specs.Datagram.{DatagramFields, datagram_text}
 use Rattle.cip_datagram.specs.Reading.{datagram_reading}
 use Rattle.cip_events.specs.declared.event.Verdict.{Verdict}
-use Rattle.adapter_table.specs.declared.row.Row.{Row}
+use Rattle.adapter_table.specs.Connections.{Row}
 use Rattle.adapter_table.specs.declared.table.AdapterTable.{AdapterTable}
 use Rattle.adapter_table.specs.Datagrams.{is_for}
 use Rattle.adapter_table.specs.Rows.{is_established}

@@ -16,7 +16,7 @@ use Rattle.cip_events.specs.declared.event.Recipient.TheVariants as recipient
 use Rattle.cip_fwdopen.specs.declared.reply.Opened as made
 use Rattle.cip_fwdopen.specs.Open.{OpenFields}
 use Rattle.adapter_table.specs.declared.profile.Profile.{Profile}
-use Rattle.adapter_table.specs.declared.row.Row.{Row}
+use Rattle.adapter_table.specs.Connections.{Row}
 use Rattle.adapter_table.specs.declared.table.AdapterTable.{AdapterTable}
 use Rattle.adapter_table.specs.declared.table.Stream as adapter_stream
 use Rattle.adapter_table.specs.Checks.{is_multicast}

@@ -10,7 +10,7 @@ use Rattle.cip_events.specs.declared.event.Delivery.{Delivery}
 use Rattle.cip_events.specs.declared.event.Event.TheVariants as event
 use Rattle.cip_events.specs.declared.event.Verdict.TheVariants.{Delivered}
 use Rattle.cip_productions.specs.declared.acceptance.Accepted.{Accepted}
-use Rattle.adapter_table.specs.declared.row.Row.{Row}
+use Rattle.adapter_table.specs.Connections.{Row}
 use Rattle.adapter_table.specs.declared.table.AdapterTable.{AdapterTable}
 use Rattle.adapter_table.specs.Datagrams.{is_for, row_delivery, delivered, accepted_table, found_datagram, datagram_of, received}
 use Rattle.adapter_table.specs.Newest as rows

@@ -9,7 +9,7 @@ use Rattle.cip_events.specs.declared.event.Event.{Event}
 use Rattle.cip_events.specs.declared.event.Event.TheVariants as event
 use Rattle.cip_productions.specs.declared.production.Producer.{Producer}
 use Rattle.cip_productions.specs.Productions.{same_producer, by_number, by_due}
-use Rattle.adapter_table.specs.declared.row.Row.{Row}
+use Rattle.adapter_table.specs.Connections.{Row}
 use Rattle.adapter_table.specs.declared.row.State.{State}
 use Rattle.adapter_table.specs.declared.row.State.TheVariants.{Established, TimedOut}
 use Rattle.adapter_table.specs.declared.table.AdapterTable.{AdapterTable}

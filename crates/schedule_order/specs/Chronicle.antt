@@ -18,7 +18,7 @@ use Rattle.cip_events.specs.declared.event.Event.TheVariants.{Frame}
 use Rattle.cip_events.specs.declared.event.Verdict.{Verdict}
 use Rattle.cip_events.specs.declared.event.Verdict.TheVariants.{Done, BadFrame, Ignored, Value, Delivered}
 use Rattle.cip_events.specs.Answers.{is_accepted}
-use Rattle.adapter_table.specs.declared.row.Row.{Row}
+use Rattle.adapter_table.specs.Connections.{Row}
 use Rattle.adapter_table.specs.declared.table.AdapterTable.{AdapterTable}
 use Rattle.adapter_table.specs.Datagrams.{is_for}
 use Rattle.adapter_table.specs.Newest.{was_opened_as}

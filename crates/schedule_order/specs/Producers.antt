@@ -3,7 +3,7 @@
 -- ids; Volume 2, chapter 3, multicast connections).
 use Rattle.std.specs.Prelude.{◌≡◌, List, find, Some, Ok}
 use Rattle.std.specs.List.{Contains}
-use Rattle.adapter_table.specs.declared.row.Row.{Row}
+use Rattle.adapter_table.specs.Connections.{Row}
 use Rattle.adapter_table.specs.declared.table.AdapterTable.{AdapterTable}
 use Rattle.adapter_table.specs.Productions.{is_produced_by}
 use Rattle.cip_tables.specs.declared.table.Config.{Config}

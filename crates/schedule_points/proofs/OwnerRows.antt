@@ -11,7 +11,7 @@ use Rattle.cip_events.specs.declared.event.Event.TheVariants.{Request, StreamOpe
 use Rattle.cip_events.specs.Answers.{is_accepted}
 use Rattle.cip_fwdopen.specs.Open.{OpenFields}
 use Rattle.cip_router.specs.Requests.{router_request_reading}
-use Rattle.adapter_table.specs.declared.row.Row.{Row}
+use Rattle.adapter_table.specs.Connections.{Row}
 use Rattle.adapter_table.specs.declared.row.State.TheVariants.{TimedOut}
 use Rattle.adapter_table.specs.declared.table.AdapterTable.{AdapterTable}
 use Rattle.adapter_table.specs.Checks.{Admitted}

@@ -5,7 +5,7 @@ use Rattle.std.specs.Prelude.{ℕ, ◌≡◌, true, List, find, Some}
 use Rattle.std.specs.List.{Contains}
 use Rattle.cip_events.specs.declared.event.Delivery.TheVariants.{Applied}
 use Rattle.cip_productions.specs.Kinds.{is_owner}
-use Rattle.adapter_table.specs.declared.row.Row.{Row}
+use Rattle.adapter_table.specs.Connections.{Row}
 use Rattle.adapter_table.specs.declared.table.AdapterTable.{AdapterTable}
 use Rattle.adapter_table.specs.Points.{bytes_at}
 use Rattle.adapter_table.specs.Rows.{is_established}

@@ -3,7 +3,7 @@ use Rattle.std.specs.Prelude.{ℕ, zero, suc, ◌+◌, true, false, List, [], �
 use Rattle.cip_netparams.specs.declared.Trigger.TheVariants.{Cyclic}
 use Rattle.cip_productions.specs.declared.kind.Kind.TheVariants.{InputOnly}
 use Rattle.cip_productions.specs.declared.production.Production.{Production}
-use Rattle.adapter_table.specs.declared.row.Row.{Row}
+use Rattle.adapter_table.specs.Connections.{Row}
 use Rattle.adapter_table.specs.declared.row.State.{State}
 use Rattle.adapter_table.specs.declared.row.State.TheVariants.{Established, TimedOut}
 use Rattle.cip_tables.specs.declared.table.DeviceTable.{DeviceTable}
@@ -37,7 +37,7 @@ connection_in opening state = record {
   t_o_id = record { 0 = 0x20000002 };
   o_t_api_ms = 10;
   t_o_api_ms = 10;
-  multiplier = 2;
+  watchdog = record { 0 = 160 };
   multicast = false;
   opening = opening;
   last = None;

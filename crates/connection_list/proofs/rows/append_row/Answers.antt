@@ -1,5 +1,5 @@
 use Rattle.std.proofs.Common.{◌∷◌, ◌++◌, [], List, ◌∙◌, ap}
-use Rattle.adapter_table.specs.declared.row.Row.{Row}
+use Rattle.adapter_table.specs.Connections.{Row}
 use Rattle.connection_list.proofs.Places.{replacement_left}
 use Rattle.connection_list.proofs.rows.append_row.Goals as goal
 

@@ -1,6 +1,6 @@
 use Rattle.std.proofs.Common.{◌∷◌, [], List, filter, map, take_all, sym, ap, ◌∙◌, arith}
 use Rattle.cip_events.specs.declared.event.Notice.TheVariants.{Closed}
-use Rattle.adapter_table.specs.declared.row.Row.{Row}
+use Rattle.adapter_table.specs.Connections.{Row}
 use Rattle.adapter_table.specs.Closing.{dropped_notice}
 use Rattle.connection_list.specs.Without.{loses_support}
 use Rattle.connection_list.proofs.Passing.{reported_more, unreported_more}

@@ -1,5 +1,5 @@
 use Rattle.std.proofs.Common.{◌++◌, ℕ, List, drop, ap, ◌∙◌, subst}
-use Rattle.adapter_table.specs.declared.row.Row.{Row}
+use Rattle.adapter_table.specs.Connections.{Row}
 use Rattle.due_datagrams.specs.ConsumerTables.{one_consumer}
 use Rattle.due_datagrams.proofs.Gathering.{Gathered, gathered_more, gathered_all}
 use Rattle.due_datagrams.proofs.consumer_table.add_consumers.Goals as goal

@@ -1,5 +1,5 @@
 use Rattle.std.proofs.Common.{List, map, subst}
-use Rattle.adapter_table.specs.declared.row.Row.{Row}
+use Rattle.adapter_table.specs.Connections.{Row}
 use Rattle.due_datagrams.specs.ConsumerTables.{consumers_in}
 use Rattle.due_datagrams.proofs.Entries.{TakenUp, taken_more, taken_all}
 use Rattle.due_datagrams.proofs.Singles.{single_is_new}

@@ -1,6 +1,6 @@
 use Rattle.std.proofs.Common.{◌<◌, ◌≤◌, ℕ, List, length, take, sym, subst, arith}
 use Rattle.std.proofs.lemmas.Grind.{common_steps}
-use Rattle.adapter_table.specs.declared.row.Row.{Row}
+use Rattle.adapter_table.specs.Connections.{Row}
 use Rattle.owner_counts.specs.Counts.{AreCounted}
 use Rattle.indexed_connections.proofs.Prefixes.{one_more}
 use Rattle.indexed_connections.proofs.Removals.{few_counted}

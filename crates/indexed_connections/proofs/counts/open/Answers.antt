@@ -1,6 +1,6 @@
 use Rattle.std.proofs.Common.{◌<◌, ◌≤◌, ◌++◌, ◌∷◌, [], List, length, sym, subst, arith}
 use Rattle.std.proofs.lemmas.List.{length-append}
-use Rattle.adapter_table.specs.declared.row.Row.{Row}
+use Rattle.adapter_table.specs.Connections.{Row}
 use Rattle.conn_slab.specs.Connections.{without}
 use Rattle.owner_counts.specs.Counts.{AreCounted}
 use Rattle.indexed_connections.proofs.Removals.{have_joined, less, few_counted}

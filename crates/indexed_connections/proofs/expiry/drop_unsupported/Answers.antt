@@ -1,6 +1,6 @@
 use Rattle.std.proofs.Common.{◌≡◌, Some, List, find, length, not, refl, sym, ap, subst, ◌∙◌, false, arith, rules}
 use Rattle.std.specs.List.{list_any}
-use Rattle.adapter_table.specs.declared.row.Row.{Row}
+use Rattle.adapter_table.specs.Connections.{Row}
 use Rattle.conn_slab.specs.Connections.{is_listening}
 use Rattle.adapter_table.specs.Rows.{has_triad, is_unsupported}
 use Rattle.adapter_table.specs.Closing.{staying}

@@ -3,7 +3,7 @@ use Rattle.std.specs.List.{list_any}
 use Rattle.std.specs.Map.{lookup}
 use Rattle.mcast_pool.specs.declared.group.Group.{Group}
 use Rattle.slab.specs.Slab.{with_value}
-use Rattle.adapter_table.specs.declared.row.Row.{Row}
+use Rattle.adapter_table.specs.Connections.{Row}
 use Rattle.adapter_table.specs.Rows.{holds_triad}
 use Rattle.conn_slab.specs.Index.{items_of}
 use Rattle.conn_slab.specs.Records.{row_of, key_for, same_key}

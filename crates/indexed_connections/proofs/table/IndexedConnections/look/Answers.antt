@@ -1,6 +1,6 @@
 use Rattle.std.proofs.Common.{◌<◌, Option, find, is_some, sym, ap, ◌∙◌, rules}
 use Rattle.std.specs.List.{list_any}
-use Rattle.adapter_table.specs.declared.row.Row.{Row}
+use Rattle.adapter_table.specs.Connections.{Row}
 use Rattle.adapter_table.specs.Ticks.{has_expired}
 use Rattle.indexed_connections.proofs.Replacing.{any_found}
 use Rattle.indexed_connections.proofs.Times.{none_ends}

@@ -1,7 +1,7 @@
 use Rattle.std.proofs.Common.{◌≤◌, List, not, sym, subst, ◌∙◌, ap}
 use Rattle.adapter_table.specs.Rows.{has_triad}
 use Rattle.adapter_table.specs.Sound.{TriadsDiffer}
-use Rattle.adapter_table.specs.declared.row.Row.{Row}
+use Rattle.adapter_table.specs.Connections.{Row}
 use Rattle.adapter_table.specs.Closing.{stays, staying, without_triad}
 use Rattle.std.specs.List.{list_any}
 use Rattle.conn_slab.specs.Connections.{is_listening}

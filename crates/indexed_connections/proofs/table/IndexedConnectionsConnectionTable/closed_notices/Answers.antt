@@ -2,7 +2,7 @@ use Rattle.std.proofs.Common.{◌≡◌, ◌∷◌, map, false, List, sym, ap, s
 use Rattle.std.specs.Prelude.{IfOk}
 use Rattle.std.specs.List.{list_any}
 use Rattle.cip_events.specs.declared.event.Notice.TheVariants.{Closed}
-use Rattle.adapter_table.specs.declared.row.Row.{Row}
+use Rattle.adapter_table.specs.Connections.{Row}
 use Rattle.adapter_table.specs.Closing.{without_triad, unsupported, dropped_notice}
 use Rattle.conn_slab.specs.Connections.{is_listening}
 use Rattle.indexed_connections.proofs.Dropping.{none_lost}

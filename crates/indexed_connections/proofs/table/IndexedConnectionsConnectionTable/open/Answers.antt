@@ -1,5 +1,5 @@
 use Rattle.std.proofs.Common.{◌≡◌, ◌≤◌, ◌++◌, ◌∷◌, [], List, sym, ap, subst, ◌∙◌, arith}
-use Rattle.adapter_table.specs.declared.row.Row.{Row}
+use Rattle.adapter_table.specs.Connections.{Row}
 use Rattle.adapter_table.specs.Rows.{others}
 use Rattle.adapter_table.specs.Opening.{is_replaced}
 use Rattle.std.specs.List.{list_any}

@@ -1,7 +1,7 @@
 use Rattle.std.proofs.Common.{◌≤◌, ℕ, List, sym, subst, ap, ◌∙◌}
 use Rattle.std.specs.List.{list_any}
 use Rattle.conn_slab.specs.Connections.{is_listening}
-use Rattle.adapter_table.specs.declared.row.Row.{Row}
+use Rattle.adapter_table.specs.Connections.{Row}
 use Rattle.conn_slab.specs.Bounds.{first_end}
 use Rattle.owner_counts.specs.Counts.{AreCounted}
 use Rattle.indexed_connections.proofs.Counted.{produced_counted, produced_listen}

@@ -2,7 +2,7 @@ use Rattle.std.specs.List.{list_any}
 use Rattle.conn_slab.specs.Connections.{is_listening}
 use Rattle.std.proofs.Common.{◌≤◌, List, sym, subst, ◌∙◌, arith, ap}
 use Rattle.cip_datagram.specs.Datagram.{view_datagram}
-use Rattle.adapter_table.specs.declared.row.Row.{Row}
+use Rattle.adapter_table.specs.Connections.{Row}
 use Rattle.adapter_table.specs.Sound.{IdsDiffer}
 use Rattle.conn_slab.specs.Bounds.{first_end, AllNotDueBefore}
 use Rattle.owner_counts.specs.Counts.{AreCounted}
