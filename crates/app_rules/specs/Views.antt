@@ -6,7 +6,7 @@ use Rattle.cip_epath.specs.Path.{view_path}
 use Rattle.adapter_table.specs.Connections.{Row}
 use Rattle.adapter_table.specs.Checks as checks
 use Rattle.app_rules.specs.declared.view.View.{View}
-use Rattle.app_rules.specs.declared.points.Points.{Points}
+use Rattle.app_rules.specs.declared.questions.Points.{Points}
 
 -- the state that the checks of a request of the triad read, from the list of the connections
 abbrev pub seen : {C : Type 0} → (C → List Row) → View C → Triad → checks.View

@@ -4,16 +4,13 @@
 //! Volume 1, chapter 3, Forward_Open and the Connection Manager's extended status codes.
 #![tactic(auto)]
 
+mod checks;
 mod connections;
-mod points;
-mod request;
-mod stages;
-mod verdict;
+mod questions;
 mod view;
 
 pub use adapter_table::Admission;
+pub use checks::admit;
 pub use connections::{ConnectionsView, ListView};
 pub use owner_counts::Rules;
-pub use stages::drawn_ids;
-pub use verdict::admit;
 pub use view::View;

@@ -1,0 +1,294 @@
+//! What the checks of a request find, and the questions that they ask.
+
+ghost use Rattle.std.specs.Prelude.{◌≡◌, ◌+◌, ◌==◌, ◌&&◌, length, nat_lt, nat_le, not};
+ghost use Rattle.std.specs.List.{list_any};
+ghost use Rattle.std.specs.Option.{option_map};
+ghost use Rattle.cip_epath.specs.Path.{view_path};
+ghost use Rattle.cip_fwdopen.specs.Open.{view_open};
+ghost use Rattle.cip_epath.specs.Reading.{path_reading};
+ghost use Rattle.cip_productions.specs.declared.kind.Kind.{Kind};
+ghost use Rattle.cip_productions.specs.Kinds.{is_owner, is_listener};
+ghost use Rattle.adapter_table.specs.Rows.{most_rows, is_established, is_timed_out, drives, is_supported};
+ghost use Rattle.adapter_table.specs.Checks.{Gives, view_admission, check, key_of, key_check, is_unserved, served_inhibit, is_known_config, consumed_point_of, group_of, joined, named_len, has_other_length, has_other_bytes, has_other_o_t_size, has_other_t_o_size, joins, has_other_trigger, has_other_inhibit, drawn_ids};
+ghost use Rattle.app_rules.specs.Views.{view_points};
+ghost use Rattle.app_rules.specs.Stages.{IsPassed, readable, path_inhibit, admission_at};
+
+use crate::connections::ConnectionsView;
+use crate::view::View;
+use adapter_table::{Admission, ConsumedPoint, InputPoint, Profile, Row, State};
+use cip_epath::{ConnPath, KeyFault, PathFault, check_key, read_path};
+use cip_fwdopen::OpenRequest;
+use cip_netparams::Trigger;
+use cip_productions::Kind;
+use cip_router::Refusal;
+use cip_types::limits::IDS_PER_INCARNATION;
+use cip_types::{Identity, Ms};
+
+/// The transport that a request asks for: whether its producer sends to a group, its trigger and production inhibit
+/// time, its actual packet intervals, both in milliseconds, and the time-out of its watchdog.
+#[derive(Clone, Copy)]
+pub struct Transport {
+    pub multicast: bool,
+    pub trigger: Trigger,
+    pub inhibit: u8,
+    pub o_t_api_ms: u32,
+    pub t_o_api_ms: u32,
+    pub watchdog: Ms,
+}
+
+/// The points that a path names: the consumer, the input that is produced, and the group that is joined.
+#[derive(Clone, Copy)]
+pub struct Points<'a> {
+    pub path: ConnPath<'a>,
+    pub consumer: ConsumedPoint,
+    pub input: InputPoint,
+    pub group: Option<Row>,
+}
+
+/// The refusal of a check, if it fails.
+pub fn refuse_if(fails: bool, why: Refusal) -> Result<(), Refusal>
+    ensures { IsPassed (check fails why) result }
+{
+    if fails { Err(why) } else { Ok(()) }
+}
+
+/// The path of a request, if its segments read. Segments in a wrong order give no path.
+pub fn readable(bytes: &[u8]) -> Result<Option<ConnPath<'_>>, Refusal>
+    ensures { Gives (option_map view_path) result (readable (path_reading bytes.now)) }
+{
+    match read_path(bytes) {
+        Ok(path) => Ok(Some(path)),
+        Err(PathFault::Shape) => Ok(None),
+        Err(_) => Err(Refusal::Segment),
+    }
+}
+
+/// The refusal of a path whose key is not that of this device.
+pub fn key_check(identity: &Identity, path: &Option<ConnPath<'_>>) -> Result<(), Refusal>
+    ensures { IsPassed (key_check identity.now (key_of (option_map view_path path.now))) result }
+{
+    let Some(ConnPath { key: Some(key), .. }) = path else {
+        return Ok(());
+    };
+    match check_key(key, identity) {
+        Ok(()) => Ok(()),
+        Err(KeyFault::VendorOrProduct) => Err(Refusal::VendorOrProduct),
+        Err(KeyFault::DeviceType) => Err(Refusal::DeviceType),
+        Err(KeyFault::Revision) => Err(Refusal::Revision),
+    }
+}
+
+/// Whether the multiplier is out of range, or a redundant owner is requested.
+pub fn is_unserved(request: &OpenRequest<'_>) -> bool
+    ensures { result ≡ is_unserved (view_open request.now) }
+{
+    request.multiplier > 7 || request.o_t_params.redundant || request.t_o_params.redundant
+}
+
+/// The production inhibit time that applies, in milliseconds: a cyclic producer has none.
+pub fn served_inhibit(trigger: Trigger, path: &Option<ConnPath<'_>>) -> u8
+    ensures { result ≡ served_inhibit trigger (path_inhibit (option_map view_path path.now)) }
+{
+    match (trigger, path) {
+        (Trigger::ChangeOfState, Some(path)) => path.inhibit.unwrap_or(0),
+        (Trigger::ChangeOfState, None) | (Trigger::Cyclic, _) => 0,
+    }
+}
+
+/// Whether a path names no configuration, or the adapter's.
+pub fn is_known_config(profile: &Profile, path: &ConnPath<'_>) -> bool
+    ensures { result ≡ is_known_config profile.now.config (view_path path.now).config }
+{
+    match (profile.config, path.config) {
+        (_, None) => true,
+        (None, Some(_)) => false,
+        (Some(config), Some(named)) => config.instance == named,
+    }
+}
+
+/// The application type of a connection that consumes the point, and the length of its data.
+pub fn consumed_point_of(profile: &Profile, point: u32) -> Option<ConsumedPoint>
+    ensures { result ≡ consumed_point_of profile.now point }
+{
+    let (kind, len) = if let Some(output) = profile.output(point) {
+        (Kind::ExclusiveOwner, output.len)
+    } else if profile.input_only == point {
+        (Kind::InputOnly, 0)
+    } else if profile.listen_only == point {
+        (Kind::ListenOnly, 0)
+    } else {
+        return None;
+    };
+    Some(ConsumedPoint { kind, len })
+}
+
+/// The first connection of the group that a multicast connection joins.
+pub fn joined<C: ConnectionsView>(connections: &C, multicast: bool, point: u32) -> Option<Row>
+    ensures { result ≡ joined multicast (group_of (C.rows connections.now) point) }
+{
+    if multicast {
+        connections.group_of(point)
+    } else {
+        None
+    }
+}
+
+/// How many ids an opening draws: one for the O->T direction, and one more if it starts a multicast producer.
+///
+/// Volume 1, chapter 3, connection ids.
+fn drawn_ids(multicast: bool, group: &Option<Row>) -> u32
+    ensures { result ≡ drawn_ids multicast group.now }
+{
+    match group {
+        None if multicast => 2,
+        None | Some(_) => 1,
+    }
+}
+
+/// The connection that a request of these points and this transport is admitted as.
+pub fn admission_at<'a>(points: &Points<'a>, transport: &Transport) -> Admission<'a>
+    ensures admission { view_admission result ≡ admission_at (view_points points.now) transport.now }
+    ensures drawn { result.drawn ≡ drawn_ids result.multicast result.group }
+{
+    Admission {
+        kind: points.consumer.kind,
+        consumed: points.path.consumed,
+        produced: points.path.produced,
+        multicast: transport.multicast,
+        trigger: transport.trigger,
+        inhibit: transport.inhibit,
+        o_t_api_ms: transport.o_t_api_ms,
+        t_o_api_ms: transport.t_o_api_ms,
+        watchdog: transport.watchdog,
+        group: points.group,
+        drawn: drawn_ids(transport.multicast, &points.group),
+        segment: points.path.config.and(points.path.segment),
+    }
+}
+
+/// Whether the data segment has another length than the configuration that the path names.
+pub fn misfits_config<C: ConnectionsView>(view: &View<'_, C>, points: &Points<'_>) -> bool
+    ensures { result ≡ has_other_length (named_len view.now.profile.now.config (view_path points.now.path).config)
+        (view_path points.now.path).segment }
+{
+    let Some(segment) = points.path.segment else {
+        return false;
+    };
+    match (view.profile.config, points.path.config) {
+        (Some(config), Some(_)) => segment.len() as u64 != config.len,
+        (_, None) | (None, Some(_)) => !segment.is_empty(),
+    }
+}
+
+/// Whether the data segment would change the configuration under an established connection.
+pub fn changes_config<C: ConnectionsView>(view: &View<'_, C>, admission: &Admission<'_>) -> bool
+    ensures { result ≡ (list_any is_established (C.rows view.now.connections.now)
+        && has_other_bytes (view_admission admission.now).segment (option_map (λ lent. lent.now) view.now.config)) }
+{
+    match (admission.segment, view.config) {
+        (Some(segment), Some(present)) => view.connections.has_established() && segment != present,
+        (None, _) | (Some(_), None) => false,
+    }
+}
+
+/// Whether an O->T size is not that of the consumed point: a sequence count, and an owner's data behind a
+/// run/idle header.
+pub fn has_other_o_t_size(request: &OpenRequest<'_>, points: &Points<'_>) -> bool
+    ensures { result ≡ has_other_o_t_size (view_open request.now) (view_points points.now) }
+{
+    let size = request.o_t_params.size;
+    match points.consumer.kind {
+        Kind::ExclusiveOwner => size < 6 || u64::from(size) - 6 != points.consumer.len,
+        Kind::InputOnly | Kind::ListenOnly => size != 2,
+    }
+}
+
+/// Whether a T->O size is not that of the produced point: a sequence count and the input.
+pub fn has_other_t_o_size(request: &OpenRequest<'_>, points: &Points<'_>) -> bool
+    ensures { result ≡ has_other_t_o_size (view_open request.now) (view_points points.now) }
+{
+    let size = request.t_o_params.size;
+    size < 2 || u64::from(size) - 2 != points.input.len
+}
+
+/// Whether another connection owns the output.
+pub fn is_owned<C: ConnectionsView>(view: &View<'_, C>, admission: &Admission<'_>) -> bool
+    ensures { result ≡ (is_owner admission.now.kind
+        && list_any (drives admission.now.consumed) (C.rows view.now.connections.now)) }
+{
+    admission.kind == Kind::ExclusiveOwner && view.connections.is_driven(admission.consumed)
+}
+
+/// Whether a listen-only connection asks for a producer of its own.
+pub fn listens_alone(admission: &Admission<'_>) -> bool
+    ensures { result ≡ (is_listener admission.now.kind && not admission.now.multicast) }
+{
+    admission.kind == Kind::ListenOnly && !admission.multicast
+}
+
+/// Whether no connection of another kind supports the listen-only connection.
+pub fn is_unsupported<C: ConnectionsView>(view: &View<'_, C>, admission: &Admission<'_>) -> bool
+    ensures { result ≡ (is_listener admission.now.kind
+        && not (is_supported (C.rows view.now.connections.now) Kind.ListenOnly admission.now.produced)) }
+{
+    admission.kind == Kind::ListenOnly && !view.connections.is_supported(admission.produced)
+}
+
+/// Whether the group that is joined has another T->O packet interval.
+pub fn joins_other_api(admission: &Admission<'_>) -> bool
+    ensures { result
+        ≡ joins admission.now.group (λ member. not (admission.now.t_o_api_ms == member.t_o_api_ms)) }
+{
+    match &admission.group {
+        Some(member) => admission.t_o_api_ms != member.t_o_api_ms,
+        None => false,
+    }
+}
+
+/// Whether the production of the group that is joined has another trigger.
+pub fn joins_other_trigger(admission: &Admission<'_>) -> bool
+    ensures { result
+        ≡ joins admission.now.group (λ member. has_other_trigger admission.now.trigger member.state) }
+{
+    match &admission.group {
+        Some(
+            Row {
+                state: State::Established(production),
+                ..
+            },
+        ) => admission.trigger != production.trigger,
+        _ => false,
+    }
+}
+
+/// Whether the production of the group that is joined has another production inhibit time.
+pub fn joins_other_inhibit(admission: &Admission<'_>) -> bool
+    ensures { result
+        ≡ joins admission.now.group (λ member. has_other_inhibit admission.now.inhibit member.state) }
+{
+    match &admission.group {
+        Some(
+            Row {
+                state: State::Established(production),
+                ..
+            },
+        ) => admission.inhibit != production.inhibit,
+        _ => false,
+    }
+}
+
+/// Whether fewer ids are left than the opening draws.
+pub fn lacks_ids<C>(view: &View<'_, C>, admission: &Admission<'_>) -> bool
+    requires { admission.now.drawn ≡ drawn_ids admission.now.multicast admission.now.group }
+    ensures { result ≡ nat_lt 16777216 (view.now.next_id + drawn_ids admission.now.multicast admission.now.group) }
+{
+    view.next_id > IDS_PER_INCARNATION - admission.drawn
+}
+
+/// Whether there are 64 connections, and none has timed out.
+pub fn lacks_capacity<C: ConnectionsView>(view: &View<'_, C>) -> bool
+    ensures { result ≡ (nat_le most_rows (length (C.rows view.now.connections.now))
+        && not (list_any is_timed_out (C.rows view.now.connections.now))) }
+{
+    view.connections.is_full() && !view.connections.has_timed_out()
+}
