@@ -13,18 +13,17 @@ use Rattle.adapter_table.specs.Sound.{Agree, ShareInGroup}
 use Rattle.adapter_table.specs.Whole.{FitsRow}
 use Rattle.mcast_pool.specs.declared.group.Group.{Group}
 use Rattle.mcast_pool.specs.Groups.{has_number, number_of, numbered, serves, begun, one_more, one_less, change_first, joined_group, joined, left, subscribers, AreGroups}
-use Rattle.conn_slab.specs.declared.record.Record.{Record}
-use Rattle.conn_slab.specs.Records.{row_of, record_of, state_of, production_in, entered, entered_with}
+use Rattle.conn_slab.specs.Records.{Record, row_of, record_of, state_of, production_in, entered, entered_with}
 use Rattle.conn_slab.specs.Layout.{IsServed, SharesBy, SharesFound, Shares, is_number, members, established, count_in, IsBalanced, MayEnter, MayEnterWith, MayJoin}
 use Rattle.conn_slab.proofs.Numbers.{same_of, itself, other_way, both_hold, found_passes, found_too, found_by_number, numbered_more, sum_more, or_else, numbered_begun, sum_begun, left_one, numbered_left, numbered_other, sum_left, some_served}
 
 -- ---- counts
 
-members_last : (n : ℕ) (rs : List Record) (r : Record) → members n (rs ++ r ∷ []) ≡ members n rs + (if is_number n r.producer then 1 else 0)
+members_last : (n : ℕ) (rs : List Record) (r : Record) → members n (rs ++ r ∷ []) ≡ members n rs + (if is_number n r.state then 1 else 0)
 members_last n [] r = omega arith
 members_last n (x ∷ rs) r = let rest = members_last n rs r in omega arith
 
-established_last : (rs : List Record) (r : Record) → established (rs ++ r ∷ []) ≡ established rs + (if is_some r.producer then 1 else 0)
+established_last : (rs : List Record) (r : Record) → established (rs ++ r ∷ []) ≡ established rs + (if is_some r.state then 1 else 0)
 established_last [] r = omega arith
 established_last (x ∷ rs) r = let rest = established_last rs r in omega arith
 
@@ -43,17 +42,17 @@ numbered_by n (Some m) is = ap (λ k. Some k) (same_of m n is)
 -- a record of a group that has some, with what holds of its connection
 pub record Witness (n : ℕ) (pool : List Group) (P : Row → Type 0) : Type 0 where
   pub r : Record
-  pub has : r.producer ≡ Some n
+  pub has : r.state ≡ Some n
   pub shares : SharesFound r (numbered n pool)
   pub holds : P (row_of pool r)
 
-witness : (n : ℕ) (pool : List Group) (P : Row → Type 0) (rs : List Record) → 1 ≤ members n rs → AllByRecursion (IsServed pool) rs → Each P (map (row_of pool) rs) → Witness n pool P
+pub witness : (n : ℕ) (pool : List Group) (P : Row → Type 0) (rs : List Record) → 1 ≤ members n rs → AllByRecursion (IsServed pool) rs → Each P (map (row_of pool) rs) → Witness n pool P
 witness n pool P [] some served all = absurd (omega arith)
-witness n pool P (r ∷ rs) some served all = split (is_number n r.producer) refl some (λ rest. witness n pool P rs rest served.1 all.1)
+witness n pool P (r ∷ rs) some served all = split (is_number n r.state) refl some (λ rest. witness n pool P rs rest served.1 all.1)
   where
-    split : (b : Bool) → is_number n r.producer ≡ b → 1 ≤ (if b then 1 else 0) + members n rs → (1 ≤ members n rs → Witness n pool P) → Witness n pool P
+    split : (b : Bool) → is_number n r.state ≡ b → 1 ≤ (if b then 1 else 0) + members n rs → (1 ≤ members n rs → Witness n pool P) → Witness n pool P
     split true is le rest =
-        let has = numbered_by n r.producer is in
+        let has = numbered_by n r.state is in
         record { r = r; has = has; shares = subst (SharesBy pool r) has served.0; holds = all.0 }
     split false is le rest = rest (omega arith)
 
@@ -96,12 +95,12 @@ served_still old new r (Some n) shares stays =
 pub rows_still : (old new : List Group) (rs : List Record) → AllByRecursion (IsServed old) rs → ((n : ℕ) → 1 ≤ members n rs → Stays (numbered n old) (numbered n new)) → AllByRecursion (IsServed new) rs × (map (row_of new) rs ≡ map (row_of old) rs)
 rows_still old new [] served stays = (tt, refl)
 rows_still old new (r ∷ rs) served stays =
-    let here = served_still old new r r.producer served.0 (λ m is. stays m (first m is)) in
-    let rest = rows_still old new rs served.1 (λ m some. stays m (later m (is_number m r.producer) some)) in
+    let here = served_still old new r r.state served.0 (λ m is. stays m (first m is)) in
+    let rest = rows_still old new rs served.1 (λ m some. stays m (later m (is_number m r.state) some)) in
     let same : row_of new r ≡ row_of old r = ap (λ s. record (row_of old r) { state = s }) here.1 in
     ((here.0, rest.0), rw (same, rest.1) refl)
   where
-    first : (m : ℕ) → is_number m r.producer ≡ true → 1 ≤ (if is_number m r.producer then 1 else 0) + members m rs
+    first : (m : ℕ) → is_number m r.state ≡ true → 1 ≤ (if is_number m r.state then 1 else 0) + members m rs
     first m is = rw is (omega arith)
 
     later : (m : ℕ) (b : Bool) → 1 ≤ members m rs → 1 ≤ (if b then 1 else 0) + members m rs
@@ -194,12 +193,12 @@ record HasMore (number : ℕ) (old new : List Group) (r : Record) (production : 
 -- what a connection that is put last makes of the records and the pool
 abbrev Joins : Row → State → List Group → List Group → List Record → Type 0
 Joins row s pool new rs =
-    IsBalanced new (rs ++ record (record_of row) { producer = producer_number s } ∷ [])
-    × (map (row_of new) (rs ++ record (record_of row) { producer = producer_number s } ∷ []) ≡ map (row_of pool) rs ++ record row { state = s } ∷ [])
+    IsBalanced new (rs ++ record (record_of row) { state = producer_number s } ∷ [])
+    × (map (row_of new) (rs ++ record (record_of row) { state = producer_number s } ∷ []) ≡ map (row_of pool) rs ++ record row { state = s } ∷ [])
 
-joins : (row : Row) (p : Production) (pool new : List Group) (rs : List Record) → IsBalanced pool rs → HasMore p.producer pool new (record (record_of row) { producer = Some p.producer }) p → Joins row (Established p) pool new rs
+joins : (row : Row) (p : Production) (pool new : List Group) (rs : List Record) → IsBalanced pool rs → HasMore p.producer pool new (record (record_of row) { state = Some p.producer }) p → Joins row (Established p) pool new rs
 joins row p pool new rs balanced more =
-    let opened : Record = record (record_of row) { producer = Some p.producer } in
+    let opened : Record = record (record_of row) { state = Some p.producer } in
     let still = rows_still pool new rs balanced.served (λ n some. more.stays n) in (
       record {
         served = all_last (IsServed new) rs opened still.0 more.shares;
@@ -232,12 +231,12 @@ module _ (row : Row) (p : Production) (pool : List Group) (rs : List Record) (ea
   new = begun (record { point = row.produced; id = row.t_o_id; production = p }) row.multicast row.t_o_api_ms
 
   abbrev opened : Record
-  opened = record (record_of row) { producer = Some p.producer }
+  opened = record (record_of row) { state = Some p.producer }
 
   lives_row : is_established row ≡ true
   lives_row = ap lives is
 
-  state_there : (r : Record) (n : ℕ) (group : Group) → r.producer ≡ Some n → numbered n pool ≡ Some group → (row_of pool r).state ≡ Established group.producer.production
+  state_there : (r : Record) (n : ℕ) (group : Group) → r.state ≡ Some n → numbered n pool ≡ Some group → (row_of pool r).state ≡ Established group.producer.production
   state_there r n group has found = ap (state_of pool) has ∙ ap (λ o. Established (production_in o)) found
 
   -- another connection has the number, and so they share the producer of an input
@@ -334,7 +333,7 @@ module _ (row : Row) (p : Production) (pool : List Group) (rs : List Record) (ea
 
 timed : (row : Row) (pool : List Group) (rs : List Record) → IsBalanced pool rs → Joins row TimedOut pool pool rs
 timed row pool rs balanced =
-    let opened : Record = record (record_of row) { producer = None } in (
+    let opened : Record = record (record_of row) { state = None } in (
       record {
         served = all_last (IsServed pool) rs opened balanced.served tt;
         counted = λ n. let a = balanced.counted n in let b = members_last n rs opened in omega arith;

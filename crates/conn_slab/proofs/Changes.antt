@@ -14,8 +14,7 @@ use Rattle.adapter_table.specs.Rows.{written_row, written_state}
 use Rattle.adapter_table.specs.Productions.{produced_row, produced_state, changed_row, changed_state}
 use Rattle.mcast_pool.specs.declared.group.Group.{Group}
 use Rattle.mcast_pool.specs.Groups.{number_of, numbered, subscribers, is_due, produced_group, produced_if_due, with_production, written, written_and_changed}
-use Rattle.conn_slab.specs.declared.record.Record.{Record}
-use Rattle.conn_slab.specs.Records.{row_of, state_of, production_in}
+use Rattle.conn_slab.specs.Records.{Record, row_of, state_of, production_in}
 use Rattle.conn_slab.specs.Layout.{IsServed, SharesBy, SharesFound, Shares, IsBalanced, count_in}
 
 -- a change of a group keeps all but its production, and its number
@@ -54,7 +53,7 @@ served_by change keeps pool r (Some n) shares = subst (SharesFound r) (sym (numb
 
 pub served_map : (change : Group → Group) → Keeps change → (pool : List Group) (rs : List Record) → AllByRecursion (IsServed pool) rs → AllByRecursion (IsServed (map change pool)) rs
 served_map change keeps pool [] served = tt
-served_map change keeps pool (r ∷ rs) served = (served_by change keeps pool r r.producer served.0, served_map change keeps pool rs served.1)
+served_map change keeps pool (r ∷ rs) served = (served_by change keeps pool r r.state served.0, served_map change keeps pool rs served.1)
 
 pub balanced_map : (change : Group → Group) → Keeps change → (pool : List Group) (rs : List Record) → IsBalanced pool rs → IsBalanced (map change pool) rs
 balanced_map change keeps pool rs balanced = record {
@@ -81,7 +80,7 @@ rows_map : (change : Group → Group) (states : Record → State → State) (row
     → (pool : List Group) (rs : List Record) → AllByRecursion (IsServed pool) rs → map (row_of (map change pool)) rs ≡ map rows (map (row_of pool) rs)
 rows_map change states rows keeps out follow are pool [] served = refl
 rows_map change states rows keeps out follow are pool (r ∷ rs) served =
-    let here : row_of (map change pool) r ≡ rows (row_of pool r) = ap (λ (s : State). record (row_of pool r) { state = s }) (state_map change states keeps out follow pool r r.producer served.0) ∙ are pool r in
+    let here : row_of (map change pool) r ≡ rows (row_of pool r) = ap (λ (s : State). record (row_of pool r) { state = s }) (state_map change states keeps out follow pool r r.state served.0) ∙ are pool r in
     rw (here, rows_map change states rows keeps out follow are pool rs served.1) refl
 
 -- ---- producers that are due

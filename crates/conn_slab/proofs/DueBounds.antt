@@ -4,8 +4,7 @@ use Rattle.std.specs.List.{AllByRecursion}
 use Rattle.adapter_table.specs.declared.row.State.TheVariants.{Established}
 use Rattle.mcast_pool.specs.declared.group.Group.{Group}
 use Rattle.mcast_pool.specs.Groups.{has_number, numbered, first_due}
-use Rattle.conn_slab.specs.declared.record.Record.{Record}
-use Rattle.conn_slab.specs.Records.{row_of, state_of, production_in}
+use Rattle.conn_slab.specs.Records.{Record, row_of, state_of, production_in}
 use Rattle.conn_slab.specs.Layout.{IsServed, SharesBy, SharesFound}
 use Rattle.conn_slab.specs.Bounds.{StateNotDueBefore, AllNotDueBefore}
 
@@ -37,4 +36,4 @@ by_number pool r (Some n) shares = by_group (first_due pool) r (numbered n pool)
 
 pub rows_rest : (pool : List Group) (rs : List Record) → AllByRecursion (IsServed pool) rs → AllNotDueBefore (first_due pool) (map (row_of pool) rs)
 rows_rest pool [] served = tt
-rows_rest pool (r ∷ rs) served = (by_number pool r r.producer served.0, rows_rest pool rs served.1)
+rows_rest pool (r ∷ rs) served = (by_number pool r r.state served.0, rows_rest pool rs served.1)

@@ -15,11 +15,10 @@ use Rattle.mcast_pool.specs.Groups.{left, AreGroups, IsInUse}
 use Rattle.adapter_table.specs.Connections.{Row}
 use Rattle.adapter_table.specs.Rows.{holds_triad}
 use Rattle.adapter_table.specs.Datagrams.{is_for}
-use Rattle.conn_slab.specs.declared.record.Record.{Record}
 use Rattle.conn_slab.specs.declared.record.TriadKey.{TriadKey}
 use Rattle.conn_slab.specs.declared.record.Source.{Source}
 use Rattle.conn_slab.specs.Index.{items_of}
-use Rattle.conn_slab.specs.Records.{row_of, is_of, key_for, same_key, source_of, same_source}
+use Rattle.conn_slab.specs.Records.{Record, row_of, is_of, key_for, same_key, source_of, same_source}
 use Rattle.conn_slab.specs.Layout.{IsConsistent, IsServed, IsLive, IsBalanced, running_key}
 use Rattle.conn_slab.specs.Connections.{timed_out, timed_out_if, accepting, accepting_if}
 use Rattle.conn_slab.proofs.Lookups.{items_keys}
@@ -45,8 +44,8 @@ module _ (slab : Slab Record) (triads : List (TriadKey × ℕ)) (sources : List 
   pub record Expired (triad : Triad) (key number : ℕ) (r : Record) : Type 0 where
     pub in_use : IsInUse number pool
     pub found : list_any (holds_triad triad) (map (row_of pool) (items_of slab triads)) ≡ true
-    pub kept : IsConsistent (with_value slab key (record r { producer = None })) triads sources (left number pool)
-    pub rows : map (row_of (left number pool)) (items_of (with_value slab key (record r { producer = None })) triads) ≡ map (timed_out_if triad) (map (row_of pool) (items_of slab triads))
+    pub kept : IsConsistent (with_value slab key (record r { state = None })) triads sources (left number pool)
+    pub rows : map (row_of (left number pool)) (items_of (with_value slab key (record r { state = None })) triads) ≡ map (timed_out_if triad) (map (row_of pool) (items_of slab triads))
 
   pub expired : (triad : Triad) (key number : ℕ) (r : Record) → AreGroups pool → running_key slab (lookup (same_key (key_for triad)) triads) ≡ Some (key, number) → get slab key ≡ Some r → Expired triad key number r
   expired triad key number r each is stored =
@@ -55,7 +54,7 @@ module _ (slab : Slab Record) (triads : List (TriadKey × ℕ)) (sources : List 
       let found = lookup (same_key name) triads in
       let way = somebody slab triads sources consistent.filed (is_of name) found by key number is in
       let one : way.r ≡ r = some_is (sym way.stored ∙ stored) in
-      let has : r.producer ≡ Some number = ap (λ (x : Record). x.producer) (sym one) ∙ way.number_is in
+      let has : r.state ≡ Some number = ap (λ (x : Record). x.state) (sym one) ∙ way.number_is in
       let at : find (λ x. is_of name x && runs x) (items_of slab triads) ≡ Some r = way.found_is ∙ ap (λ x. Some x) one in
       let updates = Updates-with_value slab key (stop r) (ap is_some stored) in
       let next = with_value slab key (stop r) in
@@ -63,7 +62,7 @@ module _ (slab : Slab Record) (triads : List (TriadKey × ℕ)) (sources : List 
       let lone = lone_less (is_of name) (λ x. is_of name x && runs x) (λ x passes. (both_hold (is_of name x) (runs x) passes).0) (items_of slab triads) (lone_items name (items_of slab triads) _ (items_keys slab sources triads consistent.filed.by_name) consistent.filed.distinct) in
       let left_it = stopped pool (items_of slab triads) (λ x. is_of name x && runs x) r number each consistent.balanced lone at has in
       record {
-        in_use = subst (IsLive pool) has (live pool r r.producer (found_all (IsServed pool) (λ x. is_of name x && runs x) (items_of slab triads) r at consistent.balanced.served));
+        in_use = subst (IsLive pool) has (live pool r r.state (found_all (IsServed pool) (λ x. is_of name x && runs x) (items_of slab triads) r at consistent.balanced.served));
         found = any_rows (row_of pool) (holds_triad triad) (λ x. is_of name x && runs x) (held_is pool triad) (items_of slab triads) ∙ any_found (λ x. is_of name x && runs x) (items_of slab triads) ∙ ap (λ (o : Option Record). is_some o) at;
         kept = record {
           filed = filed_changed slab triads sources consistent.filed (is_of name) found by key number is next r stop stored updates refl refl;

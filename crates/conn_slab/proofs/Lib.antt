@@ -13,3 +13,4 @@ mod Ends
 mod Listening
 mod Producing
 mod Members
+mod DueProducers

@@ -5,10 +5,9 @@ use Rattle.std.specs.Map.{values_of}
 use Rattle.slab.specs.Slab.{Slab, get}
 use Rattle.adapter_table.specs.Rows.{lives}
 use Rattle.mcast_pool.specs.declared.group.Group.{Group}
-use Rattle.conn_slab.specs.declared.record.Record.{Record}
 use Rattle.conn_slab.specs.declared.record.TriadKey.{TriadKey}
 use Rattle.conn_slab.specs.Index.{items_of}
-use Rattle.conn_slab.specs.Records.{row_of, state_of, listens, listens_in}
+use Rattle.conn_slab.specs.Records.{Record, row_of, state_of, listens, listens_in}
 use Rattle.conn_slab.specs.Connections.{is_listening}
 
 lives_is : (pool : List Group) (n : Option ℕ) → is_some n ≡ lives (state_of pool n)
@@ -17,7 +16,7 @@ lives_is pool (Some n) = refl
 
 rows_listen : (pool : List Group) (rs : List Record) → list_any listens rs ≡ list_any is_listening (map (row_of pool) rs)
 rows_listen pool [] = refl
-rows_listen pool (r ∷ rs) = rw (lives_is pool r.producer, rows_listen pool rs) refl
+rows_listen pool (r ∷ rs) = rw (lives_is pool r.state, rows_listen pool rs) refl
 
 keys_listen : (slab : Slab Record) (triads : List (TriadKey × ℕ)) → list_any (λ key. listens_in (get slab key)) (values_of triads) ≡ list_any listens (items_of slab triads)
 keys_listen slab [] = refl

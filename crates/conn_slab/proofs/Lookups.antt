@@ -5,11 +5,10 @@ use Rattle.std.specs.Map.{lookup, keys_of, remove_entry}
 use Rattle.std.proofs.lemmas.Bool.Decides.{Decides-eqb}
 use Rattle.slab.specs.Slab.{Slab, get, ContainsKey, Updates}
 use Rattle.indexmap.specs.IndexMap.{insert_entry}
-use Rattle.conn_slab.specs.declared.record.Record.{Record}
 use Rattle.conn_slab.specs.declared.record.TriadKey.{TriadKey}
 use Rattle.conn_slab.specs.declared.record.Source.{Source}
 use Rattle.conn_slab.specs.Index.{IsExact, IsNamed, items_of}
-use Rattle.conn_slab.specs.Records.{key_of, same_key, is_of, source_of, same_source}
+use Rattle.conn_slab.specs.Records.{Record, key_of, same_key, is_of, source_of, same_source}
 use Rattle.conn_slab.specs.Layout.{AreFiled}
 use Rattle.conn_slab.proofs.Indexed.{find_source, find_name, find_name_none, item_named, indexed_kept, items_taken, indexed_taken, items_added, indexed_added}
 

@@ -6,8 +6,7 @@ use Rattle.adapter_table.specs.Connections.{Row}
 use Rattle.adapter_table.specs.Productions.{group, is_produced_by, has_number as made_by}
 use Rattle.mcast_pool.specs.declared.group.Group.{Group}
 use Rattle.mcast_pool.specs.Groups.{number_of, numbered}
-use Rattle.conn_slab.specs.declared.record.Record.{Record}
-use Rattle.conn_slab.specs.Records.{row_of, state_of, production_in}
+use Rattle.conn_slab.specs.Records.{Record, row_of, state_of, production_in}
 use Rattle.conn_slab.specs.Layout.{IsServed, SharesBy, SharesFound, IsBalanced, is_number, members, count_in}
 use Rattle.conn_slab.proofs.Producing.{found_passes}
 
@@ -26,8 +25,8 @@ count_step false row rest count is = omega arith
 members_are : (number : ℕ) (pool : List Group) (rs : List Record) → AllByRecursion (IsServed pool) rs → members number rs ≡ length (group number (map (row_of pool) rs))
 members_are number pool [] served = refl
 members_are number pool (r ∷ rs) served =
-    count_step (is_number number r.producer) (row_of pool r) (group number (map (row_of pool) rs)) (members number rs) (members_are number pool rs served.1)
-    ∙ ap (λ (b : Bool). length (cond b (row_of pool r ∷ group number (map (row_of pool) rs)) (group number (map (row_of pool) rs)))) (sym (made number pool r r.producer served.0))
+    count_step (is_number number r.state) (row_of pool r) (group number (map (row_of pool) rs)) (members number rs) (members_are number pool rs served.1)
+    ∙ ap (λ (b : Bool). length (cond b (row_of pool r ∷ group number (map (row_of pool) rs)) (group number (map (row_of pool) rs)))) (sym (made number pool r r.state served.0))
 
 pub members_of : (number : ℕ) (pool : List Group) (rs : List Record) → IsBalanced pool rs → length (group number (map (row_of pool) rs)) ≡ count_in (numbered number pool)
 members_of number pool rs balanced = sym (balanced.counted number ∙ members_are number pool rs balanced.served)

@@ -8,8 +8,7 @@ use Rattle.adapter_table.specs.declared.row.State.TheVariants.{Established, Time
 use Rattle.adapter_table.specs.Productions.{is_produced_by, producer_in, state_producer, has_number as made_by}
 use Rattle.mcast_pool.specs.declared.group.Group.{Group}
 use Rattle.mcast_pool.specs.Groups.{has_number, number_of, numbered, producer_of, IsInUse}
-use Rattle.conn_slab.specs.declared.record.Record.{Record}
-use Rattle.conn_slab.specs.Records.{row_of, state_of, production_in}
+use Rattle.conn_slab.specs.Records.{Record, row_of, state_of, production_in}
 use Rattle.conn_slab.specs.Layout.{IsServed, SharesBy, SharesFound}
 use Rattle.conn_slab.specs.Producing.{producer_by}
 
@@ -64,13 +63,13 @@ no_producer number pool row rows state rest any =
     let more = rest (sym (ap (λ (b : Bool). b || list_any (is_produced_by number) rows) made) ∙ any) in
     (rw none more.0, more.1)
 
-by_found : (number m : ℕ) (pool : List Group) (r : Record) (rows : List Row) (found : Option Group) → r.producer ≡ Some m → numbered m pool ≡ found → SharesFound r found → (list_any (is_produced_by number) rows ≡ true → ReportsProducer number pool rows) → list_any (is_produced_by number) (row_of pool r ∷ rows) ≡ true → ReportsProducer number pool (row_of pool r ∷ rows)
+by_found : (number m : ℕ) (pool : List Group) (r : Record) (rows : List Row) (found : Option Group) → r.state ≡ Some m → numbered m pool ≡ found → SharesFound r found → (list_any (is_produced_by number) rows ≡ true → ReportsProducer number pool rows) → list_any (is_produced_by number) (row_of pool r ∷ rows) ≡ true → ReportsProducer number pool (row_of pool r ∷ rows)
 by_found number m pool r rows None producer is shares rest any = absurd shares
 by_found number m pool r rows (Some g) producer is shares rest any =
     let state : (row_of pool r).state ≡ Established g.producer.production = ap (state_of pool) producer ∙ ap (λ (o : Option Group). Established (production_in o)) is in
     head_group number pool (row_of pool r) rows g state (has_group (row_of pool r) g state (sym shares.point) (sym shares.id)) (same_number number m pool g is) rest any
 
-by_number : (number : ℕ) (pool : List Group) (r : Record) (rows : List Row) (n : Option ℕ) → r.producer ≡ n → SharesBy pool r n → (list_any (is_produced_by number) rows ≡ true → ReportsProducer number pool rows) → list_any (is_produced_by number) (row_of pool r ∷ rows) ≡ true → ReportsProducer number pool (row_of pool r ∷ rows)
+by_number : (number : ℕ) (pool : List Group) (r : Record) (rows : List Row) (n : Option ℕ) → r.state ≡ n → SharesBy pool r n → (list_any (is_produced_by number) rows ≡ true → ReportsProducer number pool rows) → list_any (is_produced_by number) (row_of pool r ∷ rows) ≡ true → ReportsProducer number pool (row_of pool r ∷ rows)
 by_number number pool r rows None producer shares rest any =
     let state : (row_of pool r).state ≡ TimedOut = ap (state_of pool) producer in
     no_producer number pool (row_of pool r) rows state rest any
@@ -79,4 +78,4 @@ by_number number pool r rows (Some m) producer shares rest any = by_found number
 -- a number that some connection has is that of its producer in the pool
 pub reported_by_pool : (number : ℕ) (pool : List Group) (rs : List Record) → AllByRecursion (IsServed pool) rs → list_any (is_produced_by number) (map (row_of pool) rs) ≡ true → ReportsProducer number pool (map (row_of pool) rs)
 reported_by_pool number pool [] served any = absurd cc
-reported_by_pool number pool (r ∷ rs) served any = by_number number pool r (map (row_of pool) rs) r.producer refl served.0 (reported_by_pool number pool rs served.1) any
+reported_by_pool number pool (r ∷ rs) served any = by_number number pool r (map (row_of pool) rs) r.state refl served.0 (reported_by_pool number pool rs served.1) any

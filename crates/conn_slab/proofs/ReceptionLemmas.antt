@@ -9,21 +9,23 @@ use Rattle.slab.proofs.SlabLemmas.{Updates-with_value}
 use Rattle.cip_types.specs.declared.names.Node.{Node}
 use Rattle.cip_types.specs.declared.names.Ms.{Ms}
 use Rattle.cip_datagram.specs.Datagram.{DatagramFields}
-use Rattle.cip_events.specs.declared.event.Delivery.{Delivery}
 use Rattle.cip_events.specs.Answers.{is_accepted}
 use Rattle.mcast_pool.specs.declared.group.Group.{Group}
 use Rattle.adapter_table.specs.declared.profile.Profile.{Profile}
 use Rattle.adapter_table.specs.Connections.{Row}
 use Rattle.adapter_table.specs.Datagrams.{is_for, row_delivery, accepted_row, accepted_if_for}
 use Rattle.adapter_table.specs.Whole.{FitsRow, RowsFit}
-use Rattle.conn_slab.specs.declared.reception.Received.{Received}
-use Rattle.conn_slab.specs.declared.record.Record.{Record}
 use Rattle.conn_slab.specs.declared.record.TriadKey.{TriadKey}
 use Rattle.conn_slab.specs.declared.record.Source.{Source}
 use Rattle.conn_slab.specs.Index.{items_of}
-use Rattle.conn_slab.specs.Records.{row_of, bare_row, key_of, source_of, same_source}
+use Rattle.conn_slab.specs.Records.{Record, row_of, key_of, source_of, same_source}
 use Rattle.conn_slab.specs.Layout.{IsConsistent, IsServed, IsBalanced, members, established, running_key}
-use Rattle.conn_slab.specs.Reception.{received_of, reception, accepted_record, received_record}
+use Rattle.conn_slab.specs.Reception.{IsReceivedBy, reception, received_row}
+use Rattle.conn_slab.specs.declared.reception.Received.{Received}
+use Rattle.adapter_table.specs.declared.acceptance.Judgement.{Judgement}
+use Rattle.adapter_table.specs.declared.acceptance.Judgement.TheVariants as judged
+use Rattle.adapter_table.specs.Judging.{IsJudged, judged_delivery}
+use Rattle.cip_events.specs.declared.event.Delivery.{Delivery}
 use Rattle.conn_slab.proofs.Running.{runs, by_source, nobody, somebody, target_is, rows_changed, filed_changed, items_changed}
 use Rattle.conn_slab.proofs.RowLemmas.{find_rows, shares_accepted}
 
@@ -42,7 +44,7 @@ found_fits test (x ∷ rows) row is fit = split (test x) refl (λ found. found_f
 -- ---- a change that leaves records with their producers
 
 pub record KeepsProducer (pool : List Group) (change : Record → Record) : Type 0 where
-  pub producer : (r : Record) → (change r).producer ≡ r.producer
+  pub producer : (r : Record) → (change r).state ≡ r.state
   pub served : (r : Record) → IsServed pool r → IsServed pool (change r)
 
 pub kept_balance : (pool : List Group) (change : Record → Record) (rs : List Record) → KeepsProducer pool change → IsBalanced pool rs → IsBalanced pool (map change rs)
@@ -67,33 +69,33 @@ kept_balance pool change rs keeps balanced = record {
 -- ---- a record that has accepted a datagram, or has not
 
 reception_by : Ms → DatagramFields → Bool → Record → Record
-reception_by clock d b r = cond b (accepted_record clock d r) r
+reception_by clock d b r = cond b (accepted_row clock d r) r
 
 reception_if : Ms → DatagramFields → (Record → Bool) → Bool → Record → Record
-reception_if clock d test b r = cond (test r) (cond b (accepted_record clock d r) r) r
+reception_if clock d test b r = cond (test r) (cond b (accepted_row clock d r) r) r
 
-keeps_reception : (pool : List Group) (clock : Ms) (d : DatagramFields) (test : Record → Bool) (b : Bool) → KeepsProducer pool (λ r. cond (test r) (cond b (accepted_record clock d r) r) r)
+keeps_reception : (pool : List Group) (clock : Ms) (d : DatagramFields) (test : Record → Bool) (b : Bool) → KeepsProducer pool (λ r. cond (test r) (cond b (accepted_row clock d r) r) r)
 keeps_reception pool clock d test b = record { producer = λ r. producer (test r) b r; served = λ r s. served (test r) b r s }
   where
-    producer : (a b : Bool) (r : Record) → (cond a (cond b (accepted_record clock d r) r) r).producer ≡ r.producer
+    producer : (a b : Bool) (r : Record) → (cond a (cond b (accepted_row clock d r) r) r).state ≡ r.state
     producer true true r = refl
     producer true false r = refl
     producer false b r = refl
 
-    served : (a b : Bool) (r : Record) → IsServed pool r → IsServed pool (cond a (cond b (accepted_record clock d r) r) r)
-    served true true r s = shares_accepted pool r (accepted_record clock d r).last (accepted_record clock d r).deadline r.producer s
+    served : (a b : Bool) (r : Record) → IsServed pool r → IsServed pool (cond a (cond b (accepted_row clock d r) r) r)
+    served true true r s = shares_accepted pool r (accepted_row clock d r).last (accepted_row clock d r).deadline r.state s
     served true false r s = s
     served false b r s = s
 
-same_key_after : (clock : Ms) (d : DatagramFields) (b : Bool) (r : Record) → key_of (cond b (accepted_record clock d r) r) ≡ key_of r
+same_key_after : (clock : Ms) (d : DatagramFields) (b : Bool) (r : Record) → key_of (cond b (accepted_row clock d r) r) ≡ key_of r
 same_key_after clock d true r = refl
 same_key_after clock d false r = refl
 
-same_source_after : (clock : Ms) (d : DatagramFields) (b : Bool) (r : Record) → source_of (cond b (accepted_record clock d r) r) ≡ source_of r
+same_source_after : (clock : Ms) (d : DatagramFields) (b : Bool) (r : Record) → source_of (cond b (accepted_row clock d r) r) ≡ source_of r
 same_source_after clock d true r = refl
 same_source_after clock d false r = refl
 
-row_after : (pool : List Group) (clock : Ms) (d : DatagramFields) (b : Bool) (r : Record) → row_of pool (cond b (accepted_record clock d r) r) ≡ cond b (accepted_row clock d (row_of pool r)) (row_of pool r)
+row_after : (pool : List Group) (clock : Ms) (d : DatagramFields) (b : Bool) (r : Record) → row_of pool (cond b (accepted_row clock d r) r) ≡ cond b (accepted_row clock d (row_of pool r)) (row_of pool r)
 row_after pool clock d true r = refl
 row_after pool clock d false r = refl
 
@@ -109,18 +111,18 @@ rows_after : (clock : Ms) (peer : Node) (d : DatagramFields) (b : Bool) (rows : 
 rows_after clock peer d true rows = refl
 rows_after clock peer d false rows = unchanged (is_for peer d.connection) rows
 
--- the result does not depend on the producer
-reported_by : (b : Bool) (clock : Ms) (d : DatagramFields) (row bare : Row) → bare.deadline ≡ row.deadline → (accepted_row clock d bare).deadline ≡ (accepted_row clock d row).deadline → (cond b (accepted_row clock d bare) bare).deadline ≡ (cond b (accepted_row clock d row) row).deadline
-reported_by true clock d row bare same after = after
-reported_by false clock d row bare same after = same
+-- the state is of no account
+pub received_by : (profile : Profile) (clock : Ms) (d : DatagramFields) (pool : List Group) (r : Record) (received : Received) → IsReceivedBy profile clock d r received → IsReceivedBy profile clock d (row_of pool r) received
+received_by profile clock d pool r received is = record { judgement = is.judgement; consumed = is.consumed; deadline = is.deadline }
 
-abbrev reported : Delivery → ℕ → Ms → Received
-reported delivery consumed deadline = record { delivery = delivery; consumed = consumed; deadline = deadline }
-
-pub reported_is : (profile : Profile) (clock : Ms) (d : DatagramFields) (pool : List Group) (r : Record) → received_of profile clock d (bare_row r) ≡ received_of profile clock d (row_of pool r)
-reported_is profile clock d pool r =
-    ap (λ (deadline : Ms). reported (row_delivery profile (row_of pool r) d) r.consumed deadline)
-    (reported_by (is_accepted (row_delivery profile (row_of pool r) d)) clock d (row_of pool r) (bare_row r) refl refl)
+-- the delivery of a judgement is what is judged
+pub judged_says : (said : Delivery) (bytes : List ℕ) (judgement : Judgement) → IsJudged said bytes judgement → judged_delivery judgement ≡ said
+judged_says said bytes (judged.Applied lent) is = sym is.0
+judged_says said bytes judged.Idle is = sym is
+judged_says said bytes judged.Heartbeat is = sym is
+judged_says said bytes judged.Duplicate is = sym is
+judged_says said bytes judged.Old is = sym is
+judged_says said bytes judged.WrongSize is = sym is
 
 module _ (slab : Slab Record) (triads : List (TriadKey × ℕ)) (sources : List (Source × ℕ)) (pool : List Group) (consistent : IsConsistent slab triads sources pool) where
   pub unreceived : (peer : Node) (id : ℕ) → running_key slab (lookup (same_source (record { peer = peer.0; id = id })) sources) ≡ None → find (is_for peer id) (map (row_of pool) (items_of slab triads)) ≡ None
@@ -138,18 +140,18 @@ module _ (slab : Slab Record) (triads : List (TriadKey × ℕ)) (sources : List 
         find_rows (row_of pool) (is_for peer d.connection) (λ x. test x && runs x) (target_is pool peer d.connection) (items_of slab triads)
         ∙ ap (option_map (row_of pool)) (way.found_is ∙ sym way.stored ∙ stored)
 
-    received_items : (b : Bool) → items_of (with_value slab key (cond b (accepted_record clock d r) r)) triads
-        ≡ map (λ x. cond (same_source (record { peer = peer.0; id = d.connection }) (source_of x) && runs x) (cond b (accepted_record clock d x) x) x) (items_of slab triads)
+    received_items : (b : Bool) → items_of (with_value slab key (cond b (accepted_row clock d r) r)) triads
+        ≡ map (λ x. cond (same_source (record { peer = peer.0; id = d.connection }) (source_of x) && runs x) (cond b (accepted_row clock d x) x) x) (items_of slab triads)
     received_items b =
         let place : Source = record { peer = peer.0; id = d.connection } in
-        let change : Record → Record = λ x. cond b (accepted_record clock d x) x in
+        let change : Record → Record = λ x. cond b (accepted_row clock d x) x in
         items_changed slab triads sources consistent.filed (λ x. same_source place (source_of x)) (lookup (same_source place) sources) (by_source slab triads sources consistent.filed place) key number is
         (with_value slab key (change r)) r change stored (Updates-with_value slab key (change r) (ap is_some stored)) (same_key_after clock d b r) (same_source_after clock d b r)
 
-    received_consistent : (b : Bool) → IsConsistent (with_value slab key (cond b (accepted_record clock d r) r)) triads sources pool
+    received_consistent : (b : Bool) → IsConsistent (with_value slab key (cond b (accepted_row clock d r) r)) triads sources pool
     received_consistent b =
         let place : Source = record { peer = peer.0; id = d.connection } in
-        let change : Record → Record = λ x. cond b (accepted_record clock d x) x in
+        let change : Record → Record = λ x. cond b (accepted_row clock d x) x in
         let test : Record → Bool = λ x. same_source place (source_of x) && runs x in
         let items = received_items b in
         record {
@@ -159,17 +161,17 @@ module _ (slab : Slab Record) (triads : List (TriadKey × ℕ)) (sources : List 
           few = subst (λ (n : ℕ). n ≤ 64) (sym (ap (λ (l : List Record). length l) items ∙ length-map (items_of slab triads) (λ x. cond (test x) (change x) x))) consistent.few;
         }
 
-    pub received_kept : IsConsistent (with_value slab key (received_record profile clock d r)) triads sources pool
-    received_kept = received_consistent (is_accepted (row_delivery profile (bare_row r) d))
+    pub received_kept : IsConsistent (with_value slab key (received_row profile clock d r)) triads sources pool
+    received_kept = received_consistent (is_accepted (row_delivery profile r d))
 
-    pub received_rows : map (row_of pool) (items_of (with_value slab key (received_record profile clock d r)) triads)
+    pub received_rows : map (row_of pool) (items_of (with_value slab key (received_row profile clock d r)) triads)
         ≡ reception profile clock peer d (find (is_for peer d.connection) (map (row_of pool) (items_of slab triads))) (map (row_of pool) (items_of slab triads))
     received_rows =
         let place : Source = record { peer = peer.0; id = d.connection } in
         let test : Record → Bool = λ x. same_source place (source_of x) && runs x in
         let rows = map (row_of pool) (items_of slab triads) in
-        let b = is_accepted (row_delivery profile (bare_row r) d) in
+        let b = is_accepted (row_delivery profile r d) in
         ap (map (row_of pool)) (received_items b)
-        ∙ rows_changed (row_of pool) (is_for peer d.connection) test (λ row. cond b (accepted_row clock d row) row) (λ x. cond b (accepted_record clock d x) x) (target_is pool peer d.connection) (row_after pool clock d b) (items_of slab triads)
+        ∙ rows_changed (row_of pool) (is_for peer d.connection) test (λ row. cond b (accepted_row clock d row) row) (λ x. cond b (accepted_row clock d x) x) (target_is pool peer d.connection) (row_after pool clock d b) (items_of slab triads)
         ∙ rows_after clock peer d b rows
         ∙ ap (λ (o : Option Row). reception profile clock peer d o rows) (sym received_found)

@@ -13,9 +13,8 @@ use Rattle.adapter_table.specs.Sound.{TriadsDiffer, IdsDiffer, GroupsAgree, AllA
 use Rattle.adapter_table.specs.Whole.{FitsRow, RowsFit}
 use Rattle.mcast_pool.specs.declared.group.Group.{Group}
 use Rattle.mcast_pool.specs.Groups.{numbered, left, AreGroups}
-use Rattle.conn_slab.specs.declared.record.Record.{Record}
 use Rattle.conn_slab.specs.declared.record.TriadKey.{TriadKey}
-use Rattle.conn_slab.specs.Records.{row_of, record_of, state_of, key_of, key_for, same_key, is_of, source_of, same_source, left_by}
+use Rattle.conn_slab.specs.Records.{Record, row_of, record_of, state_of, key_of, key_for, same_key, is_of, source_of, same_source, left_by}
 use Rattle.conn_slab.specs.Layout.{IsServed, SharesBy, SharesFound, IsLive, is_number, members, established, IsBalanced}
 use Rattle.conn_slab.proofs.Lookups.{exact_keys}
 use Rattle.conn_slab.proofs.Numbers.{same_of, itself, other_way}
@@ -122,26 +121,26 @@ each_filtered P test (r ∷ rs) all = split (test r) (each_filtered P test rs al
 -- a count over the records, each by its producer
 sum_by : (Option ℕ → ℕ) → List Record → ℕ
 sum_by weigh [] = 0
-sum_by weigh (r ∷ rs) = weigh r.producer + sum_by weigh rs
+sum_by weigh (r ∷ rs) = weigh r.state + sum_by weigh rs
 
 members_sum : (n : ℕ) (rs : List Record) → members n rs ≡ sum_by (λ o. if is_number n o then 1 else 0) rs
 unfolding sum_by
 members_sum n [] = refl
-members_sum n (r ∷ rs) = ap (λ m. (if is_number n r.producer then 1 else 0) + m) (members_sum n rs)
+members_sum n (r ∷ rs) = ap (λ m. (if is_number n r.state then 1 else 0) + m) (members_sum n rs)
 
 established_sum : (rs : List Record) → established rs ≡ sum_by (λ o. if is_some o then 1 else 0) rs
 unfolding sum_by
 established_sum [] = refl
-established_sum (r ∷ rs) = ap (λ m. (if is_some r.producer then 1 else 0) + m) (established_sum rs)
+established_sum (r ∷ rs) = ap (λ m. (if is_some r.state then 1 else 0) + m) (established_sum rs)
 
 -- the records without the one that passes
-sum_without : (weigh : Option ℕ → ℕ) (test : Record → Bool) (rs : List Record) (r : Record) → Lone test rs → find test rs ≡ Some r → sum_by weigh rs ≡ weigh r.producer + sum_by weigh (filter (λ x. not (test x)) rs)
+sum_without : (weigh : Option ℕ → ℕ) (test : Record → Bool) (rs : List Record) (r : Record) → Lone test rs → find test rs ≡ Some r → sum_by weigh rs ≡ weigh r.state + sum_by weigh (filter (λ x. not (test x)) rs)
 unfolding sum_by
 sum_without weigh test [] r lone is = absurd cc
 sum_without weigh test (x ∷ rs) r lone is = split (test x) refl (λ found. sum_without weigh test rs r lone.1 found)
   where
-    split : (b : Bool) → test x ≡ b → (find test rs ≡ Some r → sum_by weigh rs ≡ weigh r.producer + sum_by weigh (filter (λ y. not (test y)) rs))
-        → weigh x.producer + sum_by weigh rs ≡ weigh r.producer + sum_by weigh (cond (not (test x)) (x ∷ filter (λ y. not (test y)) rs) (filter (λ y. not (test y)) rs))
+    split : (b : Bool) → test x ≡ b → (find test rs ≡ Some r → sum_by weigh rs ≡ weigh r.state + sum_by weigh (filter (λ y. not (test y)) rs))
+        → weigh x.state + sum_by weigh rs ≡ weigh r.state + sum_by weigh (cond (not (test x)) (x ∷ filter (λ y. not (test y)) rs) (filter (λ y. not (test y)) rs))
     split true passes rest =
         let same : x ≡ r = some_is (sym (ap (λ b. cond b (Some x) (find test rs)) passes) ∙ is) in
         rw (passes, filter_all test rs (lone.0 passes), same) refl
@@ -150,7 +149,7 @@ sum_without weigh test (x ∷ rs) r lone is = split (test x) refl (λ found. sum
         rw fails (omega arith)
 
 abbrev pub stop : Record → Record
-stop r = record r { producer = None }
+stop r = record r { state = None }
 
 pub fewer : (test : Record → Bool) (rs : List Record) → length (filter test rs) ≤ length rs
 fewer test [] = omega arith
@@ -170,19 +169,19 @@ live pool r (Some n) shares = found (numbered n pool) shares
 
 -- the record of a triad is taken out, and leaves its producer
 pub out_of : (pool : List Group) (rs : List Record) (test : Record → Bool) (r : Record) → AreGroups pool → IsBalanced pool rs → Lone test rs → find test rs ≡ Some r
-    → IsBalanced (left_by r.producer pool) (filter (λ x. not (test x)) rs) × (map (row_of (left_by r.producer pool)) (filter (λ x. not (test x)) rs) ≡ map (row_of pool) (filter (λ x. not (test x)) rs))
-out_of pool rs test r each balanced lone found = by_producer r.producer refl
+    → IsBalanced (left_by r.state pool) (filter (λ x. not (test x)) rs) × (map (row_of (left_by r.state pool)) (filter (λ x. not (test x)) rs) ≡ map (row_of pool) (filter (λ x. not (test x)) rs))
+out_of pool rs test r each balanced lone found = by_producer r.state refl
   where
     rest : List Record
     rest = filter (λ x. not (test x)) rs
 
-    members_are : (n : ℕ) (o : Option ℕ) → r.producer ≡ o → members n rs ≡ (if is_number n o then 1 else 0) + members n (filter (λ x. not (test x)) rs)
+    members_are : (n : ℕ) (o : Option ℕ) → r.state ≡ o → members n rs ≡ (if is_number n o then 1 else 0) + members n (filter (λ x. not (test x)) rs)
     members_are n o is =
         members_sum n rs ∙ sum_without (λ o. if is_number n o then 1 else 0) test rs r lone found
         ∙ ap (λ q. (if is_number n q then 1 else 0) + sum_by (λ o. if is_number n o then 1 else 0) (filter (λ x. not (test x)) rs)) is
         ∙ ap (λ m. (if is_number n o then 1 else 0) + m) (sym (members_sum n (filter (λ x. not (test x)) rs)))
 
-    established_are : (o : Option ℕ) → r.producer ≡ o → established rs ≡ (if is_some o then 1 else 0) + established (filter (λ x. not (test x)) rs)
+    established_are : (o : Option ℕ) → r.state ≡ o → established rs ≡ (if is_some o then 1 else 0) + established (filter (λ x. not (test x)) rs)
     established_are o is =
         established_sum rs ∙ sum_without (λ o. if is_some o then 1 else 0) test rs r lone found
         ∙ ap (λ q. (if is_some q then 1 else 0) + sum_by (λ o. if is_some o then 1 else 0) (filter (λ x. not (test x)) rs)) is
@@ -191,7 +190,7 @@ out_of pool rs test r each balanced lone found = by_producer r.producer refl
     served : AllByRecursion (IsServed pool) (filter (λ x. not (test x)) rs)
     served = each_filtered (IsServed pool) (λ x. not (test x)) rs balanced.served
 
-    by_producer : (o : Option ℕ) → r.producer ≡ o → IsBalanced (left_by o pool) (filter (λ x. not (test x)) rs) × (map (row_of (left_by o pool)) (filter (λ x. not (test x)) rs) ≡ map (row_of pool) (filter (λ x. not (test x)) rs))
+    by_producer : (o : Option ℕ) → r.state ≡ o → IsBalanced (left_by o pool) (filter (λ x. not (test x)) rs) × (map (row_of (left_by o pool)) (filter (λ x. not (test x)) rs) ≡ map (row_of pool) (filter (λ x. not (test x)) rs))
     by_producer None is = (balanced_same pool rs (filter (λ x. not (test x)) rs) balanced (λ n. members_are n None is) (established_are None is) served, refl)
     by_producer (Some n) is = balanced_left n pool rs (filter (λ x. not (test x)) rs) each balanced (record { members_are = λ m. members_are m (Some n) is; established_are = established_are (Some n) is }) served
 
@@ -250,7 +249,7 @@ source_last pool (r ∷ rs) row all =
 
 pub few_established : (rs : List Record) → established rs ≤ length rs
 few_established [] = omega arith
-few_established (r ∷ rs) = split (is_some r.producer) (few_established rs)
+few_established (r ∷ rs) = split (is_some r.state) (few_established rs)
   where
     split : (b : Bool) → established rs ≤ length rs → (if b then 1 else 0) + established rs ≤ suc (length rs)
     split true rest = omega arith
@@ -282,13 +281,13 @@ map_all test (r ∷ rs) none = split (test r) refl none (map_all test rs)
     split true is h rest = absurd (true≢false h)
     split false is h rest = rw is (ap (λ xs. r ∷ xs) (rest h))
 
-sum_stopped : (weigh : Option ℕ → ℕ) → weigh None ≡ 0 → (test : Record → Bool) (rs : List Record) (r : Record) → Lone test rs → find test rs ≡ Some r → sum_by weigh rs ≡ weigh r.producer + sum_by weigh (map (λ x. if test x then stop x else x) rs)
+sum_stopped : (weigh : Option ℕ → ℕ) → weigh None ≡ 0 → (test : Record → Bool) (rs : List Record) (r : Record) → Lone test rs → find test rs ≡ Some r → sum_by weigh rs ≡ weigh r.state + sum_by weigh (map (λ x. if test x then stop x else x) rs)
 unfolding sum_by
 sum_stopped weigh none test [] r lone is = absurd cc
 sum_stopped weigh none test (x ∷ rs) r lone is = split (test x) refl (λ found. sum_stopped weigh none test rs r lone.1 found)
   where
-    split : (b : Bool) → test x ≡ b → (find test rs ≡ Some r → sum_by weigh rs ≡ weigh r.producer + sum_by weigh (map (λ y. if test y then stop y else y) rs))
-        → weigh x.producer + sum_by weigh rs ≡ weigh r.producer + sum_by weigh ((if test x then stop x else x) ∷ map (λ y. if test y then stop y else y) rs)
+    split : (b : Bool) → test x ≡ b → (find test rs ≡ Some r → sum_by weigh rs ≡ weigh r.state + sum_by weigh (map (λ y. if test y then stop y else y) rs))
+        → weigh x.state + sum_by weigh rs ≡ weigh r.state + sum_by weigh ((if test x then stop x else x) ∷ map (λ y. if test y then stop y else y) rs)
     split true passes rest =
         let same : x ≡ r = some_is (sym (ap (λ b. cond b (Some x) (find test rs)) passes) ∙ is) in
         rw (passes, map_all test rs (lone.0 passes), same) (omega arith)
@@ -305,7 +304,7 @@ served_stopped pool test (r ∷ rs) served = (split (test r), served_stopped poo
     split false = served.0
 
 -- the record that passes has left its producer
-pub stopped : (pool : List Group) (rs : List Record) (test : Record → Bool) (r : Record) (number : ℕ) → AreGroups pool → IsBalanced pool rs → Lone test rs → find test rs ≡ Some r → r.producer ≡ Some number
+pub stopped : (pool : List Group) (rs : List Record) (test : Record → Bool) (r : Record) (number : ℕ) → AreGroups pool → IsBalanced pool rs → Lone test rs → find test rs ≡ Some r → r.state ≡ Some number
     → IsBalanced (left number pool) (map (λ x. if test x then stop x else x) rs) × (map (row_of (left number pool)) (map (λ x. if test x then stop x else x) rs) ≡ map (row_of pool) (map (λ x. if test x then stop x else x) rs))
 stopped pool rs test r number each balanced lone found has =
     balanced_left number pool rs (map (λ x. if test x then stop x else x) rs) each balanced
@@ -338,14 +337,14 @@ accepted_balance pool rs test last deadline balanced = record {
 }
   where
     served_one : (b : Bool) (r : Record) → IsServed pool r → IsServed pool (if b then record r { last = last; deadline = deadline } else r)
-    served_one true r s = shares_accepted pool r last deadline r.producer s
+    served_one true r s = shares_accepted pool r last deadline r.state s
     served_one false r s = s
 
     served : (l : List Record) → AllByRecursion (IsServed pool) l → AllByRecursion (IsServed pool) (map (λ x. if test x then record x { last = last; deadline = deadline } else x) l)
     served [] all = tt
     served (r ∷ l) all = (served_one (test r) r all.0, served l all.1)
 
-    count_one : (b : Bool) (n : ℕ) (r : Record) → ◌≡◌ {A = ℕ} (if is_number n (if b then record r { last = last; deadline = deadline } else r).producer then 1 else 0) (if is_number n r.producer then 1 else 0)
+    count_one : (b : Bool) (n : ℕ) (r : Record) → ◌≡◌ {A = ℕ} (if is_number n (if b then record r { last = last; deadline = deadline } else r).state then 1 else 0) (if is_number n r.state then 1 else 0)
     count_one true n r = refl
     count_one false n r = refl
 
@@ -353,7 +352,7 @@ accepted_balance pool rs test last deadline balanced = record {
     counts n [] = refl
     counts n (r ∷ l) = rw (count_one (test r) n r, counts n l) refl
 
-    sum_one : (b : Bool) (r : Record) → ◌≡◌ {A = ℕ} (if is_some (if b then record r { last = last; deadline = deadline } else r).producer then 1 else 0) (if is_some r.producer then 1 else 0)
+    sum_one : (b : Bool) (r : Record) → ◌≡◌ {A = ℕ} (if is_some (if b then record r { last = last; deadline = deadline } else r).state then 1 else 0) (if is_some r.state then 1 else 0)
     sum_one true r = refl
     sum_one false r = refl
 

@@ -8,11 +8,10 @@ use Rattle.adapter_table.specs.Connections.{Row}
 use Rattle.adapter_table.specs.Rows.{holds_triad}
 use Rattle.adapter_table.specs.Datagrams.{is_for}
 use Rattle.mcast_pool.specs.declared.group.Group.{Group}
-use Rattle.conn_slab.specs.declared.record.Record.{Record}
 use Rattle.conn_slab.specs.declared.record.TriadKey.{TriadKey}
 use Rattle.conn_slab.specs.declared.record.Source.{Source}
 use Rattle.conn_slab.specs.Index.{IsNamed, items_of}
-use Rattle.conn_slab.specs.Records.{row_of, key_of, key_for, same_key, is_of, source_of, same_source}
+use Rattle.conn_slab.specs.Records.{Record, row_of, key_of, key_for, same_key, is_of, source_of, same_source}
 use Rattle.conn_slab.specs.Layout.{AreFiled, running_key, running_in, running_of}
 use Rattle.conn_slab.proofs.Indexed.{find_nobody, find_running, only_one, indexed_changed, items_changed_at}
 use Rattle.conn_slab.proofs.Lookups.{exact_keys, exact_sources, at_name}
@@ -20,7 +19,7 @@ use Rattle.conn_slab.proofs.Indexed.{key_of_name}
 use Rattle.conn_slab.proofs.RowLemmas.{triad_is, lives_is, back}
 
 abbrev pub runs : Record → Bool
-runs r = is_some r.producer
+runs r = is_some r.state
 
 some_is : {X : Type 0} {a b : X} → Some a ≡ Some b → a ≡ b
 some_is e = cc
@@ -63,14 +62,14 @@ module _ (slab : Slab Record) (triads : List (TriadKey × ℕ)) (sources : List 
         stopped key (Some n) is = absurd cc
 
         still : (key : ℕ) (r : Record) → found ≡ Some key → get slab key ≡ Some r → running_key slab found ≡ None → runs r ≡ false
-        still key r at stored none = stopped key r.producer (sym (ap (running_key slab) at ∙ ap (running_in key) stored) ∙ none)
+        still key r at stored none = stopped key r.state (sym (ap (running_key slab) at ∙ ap (running_in key) stored) ∙ none)
 
     -- the record under the key
     pub record Runs (key number : ℕ) : Type 0 where
       pub r : Record
       pub at : found ≡ Some key
       pub stored : get slab key ≡ Some r
-      pub number_is : r.producer ≡ Some number
+      pub number_is : r.state ≡ Some number
       pub tested : test r ≡ true
       pub found_is : find (λ x. test x && runs x) (items_of slab triads) ≡ Some r
 
@@ -84,7 +83,7 @@ module _ (slab : Slab Record) (triads : List (TriadKey × ℕ)) (sources : List 
         by_record : (k : ℕ) (o : Option Record) → found ≡ Some k → get slab k ≡ o → running_in k o ≡ Some (key, number) → Runs key number
         by_record k None at stored e = absurd cc
         by_record k (Some r) at stored e =
-            let pair = pair_is k r.producer e in
+            let pair = pair_is k r.state e in
             let at_key : found ≡ Some key = at ∙ ap (λ i. Some i) pair.0 in
             let stored_key : get slab key ≡ Some r = ap (get slab) (sym pair.0) ∙ stored in
             let tested = by.passes key r at_key stored_key in
@@ -128,7 +127,7 @@ rows_changed f p q change changed same follows (r ∷ rs) = rw (same r, rows_cha
     split false = refl
 
 pub held_is : (pool : List Group) (triad : Triad) (r : Record) → holds_triad triad (row_of pool r) ≡ is_of (key_for triad) r && runs r
-held_is pool triad r = rw (lives_is pool r.producer, triad_is pool triad r) (and_back (is_some r.producer) (is_of (key_for triad) r))
+held_is pool triad r = rw (lives_is pool r.state, triad_is pool triad r) (and_back (is_some r.state) (is_of (key_for triad) r))
 
 pub target_is : (pool : List Group) (peer : Node) (id : ℕ) (r : Record) → is_for peer id (row_of pool r) ≡ same_source (record { peer = peer.0; id = id }) (source_of r) && runs r
-target_is pool peer id r = rw (lives_is pool r.producer, back r.peer.0 peer.0, back r.o_t_id.0 id) (and_back (is_some r.producer) (peer.0 == r.peer.0 && id == r.o_t_id.0))
+target_is pool peer id r = rw (lives_is pool r.state, back r.peer.0 peer.0, back r.o_t_id.0 id) (and_back (is_some r.state) (peer.0 == r.peer.0 && id == r.o_t_id.0))

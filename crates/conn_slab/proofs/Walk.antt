@@ -4,11 +4,10 @@ use Rattle.std.specs.List.{AllByRecursion, filter_map, cons_option}
 use Rattle.std.specs.Map.{values_of}
 use Rattle.slab.specs.Slab.{Slab, get}
 use Rattle.mcast_pool.specs.declared.group.Group.{Group}
-use Rattle.conn_slab.specs.declared.record.Record.{Record}
 use Rattle.conn_slab.specs.declared.record.TriadKey.{TriadKey}
 use Rattle.conn_slab.specs.declared.record.Source.{Source}
 use Rattle.conn_slab.specs.Index.{IsNamed, items_of}
-use Rattle.conn_slab.specs.Records.{key_of, same_key, source_of, same_source}
+use Rattle.conn_slab.specs.Records.{Record, key_of, same_key, source_of, same_source}
 use Rattle.conn_slab.specs.Layout.{IsConsistent, IsServed, Leads, LeadsTo}
 use Rattle.conn_slab.proofs.RowLemmas.{live}
 
@@ -20,7 +19,7 @@ leads : (slab : Slab Record) (sources : List (Source × ℕ)) (pool : List Group
 leads slab sources pool [] named served = tt
 leads slab sources pool (e ∷ es) named served =
     let here : AllByRecursion (IsServed pool) (named.0.item ∷ items_of slab es) = rw named.0.stored at served in
-    (subst (LeadsTo pool) (sym named.0.stored) (live pool named.0.item named.0.item.producer here.0), leads slab sources pool es named.1 here.1)
+    (subst (LeadsTo pool) (sym named.0.stored) (live pool named.0.item named.0.item.state here.0), leads slab sources pool es named.1 here.1)
 
 pub all_lead : (slab : Slab Record) (triads : List (TriadKey × ℕ)) (sources : List (Source × ℕ)) (pool : List Group) → IsConsistent slab triads sources pool → AllByRecursion (Leads slab pool) (values_of triads)
 all_lead slab triads sources pool consistent = leads slab sources pool triads consistent.filed.by_name consistent.balanced.served

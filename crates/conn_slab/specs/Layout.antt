@@ -7,11 +7,10 @@ use Rattle.adapter_table.specs.Connections.{Row}
 use Rattle.adapter_table.specs.Productions.{producer_in}
 use Rattle.mcast_pool.specs.declared.group.Group.{Group}
 use Rattle.mcast_pool.specs.Groups.{numbered, IsInUse, subscribers, joined_group, begun, FitsGroup}
-use Rattle.conn_slab.specs.declared.record.Record.{Record}
 use Rattle.conn_slab.specs.declared.record.TriadKey.{TriadKey}
 use Rattle.conn_slab.specs.declared.record.Source.{Source}
 use Rattle.conn_slab.specs.Index.{IsIndexed, items_of}
-use Rattle.conn_slab.specs.Records.{key_of, same_key, source_of, same_source}
+use Rattle.conn_slab.specs.Records.{Record, key_of, same_key, source_of, same_source}
 
 -- the records under their keys, the keys by triad in opening order, and the keys by place
 abbrev pub AreFiled : Slab Record → List (TriadKey × ℕ) → List (Source × ℕ) → Type 0
@@ -36,7 +35,7 @@ SharesBy pool r (Some number) = SharesFound r (numbered number pool)
 
 -- the producer of an established record is in the pool
 abbrev pub IsServed : List Group → Record → Type 0
-IsServed pool r = SharesBy pool r r.producer
+IsServed pool r = SharesBy pool r r.state
 
 abbrev pub is_number : ℕ → Option ℕ → Bool
 is_number number None = false
@@ -45,11 +44,11 @@ is_number number (Some other) = other == number
 -- how many records are of a producer's group, and how many have a producer
 abbrev pub members : ℕ → List Record → ℕ
 members number [] = 0
-members number (r ∷ rs) = (if is_number number r.producer then 1 else 0) + members number rs
+members number (r ∷ rs) = (if is_number number r.state then 1 else 0) + members number rs
 
 abbrev pub established : List Record → ℕ
 established [] = 0
-established (r ∷ rs) = (if is_some r.producer then 1 else 0) + established rs
+established (r ∷ rs) = (if is_some r.state then 1 else 0) + established rs
 
 abbrev pub count_in : Option Group → ℕ
 count_in None = 0
@@ -75,7 +74,7 @@ IsLive pool (Some number) = IsInUse number pool
 
 abbrev pub LeadsTo : List Group → Option Record → Type 0
 LeadsTo pool None = ⊥
-LeadsTo pool (Some r) = IsLive pool r.producer
+LeadsTo pool (Some r) = IsLive pool r.state
 
 -- the key is of a record whose producer, if it has one, is in the pool
 abbrev pub Leads : Slab Record → List Group → ℕ → Type 0
@@ -99,7 +98,7 @@ running_of key (Some number) = Some (key, number)
 
 abbrev pub running_in : ℕ → Option Record → Option (ℕ × ℕ)
 running_in key None = None
-running_in key (Some r) = running_of key r.producer
+running_in key (Some r) = running_of key r.state
 
 -- the key, if the record under it is established, and the number of its producer
 abbrev pub running_key : Slab Record → Option ℕ → Option (ℕ × ℕ)

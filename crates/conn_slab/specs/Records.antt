@@ -5,15 +5,19 @@ use Rattle.cip_netparams.specs.declared.Trigger.TheVariants.{Cyclic}
 use Rattle.cip_productions.specs.declared.production.Production.{Production}
 use Rattle.cip_productions.specs.declared.production.Producer.{Producer}
 use Rattle.cip_productions.specs.Kinds.{is_listener}
-use Rattle.adapter_table.specs.Connections.{Row}
+use Rattle.adapter_table.specs.declared.row.Connection.{Connection}
+use Rattle.adapter_table.specs.Connections.{Row, with_state}
 use Rattle.adapter_table.specs.declared.row.State.{State}
 use Rattle.adapter_table.specs.declared.row.State.TheVariants.{Established, TimedOut}
 use Rattle.adapter_table.specs.Productions.{producer_in, producer_number}
 use Rattle.mcast_pool.specs.declared.group.Group.{Group}
 use Rattle.mcast_pool.specs.Groups.{numbered, joined, left, begun}
-use Rattle.conn_slab.specs.declared.record.Record.{Record}
 use Rattle.conn_slab.specs.declared.record.TriadKey.{TriadKey}
 use Rattle.conn_slab.specs.declared.record.Source.{Source}
+
+-- a connection whose state is the number of its producer, which an established one has
+abbrev pub Record : Type 0
+Record = Connection (Option ℕ)
 
 -- THE CONNECTION OF A RECORD
 
@@ -31,48 +35,12 @@ state_of pool None = TimedOut
 state_of pool (Some number) = Established (production_in (numbered number pool))
 
 abbrev pub row_of : List Group → Record → Row
-row_of pool r = record {
-  triad = r.triad;
-  peer = r.peer;
-  kind = r.kind;
-  consumed = r.consumed;
-  produced = r.produced;
-  o_t_id = r.o_t_id;
-  t_o_id = r.t_o_id;
-  o_t_api_ms = r.o_t_api_ms;
-  t_o_api_ms = r.t_o_api_ms;
-  multiplier = r.multiplier;
-  multicast = r.multicast;
-  opening = r.opening;
-  last = r.last;
-  deadline = r.deadline;
-  state = state_of pool r.producer;
-}
-
--- the same, as if it had timed out
-abbrev pub bare_row : Record → Row
-bare_row r = row_of [] (record r { producer = None })
+row_of pool r = with_state (state_of pool r.state) r
 
 -- THE RECORD OF A CONNECTION
 
 abbrev pub record_of : Row → Record
-record_of row = record {
-  triad = row.triad;
-  peer = row.peer;
-  kind = row.kind;
-  consumed = row.consumed;
-  produced = row.produced;
-  o_t_id = row.o_t_id;
-  t_o_id = row.t_o_id;
-  o_t_api_ms = row.o_t_api_ms;
-  t_o_api_ms = row.t_o_api_ms;
-  multiplier = row.multiplier;
-  multicast = row.multicast;
-  opening = row.opening;
-  last = row.last;
-  deadline = row.deadline;
-  producer = producer_number row.state;
-}
+record_of row = with_state (producer_number row.state) row
 
 -- WHAT LEADS TO A RECORD
 
@@ -99,7 +67,7 @@ same_source a b = a.peer == b.peer && a.id == b.id
 
 -- the record is that of an established listen-only connection
 abbrev pub listens : Record → Bool
-listens r = is_some r.producer && is_listener r.kind
+listens r = is_some r.state && is_listener r.kind
 
 abbrev pub listens_in : Option Record → Bool
 listens_in None = false

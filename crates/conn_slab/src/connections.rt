@@ -5,16 +5,15 @@ ghost use Rattle.std.specs.List.{list_any};
 ghost use Rattle.slab.specs.Slab.{HasRoomFor};
 ghost use Rattle.indexmap.specs.IndexMap.{spare};
 ghost use Rattle.adapter_table.specs.Rows.{has_triad, holds_triad, written_row};
-ghost use Rattle.adapter_table.specs.Productions.{is_produced_by, group, produced_row, changed_row};
+ghost use Rattle.adapter_table.specs.Productions.{is_due, is_produced_by, group, produced_row, changed_row};
 ghost use Rattle.adapter_table.specs.Closing.{without_triad};
 ghost use Rattle.adapter_table.specs.Datagrams.{is_for};
 ghost use Rattle.adapter_table.specs.Whole.{RowsFit};
 ghost use Rattle.cip_datagram.specs.Datagram.{view_datagram};
-ghost use Rattle.std.specs.Option.{option_map};
 ghost use Rattle.conn_slab.specs.Index.{items_of};
 ghost use Rattle.conn_slab.specs.Records.{row_of};
 ghost use Rattle.conn_slab.specs.Layout.{IsConsistent};
-ghost use Rattle.conn_slab.specs.Reception.{received_of, reception};
+ghost use Rattle.conn_slab.specs.Reception.{IsReceived, reception};
 ghost use Rattle.conn_slab.specs.Bounds.{first_end, AllNotDueBefore};
 ghost use Rattle.conn_slab.specs.Producing.{producer_by};
 ghost use Rattle.conn_slab.specs.Connections.{without, AreConnections, timed_out_if, accepting_if, is_opened_at, is_listening};
@@ -24,7 +23,7 @@ use crate::index::{
     Sources, Triads, find_at_position, has_listeners, hint_among, put_last, reserve_record,
     running, take_record,
 };
-use crate::producers::{enter, leave, row_of};
+use crate::producers::{enter, has_due, leave, row_of};
 use crate::reception::{Received, receive_record};
 use crate::record::{Record, Source, key_for, record_of};
 use crate::rows::Rows;
@@ -91,7 +90,7 @@ fn take_out(
     let hint = hint_among(by_triad, triad);
     let record = take_record(records, by_triad, by_source, key_for(triad))?;
     let row = row_of(pool, &record, hint);
-    leave(pool, record.producer, hint);
+    leave(pool, record.state, hint);
     Some(row)
 }
 
@@ -280,7 +279,7 @@ impl Connections {
             return false;
         };
         let record = &mut self.records[key];
-        record.producer = None;
+        record.state = None;
         self.pool.leave(number);
         true
     }
@@ -306,22 +305,21 @@ impl Connections {
         true
     }
 
-    /// The established connection that a datagram of a peer is for receives it, and accepts it if its delivery is an
-    /// accepted one. None if there is no such connection. Takes no memory.
+    /// The established connection that a datagram of a peer is for judges it, and accepts it if it is judged so.
+    /// None if there is no such connection. Takes no memory.
     ///
     /// Volume 1, chapter 3, class 1 transport and inactivity watchdog; Volume 2, chapter 2, sequenced address item.
-    pub fn receive(
+    pub fn receive<'a>(
         &mut self,
         profile: &Profile,
         clock: Ms,
         peer: Node,
-        datagram: &Datagram<'_>,
-    ) -> Option<Received>
+        datagram: &Datagram<'a>,
+    ) -> Option<Received<'a>>
         requires fit { RowsFit self.old }
         requires time { clock.0 ≤ 2 ^ 48 }
-        ensures received { result
-            ≡ option_map (received_of profile.now clock (view_datagram datagram.now))
-            (find (is_for peer datagram.now.connection.0) self.old) }
+        ensures received { IsReceived profile.now clock (view_datagram datagram.now)
+            (find (is_for peer datagram.now.connection.0) self.old) result }
         ensures rows { self.new
             ≡ reception profile.now clock peer (view_datagram datagram.now)
             (find (is_for peer datagram.now.connection.0) self.old) self.old }
@@ -358,6 +356,15 @@ impl Connections {
         ensures { AllNotDueBefore result self.now }
     {
         self.pool.first_due()
+    }
+
+    /// Whether some producer is due. Takes no memory.
+    ///
+    /// Volume 1, chapter 3, production triggers.
+    pub fn is_any_due(&self, clock: Ms) -> bool
+        ensures { result ≡ list_any (is_due clock) self.now }
+    {
+        has_due(self.pool.as_slice(), clock)
     }
 
     /// The producer of a number, which some connection has. The search tries one index first. Takes no memory.

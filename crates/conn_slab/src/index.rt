@@ -123,7 +123,7 @@ pub(crate) fn running(records: &Slab<Record>, key: Option<&usize>) -> Option<(us
 {
     let key = *key?;
     let record = records.get(key)?;
-    let number = record.producer?;
+    let number = record.state?;
     Some((key, number))
 }
 
@@ -131,7 +131,7 @@ pub(crate) fn running(records: &Slab<Record>, key: Option<&usize>) -> Option<(us
 fn listens(record: &Record) -> bool
     ensures { result ≡ listens record.now }
 {
-    record.producer.is_some() && record.kind == Kind::ListenOnly
+    record.state.is_some() && record.kind == Kind::ListenOnly
 }
 
 /// Whether the record of a key is such a one.

@@ -1,13 +1,16 @@
 //! The productions of connections, in the pool of producers.
 
 ghost use Rattle.std.specs.Prelude.{◌≡◌, ◌<◌, ◌≤◌, ◌+◌};
-ghost use Rattle.mcast_pool.specs.Groups.{subscribers};
+ghost use Rattle.std.specs.List.{list_any};
+ghost use Rattle.mcast_pool.specs.Groups.{subscribers, is_due};
 ghost use Rattle.conn_slab.specs.Records.{state_of, row_of, entered, left_by};
 ghost use Rattle.conn_slab.specs.Layout.{IsLive, MayEnter};
 
 use crate::record::Record;
 use adapter_table::{Row, State, producer_in};
-use mcast_pool::Pool;
+use cip_productions::is_production_due;
+use cip_types::Ms;
+use mcast_pool::{Group, Pool};
 
 /// The state of a connection whose producer has this number. The search tries one index first.
 #[inline(always)]
@@ -24,26 +27,10 @@ fn state_of(pool: &Pool, producer: Option<u32>, hint: usize) -> State
 /// The connection of a record. The search for its producer tries one index first.
 #[inline(always)]
 pub(crate) fn row_of(pool: &Pool, record: &Record, hint: usize) -> Row
-    requires { IsLive pool.now record.now.producer }
+    requires { IsLive pool.now record.now.state }
     ensures { result ≡ row_of pool.now record.now }
 {
-    Row {
-        triad: record.triad,
-        peer: record.peer,
-        kind: record.kind,
-        consumed: record.consumed,
-        produced: record.produced,
-        o_t_id: record.o_t_id,
-        t_o_id: record.t_o_id,
-        o_t_api_ms: record.o_t_api_ms,
-        t_o_api_ms: record.t_o_api_ms,
-        multiplier: record.multiplier,
-        multicast: record.multicast,
-        opening: record.opening,
-        last: record.last,
-        deadline: record.deadline,
-        state: state_of(pool, record.producer, hint),
-    }
+    record.with_state(state_of(pool, record.state, hint))
 }
 
 /// The index to try first for the producer of the connection after this one.
@@ -51,7 +38,7 @@ pub(crate) fn row_of(pool: &Pool, record: &Record, hint: usize) -> Row
 pub(crate) fn hint_after(pool: &Pool, record: &Record, hint: usize) -> usize
     ensures { result ≤ hint + 1 }
 {
-    match record.producer {
+    match record.state {
         Some(number) => pool.hint_after(number, hint),
         None => hint,
     }
@@ -76,4 +63,11 @@ pub(crate) fn leave(pool: &mut Pool, producer: Option<u32>, hint: usize)
     if let Some(number) = producer {
         pool.leave_with_hint(number, hint);
     }
+}
+
+/// Whether one of the producers is due.
+pub(crate) fn has_due(groups: &[Group], clock: Ms) -> bool
+    ensures { result ≡ list_any (is_due clock) groups.now }
+{
+    groups.iter().any(|group| is_production_due(&group.producer.production, clock))
 }

@@ -1,7 +1,4 @@
-pub mod Places
 pub mod Orders
-pub mod Support
-pub mod Without
-pub mod Passing
+pub mod Loops
 pub mod Advancing
 pub mod Quiet

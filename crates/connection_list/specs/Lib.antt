@@ -1,5 +1,8 @@
 pub mod Orders
-pub mod Without
 pub mod Tables
+pub mod Whole
+pub mod Lone
+pub mod Replacing
+pub mod Removals
 pub mod Receiving
 pub mod Changes

@@ -1,12 +1,16 @@
 -- Connections that an adapter can have, and the connections after time has passed.
 use Rattle.std.specs.Prelude.{◌≡◌, List, map}
 use Rattle.cip_types.specs.declared.names.Ms.{Ms}
+use Rattle.cip_productions.specs.Productions.{sent}
 use Rattle.adapter_table.specs.Connections.{Row}
 use Rattle.adapter_table.specs.declared.table.AdapterTable.{AdapterTable}
-use Rattle.adapter_table.specs.Closing.{staying}
-use Rattle.adapter_table.specs.Productions.{produced_row}
-use Rattle.adapter_table.specs.Ticks.{expired_rows}
+use Rattle.adapter_table.specs.declared.table.PointValue.{PointValue}
+use Rattle.adapter_table.specs.Opening.{triad_of}
+use Rattle.adapter_table.specs.Closing.{unsupported, staying}
+use Rattle.adapter_table.specs.Productions.{due_productions, produced_row}
+use Rattle.adapter_table.specs.Ticks.{expired, expired_rows}
 use Rattle.adapter_table.specs.Whole.{IsWhole}
+use Rattle.connection_list.specs.declared.table.Passing.{Passing}
 
 -- the connections of some whole table of an adapter
 pub record AreWhole (rows : List Row) : Type 0 where
@@ -18,3 +22,9 @@ pub record AreWhole (rows : List Row) : Type 0 where
 -- and the producers that are due have produced
 abbrev pub advanced_rows : Ms → List Row → List Row
 advanced_rows clock rows = map (produced_row clock) (staying (expired_rows clock rows))
+
+-- what happens to the connections when time passes up to this clock
+pub record IsPassing (clock : Ms) (rows : List Row) (values : List PointValue) (passing : Passing) : Type 0 where
+  pub expired : passing.expired.items ≡ expired clock rows
+  pub dropped : passing.dropped.items ≡ map triad_of (unsupported (expired_rows clock rows))
+  pub datagrams : passing.datagrams.items ≡ map sent (due_productions clock (staying (expired_rows clock rows)) values)

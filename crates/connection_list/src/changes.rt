@@ -1,16 +1,17 @@
 //! Changes of state: the producers of an input after a write.
 
-ghost use Rattle.std.specs.Prelude.{◌≡◌, ◌≤◌, ◌^◌, map, filter, length, IfOk};
-ghost use Rattle.std.specs.List.{list_any};
+ghost use Rattle.std.specs.Prelude.{◌≡◌, ◌≤◌, ◌^◌, map, length, IfOk};
+ghost use Rattle.std.specs.List.{list_any, filter_map};
 ghost use Rattle.cip_productions.specs.Productions.{sent};
 ghost use Rattle.adapter_table.specs.Productions.{produces_on_change, producers_on_change, production_of, productions_on_change, changed_row};
 ghost use Rattle.adapter_table.specs.Rows.{written_row};
 ghost use Rattle.adapter_table.specs.Whole.{RowsFit};
+ghost use Rattle.connection_list.specs.Orders.{picked};
 
 use crate::order::ProducerOrder;
-use crate::producers::{datagram, producers};
+use crate::producers::{datagram, each_producer};
 use crate::rows::{copied, write_rows};
-use adapter_table::{Row, changed_row, produces_on_change};
+use adapter_table::{Row, changed_row, producer_in, produces_on_change};
 use cip_events::OutgoingDatagram;
 use cip_productions::Producer;
 use cip_types::{Ms, OutOfMemory};
@@ -27,19 +28,30 @@ pub fn produces_at_once(rows: &[Row], clock: Ms, point: u32) -> bool
     rows.iter().any(|row| produces_on_change(row, clock, point))
 }
 
-fn on_change_only(
+/// The producer of a connection, if a write of the input makes it produce at once.
+fn changing_in(row: &Row, clock: Ms, point: u32) -> Option<Producer>
+    requires { clock.0 ≤ 2 ^ 48 }
+    ensures { result ≡ picked (produces_on_change clock point) row.now }
+{
+    if !produces_on_change(row, clock, point) {
+        return None;
+    }
+    producer_in(row)
+}
+
+/// The producers of the connections whose producer does.
+fn all_changing(
     alloc: Global,
     rows: &[Row],
     clock: Ms,
     point: u32,
-) -> Result<Vec<Row>, OutOfMemory>
+) -> Result<Vec<Producer>, OutOfMemory>
     requires { clock.0 ≤ 2 ^ 48 }
-    ensures { IfOk result (λ changing. changing.items ≡ filter (produces_on_change clock point) rows.now) }
+    ensures { IfOk result (λ all. all.items ≡ filter_map (picked (produces_on_change clock point)) rows.now) }
 {
     Ok(
         rows.iter()
-            .copied()
-            .filter(|row| produces_on_change(row, clock, point))
+            .filter_map(|row| changing_in(row, clock, point))
             .collect(alloc)?,
     )
 }
@@ -54,9 +66,9 @@ fn producers_on_change(
     requires { clock.0 ≤ 2 ^ 48 }
     ensures { IfOk result (λ changing. changing.items ≡ producers_on_change clock point rows.now) }
 {
-    let changing = on_change_only(alloc, rows, clock, point)?;
-    let producers = producers(alloc, &changing)?;
-    sorted(alloc, &producers, &ProducerOrder::Number)
+    let all = all_changing(alloc, rows, clock, point)?;
+    let each = each_producer(alloc, &all)?;
+    sorted(alloc, &each, &ProducerOrder::Number)
 }
 
 /// The datagrams of these producers, if their input holds these bytes.

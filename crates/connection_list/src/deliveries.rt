@@ -5,7 +5,7 @@ ghost use Rattle.cip_datagram.specs.Datagram.{view_datagram};
 ghost use Rattle.adapter_table.specs.Datagrams.{is_for, accepted_if_for};
 ghost use Rattle.adapter_table.specs.Whole.{RowsFit};
 
-use adapter_table::{Row, accepted_if_for, is_for};
+use adapter_table::{Row, accept_if_for, is_for};
 use cip_datagram::Datagram;
 use cip_types::{ConnId, Ms, Node};
 
@@ -27,6 +27,6 @@ pub fn accept_rows(rows: &mut [Row], clock: Ms, peer: Node, datagram: &Datagram<
     ensures { rows.new ≡ map (accepted_if_for clock peer (view_datagram datagram.now)) rows.old }
 {
     for row in rows.iter_mut() {
-        *row = accepted_if_for(*row, clock, peer, datagram);
+        accept_if_for(row, clock, peer, datagram);
     }
 }

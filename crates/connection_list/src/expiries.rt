@@ -1,13 +1,16 @@
-//! Connections that time out.
+//! Connections that time out, and what happens when time passes.
 
-ghost use Rattle.std.specs.Prelude.{◌≡◌, ◌++◌, map, filter, IfOk};
-ghost use Rattle.adapter_table.specs.Closing.{unsupported, dropped_notice};
-ghost use Rattle.adapter_table.specs.Ticks.{has_expired, expired, expired_row, expired_rows, expired_notice};
+ghost use Rattle.std.specs.Prelude.{◌≡◌, filter, IfOk};
+ghost use Rattle.adapter_table.specs.Sound.{TriadsDiffer};
+ghost use Rattle.adapter_table.specs.Ticks.{has_expired, expired, expired_rows};
+ghost use Rattle.connection_list.specs.Tables.{IsPassing};
 
 use crate::order::ByDeadline;
-use crate::rows::{copied, is_unsupported};
+use crate::productions::sent_when_due;
+use crate::support::{remove_each, unsupported};
+use crate::table::Passing;
 use adapter_table::{Row, expired_row, has_expired};
-use cip_events::Notice;
+use assembly_set::AssemblySet;
 use cip_types::{Ms, OutOfMemory};
 use list_order::sorted;
 use std::alloc::Global;
@@ -44,43 +47,24 @@ pub fn expire_rows(rows: &mut [Row], clock: Ms)
     }
 }
 
-/// The connections after those whose deadline has been reached have timed out.
-///
-/// Volume 1, chapter 3, inactivity watchdog.
-pub fn expired_rows(alloc: Global, rows: &[Row], clock: Ms) -> Result<Vec<Row>, OutOfMemory>
-    ensures { IfOk result (λ left. left.items ≡ expired_rows clock rows.now) }
-{
-    let mut left = copied(alloc, rows)?;
-    expire_rows(&mut left, clock);
-    Ok(left)
-}
-
-/// The notices of connections that time out, in this order, and then of the listen-only ones among the connections
-/// left that are dropped.
-pub fn expiry_notices(
+/// What happens to these connections when time passes up to this clock. Out of memory is the only fault.
+pub fn passing(
     alloc: Global,
-    timed_out: &[Row],
-    left: &[Row],
-) -> Result<Vec<Notice>, OutOfMemory>
-    ensures { IfOk result (λ notices. notices.items
-        ≡ map expired_notice timed_out.now ++ map dropped_notice (unsupported left.now)) }
+    mut rows: Vec<Row>,
+    assemblies: &AssemblySet,
+    clock: Ms,
+) -> Result<Passing, OutOfMemory>
+    requires { TriadsDiffer rows.items }
+    ensures { IfOk result (λ passing. IsPassing clock rows.items assemblies.now.values passing) }
 {
-    let mut notices = expired_notices(alloc, timed_out)?;
-    for row in left {
-        if is_unsupported(left, row) {
-            notices.push(Notice::Dropped(row.triad))?;
-        }
-    }
-    Ok(notices)
-}
-
-fn expired_notices(alloc: Global, timed_out: &[Row]) -> Result<Vec<Notice>, OutOfMemory>
-    ensures { IfOk result (λ notices. notices.items ≡ map expired_notice timed_out.now) }
-{
-    Ok(
-        timed_out
-            .iter()
-            .map(|row| Notice::Expired(row.triad))
-            .collect(alloc)?,
-    )
+    let expired = expired(alloc, &rows, clock)?;
+    expire_rows(&mut rows, clock);
+    let dropped = unsupported(alloc, &rows)?;
+    remove_each(&mut rows, &dropped);
+    let datagrams = sent_when_due(alloc, &rows, assemblies, clock)?;
+    Ok(Passing {
+        expired,
+        dropped,
+        datagrams,
+    })
 }

@@ -9,7 +9,6 @@
 
 mod changes;
 mod deliveries;
-mod dropping;
 mod expiries;
 mod next_change;
 mod order;
@@ -17,15 +16,12 @@ mod plain;
 mod producers;
 mod productions;
 mod rows;
+mod support;
 mod table;
 
-pub use changes::{produces_at_once, sent_on_change, write_and_change_rows, written_rows};
-pub use deliveries::{accept_rows, find_target};
-pub use dropping::drop_unsupported;
-pub use expiries::{expire_rows, expired, expired_rows, expiry_notices};
+pub use changes::{sent_on_change, written_rows};
+pub use expiries::passing;
 pub use plain::ConnectionList;
-pub use productions::{produce_rows, sent_when_due};
-pub use rows::{
-    append_row, closed_notices, copied, find_row, remove_triad, replaced, reserve_row, staying,
-};
-pub use table::{ConnectionTable, ReceivedDatagram};
+pub use productions::sent_when_due;
+pub use support::dropped_with;
+pub use table::{ConnectionTable, Passing, ReceivedDatagram};

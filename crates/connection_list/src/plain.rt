@@ -2,19 +2,17 @@
 
 use crate::changes::{produces_at_once, sent_on_change, write_and_change_rows, written_rows};
 use crate::deliveries::{accept_rows, find_target};
-use crate::dropping::drop_unsupported;
-use crate::expiries::expire_rows;
+use crate::expiries::{expire_rows, passing};
 use crate::next_change::next_change;
 use crate::productions::{produce_rows, sent_when_due};
-use crate::rows::{
-    append_row, closed_notices, copied, find_row, remove_triad, replaced, reserve_row,
-};
-use crate::table::{ConnectionTable, ReceivedDatagram};
-use adapter_table::{Profile, Row, has_expired, is_due, row_delivery};
+use crate::rows::{append_row, copied, find_row, remove_triad, replaced};
+use crate::support::{dropped_with, remove_each};
+use crate::table::{ConnectionTable, Passing, ReceivedDatagram};
+use adapter_table::{Profile, Row, has_expired, is_due, judge};
 use app_rules::{ConnectionsView, ListView};
 use assembly_set::AssemblySet;
 use cip_datagram::Datagram;
-use cip_events::{Notice, OutgoingDatagram};
+use cip_events::OutgoingDatagram;
 use cip_types::{Ms, Node, OutOfMemory, Triad};
 use std::alloc::Global;
 
@@ -75,35 +73,36 @@ impl ConnectionTable for ConnectionList {
         replaced(&self.0, triad)
     }
 
-    fn open(&mut self, row: Row) -> Result<(), OutOfMemory> {
-        reserve_row(&mut self.0)?;
-        append_row(&mut self.0, row);
-        Ok(())
+    fn open(&mut self, replaced: Option<Triad>, row: Row) -> Result<(), OutOfMemory> {
+        append_row(&mut self.0, replaced, row)
     }
 
-    fn closed_notices(&self, alloc: Global, triad: Triad) -> Result<Vec<Notice>, OutOfMemory> {
-        closed_notices(alloc, &self.0, triad)
+    fn dropped_with(&self, alloc: Global, triad: Triad) -> Result<Vec<Triad>, OutOfMemory> {
+        dropped_with(alloc, copied(alloc, &self.0)?, triad)
     }
 
-    fn close(&mut self, triad: Triad) {
+    fn close(&mut self, triad: Triad, dropped: &[Triad]) {
         remove_triad(&mut self.0, triad);
-        drop_unsupported(&mut self.0);
+        remove_each(&mut self.0, dropped);
     }
 
-    fn receive(
+    fn receive<'a>(
         &mut self,
         profile: &Profile,
         clock: Ms,
         peer: Node,
-        datagram: &Datagram<'_>,
-    ) -> Option<ReceivedDatagram> {
+        datagram: &Datagram<'a>,
+    ) -> Option<ReceivedDatagram<'a>> {
         let row = find_target(&self.0, peer, datagram.connection)?;
-        let delivery = row_delivery(profile, &row, datagram);
-        if delivery.is_accepted() {
+        let judgement = judge(profile, &row, datagram);
+        if judgement.delivery().is_accepted() {
             accept_rows(&mut self.0, clock, peer, datagram);
         }
         let consumed = row.consumed;
-        Some(ReceivedDatagram { delivery, consumed })
+        Some(ReceivedDatagram {
+            judgement,
+            consumed,
+        })
     }
 
     fn has_expired(&mut self, clock: Ms) -> bool {
@@ -131,9 +130,18 @@ impl ConnectionTable for ConnectionList {
         produce_rows(&mut self.0, clock);
     }
 
-    fn advance(&mut self, clock: Ms) {
+    fn passing(
+        &self,
+        alloc: Global,
+        assemblies: &AssemblySet,
+        clock: Ms,
+    ) -> Result<Passing, OutOfMemory> {
+        passing(alloc, copied(alloc, &self.0)?, assemblies, clock)
+    }
+
+    fn advance(&mut self, clock: Ms, _timed_out: &[Row], dropped: &[Triad]) {
         expire_rows(&mut self.0, clock);
-        drop_unsupported(&mut self.0);
+        remove_each(&mut self.0, dropped);
         produce_rows(&mut self.0, clock);
     }
 

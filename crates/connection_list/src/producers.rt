@@ -1,12 +1,12 @@
 //! Producers of connections, and the nodes that they send to.
 
-ghost use Rattle.std.specs.Prelude.{◌≡◌, ◌≤◌, ◌++◌, map, filter, length, OnOk, IfOk};
-ghost use Rattle.std.specs.List.{list_any, filter_map};
+ghost use Rattle.std.specs.Prelude.{◌≡◌, ◌≤◌, ◌++◌, map, length, OnOk, IfOk};
+ghost use Rattle.std.specs.List.{list_any};
 ghost use Rattle.cip_types.specs.Order.{first_of_each, unless};
 ghost use Rattle.cip_productions.specs.Productions.{same_producer, sent};
-ghost use Rattle.adapter_table.specs.Productions.{producer_in, producers, group, same_node, peer_of, consumers, production_of};
+ghost use Rattle.adapter_table.specs.Productions.{group, same_node, peer_of, consumers, production_of};
 
-use adapter_table::{Row, has_node, is_produced_by, producer_in};
+use adapter_table::{Row, has_node, is_produced_by};
 use cip_events::{Consumers, OutgoingDatagram};
 use cip_productions::{Producer, same_producer, sent_by};
 use cip_types::{Node, OutOfMemory};
@@ -29,7 +29,8 @@ fn add_producer(producers: &mut Vec<Producer>, producer: Producer) -> Result<(),
     Ok(())
 }
 
-fn each_producer(alloc: Global, producers: &[Producer]) -> Result<Vec<Producer>, OutOfMemory>
+/// Each producer once, as it is first found.
+pub fn each_producer(alloc: Global, producers: &[Producer]) -> Result<Vec<Producer>, OutOfMemory>
     ensures { IfOk result (λ each. each.items ≡ first_of_each same_producer producers.now) }
 {
     let mut each = Vec::new(alloc);
@@ -37,24 +38,6 @@ fn each_producer(alloc: Global, producers: &[Producer]) -> Result<Vec<Producer>,
         add_producer(&mut each, *producer)?;
     }
     Ok(each)
-}
-
-fn all_producers(alloc: Global, rows: &[Row]) -> Result<Vec<Producer>, OutOfMemory>
-    ensures { IfOk result (λ all. all.items ≡ filter_map producer_in rows.now) }
-{
-    Ok(
-        rows.iter()
-            .filter_map(|row| producer_in(row))
-            .collect(alloc)?,
-    )
-}
-
-/// The producers of connections, each once, as its first connection has it.
-pub fn producers(alloc: Global, rows: &[Row]) -> Result<Vec<Producer>, OutOfMemory>
-    ensures { IfOk result (λ each. each.items ≡ producers rows.now) }
-{
-    let all = all_producers(alloc, rows)?;
-    each_producer(alloc, &all)
 }
 
 /// Adds a node that is not there yet.

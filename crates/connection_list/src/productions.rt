@@ -1,13 +1,15 @@
 //! Productions that are due.
 
-ghost use Rattle.std.specs.Prelude.{◌≡◌, ◌≤◌, ◌^◌, map, filter, IfOk};
+ghost use Rattle.std.specs.Prelude.{◌≡◌, ◌≤◌, ◌^◌, map, IfOk};
+ghost use Rattle.std.specs.List.{filter_map};
 ghost use Rattle.cip_productions.specs.Productions.{sent};
 ghost use Rattle.adapter_table.specs.Productions.{is_due, due_producers, due_production, due_productions, produced_row};
 ghost use Rattle.adapter_table.specs.Whole.{RowsFit};
+ghost use Rattle.connection_list.specs.Orders.{picked};
 
 use crate::order::ProducerOrder;
-use crate::producers::{datagram, producers};
-use adapter_table::{Row, is_due, produced_row};
+use crate::producers::{datagram, each_producer};
+use adapter_table::{Row, is_due, produced_row, producer_in};
 use assembly_set::AssemblySet;
 use cip_events::OutgoingDatagram;
 use cip_productions::Producer;
@@ -15,13 +17,23 @@ use cip_types::{Ms, OutOfMemory};
 use list_order::sorted;
 use std::alloc::Global;
 
-fn due_only(alloc: Global, rows: &[Row], clock: Ms) -> Result<Vec<Row>, OutOfMemory>
-    ensures { IfOk result (λ due. due.items ≡ filter (is_due clock) rows.now) }
+/// The producer of a connection, if it is due.
+fn due_in(row: &Row, clock: Ms) -> Option<Producer>
+    ensures { result ≡ picked (is_due clock) row.now }
+{
+    if !is_due(row, clock) {
+        return None;
+    }
+    producer_in(row)
+}
+
+/// The producers of the connections whose producer is due.
+fn all_due(alloc: Global, rows: &[Row], clock: Ms) -> Result<Vec<Producer>, OutOfMemory>
+    ensures { IfOk result (λ all. all.items ≡ filter_map (picked (is_due clock)) rows.now) }
 {
     Ok(
         rows.iter()
-            .copied()
-            .filter(|row| is_due(row, clock))
+            .filter_map(|row| due_in(row, clock))
             .collect(alloc)?,
     )
 }
@@ -30,9 +42,9 @@ fn due_only(alloc: Global, rows: &[Row], clock: Ms) -> Result<Vec<Row>, OutOfMem
 fn due_producers(alloc: Global, rows: &[Row], clock: Ms) -> Result<Vec<Producer>, OutOfMemory>
     ensures { IfOk result (λ due. due.items ≡ due_producers clock rows.now) }
 {
-    let due = due_only(alloc, rows, clock)?;
-    let producers = producers(alloc, &due)?;
-    sorted(alloc, &producers, &ProducerOrder::Due)
+    let all = all_due(alloc, rows, clock)?;
+    let each = each_producer(alloc, &all)?;
+    sorted(alloc, &each, &ProducerOrder::Due)
 }
 
 /// The datagram of a producer that is due.

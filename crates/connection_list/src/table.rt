@@ -2,33 +2,42 @@
 
 ghost use Rattle.std.specs.Prelude.{◌≡◌, ◌≤◌, ◌^◌, ◌∷◌, ◌++◌, [], find, map, length, IfOk, OnOk, OnErr};
 ghost use Rattle.std.specs.List.{list_any};
-ghost use Rattle.std.specs.Option.{option_map};
 ghost use Rattle.cip_datagram.specs.Datagram.{view_datagram};
 ghost use Rattle.cip_productions.specs.Productions.{sent};
-ghost use Rattle.cip_events.specs.declared.event.Notice.{Notice};
 ghost use Rattle.adapter_table.specs.Rows.{has_triad, written_row, others};
-ghost use Rattle.adapter_table.specs.Opening.{is_replaced, replaced_triad};
-ghost use Rattle.adapter_table.specs.Closing.{without_triad, staying, unsupported, dropped_notice};
+ghost use Rattle.adapter_table.specs.Opening.{is_replaced, replaced_triad, triad_of};
+ghost use Rattle.adapter_table.specs.Closing.{without_triad, staying, unsupported};
 ghost use Rattle.adapter_table.specs.Datagrams.{is_for};
 ghost use Rattle.adapter_table.specs.Productions.{is_due, due_productions, produced_row, produces_on_change, productions_on_change, changed_row};
-ghost use Rattle.adapter_table.specs.Ticks.{has_expired};
+ghost use Rattle.adapter_table.specs.Ticks.{has_expired, expired, expired_rows};
 ghost use Rattle.connection_list.specs.Changes.{IsQuietBefore};
-ghost use Rattle.connection_list.specs.Tables.{AreWhole, advanced_rows};
-ghost use Rattle.connection_list.specs.Receiving.{received_by, receiving};
+ghost use Rattle.connection_list.specs.Tables.{AreWhole, IsPassing, advanced_rows};
+ghost use Rattle.connection_list.specs.Receiving.{IsReceived, receiving};
 
-use adapter_table::{Profile, Row};
+use adapter_table::{Judgement, Profile, Row};
 use app_rules::ConnectionsView;
 use assembly_set::AssemblySet;
 use cip_datagram::Datagram;
-use cip_events::{Delivery, Notice, OutgoingDatagram};
+use cip_events::OutgoingDatagram;
 use cip_types::{Ms, Node, OutOfMemory, Triad};
 use std::alloc::Global;
 
-/// The delivery of a datagram that was for a connection, and the point that the connection consumes.
-#[derive(Clone, Copy, PartialEq, Eq)]
-pub struct ReceivedDatagram {
-    pub delivery: Delivery,
+/// The judgement of a datagram that was for a connection, and the point that the connection consumes.
+#[derive(Clone, Copy)]
+pub struct ReceivedDatagram<'a> {
+    pub judgement: Judgement<'a>,
     pub consumed: u32,
+}
+
+/// What happens when time passes, decided before anything changes.
+#[derive(Drop)]
+pub struct Passing {
+    /// The connections that time out, by their deadlines and then in opening order.
+    pub expired: Vec<Row>,
+    /// The listen-only connections that lose their support with them, in opening order.
+    pub dropped: Vec<Triad>,
+    /// The datagrams of the producers that are due afterwards, one each.
+    pub datagrams: Vec<OutgoingDatagram>,
 }
 
 /// The connections of an adapter, which contracts see as their list in opening order.
@@ -60,45 +69,46 @@ pub trait ConnectionTable: ConnectionsView + Drop {
     fn replaced(&self, triad: Triad) -> Option<Triad>
         ensures { result ≡ replaced_triad (Self.rows self.now) triad };
 
-    /// Appends a connection, and removes the one that it replaces. Out of memory is the only fault.
-    fn open(&mut self, row: Row) -> Result<(), OutOfMemory>
+    /// Appends a connection, and removes the one that it replaces, which `replaced` names. Out of memory is the only
+    /// fault.
+    fn open(&mut self, replaced: Option<Triad>, row: Row) -> Result<(), OutOfMemory>
         requires whole { AreWhole (Self.rows self.old) }
+        requires replaced { replaced ≡ replaced_triad (Self.rows self.old) row.triad }
         requires next { AreWhole (others (is_replaced (Self.rows self.old) row.triad) (Self.rows self.old)
             ++ row ∷ []) }
         ensures ok { OnOk result (Self.rows self.new
             ≡ others (is_replaced (Self.rows self.old) row.triad) (Self.rows self.old) ++ row ∷ []) }
         ensures err { OnErr result (Self.rows self.new ≡ Self.rows self.old) };
 
-    /// The notices of a close of the connection of a triad: it is closed, and then the listen-only connections that
-    /// lose their support with it are dropped. Out of memory is the only fault.
-    fn closed_notices(&self, alloc: Global, triad: Triad) -> Result<Vec<Notice>, OutOfMemory>
-        ensures { IfOk result (λ notices. notices.items
-            ≡ Notice.Closed triad ∷ map dropped_notice (unsupported (without_triad triad (Self.rows self.now)))) };
+    /// The triads of the listen-only connections that lose their support with the connection of a triad, in opening
+    /// order. Out of memory is the only fault.
+    fn dropped_with(&self, alloc: Global, triad: Triad) -> Result<Vec<Triad>, OutOfMemory>
+        ensures { IfOk result (λ dropped. dropped.items
+            ≡ map triad_of (unsupported (without_triad triad (Self.rows self.now)))) };
 
-    /// Removes the connection of a triad, and then the listen-only ones without support. Takes no memory.
-    fn close(&mut self, triad: Triad)
+    /// Removes the connection of a triad, and these, which lose their support with it. Takes no memory.
+    fn close(&mut self, triad: Triad, dropped: &[Triad])
         requires whole { AreWhole (Self.rows self.old) }
+        requires dropped { dropped.now ≡ map triad_of (unsupported (without_triad triad (Self.rows self.old))) }
         requires next { AreWhole (staying (without_triad triad (Self.rows self.old))) }
         ensures { Self.rows self.new ≡ staying (without_triad triad (Self.rows self.old)) };
 
     // DATAGRAMS
 
-    /// The connection that a datagram is for receives it, and accepts it if its delivery is an accepted one. Takes no
-    /// memory.
+    /// The connection that a datagram is for judges it, and accepts it if it is judged so. Takes no memory.
     ///
     /// Volume 1, chapter 3, class 1 transport and inactivity watchdog.
-    fn receive(
+    fn receive<'a>(
         &mut self,
         profile: &Profile,
         clock: Ms,
         peer: Node,
-        datagram: &Datagram<'_>,
-    ) -> Option<ReceivedDatagram>
+        datagram: &Datagram<'a>,
+    ) -> Option<ReceivedDatagram<'a>>
         requires whole { AreWhole (Self.rows self.old) }
         requires time { clock.0 ≤ 2 ^ 48 }
-        ensures received { result
-            ≡ option_map (received_by profile.now (view_datagram datagram.now))
-            (find (is_for peer datagram.now.connection.0) (Self.rows self.old)) }
+        ensures received { IsReceived profile.now (view_datagram datagram.now)
+            (find (is_for peer datagram.now.connection.0) (Self.rows self.old)) result }
         ensures rows { Self.rows self.new
             ≡ receiving profile.now clock peer (view_datagram datagram.now)
             (find (is_for peer datagram.now.connection.0) (Self.rows self.old)) (Self.rows self.old) };
@@ -145,10 +155,25 @@ pub trait ConnectionTable: ConnectionsView + Drop {
         requires time { clock.0 ≤ 2 ^ 48 }
         ensures { Self.rows self.new ≡ map (produced_row clock) (Self.rows self.old) };
 
-    /// The connections whose deadline has been reached time out, the listen-only ones that lose their support are
-    /// dropped, and the producers that are due have produced. Takes no memory.
-    fn advance(&mut self, clock: Ms)
+    /// What happens when time passes up to this clock. Out of memory is the only fault.
+    ///
+    /// Volume 1, chapter 3, inactivity watchdog, listen-only application connections and production triggers.
+    fn passing(
+        &self,
+        alloc: Global,
+        assemblies: &AssemblySet,
+        clock: Ms,
+    ) -> Result<Passing, OutOfMemory>
+        requires { AreWhole (Self.rows self.now) }
+        ensures { IfOk result (λ passing.
+            IsPassing clock (Self.rows self.now) assemblies.now.values passing) };
+
+    /// The connections that expire time out, those that lose their support are dropped, and the producers that are
+    /// due have produced. Takes no memory.
+    fn advance(&mut self, clock: Ms, timed_out: &[Row], dropped: &[Triad])
         requires whole { AreWhole (Self.rows self.old) }
+        requires expired { timed_out.now ≡ expired clock (Self.rows self.old) }
+        requires dropped { dropped.now ≡ map triad_of (unsupported (expired_rows clock (Self.rows self.old))) }
         requires next { AreWhole (advanced_rows clock (Self.rows self.old)) }
         requires time { clock.0 ≤ 2 ^ 48 }
         ensures { Self.rows self.new ≡ advanced_rows clock (Self.rows self.old) };

@@ -27,7 +27,7 @@ const OWNER: Row = Row {
     t_o_id: ConnId(0x2000_0001),
     o_t_api_ms: 10,
     t_o_api_ms: 10,
-    multiplier: 2,
+    watchdog: Ms(160),
     multicast: false,
     opening: 1,
     last: None,

@@ -1,9 +1,7 @@
-mod Lone
 mod Expiring
 mod Dropping
 mod Whole
 mod Prefixes
-mod Replacing
 mod Times
 mod Removals
 mod Counted

@@ -13,24 +13,19 @@ use Rattle.adapter_table.specs.Sound.{TriadsDiffer}
 use Rattle.conn_slab.specs.Connections.{without, timed_out, timed_out_if, is_listening}
 use Rattle.owner_counts.specs.Counts.{Counts, number_at, total, is_driver, is_supporter, AreCounted, HasJoined}
 use Rattle.indexed_connections.specs.CountChanges.{named, HaveJoined, AreLess}
-use Rattle.indexed_connections.proofs.Lone.{some_is, neither, triad_only}
+use Rattle.connection_list.specs.Lone.{some_is, neither, triad_only}
+use Rattle.connection_list.specs.Removals.{all_stay}
 
 -- ---- a connection that is found is among others
 
 not_found : (b : Bool) (test : Row → Bool) (x : Row) (rows : List Row) → test x ≡ b → find test (x ∷ rows) ≡ cond b (Some x) (find test rows)
 not_found b test x rows is = ap (λ c. cond c (Some x) (find test rows)) is
 
-all_stay : (test : Row → Bool) (rows : List Row) → list_any test rows ≡ false → filter (λ x. not (test x)) rows ≡ rows
-all_stay test [] none = refl
-all_stay test (row ∷ rows) none =
-    let parts = neither (test row) (list_any test rows) none in
-    rw parts.0 (ap (λ (l : List Row). row ∷ l) (all_stay test rows parts.1))
-
-not_out : (b c : Bool) (row : Row) → c ≡ false → cond (b && c) (timed_out row) row ≡ row
+pub not_out : (b c : Bool) (row : Row) → c ≡ false → cond (b && c) (timed_out row) row ≡ row
 not_out true c row is = rw is refl
 not_out false c row is = refl
 
-none_out : (triad : Triad) (rows : List Row) → list_any (has_triad triad) rows ≡ false → map (timed_out_if triad) rows ≡ rows
+pub none_out : (triad : Triad) (rows : List Row) → list_any (has_triad triad) rows ≡ false → map (timed_out_if triad) rows ≡ rows
 none_out triad [] none = refl
 none_out triad (row ∷ rows) none =
     let parts = neither (has_triad triad row) (list_any (has_triad triad) rows) none in
@@ -181,22 +176,3 @@ any_counted test (row ∷ rows) n is = split (test row) is (any_counted test row
     split : (b : Bool) → n ≡ length (cond b (row ∷ filter test rows) (filter test rows)) → (n ≡ length (filter test rows) → not (n == 0) ≡ list_any test rows) → not (n == 0) ≡ (b || list_any test rows)
     split true is rest = positive n (length (filter test rows)) (omega arith)
     split false is rest = rest is
-
-not_not : (b : Bool) → not (not b) ≡ b
-not_not true = refl
-not_not false = refl
-
-alone_by : (e : Bool) (kind : Kind) (point n : ℕ) (rows : List Row) → n ≡ length (filter (supports ListenOnly point) rows) → (e && (is_listener kind && n == 0)) ≡ (e && (is_listener kind && not (is_supported rows kind point)))
-alone_by e ExclusiveOwner point n rows is = refl
-alone_by e InputOnly point n rows is = refl
-alone_by e ListenOnly point n rows is = ap (λ (b : Bool). e && b) (sym (not_not (n == 0)) ∙ ap not (any_counted (supports ListenOnly point) rows n is))
-
-both_true : (e k s t : Bool) → (e && k) ≡ true → (e && (k && s)) ≡ t → s ≡ t
-both_true true true s t is same = same
-both_true true false s t is same = absurd (true≢false (sym is))
-both_true false k s t is same = absurd (true≢false (sym is))
-
--- a listener without counted support is one without support
-pub alone : (counts : Counts) (rows : List Row) (row : Row) (n : ℕ) → AreCounted counts rows → n ≡ number_at row.produced counts.supporters → is_listening row ≡ true → (n == 0) ≡ is_unsupported rows row
-alone counts rows row n counted is listens =
-    both_true (is_established row) (is_listener row.kind) (n == 0) (is_unsupported rows row) listens (alone_by (is_established row) row.kind row.produced n rows (is ∙ counted.supporters row.produced))

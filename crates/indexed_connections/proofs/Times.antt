@@ -1,7 +1,6 @@
 -- Bounds on the times of connections, as these change.
 use Rattle.std.proofs.Common.{◌≡◌, ◌≤◌, ◌<◌, ℕ, ◌==◌, ◌&&◌, Bool, true, false, cond, List, [], ◌∷◌, ◌++◌, map, filter, not, find, Option, Some, None, refl, sym, ap, subst, ◌∙◌, true≢false, arith}
 use Rattle.std.specs.Prelude.{nat_le}
-use Rattle.std.specs.Option.{option_map}
 use Rattle.std.specs.List.{list_any}
 use Rattle.std.proofs.lemmas.Bool.Decides.{nat_tests}
 use Rattle.cip_types.specs.declared.names.Ms.{Ms}
@@ -16,14 +15,14 @@ use Rattle.adapter_table.specs.declared.row.State.TheVariants.{Established, Time
 use Rattle.cip_types.specs.declared.names.Triad.{Triad}
 use Rattle.conn_slab.specs.Connections.{without}
 use Rattle.adapter_table.specs.Rows.{lives, has_triad, is_established, written_state, written_row}
-use Rattle.adapter_table.specs.Datagrams.{is_for, row_delivery, accepted_row, accepted_if_for}
+use Rattle.adapter_table.specs.Datagrams.{later_deadline, is_for, row_delivery, accepted_row, accepted_if_for}
 use Rattle.adapter_table.specs.Productions.{is_due, state_is_due, produced_row, produced_state, changed_state, changed_row}
 use Rattle.adapter_table.specs.Sound.{IdsDiffer}
 use Rattle.adapter_table.specs.Ticks.{has_expired}
 use Rattle.conn_slab.specs.declared.reception.Received.{Received}
 use Rattle.conn_slab.specs.Bounds.{never, end_of, first_end, StateNotDueBefore, NotDueBefore, AllNotDueBefore}
-use Rattle.conn_slab.specs.Reception.{received_of, reception}
-use Rattle.indexed_connections.proofs.Lone.{some_is, neither}
+use Rattle.conn_slab.specs.Reception.{IsReceived, reception}
+use Rattle.connection_list.specs.Lone.{some_is, neither}
 
 -- ---- before a bound nothing happens
 
@@ -135,7 +134,7 @@ rests_same clock peer d bound (row ∷ rows) all = (split (is_for peer d.connect
     split true = all.0
     split false = all.0
 
-received_end : (b : Bool) (clock : Ms) (peer : Node) (d : DatagramFields) (low : ℕ) (rows : List Row) (found : Row) → IdsDiffer rows → find (is_for peer d.connection) rows ≡ Some found → low ≤ (cond b (accepted_row clock d found) found).deadline.0 → low ≤ first_end rows → low ≤ first_end (cond b (map (accepted_if_for clock peer d) rows) rows)
+received_end : (b : Bool) (clock : Ms) (peer : Node) (d : DatagramFields) (low : ℕ) (rows : List Row) (found : Row) → IdsDiffer rows → find (is_for peer d.connection) rows ≡ Some found → low ≤ (cond b (later_deadline clock found) found.deadline).0 → low ≤ first_end rows → low ≤ first_end (cond b (map (accepted_if_for clock peer d) rows) rows)
 received_end true clock peer d low rows found differ is after before = accepted_ends clock peer d low rows found differ is after before
 received_end false clock peer d low rows found differ is after before = before
 
@@ -144,13 +143,12 @@ received_rest true clock peer d bound rows all = rests_same clock peer d bound r
 received_rest false clock peer d bound rows all = all
 
 -- if it was received, the earlier of the bound and the deadline of the receiving connection is a bound
-ends_found : (profile : Profile) (clock : Ms) (peer : Node) (d : DatagramFields) (low next_watchdog : ℕ) (rows : List Row) (o : Option Row) (received : Received) → find (is_for peer d.connection) rows ≡ o → IdsDiffer rows → Some received ≡ option_map (received_of profile clock d) o → low ≤ next_watchdog → low ≤ received.deadline.0 → next_watchdog ≤ first_end rows → low ≤ first_end (reception profile clock peer d o rows)
-ends_found profile clock peer d low next_watchdog rows None received is differ reported below after before = absurd cc
+ends_found : (profile : Profile) (clock : Ms) (peer : Node) (d : DatagramFields) (low next_watchdog : ℕ) (rows : List Row) (o : Option Row) (received : Received) → find (is_for peer d.connection) rows ≡ o → IdsDiffer rows → IsReceived profile clock d o (Some received) → low ≤ next_watchdog → low ≤ received.deadline.0 → next_watchdog ≤ first_end rows → low ≤ first_end (reception profile clock peer d o rows)
+ends_found profile clock peer d low next_watchdog rows None received is differ reported below after before = absurd reported
 ends_found profile clock peer d low next_watchdog rows (Some row) received is differ reported below after before =
-    let same : received ≡ received_of profile clock d row = some_is reported in
-    received_end (is_accepted (row_delivery profile row d)) clock peer d low rows row differ is (subst (λ (h : Received). low ≤ h.deadline.0) same after) (omega arith)
+    received_end (is_accepted (row_delivery profile row d)) clock peer d low rows row differ is (subst (λ (deadline : Ms). low ≤ deadline.0) reported.deadline after) (omega arith)
 
-pub ends_received : (profile : Profile) (clock : Ms) (peer : Node) (d : DatagramFields) (low next_watchdog : ℕ) (rows : List Row) (received : Received) → IdsDiffer rows → Some received ≡ option_map (received_of profile clock d) (find (is_for peer d.connection) rows) → low ≤ next_watchdog → low ≤ received.deadline.0 → next_watchdog ≤ first_end rows → low ≤ first_end (reception profile clock peer d (find (is_for peer d.connection) rows) rows)
+pub ends_received : (profile : Profile) (clock : Ms) (peer : Node) (d : DatagramFields) (low next_watchdog : ℕ) (rows : List Row) (received : Received) → IdsDiffer rows → IsReceived profile clock d (find (is_for peer d.connection) rows) (Some received) → low ≤ next_watchdog → low ≤ received.deadline.0 → next_watchdog ≤ first_end rows → low ≤ first_end (reception profile clock peer d (find (is_for peer d.connection) rows) rows)
 ends_received profile clock peer d low next_watchdog rows received differ reported below after before =
     ends_found profile clock peer d low next_watchdog rows (find (is_for peer d.connection) rows) received refl differ reported below after before
 

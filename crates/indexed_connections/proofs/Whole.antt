@@ -1,10 +1,11 @@
 -- Facts of the connections of a whole table.
-use Rattle.std.proofs.Common.{List, subst}
+use Rattle.std.proofs.Common.{◌≡◌, List, Option, Some, None, refl, subst}
+use Rattle.cip_types.specs.declared.names.Triad.{Triad}
 use Rattle.adapter_table.specs.Connections.{Row}
-use Rattle.adapter_table.specs.Sound.{TriadsDiffer, IdsDiffer, GroupsAloneShare, OpeningsRise}
-use Rattle.adapter_table.specs.Whole.{RowsFit}
+use Rattle.adapter_table.specs.Sound.{IdsDiffer, GroupsAloneShare}
 use Rattle.connection_list.specs.Tables.{AreWhole}
-use Rattle.conn_slab.specs.Connections.{AreConnections}
+use Rattle.connection_list.specs.Replacing.{left_by}
+use Rattle.conn_slab.specs.Connections.{AreConnections, without}
 
 pub whole_connections : (rows : List Row) → AreWhole rows → AreConnections rows
 whole_connections rows whole =
@@ -18,17 +19,13 @@ whole_connections rows whole =
       share = whole.whole.sound.producers.shared;
     })
 
-pub whole_triads : (rows : List Row) → AreWhole rows → TriadsDiffer rows
-whole_triads rows whole = subst TriadsDiffer whole.same whole.whole.sound.triads_differ
-
 pub whole_ids : (rows : List Row) → AreWhole rows → IdsDiffer rows
 whole_ids rows whole = subst IdsDiffer whole.same whole.whole.sound.ids_differ
-
-pub whole_fit : (rows : List Row) → AreWhole rows → RowsFit rows
-whole_fit rows whole = subst RowsFit whole.same whole.whole.fits
 
 pub whole_shares : (rows : List Row) → AreWhole rows → GroupsAloneShare rows
 whole_shares rows whole = subst GroupsAloneShare whole.same whole.whole.sound.producers.shared
 
-pub whole_rise : (rows : List Row) → AreWhole rows → OpeningsRise rows
-whole_rise rows whole = subst OpeningsRise whole.same whole.whole.sound.producers.openings_rise
+-- the connections without the one that is replaced
+pub same_left : (removed : Option Triad) (rows : List Row) → without removed rows ≡ left_by removed rows
+same_left None rows = refl
+same_left (Some triad) rows = refl

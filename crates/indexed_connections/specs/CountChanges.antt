@@ -1,8 +1,9 @@
 -- Running counts as connections are removed.
-use Rattle.std.specs.Prelude.{◌≡◌, List, ◌∷◌, ◌++◌, find, Option, Some, None}
+use Rattle.std.specs.Prelude.{◌≡◌, List, [], ◌∷◌, ◌++◌, map, find, Option, Some, None}
 use Rattle.cip_types.specs.declared.names.Triad.{Triad}
 use Rattle.adapter_table.specs.Connections.{Row}
 use Rattle.adapter_table.specs.Rows.{has_triad}
+use Rattle.conn_slab.specs.Connections.{timed_out_if}
 use Rattle.owner_counts.specs.Counts.{Counts, AreCounted, HasJoined}
 
 -- the connection of the triad, if one is named
@@ -19,3 +20,8 @@ HaveJoined (Some row) counts = HasJoined row counts
 abbrev pub AreLess : Option Row → Counts → Counts → Type 0
 AreLess None old new = new ≡ old
 AreLess (Some row) old new = (front back : List Row) → AreCounted old (front ++ row ∷ back) → AreCounted new (front ++ back)
+
+-- the connections of these triads have timed out, one after another
+abbrev pub timed_out_each : List Row → List Row → List Row
+timed_out_each [] rows = rows
+timed_out_each (end ∷ ends) rows = timed_out_each ends (map (timed_out_if end.triad) rows)

@@ -5,7 +5,8 @@ ghost use Rattle.adapter_table.specs.Closing.{without_triad};
 ghost use Rattle.adapter_table.specs.Sound.{TriadsDiffer};
 ghost use Rattle.conn_slab.specs.Connections.{AreConnections, without, timed_out_if};
 ghost use Rattle.owner_counts.specs.Counts.{AreCounted};
-ghost use Rattle.indexed_connections.specs.CountChanges.{named, HaveJoined, AreLess};
+ghost use Rattle.connection_list.specs.Removals.{without_each};
+ghost use Rattle.indexed_connections.specs.CountChanges.{named, HaveJoined, AreLess, timed_out_each};
 
 use adapter_table::Row;
 use cip_types::{OutOfMemory, Triad};
@@ -83,9 +84,7 @@ pub fn close(connections: &mut Connections, rules: &mut Rules, triad: Triad)
 }
 
 /// The established connection of a triad times out. Takes no memory.
-///
-/// Volume 1, chapter 3, inactivity watchdog.
-pub fn time_out(connections: &mut Connections, rules: &mut Rules, triad: Triad)
+fn time_out(connections: &mut Connections, rules: &mut Rules, triad: Triad)
     requires counted { AreCounted rules.old connections.old }
     requires differ { TriadsDiffer connections.old }
     ensures rows { connections.new ≡ map (timed_out_if triad) connections.old }
@@ -94,4 +93,32 @@ pub fn time_out(connections: &mut Connections, rules: &mut Rules, triad: Triad)
     let removed = connections.of(triad);
     connections.expire(triad);
     forget(rules, removed);
+}
+
+/// These connections time out. Takes no memory.
+///
+/// Volume 1, chapter 3, inactivity watchdog.
+pub fn expire(connections: &mut Connections, rules: &mut Rules, timed_out: &[Row])
+    requires counted { AreCounted rules.old connections.old }
+    requires differ { TriadsDiffer connections.old }
+    ensures rows { connections.new ≡ timed_out_each timed_out.now connections.old }
+    ensures counted { AreCounted rules.new connections.new }
+{
+    for row in timed_out {
+        time_out(connections, rules, row.triad);
+    }
+}
+
+/// Removes the connections of triads. Takes no memory.
+///
+/// Volume 1, chapter 3, listen-only application connections.
+pub fn close_each(connections: &mut Connections, rules: &mut Rules, triads: &[Triad])
+    requires counted { AreCounted rules.old connections.old }
+    requires differ { TriadsDiffer connections.old }
+    ensures rows { connections.new ≡ without_each triads.now connections.old }
+    ensures counted { AreCounted rules.new connections.new }
+{
+    for triad in triads {
+        close(connections, rules, *triad);
+    }
 }

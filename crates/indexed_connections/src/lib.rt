@@ -7,7 +7,6 @@
 #![tactic(auto)]
 
 mod counts;
-mod expiry;
 mod from_list;
 mod queries;
 mod table;

@@ -1,21 +1,18 @@
 //! Searches through connections, one after another. No call takes memory.
 
-ghost use Rattle.std.specs.Prelude.{◌≡◌, ◌≤◌, ◌^◌, List, find};
+ghost use Rattle.std.specs.Prelude.{◌≡◌, ◌≤◌, ◌^◌, find};
 ghost use Rattle.std.specs.List.{list_any};
-ghost use Rattle.adapter_table.specs.Rows.{is_established, is_timed_out, is_member, is_unsupported};
-ghost use Rattle.adapter_table.specs.Connections.{Row};
-ghost use Rattle.adapter_table.specs.Productions.{is_due, produces_on_change};
+ghost use Rattle.adapter_table.specs.Rows.{is_established, is_timed_out, is_member};
+ghost use Rattle.adapter_table.specs.Productions.{produces_on_change};
 ghost use Rattle.adapter_table.specs.Ticks.{has_expired};
 ghost use Rattle.conn_slab.specs.Connections.{is_listening};
-ghost use Rattle.owner_counts.specs.Counts.{AreCounted};
 
 use adapter_table::{
-    Row, has_expired, is_due, is_established, is_member, is_timed_out, produces_on_change,
+    Row, has_expired, is_established, is_member, is_timed_out, produces_on_change,
 };
 use cip_productions::Kind;
 use cip_types::Ms;
-use conn_slab::{Connections, Rows};
-use owner_counts::Rules;
+use conn_slab::Rows;
 
 /// Whether some connection is established.
 pub fn is_any_established(rows: Rows<'_>) -> bool
@@ -23,19 +20,6 @@ pub fn is_any_established(rows: Rows<'_>) -> bool
 {
     for row in rows {
         if is_established(&row) {
-            return true;
-        }
-    }
-    false
-}
-
-/// Whether the producer of some connection is due.
-#[inline(never)]
-pub fn is_any_due(rows: Rows<'_>, clock: Ms) -> bool
-    ensures { result ≡ list_any (is_due clock) rows.entry }
-{
-    for row in rows {
-        if is_due(&row, clock) {
             return true;
         }
     }
@@ -96,24 +80,4 @@ pub fn is_listening(row: &Row) -> bool
     ensures { result ≡ is_listening row.now }
 {
     is_established(row) && row.kind == Kind::ListenOnly
-}
-
-/// Whether a connection is an established listen-only one without support, among those that are counted.
-fn is_unsupported(rules: &Rules, row: &Row) -> bool
-    ensures { (rows : List Row) → AreCounted rules.now rows → result ≡ is_unsupported rows row.now }
-{
-    is_listening(row) && rules.supporters(row.produced) == 0
-}
-
-/// The first listen-only connection without support.
-pub fn first_unsupported(connections: &Connections, rules: &Rules) -> Option<Row>
-    requires { AreCounted rules.now connections.now }
-    ensures { result ≡ find (is_unsupported connections.now) connections.now }
-{
-    for row in connections.rows() {
-        if is_unsupported(rules, &row) {
-            return Some(row);
-        }
-    }
-    None
 }

@@ -1,29 +1,28 @@
 //! The table of connections with indexes, counts and bounds.
 
-ghost use Rattle.std.specs.Prelude.{◌≡◌, ◌||◌, ◌∷◌, [], true, IfOk};
+ghost use Rattle.std.specs.Prelude.{◌≡◌, ◌||◌, true};
 ghost use Rattle.std.specs.List.{list_any};
 ghost use Rattle.adapter_table.specs.Ticks.{has_expired};
-ghost use Rattle.cip_events.specs.declared.event.Notice.{Notice};
 ghost use Rattle.conn_slab.specs.Bounds.{NotDueBefore, AllNotDueBefore};
 ghost use Rattle.conn_slab.specs.Connections.{is_listening};
 ghost use Rattle.due_datagrams.specs.ConsumerTables.{consumers_by_producer};
 
-use crate::counts::{close, counted, open};
-use crate::expiry::{drop_unsupported, expire};
+use crate::counts::{close, close_each, counted, expire, open};
 use crate::from_list::{from_rows, replaced};
 use crate::queries::{
-    first_expired, first_member, first_timed_out, is_any_due, is_any_established, is_any_on_change,
+    first_expired, first_member, first_timed_out, is_any_established, is_any_on_change,
     is_listening,
 };
 use adapter_table::{Profile, Row, State};
 use app_rules::ConnectionsView;
 use assembly_set::AssemblySet;
 use cip_datagram::Datagram;
-use cip_events::{Notice, OutgoingDatagram};
+use cip_events::OutgoingDatagram;
 use cip_types::limits::MOST_CONNECTIONS;
 use cip_types::{Ms, Node, OutOfMemory, Triad};
 use connection_list::{
-    ConnectionTable, ReceivedDatagram, closed_notices, sent_on_change, sent_when_due, written_rows,
+    ConnectionTable, Passing, ReceivedDatagram, dropped_with, passing, sent_on_change,
+    sent_when_due, written_rows,
 };
 use due_datagrams::{ConsumerTable, due_datagrams};
 use owner_counts::Rules;
@@ -103,15 +102,6 @@ fn refresh_consumers(
         return consumers_valid;
     }
     consumer_table.rebuild(connections)
-}
-
-/// The notice of a close with which no other connection is dropped.
-fn lone_close_notice(alloc: Global, triad: Triad) -> Result<Vec<Notice>, OutOfMemory>
-    ensures { IfOk result (λ notices. notices.items ≡ Notice.Closed triad ∷ []) }
-{
-    let mut notices = Vec::new(alloc);
-    notices.push(Notice::Closed(triad))?;
-    Ok(notices)
 }
 
 impl IndexedConnections {
@@ -212,9 +202,8 @@ impl ConnectionTable for IndexedConnections {
         replaced(&self.connections, triad)
     }
 
-    fn open(&mut self, row: Row) -> Result<(), OutOfMemory> {
-        let removed = replaced(&self.connections, row.triad);
-        open(&mut self.connections, &mut self.rules, removed, row)?;
+    fn open(&mut self, replaced: Option<Triad>, row: Row) -> Result<(), OutOfMemory> {
+        open(&mut self.connections, &mut self.rules, replaced, row)?;
         self.next_watchdog = self.next_watchdog.min(row.deadline.0);
         self.next_production = self.next_production.min(due_of(&row));
         self.listening = listens_with(self.listening, &row);
@@ -222,31 +211,30 @@ impl ConnectionTable for IndexedConnections {
         Ok(())
     }
 
-    fn closed_notices(&self, alloc: Global, triad: Triad) -> Result<Vec<Notice>, OutOfMemory> {
+    fn dropped_with(&self, alloc: Global, triad: Triad) -> Result<Vec<Triad>, OutOfMemory> {
         if !self.listening {
-            return lone_close_notice(alloc, triad);
+            return Ok(Vec::new(alloc));
         }
-        let rows = self.connections.to_vec(alloc)?;
-        closed_notices(alloc, &rows, triad)
+        dropped_with(alloc, self.connections.to_vec(alloc)?, triad)
     }
 
-    fn close(&mut self, triad: Triad) {
+    fn close(&mut self, triad: Triad, dropped: &[Triad]) {
         self.consumers_valid = false;
         close(&mut self.connections, &mut self.rules, triad);
-        drop_unsupported(&mut self.connections, &mut self.rules, self.listening);
+        close_each(&mut self.connections, &mut self.rules, dropped);
     }
 
-    fn receive(
+    fn receive<'a>(
         &mut self,
         profile: &Profile,
         clock: Ms,
         peer: Node,
-        datagram: &Datagram<'_>,
-    ) -> Option<ReceivedDatagram> {
+        datagram: &Datagram<'a>,
+    ) -> Option<ReceivedDatagram<'a>> {
         let received = self.connections.receive(profile, clock, peer, datagram)?;
         self.next_watchdog = self.next_watchdog.min(received.deadline.0);
         Some(ReceivedDatagram {
-            delivery: received.delivery,
+            judgement: received.judgement,
             consumed: received.consumed,
         })
     }
@@ -264,7 +252,7 @@ impl ConnectionTable for IndexedConnections {
         if clock.0 < self.next_production {
             return false;
         }
-        is_any_due(self.connections.rows(), clock)
+        self.connections.is_any_due(clock)
     }
 
     fn next_change(&self) -> Ms {
@@ -295,10 +283,19 @@ impl ConnectionTable for IndexedConnections {
         self.next_production = self.connections.first_due();
     }
 
-    fn advance(&mut self, clock: Ms) {
+    fn passing(
+        &self,
+        alloc: Global,
+        assemblies: &AssemblySet,
+        clock: Ms,
+    ) -> Result<Passing, OutOfMemory> {
+        passing(alloc, self.connections.to_vec(alloc)?, assemblies, clock)
+    }
+
+    fn advance(&mut self, clock: Ms, timed_out: &[Row], dropped: &[Triad]) {
         self.consumers_valid = false;
-        expire(&mut self.connections, &mut self.rules, clock);
-        drop_unsupported(&mut self.connections, &mut self.rules, self.listening);
+        expire(&mut self.connections, &mut self.rules, timed_out);
+        close_each(&mut self.connections, &mut self.rules, dropped);
         self.listening = self.connections.has_listeners();
         self.connections.produce(clock);
         self.next_watchdog = self.connections.first_end();

@@ -1,9 +1,8 @@
 use Rattle.std.proofs.Common.{◌≡◌, ◌≤◌, ◌∙◌, ◌++◌, ◌∷◌, [], List, map, length, sym, ap, subst, arith}
 use Rattle.std.specs.Map.{lookup}
-use Rattle.conn_slab.specs.declared.record.Record.{Record}
 use Rattle.mcast_pool.specs.declared.group.Group.{Group}
 use Rattle.conn_slab.specs.Index.{items_of}
-use Rattle.conn_slab.specs.Records.{row_of, record_of, key_for, key_of, same_key, source_of, same_source}
+use Rattle.conn_slab.specs.Records.{Record, row_of, record_of, key_for, key_of, same_key, source_of, same_source}
 use Rattle.conn_slab.proofs.Lookups.{absent_name, absent_source}
 use Rattle.conn_slab.proofs.Balance.{enters}
 use Rattle.conn_slab.proofs.RowLemmas.{fit_last, agree_last, share_last, triad_last, source_last, few_established, long_last, length_last}

@@ -2,9 +2,8 @@ use Rattle.std.proofs.Common.{◌≡◌, ◌≤◌, ◌∙◌, List, Some, None,
 use Rattle.std.specs.Option.{option_map}
 use Rattle.mcast_pool.specs.declared.group.Group.{Group}
 use Rattle.adapter_table.specs.Rows.{has_triad}
-use Rattle.conn_slab.specs.declared.record.Record.{Record}
 use Rattle.conn_slab.specs.Index.{items_of}
-use Rattle.conn_slab.specs.Records.{row_of, is_of, key_for, left_by}
+use Rattle.conn_slab.specs.Records.{Record, row_of, is_of, key_for, left_by}
 use Rattle.conn_slab.specs.Layout.{IsServed, IsBalanced}
 use Rattle.conn_slab.proofs.Lookups.{filter_none, items_keys}
 use Rattle.conn_slab.proofs.RowLemmas.{triad_is, find_rows, without_rows, lone_items, found_all, live, out_of, fewer}
@@ -41,20 +40,20 @@ found c = ap (λ n. find (is_of n) (items_of c.args.records.now c.args.by_triad.
 pub row_of-row-requires : goal.row_of-row-requires
 row_of-row-requires c =
     let rs = items_of c.args.records.now c.args.by_triad.now.entries in
-    live c.args.pool.now c.in_ok-record.record c.in_ok-record.record.producer
+    live c.args.pool.now c.in_ok-record.record c.in_ok-record.record.state
     (found_all (IsServed c.args.pool.now) (is_of c.key_for.result) rs c.in_ok-record.record (sym c.take_record.ensures.taken ∙ c.in_ok-record.was) c.requires.balanced.served)
 
 pub leave-requires : goal.leave-requires
 leave-requires c =
     let rs = items_of c.args.records.now c.args.by_triad.now.entries in
-    live c.args.pool.now c.in_ok-record.record c.in_ok-record.record.producer
+    live c.args.pool.now c.in_ok-record.record c.in_ok-record.record.state
     (found_all (IsServed c.args.pool.now) (is_of c.key_for.result) rs c.in_ok-record.record (sym c.take_record.ensures.taken ∙ c.in_ok-record.was) c.requires.balanced.served)
 
 rest_is : (c : goal.After-leave) → items_of c.take_record.new.records c.take_record.new.by_triad.entries ≡ filter (λ r. not (is_of (key_for c.args.triad) r)) (items_of c.args.records.now c.args.by_triad.now.entries)
 rest_is c = c.take_record.ensures.rest ∙ ap (λ n. filter (λ r. not (is_of n r)) (items_of c.args.records.now c.args.by_triad.now.entries)) c.key_for.ensures
 
-out : (c : goal.After-leave) → IsBalanced (left_by c.in_ok-record.record.producer c.args.pool.now) (filter (λ r. not (is_of (key_for c.args.triad) r)) (items_of c.args.records.now c.args.by_triad.now.entries))
-    × (map (row_of (left_by c.in_ok-record.record.producer c.args.pool.now)) (filter (λ r. not (is_of (key_for c.args.triad) r)) (items_of c.args.records.now c.args.by_triad.now.entries)) ≡ map (row_of c.args.pool.now) (filter (λ r. not (is_of (key_for c.args.triad) r)) (items_of c.args.records.now c.args.by_triad.now.entries)))
+out : (c : goal.After-leave) → IsBalanced (left_by c.in_ok-record.record.state c.args.pool.now) (filter (λ r. not (is_of (key_for c.args.triad) r)) (items_of c.args.records.now c.args.by_triad.now.entries))
+    × (map (row_of (left_by c.in_ok-record.record.state c.args.pool.now)) (filter (λ r. not (is_of (key_for c.args.triad) r)) (items_of c.args.records.now c.args.by_triad.now.entries)) ≡ map (row_of c.args.pool.now) (filter (λ r. not (is_of (key_for c.args.triad) r)) (items_of c.args.records.now c.args.by_triad.now.entries)))
 out c =
     let rs = items_of c.args.records.now c.args.by_triad.now.entries in
     let keys = items_keys c.args.records.now c.args.by_source.now.entries c.args.by_triad.now.entries c.requires.filed.by_name in

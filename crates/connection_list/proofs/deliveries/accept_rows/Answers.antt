@@ -5,11 +5,8 @@ use Rattle.cip_types.specs.Indices.{map_more}
 use Rattle.connection_list.proofs.Orders.{fits_at}
 use Rattle.connection_list.proofs.deliveries.accept_rows.Goals as goal
 
-pub accepted_if_for-requires-clause-waits : goal.accepted_if_for-requires-clause-waits
-accepted_if_for-requires-clause-waits c = (fits_at (accepted_if_for c.args.clock c.args.peer (view_datagram c.args.datagram.now)) c.args.rows.now c.loop-row.rows c.loop-row.row-index _ c.requires.fit (omega arith) (omega arith) c.loop-row.invariant).multiplier
-
-pub accepted_if_for-requires-clause-interval : goal.accepted_if_for-requires-clause-interval
-accepted_if_for-requires-clause-interval c = (fits_at (accepted_if_for c.args.clock c.args.peer (view_datagram c.args.datagram.now)) c.args.rows.now c.loop-row.rows c.loop-row.row-index _ c.requires.fit (omega arith) (omega arith) c.loop-row.invariant).o_t_api_ms
+pub accept_if_for-requires-clause-waits : goal.accept_if_for-requires-clause-waits
+accept_if_for-requires-clause-waits c = (fits_at (accepted_if_for c.args.clock c.args.peer (view_datagram c.args.datagram.now)) c.args.rows.now c.loop-row.rows c.loop-row.row-index _ c.requires.fit (omega arith) (omega arith) c.loop-row.invariant).watchdog
 
 pub loop-row-preserved : goal.loop-row-preserved
-loop-row-preserved c = map_more (accepted_if_for c.args.clock c.args.peer (view_datagram c.args.datagram.now)) c.args.rows.now c.loop-row.rows c.loop-row.row-index _ _ (omega arith) (omega arith) c.loop-row.invariant c.accepted_if_for.ensures
+loop-row-preserved c = map_more (accepted_if_for c.args.clock c.args.peer (view_datagram c.args.datagram.now)) c.args.rows.now c.loop-row.rows c.loop-row.row-index _ _ (omega arith) (omega arith) c.loop-row.invariant c.accept_if_for.ensures

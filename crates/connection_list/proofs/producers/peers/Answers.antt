@@ -1,6 +1,6 @@
 use Rattle.std.proofs.Common.{[], sym, ◌∙◌, arith}
 use Rattle.adapter_table.specs.Productions.{peer_of, is_produced_by}
-use Rattle.connection_list.proofs.Passing.{reported_more, unreported_more}
+use Rattle.connection_list.proofs.Loops.{reported_more, unreported_more}
 use Rattle.connection_list.proofs.producers.peers.Goals as goal
 use Rattle.connection_list.proofs.producers.peers.Goals.{then-is_produced_by+in_ok-push, else-is_produced_by}
 

@@ -4,4 +4,8 @@ use Rattle.adapter_table.specs.Rows.{has_triad}
 use Rattle.connection_list.proofs.rows.remove_triad.Goals as goal
 
 pub returns : goal.returns
-returns c = filter_same _ (λ row. not (has_triad c.args.triad row)) _ (λ x b f' called. (search rules, search rules)) _ _ c.retain.ensures.filtered
+returns c = record {
+  items = filter_same _ (λ row. not (has_triad c.args.triad row)) _ (λ x b f' called. (search rules, search rules)) _ _ c.retain.ensures.filtered;
+  len = c.retain.ensures.bound;
+  capacity = c.retain.ensures.capacity;
+}

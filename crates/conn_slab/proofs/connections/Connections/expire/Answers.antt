@@ -56,5 +56,5 @@ returns-clause-rows c =
     let some : running_key own.records (lookup (same_key (key_for c.args.triad)) own.by_triad.entries) ≡ Some (c.in-Some.key, c.in-Some.number) =
     ap (λ n. running_key own.records (lookup (same_key n) own.by_triad.entries)) (sym c.key_for.ensures) ∙ ap (running_key own.records) (sym c.get.ensures.value) ∙ sym c.running.ensures ∙ c.in-Some.is in
     let all = expired own.records own.by_triad.entries own.by_source.entries own.pool c.self.invariant c.args.triad c.in-Some.key c.in-Some.number c.index_mut-record.result.now c.len-groups.ensures.groups some c.index_mut-record.ensures.value in
-    ap (λ (pool : List Group). map (row_of pool) (items_of (with_value own.records c.in-Some.key (record c.index_mut-record.result.now { producer = None })) own.by_triad.entries)) c.leave.ensures.groups
+    ap (λ (pool : List Group). map (row_of pool) (items_of (with_value own.records c.in-Some.key (record c.index_mut-record.result.now { state = None })) own.by_triad.entries)) c.leave.ensures.groups
     ∙ all.rows ∙ ap (map (timed_out_if c.args.triad)) c.self.view_is

@@ -3,10 +3,9 @@ use Rattle.std.specs.Option.{option_map, option_copied}
 use Rattle.std.specs.Map.{lookup}
 use Rattle.adapter_table.specs.Connections.{Row}
 use Rattle.adapter_table.specs.Datagrams.{is_for}
-use Rattle.conn_slab.specs.declared.record.Record.{Record}
 use Rattle.conn_slab.specs.declared.record.Source.{Source}
 use Rattle.conn_slab.specs.Index.{items_of}
-use Rattle.conn_slab.specs.Records.{row_of, same_source, source_of}
+use Rattle.conn_slab.specs.Records.{Record, row_of, same_source, source_of}
 use Rattle.conn_slab.specs.Layout.{IsServed, running_key}
 use Rattle.conn_slab.proofs.Running.{runs, by_source, nobody, somebody, target_is}
 use Rattle.conn_slab.proofs.RowLemmas.{find_rows, found_all, live}
@@ -34,7 +33,7 @@ found c =
 pub row_of-requires : goal.row_of-requires
 row_of-requires c =
     let own = c.self.inside in
-    live own.pool c.in_ok-record.record.now c.in_ok-record.record.now.producer
+    live own.pool c.in_ok-record.record.now c.in_ok-record.record.now.state
     (found_all (IsServed own.pool) (λ r. same_source (record { peer = c.args.peer.0; id = c.args.id.0 }) (source_of r) && runs r) (items_of own.records own.by_triad.entries) c.in_ok-record.record.now (found c) c.self.invariant.balanced.served)
 
 pub returns : goal.returns

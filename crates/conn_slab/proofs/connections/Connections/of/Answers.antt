@@ -3,9 +3,8 @@ use Rattle.std.specs.Option.{option_map, option_copied}
 use Rattle.std.specs.Map.{lookup}
 use Rattle.adapter_table.specs.Connections.{Row}
 use Rattle.adapter_table.specs.Rows.{has_triad}
-use Rattle.conn_slab.specs.declared.record.Record.{Record}
 use Rattle.conn_slab.specs.Index.{items_of}
-use Rattle.conn_slab.specs.Records.{row_of, is_of, key_for, same_key}
+use Rattle.conn_slab.specs.Records.{Record, row_of, is_of, key_for, same_key}
 use Rattle.conn_slab.specs.Layout.{IsServed}
 use Rattle.conn_slab.proofs.Lookups.{at_name, no_name}
 use Rattle.conn_slab.proofs.RowLemmas.{triad_is, find_rows, found_all, live}
@@ -37,7 +36,7 @@ found c =
 pub row_of-requires : goal.row_of-requires
 row_of-requires c =
     let own = c.self.inside in
-    live own.pool c.in_ok-record.record.now c.in_ok-record.record.now.producer (found_all (IsServed own.pool) (is_of c.key_for.result) (items_of own.records own.by_triad.entries) c.in_ok-record.record.now (found c) c.self.invariant.balanced.served)
+    live own.pool c.in_ok-record.record.now c.in_ok-record.record.now.state (found_all (IsServed own.pool) (is_of c.key_for.result) (items_of own.records own.by_triad.entries) c.in_ok-record.record.now (found c) c.self.invariant.balanced.served)
 
 pub returns : goal.returns
 returns c =

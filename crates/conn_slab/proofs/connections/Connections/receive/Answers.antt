@@ -4,11 +4,10 @@ use Rattle.std.specs.Map.{lookup}
 use Rattle.cip_datagram.specs.Datagram.{view_datagram}
 use Rattle.adapter_table.specs.Datagrams.{is_for}
 use Rattle.adapter_table.specs.Whole.{FitsRow}
-use Rattle.conn_slab.specs.declared.reception.Received.{Received}
 use Rattle.conn_slab.specs.Records.{row_of, same_source}
 use Rattle.conn_slab.specs.Layout.{running_key}
-use Rattle.conn_slab.specs.Reception.{received_of, reception}
-use Rattle.conn_slab.proofs.ReceptionLemmas.{found_fits, reported_is, unreceived, received_found, received_kept, received_rows}
+use Rattle.conn_slab.specs.Reception.{reception}
+use Rattle.conn_slab.proofs.ReceptionLemmas.{found_fits, received_by, unreceived, received_found, received_kept, received_rows}
 use Rattle.conn_slab.proofs.connections.Connections.receive.Goals as goal
 
 abbrev second : ℕ × ℕ → ℕ
@@ -23,7 +22,7 @@ returns-in_err-position c =
     let nobody : find (is_for c.args.peer d.connection) c.args.self.now ≡ None =
     ap (find (is_for c.args.peer d.connection)) (sym c.self.view_is) ∙ unreceived own.records own.by_triad.entries own.by_source.entries own.pool c.self.invariant c.args.peer d.connection none in
     record {
-      received = c.from_residual.ensures ∙ ap (option_map (received_of c.args.profile.now c.args.clock d)) (sym nobody);
+      received = rw (nobody, c.from_residual.ensures) tt;
       rows = ap (λ o. reception c.args.profile.now c.args.clock c.args.peer d o c.args.self.now) (sym nobody);
     }
 
@@ -35,7 +34,7 @@ returns-in_err-key c =
     let nobody : find (is_for c.args.peer d.connection) c.args.self.now ≡ None =
     ap (find (is_for c.args.peer d.connection)) (sym c.self.view_is) ∙ unreceived own.records own.by_triad.entries own.by_source.entries own.pool c.self.invariant c.args.peer d.connection none in
     record {
-      received = c.from_residual-in_err-key.ensures ∙ ap (option_map (received_of c.args.profile.now c.args.clock d)) (sym nobody);
+      received = rw (nobody, c.from_residual-in_err-key.ensures) tt;
       rows = c.self.view_is ∙ ap (λ o. reception c.args.profile.now c.args.clock c.args.peer d o c.args.self.now) (sym nobody);
     }
 
@@ -52,10 +51,7 @@ fits c =
     c.requires.fit
 
 pub receive_record-requires-clause-waits : goal.receive_record-requires-clause-waits
-receive_record-requires-clause-waits c = (fits c).multiplier
-
-pub receive_record-requires-clause-interval : goal.receive_record-requires-clause-interval
-receive_record-requires-clause-interval c = (fits c).o_t_api_ms
+receive_record-requires-clause-waits c = (fits c).watchdog
 
 done : (c : goal.After-self-1) → running_key c.self.inside.records (lookup (same_source (record { peer = c.args.peer.0; id = (view_datagram c.args.datagram.now).connection })) c.self.inside.by_source.entries) ≡ Some (c.in_ok-key.key, c.in_ok-key.field-0-1)
 done c = ap (running_key c.self.inside.records) (sym c.find_at_position.ensures ∙ ap (option_map second) c.in_ok-position.was) ∙ sym c.running.ensures ∙ c.in_ok-key.was
@@ -74,10 +70,10 @@ pub returns-clause-received : goal.returns-clause-received
 returns-clause-received c =
     let own = c.self.inside in
     let d = view_datagram c.args.datagram.now in
-    ap (λ (h : Received). Some h) (c.receive_record.ensures.received ∙ reported_is c.args.profile.now c.args.clock d own.pool c.index_mut-record.result.now)
-    ∙ ap (option_map (received_of c.args.profile.now c.args.clock d))
-    (sym (received_found own.records own.by_triad.entries own.by_source.entries own.pool c.self.invariant c.args.profile.now c.args.clock c.args.peer d c.in_ok-key.key c.in_ok-key.field-0-1 c.index_mut-record.result.now (done c) c.index_mut-record.ensures.value)
-    ∙ ap (find (is_for c.args.peer d.connection)) c.self.view_is)
+    let found : find (is_for c.args.peer d.connection) c.args.self.now ≡ Some (row_of own.pool c.index_mut-record.result.now) =
+    ap (find (is_for c.args.peer d.connection)) (sym c.self.view_is)
+    ∙ received_found own.records own.by_triad.entries own.by_source.entries own.pool c.self.invariant c.args.profile.now c.args.clock c.args.peer d c.in_ok-key.key c.in_ok-key.field-0-1 c.index_mut-record.result.now (done c) c.index_mut-record.ensures.value in
+    rw found (received_by c.args.profile.now c.args.clock d own.pool c.index_mut-record.result.now _ c.receive_record.ensures.received)
 
 pub returns-clause-rows : goal.returns-clause-rows
 returns-clause-rows c =

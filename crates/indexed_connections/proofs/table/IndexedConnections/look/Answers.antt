@@ -2,7 +2,7 @@ use Rattle.std.proofs.Common.{◌<◌, Option, find, is_some, sym, ap, ◌∙◌
 use Rattle.std.specs.List.{list_any}
 use Rattle.adapter_table.specs.Connections.{Row}
 use Rattle.adapter_table.specs.Ticks.{has_expired}
-use Rattle.indexed_connections.proofs.Replacing.{any_found}
+use Rattle.connection_list.specs.Replacing.{any_found}
 use Rattle.indexed_connections.proofs.Times.{none_ends}
 use Rattle.indexed_connections.proofs.table.IndexedConnections.look.Goals as goal
 

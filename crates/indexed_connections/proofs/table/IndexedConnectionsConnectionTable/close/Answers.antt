@@ -1,15 +1,18 @@
-use Rattle.std.proofs.Common.{◌≤◌, List, not, sym, subst, ◌∙◌, ap}
+use Rattle.std.proofs.Common.{◌≡◌, ◌≤◌, List, not, sym, subst, ◌∙◌, ap}
 use Rattle.adapter_table.specs.Rows.{has_triad}
 use Rattle.adapter_table.specs.Sound.{TriadsDiffer}
 use Rattle.adapter_table.specs.Connections.{Row}
 use Rattle.adapter_table.specs.Closing.{stays, staying, without_triad}
 use Rattle.std.specs.List.{list_any}
 use Rattle.conn_slab.specs.Connections.{is_listening}
-use Rattle.indexed_connections.proofs.Dropping.{quiet_left, quiet_staying}
+use Rattle.indexed_connections.proofs.Dropping.{quiet_staying}
 use Rattle.conn_slab.specs.Bounds.{first_end, AllNotDueBefore}
-use Rattle.indexed_connections.proofs.Lone.{differ_filtered}
+use Rattle.cip_types.specs.declared.names.Triad.{Triad}
+use Rattle.connection_list.specs.Lone.{differ_filtered}
+use Rattle.connection_list.specs.Removals.{without_each, without_unsupported}
+use Rattle.connection_list.specs.Tables.{AreWhole}
 use Rattle.indexed_connections.proofs.Times.{ends_left, rests_left}
-use Rattle.indexed_connections.proofs.Whole.{whole_triads}
+use Rattle.connection_list.specs.Whole.{whole_triads}
 use Rattle.indexed_connections.proofs.table.IndexedConnectionsConnectionTable.close.Goals as goal
 
 pub close-requires : goal.close-requires
@@ -18,27 +21,36 @@ close-requires c = record {
   differ = rw c.self.view_is (whole_triads c.args.self.now c.requires.whole);
 }
 
-pub drop_unsupported-requires : goal.drop_unsupported-requires
-drop_unsupported-requires c =
-    let differ : TriadsDiffer c.self.inside.connections = rw c.self.view_is (whole_triads c.args.self.now c.requires.whole) in
-    record {
-      quiet = λ off. ap (list_any is_listening) c.close.ensures.rows ∙ quiet_left c.args.triad c.self.inside.connections (c.self.invariant.quiet off);
-      counted = c.close.ensures.counted;
-      differ = subst TriadsDiffer (sym c.close.ensures.rows) (differ_filtered (λ row. not (has_triad c.args.triad row)) c.self.inside.connections differ);
-    }
+left : (rows : List Row) (triad : Triad) → AreWhole rows → TriadsDiffer (without_triad triad rows)
+left rows triad whole = differ_filtered (λ row. not (has_triad triad row)) rows (whole_triads rows whole)
+
+pub close_each-requires : goal.close_each-requires
+close_each-requires c = record {
+  counted = c.close.ensures.counted;
+  differ = rw (c.close.ensures.rows, c.self.view_is) (left c.args.self.now c.args.triad c.requires.whole);
+}
+
+pub returns : goal.returns
+returns c =
+    c.close_each.ensures.rows
+    ∙ ap (without_each c.args.dropped.now) (c.close.ensures.rows ∙ ap (without_triad c.args.triad) c.self.view_is)
+    ∙ without_unsupported (without_triad c.args.triad c.args.self.now) c.args.dropped.now (left c.args.self.now c.args.triad c.requires.whole) c.requires.dropped
 
 pub invariant_of-self : goal.invariant_of-self
 invariant_of-self c =
     let own = c.self.inside in
-    let left = without_triad c.args.triad own.connections in
+    let rest = without_triad c.args.triad own.connections in
+    let differ : TriadsDiffer rest = rw c.self.view_is (left c.args.self.now c.args.triad c.requires.whole) in
+    let is : c.close_each.new.connections ≡ staying rest =
+    c.close_each.ensures.rows ∙ ap (without_each c.args.dropped.now) c.close.ensures.rows ∙ without_unsupported rest c.args.dropped.now differ (rw c.self.view_is c.requires.dropped) in
     record {
       bounded = record {
-        last = subst (λ (rows : List Row). own.next_watchdog ≤ first_end rows) (sym (c.drop_unsupported.ensures.rows ∙ ap staying c.close.ensures.rows))
-            (ends_left own.next_watchdog (stays left) left (ends_left own.next_watchdog (λ row. not (has_triad c.args.triad row)) own.connections c.self.invariant.bounded.last));
-        rest = subst (AllNotDueBefore own.next_production) (sym (c.drop_unsupported.ensures.rows ∙ ap staying c.close.ensures.rows))
-            (rests_left own.next_production (stays left) left (rests_left own.next_production (λ row. not (has_triad c.args.triad row)) own.connections c.self.invariant.bounded.rest));
+        last = subst (λ (rows : List Row). own.next_watchdog ≤ first_end rows) (sym is)
+            (ends_left own.next_watchdog (stays rest) rest (ends_left own.next_watchdog (λ row. not (has_triad c.args.triad row)) own.connections c.self.invariant.bounded.last));
+        rest = subst (AllNotDueBefore own.next_production) (sym is)
+            (rests_left own.next_production (stays rest) rest (rests_left own.next_production (λ row. not (has_triad c.args.triad row)) own.connections c.self.invariant.bounded.rest));
       };
-      counted = c.drop_unsupported.ensures.counted;
+      counted = c.close_each.ensures.counted;
       serving = λ holds. absurd cc;
-      quiet = λ off. ap (list_any is_listening) (c.drop_unsupported.ensures.rows ∙ ap staying c.close.ensures.rows) ∙ quiet_staying c.args.triad own.connections (c.self.invariant.quiet off);
+      quiet = λ off. ap (list_any is_listening) is ∙ quiet_staying c.args.triad own.connections (c.self.invariant.quiet off);
     }

@@ -1,8 +1,10 @@
 use Rattle.std.specs.List.{list_any}
 use Rattle.conn_slab.specs.Connections.{is_listening}
-use Rattle.std.proofs.Common.{◌≤◌, List, sym, subst, ◌∙◌, arith, ap}
+use Rattle.std.proofs.Common.{◌≤◌, List, find, sym, subst, ◌∙◌, arith, ap}
 use Rattle.cip_datagram.specs.Datagram.{view_datagram}
 use Rattle.adapter_table.specs.Connections.{Row}
+use Rattle.adapter_table.specs.Datagrams.{is_for}
+use Rattle.conn_slab.specs.Reception.{IsReceived}
 use Rattle.adapter_table.specs.Sound.{IdsDiffer}
 use Rattle.conn_slab.specs.Bounds.{first_end, AllNotDueBefore}
 use Rattle.owner_counts.specs.Counts.{AreCounted}
@@ -22,7 +24,7 @@ invariant_of-self-2 c =
     record {
       bounded = record {
         last = subst (λ (rows : List Row). low ≤ first_end rows) (sym c.receive.ensures.rows)
-            (ends_received c.args.profile.now c.args.clock c.args.peer d low own.next_watchdog own.connections c.in_ok-received.received differ (sym c.in_ok-received.was ∙ c.receive.ensures.received) (omega arith) (omega arith) c.self.invariant.bounded.last);
+            (ends_received c.args.profile.now c.args.clock c.args.peer d low own.next_watchdog own.connections c.in_ok-received.received differ (subst (IsReceived c.args.profile.now c.args.clock d (find (is_for c.args.peer d.connection) own.connections)) c.in_ok-received.was c.receive.ensures.received) (omega arith) (omega arith) c.self.invariant.bounded.last);
         rest = subst (AllNotDueBefore own.next_production) (sym c.receive.ensures.rows) (rests_received c.args.profile.now c.args.clock c.args.peer d own.next_production own.connections c.self.invariant.bounded.rest);
       };
       counted = subst (AreCounted own.rules) (sym c.receive.ensures.rows) (received_counted c.args.profile.now c.args.clock c.args.peer d own.rules own.connections c.self.invariant.counted);

@@ -1,0 +1,90 @@
+-- A producer of a pool is due where the producer of a connection is.
+use Rattle.std.proofs.Common.{◌≡◌, ◌≤◌, ℕ, Bool, true, false, cond, ◌||◌, List, [], ◌∷◌, map, find, Option, Some, None, refl, sym, ap, ◌∙◌, true≢false, arith}
+use Rattle.std.specs.List.{list_any, AllByRecursion}
+use Rattle.cip_types.specs.declared.names.Ms.{Ms}
+use Rattle.adapter_table.specs.Connections.{Row}
+use Rattle.adapter_table.specs.declared.row.State.{State}
+use Rattle.adapter_table.specs.declared.row.State.TheVariants.{Established}
+use Rattle.adapter_table.specs.Rows.{Each}
+use Rattle.adapter_table.specs.Productions.{state_is_due}
+use Rattle.adapter_table.specs.Productions as rows
+use Rattle.mcast_pool.specs.declared.group.Group.{Group}
+use Rattle.mcast_pool.specs.Groups.{has_number, number_of, numbered, is_due, AreGroups}
+use Rattle.conn_slab.specs.Records.{Record, row_of, state_of, production_in}
+use Rattle.conn_slab.specs.Layout.{IsServed, SharesBy, SharesFound, members, count_in, IsBalanced}
+use Rattle.conn_slab.proofs.Numbers.{found_passes, found_by_number, some_served}
+use Rattle.conn_slab.proofs.Balance.{Witness, witness}
+
+-- ---- a connection's is one of the pool
+
+one_passes : (b c : Bool) → c ≡ true → (b || c) ≡ true
+one_passes true c is = refl
+one_passes false c is = is
+
+first_passes : (b c : Bool) → b ≡ true → (b || c) ≡ true
+first_passes b c is = rw is refl
+
+any_of : (p test : Group → Bool) (pool : List Group) (g : Group) → find p pool ≡ Some g → test g ≡ true → list_any test pool ≡ true
+any_of p test [] g is passes = absurd cc
+any_of p test (x ∷ pool) g is passes = split (p x) refl (any_of p test pool g)
+  where
+    split : (b : Bool) → p x ≡ b → (find p pool ≡ Some g → test g ≡ true → list_any test pool ≡ true) → (test x || list_any test pool) ≡ true
+    split true here rest =
+        let found : Some x ≡ Some g = sym (ap (λ b. cond b (Some x) (find p pool)) here) ∙ is in
+        let same : x ≡ g = cc in
+        first_passes (test x) (list_any test pool) (ap test same ∙ passes)
+    split false fails rest = one_passes (test x) (list_any test pool) (rest (sym (ap (λ b. cond b (Some x) (find p pool)) fails) ∙ is) passes)
+
+by_group : (clock : Ms) (pool : List Group) (r : Record) (n : ℕ) (o : Option Group) → numbered n pool ≡ o → SharesFound r o → state_is_due clock (Established (production_in o)) ≡ true → list_any (is_due clock) pool ≡ true
+by_group clock pool r n None at shares due = absurd shares
+by_group clock pool r n (Some g) at shares due = any_of (has_number n) (is_due clock) pool g at due
+
+by_number : (clock : Ms) (pool : List Group) (r : Record) (o : Option ℕ) → SharesBy pool r o → state_is_due clock (state_of pool o) ≡ true → list_any (is_due clock) pool ≡ true
+by_number clock pool r None shares due = absurd (true≢false (sym due))
+by_number clock pool r (Some n) shares due = by_group clock pool r n (numbered n pool) refl shares due
+
+in_pool : (clock : Ms) (pool : List Group) (rs : List Record) → AllByRecursion (IsServed pool) rs → list_any (rows.is_due clock) (map (row_of pool) rs) ≡ true → list_any (is_due clock) pool ≡ true
+in_pool clock pool [] served any = absurd (true≢false (sym any))
+in_pool clock pool (r ∷ rs) served any = split (rows.is_due clock (row_of pool r)) refl any (in_pool clock pool rs served.1)
+  where
+    split : (b : Bool) → rows.is_due clock (row_of pool r) ≡ b → (b || list_any (rows.is_due clock) (map (row_of pool) rs)) ≡ true → (list_any (rows.is_due clock) (map (row_of pool) rs) ≡ true → list_any (is_due clock) pool ≡ true) → list_any (is_due clock) pool ≡ true
+    split true due any rest = by_number clock pool r r.state served.0 due
+    split false due any rest = rest any
+
+-- ---- and one of the pool is a connection's
+
+none_is : (test : Row → Bool) (l : List Row) → list_any test l ≡ false → Each (λ row. test row ≡ false) l
+none_is test [] none = tt
+none_is test (row ∷ l) none = split (test row) refl none (none_is test l)
+  where
+    split : (b : Bool) → test row ≡ b → (b || list_any test l) ≡ false → (list_any test l ≡ false → Each (λ row. test row ≡ false) l) → (test row ≡ false) × Each (λ row. test row ≡ false) l
+    split true is none rest = absurd (true≢false none)
+    split false is none rest = (is, rest none)
+
+none_found : (test : Group → Bool) (pool : List Group) → find test pool ≡ None → list_any test pool ≡ false
+none_found test [] none = refl
+none_found test (x ∷ pool) none = split (test x) refl (none_found test pool)
+  where
+    split : (b : Bool) → test x ≡ b → (find test pool ≡ None → list_any test pool ≡ false) → (test x || list_any test pool) ≡ false
+    split true here rest = let some : find test (x ∷ pool) ≡ Some x = ap (λ b. cond b (Some x) (find test pool)) here in absurd cc
+    split false fails rest = rw fails (rest (sym (ap (λ b. cond b (Some x) (find test pool)) fails) ∙ none))
+
+not_in_pool : (clock : Ms) (pool : List Group) (rs : List Record) (o : Option Group) → find (is_due clock) pool ≡ o → AreGroups pool → IsBalanced pool rs → list_any (rows.is_due clock) (map (row_of pool) rs) ≡ false → list_any (is_due clock) pool ≡ false
+not_in_pool clock pool rs None at each balanced none = none_found (is_due clock) pool at
+not_in_pool clock pool rs (Some g) at each balanced none =
+    let n = number_of g in
+    let there : numbered n pool ≡ Some g = found_by_number (is_due clock) pool g each at in
+    let some = some_served n pool g each there in
+    let count = balanced.counted n in
+    let here : count_in (numbered n pool) ≡ g.subscribers = ap count_in there in
+    let w = witness n pool (λ row. rows.is_due clock row ≡ false) rs (omega arith) balanced.served (none_is (rows.is_due clock) (map (row_of pool) rs) none) in
+    let state : state_of pool w.r.state ≡ Established g.producer.production = ap (state_of pool) w.has ∙ ap (λ (o : Option Group). Established (production_in o)) there in
+    absurd (true≢false (sym (found_passes (is_due clock) pool g at) ∙ sym (ap (state_is_due clock) state) ∙ w.holds))
+
+both_ways : (a b : Bool) → (a ≡ true → b ≡ true) → (a ≡ false → b ≡ false) → b ≡ a
+both_ways true b yes_ no_ = yes_ refl
+both_ways false b yes_ no_ = no_ refl
+
+pub any_due : (clock : Ms) (pool : List Group) (rs : List Record) → AreGroups pool → IsBalanced pool rs → list_any (is_due clock) pool ≡ list_any (rows.is_due clock) (map (row_of pool) rs)
+any_due clock pool rs each balanced =
+    both_ways (list_any (rows.is_due clock) (map (row_of pool) rs)) (list_any (is_due clock) pool) (in_pool clock pool rs balanced.served) (not_in_pool clock pool rs (find (is_due clock) pool) refl each balanced)

@@ -1,0 +1,102 @@
+-- Connections of different triads: what holds of the first that passes a test holds of all of its triad.
+use Rattle.std.proofs.Common.{◌≡◌, ℕ, Bool, true, false, cond, ◌==◌, ◌&&◌, ◌||◌, List, [], ◌∷◌, map, filter, find, Some, refl, sym, ap, subst, ◌∙◌, true≢false, arith}
+use Rattle.std.specs.List.{list_any}
+use Rattle.std.proofs.lemmas.Bool.Decides.{Decides-eqb}
+use Rattle.cip_types.specs.declared.names.Triad.{Triad}
+use Rattle.adapter_table.specs.Connections.{Row}
+use Rattle.adapter_table.specs.Rows.{Each, same_triad, has_triad}
+use Rattle.adapter_table.specs.Sound.{TriadsDiffer}
+
+pub some_is : {X : Type 0} {a b : X} → Some a ≡ Some b → a ≡ b
+some_is e = cc
+
+pub both_hold : (a b : Bool) → a && b ≡ true → (a ≡ true) × (b ≡ true)
+both_hold true b is = (refl, is)
+both_hold false b is = absurd (true≢false (sym is))
+
+pub neither : (a b : Bool) → a || b ≡ false → (a ≡ false) × (b ≡ false)
+neither true b is = absurd (true≢false is)
+neither false b is = (refl, is)
+
+itself : (a : ℕ) → a == a ≡ true
+itself a = grind arith
+
+pub triad_itself : (triad : Triad) → same_triad triad triad ≡ true
+triad_itself triad = rw (itself triad.serial, itself triad.vendor, itself triad.originator) refl
+
+pub triad_only : (a b : Triad) → same_triad a b ≡ true → a ≡ b
+triad_only a b is =
+    let s = both_hold _ _ is in
+    let t = both_hold _ _ s.1 in
+    let serial : a.serial ≡ b.serial = (Decides-eqb a.serial b.serial).0 s.0 in
+    let vendor : a.vendor ≡ b.vendor = (Decides-eqb a.vendor b.vendor).0 t.0 in
+    let originator : a.originator ≡ b.originator = (Decides-eqb a.originator b.originator).0 t.1 in
+    λ i. record { serial = serial i; vendor = vendor i; originator = originator i }
+
+-- it does not hold of those whose triad is another's
+pub none_like : (triad : Triad) (P : Row → Type 0) (rows : List Row) → list_any (has_triad triad) rows ≡ false → Each (λ x. has_triad triad x ≡ true → P x) rows
+none_like triad P [] none = tt
+none_like triad P (row ∷ rows) none =
+    let parts = neither (has_triad triad row) (list_any (has_triad triad) rows) none in
+    (λ is. absurd (true≢false (sym is ∙ parts.0)), none_like triad P rows parts.1)
+
+-- one that is found among others of another triad has another triad
+pub found_other : (triad : Triad) (test : Row → Bool) (rows : List Row) (row : Row) → list_any (has_triad triad) rows ≡ false → find test rows ≡ Some row → has_triad triad row ≡ false
+found_other triad test [] row none is = absurd cc
+found_other triad test (x ∷ rows) row none is =
+    let parts = neither (has_triad triad x) (list_any (has_triad triad) rows) none in
+    split (test x) refl parts (found_other triad test rows row parts.1)
+  where
+    split : (b : Bool) → test x ≡ b → (has_triad triad x ≡ false) × (list_any (has_triad triad) rows ≡ false) → (find test rows ≡ Some row → has_triad triad row ≡ false) → has_triad triad row ≡ false
+    split true passes parts rest = subst (λ (r : Row). has_triad triad r ≡ false) (some_is (sym (ap (λ b. cond b (Some x) (find test rows)) passes) ∙ is)) parts.0
+    split false fails parts rest = rest (sym (ap (λ b. cond b (Some x) (find test rows)) fails) ∙ is)
+
+-- of two different triads neither is the other
+pub other_way : (a b : Triad) → same_triad a b ≡ false → same_triad b a ≡ false
+other_way a b is = split (same_triad b a) refl
+  where
+    split : (c : Bool) → same_triad b a ≡ c → same_triad b a ≡ false
+    split true same = absurd (true≢false (sym (ap (λ t. same_triad a t) (triad_only b a same) ∙ triad_itself a) ∙ is))
+    split false differs = differs
+
+-- what passes the test is all that has the triad of the first that passes
+pub lone : (test : Row → Bool) (rows : List Row) (row : Row) → TriadsDiffer rows → find test rows ≡ Some row → Each (λ x. has_triad row.triad x ≡ true → test x ≡ true) rows
+lone test [] row differ is = tt
+lone test (x ∷ rows) row differ is = split (test x) refl (lone test rows row differ.1)
+  where
+    split : (b : Bool) → test x ≡ b → (find test rows ≡ Some row → Each (λ y. has_triad row.triad y ≡ true → test y ≡ true) rows) → Each (λ y. has_triad row.triad y ≡ true → test y ≡ true) (x ∷ rows)
+    split true passes rest =
+        let same : x ≡ row = some_is (sym (ap (λ b. cond b (Some x) (find test rows)) passes) ∙ is) in
+        (λ has. passes, none_like row.triad (λ y. test y ≡ true) rows (subst (λ (r : Row). list_any (has_triad r.triad) rows ≡ false) same differ.0))
+    split false fails rest =
+        let found = sym (ap (λ b. cond b (Some x) (find test rows)) fails) ∙ is in
+        let other : has_triad row.triad x ≡ false = other_way row.triad x.triad (found_other x.triad test rows row differ.0 found) in
+        (λ has. absurd (true≢false (sym has ∙ other)), rest found)
+
+-- ---- triads still differ
+
+any_mapped : (f : Row → Row) → ((row : Row) → (f row).triad ≡ row.triad) → (triad : Triad) (rows : List Row) → list_any (has_triad triad) (map f rows) ≡ list_any (has_triad triad) rows
+any_mapped f keeps triad [] = refl
+any_mapped f keeps triad (row ∷ rows) = rw (keeps row, any_mapped f keeps triad rows) refl
+
+pub differ_mapped : (f : Row → Row) → ((row : Row) → (f row).triad ≡ row.triad) → (rows : List Row) → TriadsDiffer rows → TriadsDiffer (map f rows)
+differ_mapped f keeps [] differ = tt
+differ_mapped f keeps (row ∷ rows) differ = (rw (keeps row, any_mapped f keeps row.triad rows) differ.0, differ_mapped f keeps rows differ.1)
+
+any_filtered : (test p : Row → Bool) (rows : List Row) → list_any test rows ≡ false → list_any test (filter p rows) ≡ false
+any_filtered test p [] none = refl
+any_filtered test p (row ∷ rows) none =
+    let parts = neither (test row) (list_any test rows) none in
+    split (p row) parts.0 (any_filtered test p rows parts.1)
+  where
+    split : (b : Bool) → test row ≡ false → list_any test (filter p rows) ≡ false → list_any test (cond b (row ∷ filter p rows) (filter p rows)) ≡ false
+    split true fails rest = rw (fails, rest) refl
+    split false fails rest = rest
+
+pub differ_filtered : (p : Row → Bool) (rows : List Row) → TriadsDiffer rows → TriadsDiffer (filter p rows)
+differ_filtered p [] differ = tt
+differ_filtered p (row ∷ rows) differ = split (p row) (any_filtered (has_triad row.triad) p rows differ.0) (differ_filtered p rows differ.1)
+  where
+    split : (b : Bool) → list_any (has_triad row.triad) (filter p rows) ≡ false → TriadsDiffer (filter p rows) → TriadsDiffer (cond b (row ∷ filter p rows) (filter p rows))
+    split true none rest = (none, rest)
+    split false none rest = rest
