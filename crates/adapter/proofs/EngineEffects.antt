@@ -2,7 +2,6 @@
 use Rattle.std.proofs.Common.{◌≡◌, ◌<◌, ◌≤◌, ◌+◌, ◌^◌, ℕ, Bool, true, false, cond, not, ◌||◌, ◌&&◌, ◌==◌, List, [], ◌∷◌, map, filter, length, drop, get_or, find, Option, Some, None, refl, sym, ◌∙◌, ap, subst}
 use Rattle.std.specs.Prelude.{IsTrue, Result, Ok, Err, OnOk}
 use Rattle.std.specs.Result.{result_err}
-use Rattle.std.specs.Option.{option_map}
 use Rattle.std.specs.List.{list_any}
 use Rattle.std.proofs.lemmas.Bool.{eqb-true}
 use Rattle.std.proofs.lemmas.List.{drop_more}
@@ -12,6 +11,8 @@ use Rattle.cip_datagram.specs.Datagram.{DatagramFields}
 use Rattle.cip_datagram.specs.Header.{header_at}
 use Rattle.cip_events.specs.declared.event.Delivery.{Delivery}
 use Rattle.cip_events.specs.declared.event.Delivery.TheVariants.{Applied, Idle, Heartbeat, Duplicate, Old, UnknownId, WrongSize, Malformed}
+use Rattle.cip_events.specs.declared.event.Notice.{Notice}
+use Rattle.cip_events.specs.declared.event.Notice.TheVariants.{Dropped}
 use Rattle.cip_events.specs.declared.event.OutgoingDatagram.{OutgoingDatagram}
 use Rattle.cip_events.specs.declared.event.Verdict.TheVariants.{Done}
 use Rattle.cip_events.specs.Answers.{plain_answer, is_accepted}
@@ -23,9 +24,13 @@ use Rattle.adapter_table.specs.declared.row.State.{State}
 use Rattle.adapter_table.specs.declared.row.State.TheVariants.{Established, TimedOut}
 use Rattle.adapter_table.specs.declared.table.AdapterTable.{AdapterTable}
 use Rattle.adapter_table.specs.declared.table.PointValue.{PointValue}
-use Rattle.adapter_table.specs.Closing.{closed_values}
+use Rattle.adapter_table.specs.Closing.{closed_values, dropped_notice}
+use Rattle.adapter_table.specs.Opening.{triad_of}
 use Rattle.adapter_table.specs.Datagrams.{is_for, row_delivery, run_data, accepted_if_for, accepted_values, accepted_table, found_datagram, delivered}
 use Rattle.adapter_table.specs.EachLemmas.{each_found}
+use Rattle.adapter_table.specs.declared.acceptance.Judgement.{Judgement}
+use Rattle.adapter_table.specs.declared.acceptance.Judgement.TheVariants as judged
+use Rattle.adapter_table.specs.Judging.{IsJudged, judged_delivery}
 use Rattle.adapter_table.specs.Laws.{AppliedDataHaveOutputs, AppliedDataFit, EffectsKeep}
 use Rattle.adapter_table.specs.Productions.{state_produces_on_change, produces_on_change, productions_on_change, is_due, state_is_due, due_productions, produced_state, produced_row}
 use Rattle.adapter_table.specs.Profiles.{is_at}
@@ -39,7 +44,7 @@ use Rattle.assembly_set.specs.declared.fault.PointFault.{PointFault}
 use Rattle.assembly_set.specs.declared.fault.PointFault.TheVariants.{WrongLength}
 use Rattle.assembly_set.specs.Assemblies.{is_output, input_fault, write_fault}
 use Rattle.connection_list.specs.declared.table.ReceivedDatagram.{ReceivedDatagram}
-use Rattle.connection_list.specs.Receiving.{received_by, receiving}
+use Rattle.connection_list.specs.Receiving.{IsReceived, receiving}
 use Rattle.connection_list.specs.Tables.{AreWhole}
 
 -- the connections of a whole table are those of one
@@ -113,12 +118,12 @@ nothing_on_change clock point bytes rows none =
 
 -- ---- a datagram that is for a connection, or for none
 
--- what is so after the connections have received a datagram that is for one of them
-pub record Fed (t : AdapterTable) (peer : Node) (d : DatagramFields) (received : ReceivedDatagram) (new : List Row) : Type 0 where
-  pub output : received.delivery ≡ Applied → IsTrue (is_output t.profile received.consumed)
-  pub len : received.delivery ≡ Applied → len_of t.profile received.consumed ≡ Some (length (run_data (header_at d.payload)))
-  pub whole : IsWhole (record t { rows = new; values = accepted_values t.profile received.consumed d received.delivery t.values })
-  pub said : found_datagram t peer d (find (is_for peer d.connection) t.rows) ≡ delivered received.delivery (record t { rows = new; values = accepted_values t.profile received.consumed d received.delivery t.values })
+-- what is so after the connections have received a datagram that is for one that consumes the point
+pub record Fed (t : AdapterTable) (peer : Node) (d : DatagramFields) (point : ℕ) (delivery : Delivery) (new : List Row) : Type 0 where
+  pub output : delivery ≡ Applied → IsTrue (is_output t.profile point)
+  pub len : delivery ≡ Applied → len_of t.profile point ≡ Some (length (run_data (header_at d.payload)))
+  pub whole : IsWhole (record t { rows = new; values = accepted_values t.profile point d delivery t.values })
+  pub said : found_datagram t peer d (find (is_for peer d.connection) t.rows) ≡ delivered delivery (record t { rows = new; values = accepted_values t.profile point d delivery t.values })
 
 -- what is not accepted changes no output
 not_fed : (profile : Profile) (point : ℕ) (d : DatagramFields) (delivery : Delivery) (values : List PointValue) → is_accepted delivery ≡ false → accepted_values profile point d delivery values ≡ values
@@ -137,7 +142,7 @@ pub record Laws : Type 0 where
   pub lengths : AppliedDataFit
   pub effects : EffectsKeep IsWhole
 
-fed_step : (b : Bool) → Laws → (t : AdapterTable) (peer : Node) (d : DatagramFields) (row : Row) (new : List Row) → is_accepted (row_delivery t.profile row d) ≡ b → find (is_for peer d.connection) t.rows ≡ Some row → new ≡ cond b (map (accepted_if_for t.clock peer d) t.rows) t.rows → IsWhole t → Fed t peer d (received_by t.profile d row) new
+fed_step : (b : Bool) → Laws → (t : AdapterTable) (peer : Node) (d : DatagramFields) (row : Row) (new : List Row) → is_accepted (row_delivery t.profile row d) ≡ b → find (is_for peer d.connection) t.rows ≡ Some row → new ≡ cond b (map (accepted_if_for t.clock peer d) t.rows) t.rows → IsWhole t → Fed t peer d row.consumed (row_delivery t.profile row d) new
 unfolding accepted_table
 fed_step true laws t peer d row new accepted found is whole =
     let delivery = row_delivery t.profile row d in
@@ -156,32 +161,56 @@ fed_step false laws t peer d row new accepted found is whole =
       said = rw (found, accepted, is, not_fed t.profile row.consumed d delivery t.values accepted) refl;
     }
 
-some_is : {A : Type 0} (a b : A) → Some a ≡ Some b → a ≡ b
-some_is a b same = cc
+judged_as : (said : Delivery) (run : List ℕ) (judgement : Judgement) → IsJudged said run judgement → said ≡ judged_delivery judgement
+judged_as said run (judged.Applied lent) is = is.0
+judged_as said run judged.Idle is = is
+judged_as said run judged.Heartbeat is = is
+judged_as said run judged.Duplicate is = is
+judged_as said run judged.Old is = is
+judged_as said run judged.WrongSize is = is
 
-fed_found : Laws → (t : AdapterTable) (peer : Node) (d : DatagramFields) (found : Option Row) (received : ReceivedDatagram) (new : List Row) → find (is_for peer d.connection) t.rows ≡ found → option_map (received_by t.profile d) found ≡ Some received → new ≡ receiving t.profile t.clock peer d found t.rows → IsWhole t → Fed t peer d received new
-fed_found laws t peer d None received new is reported rows whole = absurd cc
-fed_found laws t peer d (Some row) received new is reported rows whole =
-    subst (λ (r : ReceivedDatagram). Fed t peer d r new) (some_is _ _ reported)
-    (fed_step (is_accepted (row_delivery t.profile row d)) laws t peer d row new refl is rows whole)
+-- data that are applied are those of the datagram
+applied_run : (said : Delivery) (run data_run : List ℕ) (judgement : Judgement) → IsJudged Applied run judgement → IsJudged said data_run judgement → (said ≡ Applied) × (data_run ≡ run)
+applied_run said run data_run (judged.Applied lent) applied is = (is.0, sym is.1 ∙ applied.1)
+applied_run said run data_run judged.Idle applied is = absurd cc
+applied_run said run data_run judged.Heartbeat applied is = absurd cc
+applied_run said run data_run judged.Duplicate applied is = absurd cc
+applied_run said run data_run judged.Old applied is = absurd cc
+applied_run said run data_run judged.WrongSize applied is = absurd cc
 
-pub fed_by : Laws → (t : AdapterTable) (peer : Node) (d : DatagramFields) (reported : Option ReceivedDatagram) (received : ReceivedDatagram) (new : List Row) → reported ≡ option_map (received_by t.profile d) (find (is_for peer d.connection) t.rows) → new ≡ receiving t.profile t.clock peer d (find (is_for peer d.connection) t.rows) t.rows → IsWhole t → reported ≡ Some received → Fed t peer d received new
-fed_by laws t peer d reported received new is rows whole some =
-    fed_found laws t peer d (find (is_for peer d.connection) t.rows) received new refl (sym is ∙ some) rows whole
+-- the same of a datagram's judgement
+pub record Received (t : AdapterTable) (peer : Node) (d : DatagramFields) (received : ReceivedDatagram) (new : List Row) : Type 0 where
+  pub judged : IsJudged (judged_delivery received.judgement) (run_data (header_at d.payload)) received.judgement
+  pub fed : Fed t peer d received.consumed (judged_delivery received.judgement) new
 
--- what is so where it is for none
-pub record Missed (t : AdapterTable) (peer : Node) (d : DatagramFields) (new : List Row) : Type 0 where
-  pub same : new ≡ t.rows
-  pub said : found_datagram t peer d (find (is_for peer d.connection) t.rows) ≡ delivered UnknownId t
+pub received_output : (t : AdapterTable) (peer : Node) (d : DatagramFields) (received : ReceivedDatagram) (new : List Row) → Received t peer d received new → (run : List ℕ) → IsJudged Applied run received.judgement → IsTrue (is_output t.profile received.consumed)
+received_output t peer d received new is run applied = is.fed.output (applied_run _ run _ received.judgement applied is.judged).0
 
-missed_found : (t : AdapterTable) (peer : Node) (d : DatagramFields) (found : Option Row) (new : List Row) → find (is_for peer d.connection) t.rows ≡ found → option_map (received_by t.profile d) found ≡ None → new ≡ receiving t.profile t.clock peer d found t.rows → Missed t peer d new
-missed_found t peer d None new is reported rows = record { same = rows; said = rw is refl }
-missed_found t peer d (Some row) new is reported rows = absurd cc
+pub received_len : (t : AdapterTable) (peer : Node) (d : DatagramFields) (received : ReceivedDatagram) (new : List Row) → Received t peer d received new → (run : List ℕ) → IsJudged Applied run received.judgement → len_of t.profile received.consumed ≡ Some (length run)
+received_len t peer d received new is run applied =
+    let same = applied_run _ run _ received.judgement applied is.judged in
+    is.fed.len same.0 ∙ ap (λ (r : List ℕ). Some (length r)) same.1
 
-pub missed_by : (t : AdapterTable) (peer : Node) (d : DatagramFields) (reported : Option ReceivedDatagram) (new : List Row) → reported ≡ option_map (received_by t.profile d) (find (is_for peer d.connection) t.rows) → new ≡ receiving t.profile t.clock peer d (find (is_for peer d.connection) t.rows) t.rows → reported ≡ None → Missed t peer d new
-missed_by t peer d reported new is rows none = missed_found t peer d (find (is_for peer d.connection) t.rows) new refl (sym is ∙ none) rows
+received_found : Laws → (t : AdapterTable) (peer : Node) (d : DatagramFields) (found : Option Row) (received : ReceivedDatagram) (new : List Row) → find (is_for peer d.connection) t.rows ≡ found → IsReceived t.profile d found (Some received) → new ≡ receiving t.profile t.clock peer d found t.rows → IsWhole t → Received t peer d received new
+received_found laws t peer d None received new is ends rows whole = absurd ends
+received_found laws t peer d (Some row) received new is reported rows whole =
+    let said = judged_as (row_delivery t.profile row d) _ received.judgement reported.0 in
+    let fed = fed_step (is_accepted (row_delivery t.profile row d)) laws t peer d row new refl is rows whole in
+    record {
+      judged = subst (λ (s : Delivery). IsJudged s (run_data (header_at d.payload)) received.judgement) said reported.0;
+      fed = subst (λ (p : ℕ). Fed t peer d p (judged_delivery received.judgement) new) (sym reported.1) (subst (λ (s : Delivery). Fed t peer d row.consumed s new) said fed);
+    }
 
--- ---- connections that time out
+pub received_by : Laws → (t : AdapterTable) (peer : Node) (d : DatagramFields) (reported : Option ReceivedDatagram) (received : ReceivedDatagram) (new : List Row) → IsReceived t.profile d (find (is_for peer d.connection) t.rows) reported → new ≡ receiving t.profile t.clock peer d (find (is_for peer d.connection) t.rows) t.rows → IsWhole t → reported ≡ Some received → Received t peer d received new
+received_by laws t peer d reported received new is rows whole some =
+    received_found laws t peer d (find (is_for peer d.connection) t.rows) received new refl (subst (IsReceived t.profile d (find (is_for peer d.connection) t.rows)) some is) rows whole
+
+-- ---- connections that are dropped, and those that time out
+
+-- the notices of dropped connections, by their triads
+pub dropped_notices : (rows : List Row) → map Dropped (map triad_of rows) ≡ map dropped_notice rows
+dropped_notices [] = refl
+dropped_notices (row ∷ rows) = ap (λ (l : List Notice). dropped_notice row ∷ l) (dropped_notices rows)
 
 -- the next one's output is done, and those of the others are left
 pub lost_more : (profile : Profile) (timed_out : List Row) (i : ℕ) (d : Row) (values : List PointValue) → i < length timed_out → expired_values profile (drop (i + 1) timed_out) (closed_values profile (get_or timed_out i d) values) ≡ expired_values profile (drop i timed_out) values

@@ -2,7 +2,7 @@
 
 mod streams;
 
-ghost use Rattle.std.specs.Prelude.{◌≡◌, ◌≢◌, ◌+◌, ◌^◌, ◌∷◌, [], Ok, Err, Some, None, Result, IfOk, IfErr, ◌<◌, ◌≤◌, IsTrue, false, true, find, length};
+ghost use Rattle.std.specs.Prelude.{◌≡◌, ◌≢◌, ◌+◌, ◌^◌, [], Ok, Err, Some, None, Result, IfOk, IfErr, ◌<◌, ◌≤◌, IsTrue, false, true, find, length, List, ℕ};
 ghost use Rattle.std.specs.Option.{option_map, ForSome};
 ghost use Rattle.cip_fwdopen.specs.Open.{view_open};
 ghost use Rattle.cip_fwdopen.specs.Close.{view_close};
@@ -13,14 +13,13 @@ ghost use Rattle.cip_router.specs.Requests.{router_request_reading};
 ghost use Rattle.adapter_table.specs.Requests.{requested, served, admitted_open, served_open, router_refusal, known_close, served_close, served_assembly, is_value_attribute};
 ghost use Rattle.adapter_replies.specs.Routes.{peer_of, routed, routed_answer, IsWritable};
 ghost use Rattle.adapter_table.specs.Closing.{closed_values};
-ghost use Rattle.cip_datagram.specs.Datagram.{view_datagram};
+ghost use Rattle.cip_datagram.specs.Datagram.{DatagramFields, view_datagram};
 ghost use Rattle.cip_datagram.specs.Header.{header_at};
 ghost use Rattle.adapter_table.specs.Datagrams.{is_for, run_data, accepted_values, delivered, found_datagram, received};
+ghost use Rattle.adapter_table.specs.Judging.{IsJudged};
 ghost use Rattle.adapter_table.specs.Productions.{produces_on_change, is_due};
 ghost use Rattle.adapter_table.specs.Ticks.{clocked_table, has_expired, advanced, expired_values, tick};
-ghost use Rattle.connection_list.specs.Tables.{advanced_rows};
 ghost use Rattle.adapter_table.specs.Shapes.{len_of};
-ghost use Rattle.adapter_table.specs.Whole.{IsWhole};
 ghost use Rattle.adapter_table.specs.Step.{adapter_step, write, read, written_table, changed_table, write_answer, written};
 ghost use Rattle.cip_events.specs.Outcomes.{Follows};
 ghost use Rattle.cip_tables.specs.Step.{is_datagram};
@@ -28,14 +27,14 @@ ghost use Rattle.assembly_set.specs.Assemblies.{config_len, is_output, write_fau
 ghost use Rattle.std.specs.List.{list_any};
 
 use adapter_replies::{
-    Route, address_of, notices_answer, opened_address, opened_reply, opening_notices, reply_answer,
-    unserved_answer,
+    Route, address_of, closed_notices, expiry_notices, notices_answer, opened_address,
+    opened_reply, opening_notices, reply_answer, unserved_answer,
 };
-use adapter_table::drives;
 use adapter_table::laws::{admitted_requests_fit, applied_data_fit, tables_are_whole};
-use app_rules::{View, admit, drawn_ids};
+use adapter_table::{Judgement, drives};
+use app_rules::{View, admit};
 use assembly_set::AssemblySet;
-use cip_datagram::{Datagram, read_datagram, read_header};
+use cip_datagram::{Datagram, read_datagram};
 use cip_fwdopen::service::{FORWARD_CLOSE, FORWARD_OPEN, GET_ATTRIBUTE_SINGLE, LARGE_FORWARD_OPEN};
 use cip_fwdopen::{CloseRequest, OpenRequest};
 use cip_tables::{
@@ -45,9 +44,7 @@ use cip_tables::{
 };
 use cip_types::limits::{CLOCK_END_MS, FIRST_WATCHDOG_MS, IDS_PER_INCARNATION, LONGEST_TICK_MS};
 use cip_types::{ConnId, Items, Ms, Node, OutOfMemory};
-use connection_list::{
-    ConnectionTable, expired, expired_rows, expiry_notices, sent_when_due, staying,
-};
+use connection_list::{ConnectionTable, Passing};
 use session_streams::copied_streams;
 use std::alloc::Global;
 use std::marker::Model;
@@ -95,7 +92,8 @@ impl<T: ConnectionTable> Adapter<T> {
 
     /// The connection that an open request is admitted as, or why it is refused. Takes no memory.
     fn judge<'a>(&self, request: &OpenRequest<'a>) -> Result<Admission<'a>, Refusal>
-        ensures { Gives view_admission result (admission self.now (view_open request.now)) }
+        ensures admission { Gives view_admission result (admission self.now (view_open request.now)) }
+        ensures drawn { IfOk result (λ a. a.drawn ≡ drawn_ids a.multicast a.group) }
     {
         let view = View {
             profile: self.assemblies.profile(),
@@ -142,22 +140,16 @@ impl<T: ConnectionTable> Adapter<T> {
     }
 
     /// The T->O id of a connection that is opened.
-    fn opened_t_o_id(
-        &self,
-        request: &OpenRequest<'_>,
-        multicast: bool,
-        group: Option<Row>,
-    ) -> ConnId
-        requires { self.now.next_id + drawn_ids multicast group ≤ 16777216 }
-        ensures { result ≡ opened_t_o_id self.now (view_open request.now) multicast group }
+    fn opened_t_o_id(&self, request: &OpenRequest<'_>, admission: &Admission<'_>) -> ConnId
+        requires { self.now.next_id + drawn_ids admission.now.multicast admission.now.group ≤ 16777216 }
+        ensures { result
+            ≡ opened_t_o_id self.now (view_open request.now) admission.now.multicast admission.now.group }
     {
-        let Some(member) = group else {
-            if multicast {
-                return self.connection_id(self.next_id + 1);
-            }
-            return request.t_o_id;
-        };
-        member.t_o_id
+        match admission.group {
+            Some(member) => member.t_o_id,
+            None if admission.multicast => self.connection_id(self.next_id + 1),
+            None => request.t_o_id,
+        }
     }
 
     /// The connection that an admitted request opens.
@@ -175,10 +167,10 @@ impl<T: ConnectionTable> Adapter<T> {
             consumed: admission.consumed,
             produced: admission.produced,
             o_t_id: self.connection_id(self.next_id),
-            t_o_id: self.opened_t_o_id(request, admission.multicast, admission.group),
+            t_o_id: self.opened_t_o_id(request, admission),
             o_t_api_ms: admission.o_t_api_ms,
             t_o_api_ms: admission.t_o_api_ms,
-            multiplier: request.multiplier,
+            watchdog: admission.watchdog,
             multicast: admission.multicast,
             opening: self.next_id,
             last: None,
@@ -196,7 +188,8 @@ impl<T: ConnectionTable> Adapter<T> {
         request: &OpenRequest<'_>,
         admitted: &Admission<'_>,
     ) -> Outcome
-        requires { admission self.old (view_open request.now) ≡ Ok (view_admission admitted.now) }
+        requires admitted { admission self.old (view_open request.now) ≡ Ok (view_admission admitted.now) }
+        requires drawn { admitted.now.drawn ≡ drawn_ids admitted.now.multicast admitted.now.group }
         ensures { Follows (Ok (routed self.old route (Some (admitted_open self.old (peer_of route) large
             (view_open request.now) (view_admission admitted.now))))) self.old result self.new }
     {
@@ -204,12 +197,13 @@ impl<T: ConnectionTable> Adapter<T> {
         tables_are_whole();
         admitted_requests_fit();
         let row = self.opened_row(route.peer(), request, admitted);
-        let notices = opening_notices(self.alloc, self.table.replaced(row.triad), &row)?;
+        let replaced = self.table.replaced(row.triad);
+        let notices = opening_notices(self.alloc, replaced, &row)?;
         let reply = Reply::Opened(large, opened_reply(&row));
         let answer = reply_answer(self.alloc, route, &reply, opened_address(&row), notices)?;
-        self.table.open(row)?;
+        self.table.open(replaced, row)?;
         configure(&mut self.assemblies, admitted.segment);
-        self.next_id += drawn_ids(admitted.multicast, admitted.group);
+        self.next_id += admitted.drawn;
         Ok(answer)
     }
 
@@ -259,11 +253,12 @@ impl<T: ConnectionTable> Adapter<T> {
     {
         // The table stays whole.
         tables_are_whole();
-        let notices = self.table.closed_notices(self.alloc, row.triad)?;
+        let dropped = self.table.dropped_with(self.alloc, row.triad)?;
+        let notices = closed_notices(self.alloc, row.triad, &dropped)?;
         let reply = Reply::Closed(row.triad);
         let answer = reply_answer(self.alloc, route, &reply, None, notices)?;
         lose_owner(&mut self.assemblies, row);
-        self.table.close(row.triad);
+        self.table.close(row.triad, &dropped);
         Ok(answer)
     }
 
@@ -354,9 +349,8 @@ impl<T: ConnectionTable> Adapter<T> {
         let Some(received) = self.table.receive(profile, self.clock, peer, datagram) else {
             return Delivery::UnknownId;
         };
-        let delivery = received.delivery;
-        accept_values(&mut self.assemblies, received.consumed, datagram, delivery);
-        delivery
+        apply(&mut self.assemblies, received.consumed, received.judgement);
+        received.judgement.delivery()
     }
 
     /// The bytes of a datagram of a peer.
@@ -371,64 +365,26 @@ impl<T: ConnectionTable> Adapter<T> {
     }
 }
 
-/// The data behind a run/idle header.
-fn run_data<'a>(datagram: &Datagram<'a>) -> &'a [u8]
-    ensures { result.now ≡ run_data (header_at (view_datagram datagram.now).payload) }
+/// Changes the output of a connection that received a datagram by the datagram's judgement. Takes no memory.
+fn apply(assemblies: &mut AssemblySet, point: u32, judgement: Judgement<'_>)
+    requires output { (run : List ℕ) → IsJudged Delivery.Applied run judgement
+        → IsTrue (is_output assemblies.old.profile point) }
+    requires right_length { (run : List ℕ) → IsJudged Delivery.Applied run judgement
+        → len_of assemblies.old.profile point ≡ Some (length run) }
+    ensures { (said : Delivery) (d : DatagramFields) → IsJudged said (run_data (header_at d.payload)) judgement.entry
+        → assemblies.new
+        ≡ record assemblies.old { values = accepted_values assemblies.old.profile point d said assemblies.old.values } }
 {
-    match read_header(datagram.data) {
-        Some((_, data)) => data,
-        None => &[],
-    }
-}
-
-/// Changes the output of a connection by a datagram with this delivery. Takes no memory.
-fn accept_values(
-    assemblies: &mut AssemblySet,
-    point: u32,
-    datagram: &Datagram<'_>,
-    delivery: Delivery,
-)
-    requires output { delivery ≡ Delivery.Applied → IsTrue (is_output assemblies.old.profile point) }
-    requires right_length { delivery ≡ Delivery.Applied
-        → len_of assemblies.old.profile point
-        ≡ Some (length (run_data (header_at (view_datagram datagram.now).payload))) }
-    ensures { assemblies.new
-        ≡ record assemblies.old {
-          values = accepted_values assemblies.old.profile point
-              (view_datagram datagram.now) delivery assemblies.old.values;
-        } }
-{
-    match delivery {
-        Delivery::Applied => assemblies.apply(point, run_data(datagram)),
-        Delivery::Idle => assemblies.idle(point),
-        Delivery::Heartbeat | Delivery::Duplicate => {}
-        Delivery::Old | Delivery::UnknownId | Delivery::WrongSize | Delivery::Malformed => {}
+    match judgement {
+        Judgement::Applied(bytes) => assemblies.apply(point, bytes),
+        Judgement::Idle => assemblies.idle(point),
+        Judgement::Heartbeat | Judgement::Duplicate | Judgement::Old | Judgement::WrongSize => {}
     }
 }
 
 // TIME
 
 impl<T: ConnectionTable> Adapter<T> {
-    /// Time advances to the clock, and these connections time out.
-    fn pass(&mut self, clock: Ms, timed_out: &[Row])
-        requires whole { IsWhole (record self.old {
-          rows = advanced_rows clock self.old.rows;
-          values = expired_values self.old.profile timed_out.now self.old.values;
-          clock = clock;
-        }) }
-        requires time { clock.0 ≤ 2 ^ 48 }
-        ensures { self.new
-            ≡ record self.old {
-              rows = advanced_rows clock self.old.rows;
-              values = expired_values self.old.profile timed_out.now self.old.values;
-              clock = clock;
-            } }
-    {
-        lose_owners(&mut self.assemblies, timed_out);
-        self.clock = clock;
-        self.table.advance(clock);
-    }
-
     /// Milliseconds pass, and connections time out.
     #[inline(never)]
     #[tactic(auto, unfolding(adapter_table::specs::Ticks::clocked_table, adapter_table::specs::Ticks::expired_table, adapter_table::specs::Ticks::produced_table))]
@@ -439,13 +395,15 @@ impl<T: ConnectionTable> Adapter<T> {
         // The table stays whole.
         tables_are_whole();
         let clock = Ms(self.clock.0 + u64::from(ms));
-        let rows = self.table.to_vec(self.alloc)?;
-        let timed_out = expired(self.alloc, &rows, clock)?;
-        let after = expired_rows(self.alloc, &rows, clock)?;
-        let notices = expiry_notices(self.alloc, &timed_out, &after)?;
-        let left = staying(self.alloc, &after)?;
-        let datagrams = sent_when_due(self.alloc, &left, &self.assemblies, clock)?;
-        self.pass(clock, &timed_out);
+        let Passing {
+            expired,
+            dropped,
+            datagrams,
+        } = self.table.passing(self.alloc, &self.assemblies, clock)?;
+        let notices = expiry_notices(self.alloc, &expired, &dropped)?;
+        lose_owners(&mut self.assemblies, &expired);
+        self.clock = clock;
+        self.table.advance(clock, &expired, &dropped);
         Ok(notices_answer(self.alloc, datagrams, notices))
     }
 

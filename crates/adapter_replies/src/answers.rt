@@ -1,8 +1,9 @@
 //! Answers, which the adapter makes before its table changes.
 
-ghost use Rattle.std.specs.Prelude.{◌≡◌, ◌∷◌, ◌++◌, [], IfOk, ◌≤◌};
+ghost use Rattle.std.specs.Prelude.{◌≡◌, ◌∷◌, ◌++◌, [], map, IfOk, ◌≤◌};
 ghost use Rattle.cip_router.specs.Replies.{view_reply};
 ghost use Rattle.adapter_table.specs.Opening.{opened_reply, opened_address, replaced_notices};
+ghost use Rattle.adapter_table.specs.Ticks.{expired_notice};
 ghost use Rattle.adapter_replies.specs.Routes.{view_reply_header, view_frame_reply, IsWritable, IsWritableFrame, routed_frame, routed_answer, framed_answer, unserved_answer};
 
 use crate::replies::{FrameReply, write_frame_reply};
@@ -13,6 +14,7 @@ use cip_fwdopen::Opened;
 use cip_router::{EncapStatus, Reply};
 use cip_types::{Items, Node, OutOfMemory, Triad};
 use std::alloc::Global;
+use std::iter;
 
 /// An answer with datagrams and notices. Takes no memory.
 pub fn notices_answer(
@@ -142,6 +144,36 @@ pub fn opening_notices(
     }
     notices.push(Notice::Opened(row.triad, row.o_t_id))?;
     Ok(notices)
+}
+
+/// The notices of a close: the connection that is closed, and then these, which are dropped with it. Out of memory is
+/// the only fault.
+pub fn closed_notices(
+    alloc: Global,
+    triad: Triad,
+    dropped: &[Triad],
+) -> Result<Vec<Notice>, OutOfMemory>
+    ensures { IfOk result (λ notices. notices.items
+        ≡ (Notice.Closed triad ∷ []) ++ map Notice.Dropped dropped.now) }
+{
+    let dropped = dropped.iter().map(|triad| Notice::Dropped(*triad));
+    let closed = iter::once(Notice::Closed(triad));
+    Ok(closed.chain(dropped).collect(alloc)?)
+}
+
+/// The notices of connections that time out, and then of these, which are dropped with them. Out of memory is the only
+/// fault.
+pub fn expiry_notices(
+    alloc: Global,
+    expired: &[Row],
+    dropped: &[Triad],
+) -> Result<Vec<Notice>, OutOfMemory>
+    ensures { IfOk result (λ notices. notices.items
+        ≡ map expired_notice expired.now ++ map Notice.Dropped dropped.now) }
+{
+    let dropped = dropped.iter().map(|triad| Notice::Dropped(*triad));
+    let expired = expired.iter().map(|row| Notice::Expired(row.triad));
+    Ok(expired.chain(dropped).collect(alloc)?)
 }
 
 /// The fields of the reply to an opening.

@@ -11,8 +11,8 @@ mod routes;
 
 pub use addresses::address_of;
 pub use answers::{
-    ended_answer, frame_answer, notices_answer, opened_address, opened_reply, opening_notices,
-    reply_answer, unserved_answer,
+    closed_notices, ended_answer, expiry_notices, frame_answer, notices_answer, opened_address,
+    opened_reply, opening_notices, reply_answer, unserved_answer,
 };
 pub use frames::{FrameView, is_protocol, read_frame};
 pub use replies::{FrameReply, write_frame_reply};

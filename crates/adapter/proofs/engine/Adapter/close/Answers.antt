@@ -1,7 +1,7 @@
 use Rattle.std.proofs.Common.{refl}
 use Rattle.adapter_table.specs.declared.table.AdapterTable.{AdapterTable}
 use Rattle.adapter_table.specs.Closing.{closed_table}
-use Rattle.adapter.proofs.EngineEffects.{are_whole}
+use Rattle.adapter.proofs.EngineEffects.{are_whole, dropped_notices}
 use Rattle.adapter.proofs.engine.Adapter.close.Goals as goal
 
 pub invariant_of-self : goal.invariant_of-self
@@ -21,4 +21,4 @@ close-requires-clause-next g c =
 pub returns : goal.returns
 unfolding closed_table
 returns g c =
-    rw (c.in_ok-answer.ensures, c.in_ok-notices.ensures, c.lose_owner.ensures, c.close.ensures, ← c.self.view_is) refl
+    rw (c.in_ok-answer.ensures, c.in_ok-notices.ensures, c.deref.ensures.value, c.in_ok-dropped.ensures, dropped_notices, c.lose_owner.ensures, c.close.ensures, ← c.self.view_is) refl
