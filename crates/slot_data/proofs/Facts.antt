@@ -34,7 +34,7 @@ not_false : (b : Bool) → not b ≡ false → b ≡ true
 not_false true is = refl
 not_false false is = absurd (let e : true ≡ false = is in cc)
 
-and_parts : (a b : Bool) → (a && b) ≡ true → (a ≡ true) × (b ≡ true)
+pub and_parts : (a b : Bool) → (a && b) ≡ true → (a ≡ true) × (b ≡ true)
 and_parts true b is = (refl, is)
 and_parts false b is = absurd (let e : false ≡ true = is in cc)
 
@@ -160,7 +160,7 @@ out_step : (owner : Bool) (n : ℕ) → cond owner (is_point_len n) (n == 0) ≡
 out_step true n is = at_most n 1400 (and_parts (nat_le 1 n) (nat_le n 1400) is).1
 out_step false n is = grind (arith, nat_tests)
 
-out_len : (config : SlotConfig) → has_lengths config ≡ true → config.out_len ≤ 1400
+pub out_len : (config : SlotConfig) → has_lengths config ≡ true → config.out_len ≤ 1400
 out_len config is =
     let rest = (and_parts (is_point_len config.in_len) (is_out_len config.kind config.out_len && is_config config.config config.config_data) is).1 in
     out_step (is_owner config.kind) config.out_len (and_parts (is_out_len config.kind config.out_len) (is_config config.config config.config_data) rest).0

@@ -1,3 +1,4 @@
 pub mod Facts
 pub mod Changes
 pub mod Orders
+mod Turns

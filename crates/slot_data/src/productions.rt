@@ -7,12 +7,14 @@ ghost use Rattle.cip_datagram.specs.Header.{mode_header};
 ghost use Rattle.cip_types.specs.Order.{in_order};
 ghost use Rattle.cip_productions.specs.Productions.{sent};
 ghost use Rattle.scanner_table.specs.declared.profile.ScannerProfile.{ScannerProfile};
+ghost use Rattle.scanner_table.specs.declared.slot.Slot.{Slot};
 ghost use Rattle.scanner_table.specs.Slots.{indexed_from};
 ghost use Rattle.scanner_table.specs.Productions.{slot_data, state_is_due, produced_state, connection_producer, connection_production, slot_production, is_due, due_of, by_due, due_productions, produced_connection, produced_slot, produced_table};
 ghost use Rattle.scanner_table.specs.Whole.{IsWhole};
 ghost use Rattle.slot_places.specs.declared.indexed_slots.SlotView.{SlotView};
 ghost use Rattle.slot_places.specs.Views.{view_slot, table_of};
 ghost use Rattle.slot_hints.specs.Bounding.{at_time};
+ghost use Rattle.slot_data.specs.Turns.{due_in_turn, datagrams_in_turn};
 
 use cip_datagram::header;
 use cip_events::{Consumers, OutgoingDatagram, SmallBytes};
@@ -20,7 +22,7 @@ use cip_productions::{Kind, Producer, is_production_due, produced, sent_by};
 use cip_types::{Ms, OutOfMemory};
 use list_order::{Order, sorted};
 use scanner_table::{Connection, ScannerProfile, Slot, SlotConfig, SlotState};
-use slot_places::{ScannerState, SlotTest, SlotView, slots_that};
+use slot_places::{ScannerState, SlotTest, SlotView, is_due, slots_go_on, slots_that};
 use std::alloc::Global;
 
 fn due_of(state: &SlotState) -> u64
@@ -114,11 +116,75 @@ fn push_outgoing(
     requires { length indexed.slot.now.output ≤ 65529 }
     ensures { OnOk result (due_datagrams.new.items ≡ due_datagrams.old.items ++ map sent (filter_map (slot_production run) (view_slot indexed.entry ∷ []))) }
 {
-    let SlotState::Established(connection) = indexed.slot.state else {
+    let SlotState::Established(connection) = &indexed.slot.state else {
         return Ok(());
     };
-    due_datagrams.push(outgoing(alloc, run, indexed, &connection)?)?;
+    due_datagrams.push(outgoing(alloc, run, indexed, connection)?)?;
     Ok(())
+}
+
+/// Returns the number of the due slots, if their due times are in the order of their numbers. Takes no memory.
+fn due_in_turn(slots: &[Slot], clock: Ms) -> Option<usize>
+    ensures { result ≡ due_in_turn clock 0 0 slots.now }
+{
+    let mut count = 0;
+    let mut last = 0;
+    for slot in slots {
+        if !is_due(&slot.state, clock) {
+            continue;
+        }
+        let due = due_of(&slot.state);
+        if due < last {
+            return None;
+        }
+        count += 1;
+        last = due;
+    }
+    Some(count)
+}
+
+/// Adds the next datagram of a slot's connection, if it is due.
+fn push_due(
+    alloc: Global,
+    run: bool,
+    indexed: SlotView<'_>,
+    clock: Ms,
+    due_datagrams: &mut Vec<OutgoingDatagram>,
+) -> Result<(), OutOfMemory>
+    requires { length indexed.slot.now.output ≤ 65529 }
+    ensures { OnOk result (due_datagrams.new.items ≡ due_datagrams.old.items ++ datagrams_in_turn run clock (view_slot indexed.entry ∷ [])) }
+{
+    if is_due(&indexed.slot.state, clock) {
+        push_outgoing(alloc, run, indexed, due_datagrams)?;
+    }
+    Ok(())
+}
+
+/// Makes the next datagrams of the due slots, of this number, in the order of the numbers of slots.
+fn datagrams_in_turn(
+    alloc: Global,
+    run: bool,
+    configs: &[SlotConfig],
+    slots: &[Slot],
+    clock: Ms,
+    count: usize,
+) -> Result<Vec<OutgoingDatagram>, OutOfMemory>
+    requires few { length configs.now ≤ 2 ^ 32 }
+    requires short { All (λ (slot : Slot). length slot.output ≤ 65529) slots.now }
+    ensures { IfOk result (λ due_datagrams. due_datagrams.items ≡ datagrams_in_turn run clock (indexed_from 0 configs.now slots.now)) }
+{
+    // The slots from a number on begin with the slot of that number.
+    slots_go_on();
+    let mut due_datagrams = Vec::with_capacity(alloc, count)?;
+    for index in 0..configs.len().min(slots.len()) {
+        let indexed = SlotView {
+            number: index as u32,
+            config: &configs[index],
+            slot: &slots[index],
+        };
+        push_due(alloc, run, indexed, clock, &mut due_datagrams)?;
+    }
+    Ok(due_datagrams)
 }
 
 /// Makes the next datagrams of these slots' connections.
@@ -149,32 +215,21 @@ pub fn due_datagrams(
     requires whole { IsWhole (table_of profile.now scanner.now) }
     ensures { IfOk result (λ due_datagrams. due_datagrams.items ≡ map sent (due_productions (at_time (table_of profile.now scanner.now) clock))) }
 {
-    let due = due_slots(alloc, profile.slots.as_slice(), &scanner.slots, clock)?;
+    let configs = profile.slots.as_slice();
+    if let Some(count) = due_in_turn(&scanner.slots, clock) {
+        return datagrams_in_turn(alloc, scanner.run, configs, &scanner.slots, clock, count);
+    }
+    let due = due_slots(alloc, configs, &scanner.slots, clock)?;
     datagrams_of(alloc, scanner.run, &due)
 }
 
-fn produced_connection(connection: Connection, clock: Ms) -> Connection
+/// Records the production of a connection.
+fn produce_connection(connection: &mut Connection, clock: Ms)
     requires time { clock.0 ≤ 2 ^ 48 }
-    requires due { connection.production.due.0 ≤ 2 ^ 48 + 10000 }
-    ensures { result ≡ produced_connection clock connection }
+    requires due { connection.old.production.due.0 ≤ 2 ^ 48 + 10000 }
+    ensures { connection.new ≡ produced_connection clock connection.old }
 {
-    Connection {
-        production: produced(connection.production, clock, connection.o_t_api_ms),
-        ..connection
-    }
-}
-
-/// Returns a state after the production of its connection, if that was due.
-fn after_production(state: SlotState, clock: Ms) -> SlotState
-    requires { clock.0 ≤ 2 ^ 48 }
-    ensures { result ≡ (if state_is_due clock state then produced_state clock state else state) }
-{
-    match state {
-        SlotState::Established(connection) if is_production_due(&connection.production, clock) => {
-            SlotState::Established(produced_connection(connection, clock))
-        }
-        other => other,
-    }
+    connection.production = produced(connection.production, clock, connection.o_t_api_ms);
 }
 
 /// Records the production of a slot, if it was due.
@@ -182,7 +237,11 @@ fn produce_slot(slot: &mut Slot, clock: Ms)
     requires { clock.0 ≤ 2 ^ 48 }
     ensures { slot.new ≡ produced_slot clock slot.old }
 {
-    slot.state = after_production(slot.state, clock);
+    if let SlotState::Established(connection) = &mut slot.state {
+        if is_production_due(&connection.production, clock) {
+            produce_connection(connection, clock);
+        }
+    }
 }
 
 fn produce_slots(slots: &mut [Slot], clock: Ms)

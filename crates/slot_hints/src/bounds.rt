@@ -4,7 +4,7 @@ ghost use Rattle.std.specs.Prelude.{◌≡◌, ◌<◌, ◌≤◌, ◌^◌, ◌&
 ghost use Rattle.scanner_table.specs.Profiles.{profile_fault};
 ghost use Rattle.scanner_table.specs.Slots.{indexed_from, is_closed};
 ghost use Rattle.slot_places.specs.Views.{view_slot, table_of};
-ghost use Rattle.slot_hints.specs.Bounding.{EndsFrom, IsDueFrom, has_session, can_retry, IsBounded, AreBounded, IsHinted, IsNoLater};
+ghost use Rattle.slot_hints.specs.Bounding.{has_session, can_retry, IsBounded, AreBounded, IsHinted, IsNoLater};
 
 use cip_types::{Ms, Node};
 use scanner_table::{ScannerProfile, Slot, SlotConfig, SlotState, TargetStream};
@@ -24,28 +24,12 @@ pub struct Bounds {
     pub dues: Ms,
 }
 
-/// The deadline of a slot's connection or request.
-fn end_of(state: &SlotState) -> Ms
-    ensures { EndsFrom result.0 state.now }
-{
-    match state {
-        SlotState::Opening(opening) => opening.deadline,
-        SlotState::Established(connection) => connection.deadline,
-        SlotState::Closing(closing) => closing.deadline,
-        SlotState::Idle | SlotState::TimedOut(_) => NEVER,
-    }
-}
-
-/// The time at which the producer of a slot's connection is due.
-fn due_of(state: &SlotState) -> Ms
-    ensures { IsDueFrom result.0 state.now }
-{
-    match state {
-        SlotState::Established(connection) => connection.production.due,
-        SlotState::Idle | SlotState::Opening(_) | SlotState::TimedOut(_) | SlotState::Closing(_) =>
-            NEVER,
-    }
-}
+/// The bounds where nothing happens.
+const UNBOUNDED: Bounds = Bounds {
+    ends: NEVER,
+    retries: NEVER,
+    dues: NEVER,
+};
 
 fn has_session(streams: &[TargetStream], target: Node) -> bool
     ensures { result ≡ has_session streams.now target }
@@ -53,29 +37,12 @@ fn has_session(streams: &[TargetStream], target: Node) -> bool
     session_with(streams, target).is_some()
 }
 
-fn is_closed(state: &SlotState) -> bool
-    ensures { result ≡ is_closed state.now }
-{
-    match state {
-        SlotState::Idle | SlotState::TimedOut(_) => true,
-        SlotState::Opening(_) | SlotState::Established(_) | SlotState::Closing(_) => false,
-    }
-}
-
-/// Whether the slot opens at its retry time.
-fn can_retry(streams: &[TargetStream], indexed: SlotView<'_>) -> bool
-    ensures { result ≡ can_retry streams.now (view_slot indexed.entry) }
-{
-    indexed.slot.desired_up
-        && is_closed(&indexed.slot.state)
-        && has_session(streams, indexed.config.target)
-}
-
-/// The retry time of a slot that opens at it.
+/// The retry time of a closed slot, if it opens at it.
 fn retry_of(streams: &[TargetStream], indexed: SlotView<'_>) -> Ms
+    requires { is_closed indexed.slot.now.state ≡ true }
     ensures { can_retry streams.now (view_slot indexed.entry) ≡ true → result.0 ≤ indexed.entry.slot.now.retry_at.0 }
 {
-    if can_retry(streams, indexed) {
+    if indexed.slot.desired_up && has_session(streams, indexed.config.target) {
         return indexed.slot.retry_at;
     }
     NEVER
@@ -85,10 +52,24 @@ fn retry_of(streams: &[TargetStream], indexed: SlotView<'_>) -> Ms
 fn times_of(streams: &[TargetStream], indexed: SlotView<'_>) -> Bounds
     ensures { IsBounded result streams.now (view_slot indexed.entry) }
 {
-    Bounds {
-        ends: end_of(&indexed.slot.state),
-        retries: retry_of(streams, indexed),
-        dues: due_of(&indexed.slot.state),
+    match &indexed.slot.state {
+        SlotState::Opening(opening) => Bounds {
+            ends: opening.deadline,
+            ..UNBOUNDED
+        },
+        SlotState::Established(connection) => Bounds {
+            ends: connection.deadline,
+            dues: connection.production.due,
+            ..UNBOUNDED
+        },
+        SlotState::Closing(closing) => Bounds {
+            ends: closing.deadline,
+            ..UNBOUNDED
+        },
+        SlotState::Idle | SlotState::TimedOut(_) => Bounds {
+            retries: retry_of(streams, indexed),
+            ..UNBOUNDED
+        },
     }
 }
 
@@ -135,11 +116,7 @@ fn bounds_among(streams: &[TargetStream], configs: &[SlotConfig], slots: &[Slot]
     requires { length configs.now ≤ 2 ^ 32 }
     ensures { AreBounded result streams.now (indexed_from 0 configs.now slots.now) }
 {
-    let mut bounds = Bounds {
-        ends: NEVER,
-        retries: NEVER,
-        dues: NEVER,
-    };
+    let mut bounds = UNBOUNDED;
     for index in 0..configs.len().min(slots.len()) {
         let indexed = SlotView {
             number: index as u32,

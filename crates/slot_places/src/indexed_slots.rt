@@ -1,6 +1,6 @@
 //! A slot with its number.
 
-ghost use Rattle.std.specs.Prelude.{◌≡◌, find};
+ghost use Rattle.std.specs.Prelude.{◌≡◌, ◌<◌, IfSome, find, length};
 ghost use Rattle.std.specs.Option.{option_map};
 ghost use Rattle.scanner_table.specs.Slots.{is_numbered, indexed_from};
 ghost use Rattle.slot_places.specs.Views.{view_slot};
@@ -25,7 +25,8 @@ pub fn slot_at<'a>(
     slots: &'a [Slot],
     number: u32,
 ) -> Option<SlotView<'a>>
-    ensures { option_map view_slot result ≡ find (is_numbered number) (indexed_from 0 configs.now slots.now) }
+    ensures found { option_map view_slot result ≡ find (is_numbered number) (indexed_from 0 configs.now slots.now) }
+    ensures within { IfSome result (λ _. (number < length configs.now) × (number < length slots.now)) }
 {
     let index = number as usize;
     if index >= configs.len() {

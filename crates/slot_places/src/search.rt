@@ -1,6 +1,6 @@
 //! Searches among slots.
 
-ghost use Rattle.std.specs.Prelude.{◌≡◌, ◌≤◌, ◌^◌, ◌==◌, find, filter, map, length, IfOk};
+ghost use Rattle.std.specs.Prelude.{◌≡◌, ◌<◌, ◌≤◌, ◌^◌, ◌==◌, find, filter, map, length, IfOk, IfSome};
 ghost use Rattle.std.specs.Option.{option_map};
 ghost use Rattle.std.specs.List.{list_any};
 ghost use Rattle.scanner_table.specs.Slots.{is_with, is_numbered, indexed_from};
@@ -71,7 +71,8 @@ pub fn find_slot<'a>(
     test: SlotTest,
 ) -> Option<SlotView<'a>>
     requires { length configs.now ≤ 2 ^ 32 }
-    ensures { option_map view_slot result ≡ find (passes test) (indexed_from 0 configs.now slots.now) }
+    ensures found { option_map view_slot result ≡ find (passes test) (indexed_from 0 configs.now slots.now) }
+    ensures within { IfSome result (λ indexed. (indexed.number < length configs.now) × (indexed.number < length slots.now)) }
 {
     for index in 0..configs.len().min(slots.len()) {
         let indexed = SlotView {

@@ -1,11 +1,15 @@
 -- The frames of requests to a Connection Manager (Volume 1, chapter 3, Connection Manager services).
-use Rattle.std.specs.Prelude.{ℕ, List, None}
+use Rattle.std.specs.Prelude.{ℕ, List, [], ◌∷◌, None}
 use Rattle.cip_encap.specs.Message.{message_text}
 use Rattle.cip_encap.specs.Packet.{packet_text}
 use Rattle.cip_events.specs.declared.event.Frame.{Frame}
 use Rattle.cip_events.specs.declared.event.Recipient.TheVariants as recipient
 use Rattle.scanner_table.specs.declared.table.Session.{Session}
 use Rattle.scanner_table.specs.Requests.{manager_text}
+
+-- the numbers of the header of the message with a request, whose items have this length
+abbrev pub request_numbers : Session → ℕ → ℕ → List ℕ
+request_numbers session number len = 0x006F ∷ len ∷ session.handle ∷ 0 ∷ number ∷ 0 ∷ []
 
 -- a request with a service and its data, within a session
 abbrev pub manager_frame : Session → ℕ → ℕ → List ℕ → Frame

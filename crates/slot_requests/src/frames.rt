@@ -1,20 +1,20 @@
 //! The frames of requests.
 
 ghost use Rattle.std.specs.Prelude.{◌≡◌, ◌≤◌, IfOk, IsTrue, None, length};
-ghost use Rattle.cip_encap.specs.Message.{MessageFields, view_message, message_text};
-ghost use Rattle.cip_encap.specs.Packet.{packet_text};
-ghost use Rattle.cip_events.specs.declared.event.Frame.{Frame};
-ghost use Rattle.cip_events.specs.declared.event.Recipient.TheVariants as recipient;
+ghost use Rattle.cip_encap.specs.Message.{view_header};
 ghost use Rattle.cip_fwdopen.specs.Open.{view_open, open_text};
 ghost use Rattle.cip_fwdopen.specs.Close.{close_text};
-ghost use Rattle.scanner_table.specs.Requests.{id_or_zero, is_large, open_fields, close_fields, manager_text, open_service, opening, closing, registration, numbered, sent_frame};
+ghost use Rattle.scanner_table.specs.Requests.{id_or_zero, is_large, open_fields, close_fields, open_service, opening, closing, registration, numbered, sent_frame};
 ghost use Rattle.scanner_table.specs.Profiles.{has_lengths};
-ghost use Rattle.slot_requests.specs.Requests.{manager_frame};
+ghost use Rattle.slot_requests.specs.Requests.{request_numbers, manager_frame};
 
 use crate::paths::write_slot_path;
 use crate::sizes::{is_large, o_t_params, t_o_params};
 use cip_encap::command::{REGISTER_SESSION, SEND_RR_DATA};
-use cip_encap::{MessageView, write_items, write_message};
+use cip_encap::{
+    HEADER_LEN, MessageHeader, MessageView, items_len, put_items_header, put_message_header,
+    write_message,
+};
 use cip_events::{Frame, Recipient};
 use cip_fwdopen::service::{FORWARD_CLOSE, FORWARD_OPEN, LARGE_FORWARD_OPEN};
 use cip_fwdopen::{CloseRequest, OpenRequest, write_close, write_open};
@@ -32,21 +32,6 @@ const PRIORITY_TICK: u8 = 0x0A;
 
 const TICKS: u8 = 0x0E;
 
-/// The frame with a message on a stream.
-fn message_frame(
-    alloc: Global,
-    stream: u16,
-    message: &MessageView<'_>,
-) -> Result<Frame, OutOfMemory>
-    requires { length message.now.«data».now ≤ 65535 }
-    ensures { IfOk result (λ frame. frame ≡ record { to = recipient.Stream stream; bytes = message_text (view_message message.now) }) }
-{
-    Ok(Frame {
-        to: Recipient::Stream(stream),
-        bytes: Items::from_vec(write_message(alloc, message)?),
-    })
-}
-
 /// Makes the RegisterSession frame of a new stream. `OutOfMemory` is the only error.
 ///
 /// Volume 2, chapter 2, RegisterSession.
@@ -61,20 +46,27 @@ pub fn registration_frame(alloc: Global, stream: u16) -> Result<Frame, OutOfMemo
         options: 0,
         data: &PROTOCOL,
     };
-    message_frame(alloc, stream, &message)
+    Ok(Frame {
+        to: Recipient::Stream(stream),
+        bytes: Items::from_vec(write_message(alloc, &message)?),
+    })
 }
 
-/// A request to the Connection Manager.
-fn write_manager(alloc: Global, service: u8, body: &[u8]) -> Result<Vec<u8>, OutOfMemory>
-    ensures { IfOk result (λ v. v.items ≡ manager_text service body.now) }
+/// The header of the message with a request of this number and of this length with its items.
+fn request_header(session: Session, number: u64, len: u16) -> MessageHeader
+    ensures { view_header result ≡ request_numbers session number len }
 {
-    let mut out = Vec::new(alloc);
-    put_bytes(&mut out, &[service, 2, 0x20, 6, 0x24, 1])?;
-    put_bytes(&mut out, body)?;
-    Ok(out)
+    MessageHeader {
+        command: SEND_RR_DATA,
+        len,
+        session: session.handle,
+        status: 0,
+        context: number,
+        options: 0,
+    }
 }
 
-/// The frame of a request to the Connection Manager, within a session.
+/// The frame of a request to the Connection Manager, within a session. It is written into one buffer.
 fn manager_frame(
     alloc: Global,
     session: Session,
@@ -85,17 +77,18 @@ fn manager_frame(
     requires { length body.now ≤ 1000 }
     ensures { IfOk result (λ frame. frame ≡ manager_frame session number service body.now) }
 {
-    let request = write_manager(alloc, service, body)?;
-    let items = write_items(alloc, &request, None)?;
-    let message = MessageView {
-        command: SEND_RR_DATA,
-        session: session.handle,
-        status: 0,
-        context: number,
-        options: 0,
-        data: &items,
-    };
-    message_frame(alloc, session.stream, &message)
+    let manager = [service, 2, 0x20, 6, 0x24, 1];
+    let request_len = manager.len() + body.len();
+    let len = items_len(request_len, None);
+    let mut out = Vec::with_capacity(alloc, HEADER_LEN + len)?;
+    put_message_header(&mut out, &request_header(session, number, len as u16))?;
+    put_items_header(&mut out, request_len as u16, None)?;
+    put_bytes(&mut out, &manager)?;
+    put_bytes(&mut out, body)?;
+    Ok(Frame {
+        to: Recipient::Stream(session.stream),
+        bytes: Items::from_vec(out),
+    })
 }
 
 fn open_service(large: bool) -> u8

@@ -9,8 +9,7 @@ use Rattle.scanner_table.specs.Ticks.{by_deadline, has_expired, expired_slots, a
 use Rattle.slot_transactions.specs.Transactions.{Progress, followed, after_at}
 use Rattle.slot_runs.specs.declared.expiries.Expiry.{Expiry}
 use Rattle.slot_runs.specs.Expiries.{expiry_of, expires_before}
-use Rattle.slot_runs.specs.declared.slot_filter.SlotAction.TheVariants as slot_action
-use Rattle.slot_runs.proofs.Tame.{actions_are_tame}
+use Rattle.slot_runs.proofs.Tame.{expiries_are_tame}
 use Rattle.slot_runs.proofs.SlotNumbers.{one_more, none_left, slots_stand, stand_filter, stand_in_order, Remains}
 
 insert_step : (b : Bool) (indexed first : IndexedSlot) (rest : List IndexedSlot) → cond b (expiry_of indexed ∷ expiry_of first ∷ map expiry_of rest) (expiry_of first ∷ map expiry_of (inserted by_deadline indexed rest)) ≡ map expiry_of (cond b (indexed ∷ first ∷ rest) (first ∷ inserted by_deadline indexed rest))
@@ -62,7 +61,7 @@ one_expires all now next t ordered index e d are less is remains made =
     let indexed = next_is (expired_slots t) ordered index e d are within is in
     let up : index + 1 ≡ suc index = omega arith in
     let named : next ≡ after_at expired indexed.indexed.number now = made ∙ ap (λ (x : Expiry). after_at expired x.number now) indexed.is in
-    rw up (one_more expired all now next indexed.indexed (drop (suc index) (expired_slots t)) (actions_are_tame slot_action.Expire) (subst (Remains expired all now) indexed.rest remains) named)
+    rw up (one_more expired all now next indexed.indexed (drop (suc index) (expired_slots t)) expiries_are_tame (subst (Remains expired all now) indexed.rest remains) named)
 
 -- and then none is left
 pub all_expire : (all now : Progress) (t : ScannerTable) (ordered : List Expiry) (index : ℕ) → ordered ≡ map expiry_of (expired_slots t) → length ordered ≤ index → Remains expired all now (drop index (expired_slots t)) → now ≡ all

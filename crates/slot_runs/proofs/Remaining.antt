@@ -11,7 +11,9 @@ use Rattle.scanner_table.specs.declared.table.ScannerTable.{ScannerTable}
 use Rattle.scanner_table.specs.Requests.{sent_frame}
 use Rattle.scanner_table.specs.Slots.{IndexedSlot, indexed_from, indexed_slots, is_numbered, slot_at}
 use Rattle.scanner_table.specs.Effects.{Effect, nothing, after, on_each}
+use Rattle.slot_transactions.specs.declared.transaction.Transaction.{Transaction}
 use Rattle.slot_transactions.specs.Transactions.{Progress, followed, at_found, after_at}
+use Rattle.slot_transactions.specs.Undoing.{GoesOn}
 use Rattle.slot_runs.specs.declared.slot_filter.SlotFilter.{SlotFilter}
 use Rattle.slot_runs.specs.declared.slot_filter.SlotAction.{SlotAction}
 use Rattle.slot_runs.specs.Runs.{effect_of, selected, at_passes}
@@ -132,3 +134,7 @@ pub skip_next : (action : SlotAction) (which : SlotFilter) (all now : Progress) 
 skip_next action which all now number is fails =
     let up : number + 1 ≡ suc number = omega arith in
     rw up (skip (effect_of action) (selected which) all now number is fails)
+
+-- a transaction that goes on twice goes on
+pub goes_on : (first then last : Transaction) → GoesOn first then → GoesOn then last → GoesOn first last
+goes_on first then last once again = (again.0 ∙ once.0, again.1 ∙ once.1, again.2 ∙ once.2)

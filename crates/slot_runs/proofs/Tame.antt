@@ -12,7 +12,7 @@ use Rattle.scanner_table.specs.Sessions.{session_with}
 use Rattle.scanner_table.specs.Effects.{Effect}
 use Rattle.scanner_table.specs.Opening.{can_open, open_requested, exhausted, opened_within, opened}
 use Rattle.scanner_table.specs.Closing.{given_up_state}
-use Rattle.scanner_table.specs.Ticks.{expired_state}
+use Rattle.scanner_table.specs.Ticks.{expired, expired_state}
 use Rattle.slot_runs.specs.declared.slot_filter.SlotAction.{SlotAction}
 use Rattle.slot_runs.specs.declared.slot_filter.SlotAction.TheVariants as slot_action
 use Rattle.slot_runs.specs.Runs.{effect_of}
@@ -70,8 +70,10 @@ tame_expired t indexed (Established c) = set_changes indexed.number t _ _ refl r
 tame_expired t indexed (TimedOut link) = nothing_changes indexed.number t
 tame_expired t indexed (Closing c) = nothing_changes indexed.number t
 
+pub expiries_are_tame : IsTame expired
+expiries_are_tame t indexed = tame_expired t indexed indexed.slot.state
+
 -- each action changes one slot
 pub actions_are_tame : (action : SlotAction) → IsTame (effect_of action)
 actions_are_tame slot_action.Open t indexed = tame_opened t indexed
 actions_are_tame slot_action.GiveUp t indexed = tame_given t indexed indexed.slot.state
-actions_are_tame slot_action.Expire t indexed = tame_expired t indexed indexed.slot.state

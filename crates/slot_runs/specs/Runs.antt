@@ -5,7 +5,7 @@ use Rattle.scanner_table.specs.Slots.{IndexedSlot, indexed_slots, is_with}
 use Rattle.scanner_table.specs.Effects.{Effect, on_each}
 use Rattle.scanner_table.specs.Opening.{is_ready_slot, opened}
 use Rattle.scanner_table.specs.Closing.{given_up}
-use Rattle.scanner_table.specs.Ticks.{is_overdue, expired}
+use Rattle.scanner_table.specs.Ticks.{is_overdue}
 use Rattle.slot_runs.specs.declared.slot_filter.SlotFilter.{SlotFilter}
 use Rattle.slot_runs.specs.declared.slot_filter.SlotFilter.TheVariants as slot_filter
 use Rattle.slot_runs.specs.declared.slot_filter.SlotAction.{SlotAction}
@@ -15,7 +15,6 @@ use Rattle.slot_runs.specs.declared.slot_filter.SlotAction.TheVariants as slot_a
 abbrev pub effect_of : SlotAction → ScannerTable → IndexedSlot → Effect
 effect_of slot_action.Open = opened
 effect_of slot_action.GiveUp = given_up
-effect_of slot_action.Expire = expired
 
 -- the filter selects the slot
 abbrev pub selected : SlotFilter → IndexedSlot → Bool

@@ -1,20 +1,18 @@
 //! Connections that time out, in the order of their deadlines, and the part of a tick before its productions.
 
-ghost use Rattle.std.specs.Prelude.{◌≡◌, ◌≤◌, ◌^◌, None, IfOk, filter, map};
-ghost use Rattle.scanner_table.specs.Profiles.{profile_fault};
+ghost use Rattle.std.specs.Prelude.{◌≡◌, IfOk, filter, map};
 ghost use Rattle.scanner_table.specs.Slots.{indexed_slots};
-ghost use Rattle.scanner_table.specs.Ticks.{has_expired, deadline_of, all_expired, advanced};
-ghost use Rattle.slot_places.specs.Views.{view_slot, table_of};
-ghost use Rattle.slot_transactions.specs.Transactions.{view_transaction, followed};
-ghost use Rattle.slot_transactions.specs.Undoing.{state_before};
+ghost use Rattle.scanner_table.specs.Ticks.{has_expired, deadline_of, expired, all_expired, advanced};
+ghost use Rattle.slot_places.specs.Views.{view_slot};
+ghost use Rattle.slot_transactions.specs.Transactions.{view_transaction, followed, after_at, IsReady};
+ghost use Rattle.slot_transactions.specs.Undoing.{GoesOn};
 ghost use Rattle.slot_runs.specs.Expiries.{expiry_of, expires_before};
 
-use crate::running::{act_on_slot, give_up_overdue, open_ready};
-use crate::slot_filter::SlotAction;
+use crate::running::{give_up_overdue, open_ready};
 use cip_types::{Ms, OutOfMemory};
 use list_order::{Order, sorted};
-use scanner_table::{ScannerProfile, SlotState};
-use slot_places::{ScannerState, SlotTest, SlotView, slots_that};
+use scanner_table::SlotState;
+use slot_places::{SlotTest, SlotView, slots_that};
 use slot_transactions::Transaction;
 use std::alloc::Global;
 
@@ -72,51 +70,53 @@ fn expiries_of(alloc: Global, indexed_slots: &[SlotView<'_>]) -> Result<Vec<Expi
 
 /// Returns the connections whose deadline has come, in the order of their slots.
 #[tactic(auto, using(crate::proofs::Few::few_slots))]
-fn expiries(
-    alloc: Global,
-    profile: &ScannerProfile,
-    scanner: &ScannerState,
-) -> Result<Vec<Expiry>, OutOfMemory>
-    requires { profile_fault profile.now ≡ None }
-    ensures { let t = table_of profile.now scanner.now in IfOk result (λ found. found.items ≡ map expiry_of (filter (has_expired t.clock) (indexed_slots t))) }
+fn expiries(transaction: &Transaction<'_>) -> Result<Vec<Expiry>, OutOfMemory>
+    requires { IsReady transaction.now }
+    ensures { let t = (view_transaction transaction.now).table in IfOk result (λ found. found.items ≡ map expiry_of (filter (has_expired t.clock) (indexed_slots t))) }
 {
+    let scanner = &transaction.scanner;
     let test = SlotTest::Expired(scanner.clock);
-    let found = slots_that(alloc, profile.slots.as_slice(), &scanner.slots, test)?;
-    expiries_of(alloc, &found)
+    let configs = transaction.profile.slots.as_slice();
+    let found = slots_that(transaction.alloc, configs, &scanner.slots, test)?;
+    expiries_of(transaction.alloc, &found)
+}
+
+/// Times out the connection of the slot of a number, if there is one.
+fn expire_slot(transaction: &mut Transaction<'_>, number: u32) -> Result<(), OutOfMemory>
+    requires ready { IsReady transaction.old }
+    ensures effect { IfOk result (λ _. view_transaction transaction.new ≡ after_at expired number (view_transaction transaction.old)) }
+    ensures kept { GoesOn transaction.old transaction.new }
+{
+    if transaction.find(number).is_none() {
+        return Ok(());
+    }
+    transaction.expire(number)
 }
 
 /// Times out the connections whose deadline has come, in the order of their deadlines. `OutOfMemory` is the only error.
 ///
 /// Volume 1, chapter 3, connection timeouts.
-pub fn expire_all(
-    transaction: &mut Transaction,
-    profile: &ScannerProfile,
-) -> Result<(), OutOfMemory>
-    requires faultless { profile_fault profile.now ≡ None }
-    requires time { transaction.old.scanner.clock.0 ≤ 2 ^ 48 }
-    ensures effect { let d = view_transaction profile.now transaction.old in IfOk result (λ _. view_transaction profile.now transaction.new ≡ followed d (all_expired d.table)) }
-    ensures clock { transaction.new.scanner.clock ≡ transaction.old.scanner.clock }
-    ensures kept { state_before transaction.new ≡ state_before transaction.old }
+pub fn expire_all(transaction: &mut Transaction<'_>) -> Result<(), OutOfMemory>
+    requires ready { IsReady transaction.old }
+    ensures effect { let d = view_transaction transaction.old in IfOk result (λ _. view_transaction transaction.new ≡ followed d (all_expired d.table)) }
+    ensures kept { GoesOn transaction.old transaction.new }
 {
-    let alloc = transaction.alloc();
-    let found = expiries(alloc, profile, &transaction.scanner)?;
-    let ordered = sorted(alloc, &found, &Deadlines)?;
+    let found = expiries(transaction)?;
+    let ordered = sorted(transaction.alloc, &found, &Deadlines)?;
     for expiry in &ordered {
-        act_on_slot(transaction, profile, SlotAction::Expire, expiry.number)?;
+        expire_slot(transaction, expiry.number)?;
     }
     Ok(())
 }
 
 /// Performs the part of a tick before its productions: late connections time out, then slots give up late replies, then
 /// ready slots open. `OutOfMemory` is the only error.
-pub fn advance(transaction: &mut Transaction, profile: &ScannerProfile) -> Result<(), OutOfMemory>
-    requires faultless { profile_fault profile.now ≡ None }
-    requires time { transaction.old.scanner.clock.0 ≤ 2 ^ 48 }
-    ensures effect { let d = view_transaction profile.now transaction.old in IfOk result (λ _. view_transaction profile.now transaction.new ≡ followed d (advanced d.table)) }
-    ensures clock { transaction.new.scanner.clock ≡ transaction.old.scanner.clock }
-    ensures kept { state_before transaction.new ≡ state_before transaction.old }
+pub fn advance(transaction: &mut Transaction<'_>) -> Result<(), OutOfMemory>
+    requires ready { IsReady transaction.old }
+    ensures effect { let d = view_transaction transaction.old in IfOk result (λ _. view_transaction transaction.new ≡ followed d (advanced d.table)) }
+    ensures kept { GoesOn transaction.old transaction.new }
 {
-    expire_all(transaction, profile)?;
-    give_up_overdue(transaction, profile)?;
-    open_ready(transaction, profile)
+    expire_all(transaction)?;
+    give_up_overdue(transaction)?;
+    open_ready(transaction)
 }

@@ -1,21 +1,19 @@
 //! The frames that targets send.
 
-ghost use Rattle.std.specs.Prelude.{◌≡◌, ◌≤◌, ◌^◌, None, IfOk, find};
+ghost use Rattle.std.specs.Prelude.{◌≡◌, IfOk, find};
 ghost use Rattle.cip_encap.specs.Message.{view_message};
 ghost use Rattle.cip_encap.specs.Reading.{message_reading};
 ghost use Rattle.scanner_table.specs.declared.table.Stage.TheVariants.{Waiting};
 ghost use Rattle.scanner_table.specs.Encapsulation.{is_awaiting, replied_to, reported, frame_answer};
-ghost use Rattle.scanner_table.specs.Profiles.{profile_fault};
 ghost use Rattle.scanner_table.specs.Slots.{indexed_slots};
-ghost use Rattle.slot_places.specs.Views.{table_of};
-ghost use Rattle.slot_transactions.specs.Transactions.{begun, view_transaction};
-ghost use Rattle.slot_transactions.specs.Undoing.{state_before};
+ghost use Rattle.slot_transactions.specs.Transactions.{begun, view_transaction, IsReady};
+ghost use Rattle.slot_transactions.specs.Undoing.{GoesOn};
 ghost use Rattle.slot_runs.specs.FrameOutcomes.{frame_next};
 
 use crate::sessions::register;
 use cip_encap::{MessageView, read_message};
 use cip_types::{Node, OutOfMemory};
-use scanner_table::{ScannerProfile, SlotState, Stage, TargetStream};
+use scanner_table::{SlotState, Stage, TargetStream};
 use slot_places::{SlotTest, find_slot};
 use slot_requests::{is_large, open_answer};
 use slot_transactions::Transaction;
@@ -34,31 +32,29 @@ pub enum FrameOutcome {
 /// Takes the reply of a target to a request of one of its slots. Any reply to a Forward_Close ends the connection.
 #[tactic(auto, using(crate::proofs::Few::few_slots))]
 fn replied_to(
-    transaction: &mut Transaction,
-    profile: &ScannerProfile,
+    transaction: &mut Transaction<'_>,
     target: Node,
     message: &MessageView<'_>,
 ) -> Result<FrameOutcome, OutOfMemory>
-    requires faultless { profile_fault profile.now ≡ None }
-    requires time { transaction.old.scanner.clock.0 ≤ 2 ^ 48 }
-    requires fresh { view_transaction profile.now transaction.old ≡ begun (table_of profile.now transaction.old.scanner) }
-    ensures effect { let t = table_of profile.now transaction.old.scanner in let m = view_message message.now in IfOk result (λ outcome. frame_next t outcome (view_transaction profile.now transaction.new) ≡ replied_to t m (find (is_awaiting target m.context) (indexed_slots t))) }
-    ensures kept { state_before transaction.new ≡ state_before transaction.old }
+    requires ready { IsReady transaction.old }
+    requires fresh { view_transaction transaction.old ≡ begun (view_transaction transaction.old).table }
+    ensures effect { let t = (view_transaction transaction.old).table in let m = view_message message.now in IfOk result (λ outcome. frame_next t outcome (view_transaction transaction.new) ≡ replied_to t m (find (is_awaiting target m.context) (indexed_slots t))) }
+    ensures kept { GoesOn transaction.old transaction.new }
 {
     let test = SlotTest::Awaiting(target, message.context);
-    let slots = &transaction.scanner.slots;
-    let Some(indexed) = find_slot(profile.slots.as_slice(), slots, test) else {
+    let configs = transaction.profile.slots.as_slice();
+    let Some(indexed) = find_slot(configs, &transaction.scanner.slots, test) else {
         return Ok(FrameOutcome::Ignored);
     };
     let number = indexed.number;
     match indexed.slot.state {
         SlotState::Opening(opening) => {
             let reported = open_answer(is_large(indexed.config), message);
-            transaction.answer(profile, number, &opening, reported)?;
+            transaction.answer(number, &opening, reported)?;
             Ok(FrameOutcome::Answered)
         }
         SlotState::Closing(_) => {
-            transaction.give_up(profile, number)?;
+            transaction.give_up(number)?;
             Ok(FrameOutcome::Answered)
         }
         SlotState::Idle | SlotState::Established(_) | SlotState::TimedOut(_) => Ok(
@@ -69,40 +65,36 @@ fn replied_to(
 
 /// Takes the reply to a registration, which has sender context 0.
 fn registered(
-    transaction: &mut Transaction,
-    profile: &ScannerProfile,
+    transaction: &mut Transaction<'_>,
     stream: TargetStream,
     message: &MessageView<'_>,
 ) -> Result<FrameOutcome, OutOfMemory>
-    requires faultless { profile_fault profile.now ≡ None }
-    requires time { transaction.old.scanner.clock.0 ≤ 2 ^ 48 }
-    requires fresh { view_transaction profile.now transaction.old ≡ begun (table_of profile.now transaction.old.scanner) }
-    ensures effect { let t = table_of profile.now transaction.old.scanner in IfOk result (λ outcome. frame_next t outcome (view_transaction profile.now transaction.new) ≡ reported t stream (view_message message.now) Waiting) }
-    ensures kept { state_before transaction.new ≡ state_before transaction.old }
+    requires ready { IsReady transaction.old }
+    requires fresh { view_transaction transaction.old ≡ begun (view_transaction transaction.old).table }
+    ensures effect { let t = (view_transaction transaction.old).table in IfOk result (λ outcome. frame_next t outcome (view_transaction transaction.new) ≡ reported t stream (view_message message.now) Waiting) }
+    ensures kept { GoesOn transaction.old transaction.new }
 {
     if message.context != 0 {
         return Ok(FrameOutcome::Ignored);
     }
-    register(transaction, profile, stream, message)?;
+    register(transaction, stream, message)?;
     Ok(FrameOutcome::Answered)
 }
 
 /// Takes a message of the target of an open stream, by the stage of the stream's session.
 fn reported(
-    transaction: &mut Transaction,
-    profile: &ScannerProfile,
+    transaction: &mut Transaction<'_>,
     stream: TargetStream,
     message: &MessageView<'_>,
 ) -> Result<FrameOutcome, OutOfMemory>
-    requires faultless { profile_fault profile.now ≡ None }
-    requires time { transaction.old.scanner.clock.0 ≤ 2 ^ 48 }
-    requires fresh { view_transaction profile.now transaction.old ≡ begun (table_of profile.now transaction.old.scanner) }
-    ensures effect { let t = table_of profile.now transaction.old.scanner in IfOk result (λ outcome. frame_next t outcome (view_transaction profile.now transaction.new) ≡ reported t stream (view_message message.now) stream.stage) }
-    ensures kept { state_before transaction.new ≡ state_before transaction.old }
+    requires ready { IsReady transaction.old }
+    requires fresh { view_transaction transaction.old ≡ begun (view_transaction transaction.old).table }
+    ensures effect { let t = (view_transaction transaction.old).table in IfOk result (λ outcome. frame_next t outcome (view_transaction transaction.new) ≡ reported t stream (view_message message.now) stream.stage) }
+    ensures kept { GoesOn transaction.old transaction.new }
 {
     match stream.stage {
-        Stage::Waiting => registered(transaction, profile, stream, message),
-        Stage::Up(_) => replied_to(transaction, profile, stream.peer, message),
+        Stage::Waiting => registered(transaction, stream, message),
+        Stage::Up(_) => replied_to(transaction, stream.peer, message),
         Stage::Unused => Ok(FrameOutcome::Ignored),
     }
 }
@@ -112,19 +104,17 @@ fn reported(
 ///
 /// Volume 2, chapter 2, encapsulation messages.
 pub fn receive_frame(
-    transaction: &mut Transaction,
-    profile: &ScannerProfile,
+    transaction: &mut Transaction<'_>,
     stream: TargetStream,
     bytes: &[u8],
 ) -> Result<FrameOutcome, OutOfMemory>
-    requires faultless { profile_fault profile.now ≡ None }
-    requires time { transaction.old.scanner.clock.0 ≤ 2 ^ 48 }
-    requires fresh { view_transaction profile.now transaction.old ≡ begun (table_of profile.now transaction.old.scanner) }
-    ensures effect { let t = table_of profile.now transaction.old.scanner in IfOk result (λ outcome. frame_next t outcome (view_transaction profile.now transaction.new) ≡ frame_answer t stream (message_reading bytes.now)) }
-    ensures kept { state_before transaction.new ≡ state_before transaction.old }
+    requires ready { IsReady transaction.old }
+    requires fresh { view_transaction transaction.old ≡ begun (view_transaction transaction.old).table }
+    ensures effect { let t = (view_transaction transaction.old).table in IfOk result (λ outcome. frame_next t outcome (view_transaction transaction.new) ≡ frame_answer t stream (message_reading bytes.now)) }
+    ensures kept { GoesOn transaction.old transaction.new }
 {
     match read_message(bytes) {
-        Ok(message) => reported(transaction, profile, stream, &message),
+        Ok(message) => reported(transaction, stream, &message),
         Err(_) => Ok(FrameOutcome::BadFrame),
     }
 }

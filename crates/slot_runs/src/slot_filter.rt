@@ -1,13 +1,14 @@
 //! Actions on slots, and filters of slots.
 
-ghost use Rattle.std.specs.Prelude.{◌≡◌, find};
+ghost use Rattle.std.specs.Prelude.{◌≡◌, true};
 ghost use Rattle.slot_places.specs.Views.{view_slot};
-ghost use Rattle.scanner_table.specs.Slots.{is_numbered, is_with, indexed_from};
+ghost use Rattle.scanner_table.specs.Slots.{is_with, slot_at};
+ghost use Rattle.slot_transactions.specs.Transactions.{view_transaction, HasSlot};
 ghost use Rattle.slot_runs.specs.Runs.{selected, at_passes};
 
 use cip_types::{Ms, Node};
-use scanner_table::{ScannerProfile, Slot};
-use slot_places::{SlotView, is_overdue, is_ready, slot_at};
+use slot_places::{SlotView, is_overdue, is_ready};
+use slot_transactions::Transaction;
 
 /// An action on a slot.
 #[derive(Clone, Copy)]
@@ -16,8 +17,6 @@ pub enum SlotAction {
     Open,
     /// The slot gives up the reply that it waits for.
     GiveUp,
-    /// The slot's connection times out.
-    Expire,
 }
 
 /// A choice of slots.
@@ -54,11 +53,12 @@ impl SlotFilter {
         }
     }
 
-    /// Returns whether the filter selects the slot of a number.
-    pub fn has_number(self, profile: &ScannerProfile, slots: &[Slot], number: u32) -> bool
-        ensures { result ≡ at_passes (selected self) (find (is_numbered number) (indexed_from 0 profile.now.slots slots.now)) }
+    /// Returns whether there is a slot of a number, and the filter selects it.
+    pub fn has_number(self, transaction: &Transaction<'_>, number: u32) -> bool
+        ensures answer { result ≡ at_passes (selected self) (slot_at (view_transaction transaction.now).table number) }
+        ensures found { result ≡ true → HasSlot transaction.now number }
     {
-        match slot_at(profile.slots.as_slice(), slots, number) {
+        match transaction.find(number) {
             Some(indexed) => self.has(indexed),
             None => false,
         }

@@ -18,7 +18,7 @@ use Rattle.scanner_table.specs.Points.{start, start_at, start_state, stop, stop_
 use Rattle.scanner_table.specs.Sessions.{session_with, is_stream, without_stream}
 use Rattle.scanner_table.specs.Slots.{IndexedSlot, slot_at}
 use Rattle.slot_transactions.specs.Transactions.{Progress, begun, followed, at_number, at_found, after_at, freshly_started, progress_answer, Adds}
-use Rattle.slot_scanner.specs.Allowed.{can_start, can_stop}
+use Rattle.slot_scanner.specs.Allowed.{can_start}
 
 abbrev Said : Type 0
 Said = Result Next StepFault
@@ -66,46 +66,46 @@ start_taken t number indexed first last answer new found can begins ends reporte
 
 -- ---- stops
 
--- an effect that a stop has
-abbrev Stops : ScannerTable → IndexedSlot → SlotState → Type 0
-Stops t indexed state = (effect : Effect) × (stopped t indexed state ≡ Ok effect)
+effect_refused : (t : ScannerTable) (effect : Effect) (last : Progress) (why : StepFault) (new : ScannerTable) → Adds (Ok effect) (begun t) (Err why) last → new ≡ t → Follows (stop_of (Ok effect)) t (Err why) new
+effect_refused t effect last why new none same = subst (λ (w : StepFault). Follows (stop_of (Ok effect)) t (Err w) new) (sym none) (refl, same)
 
-idle_stops : (t : ScannerTable) (indexed : IndexedSlot) (desired_up : Bool) → desired_up ≡ true → ◌≡◌ {A = Result Effect StepFault} (if desired_up then Ok (slot_resigned t indexed) else Err NotAllowedNow) (Ok (slot_resigned t indexed))
-idle_stops t indexed true can = refl
-idle_stops t indexed false can = absurd cc
+same_fault : (why other : StepFault) → ◌≡◌ {A = Result (Unit {0}) StepFault} (Err why) (Err other) → why ≡ other
+same_fault why other is = cc
 
-state_stops : (t : ScannerTable) (indexed : IndexedSlot) (state : SlotState) → can_stop indexed.slot.desired_up state ≡ true → Stops t indexed state
-state_stops t indexed Idle can = (slot_resigned t indexed, idle_stops t indexed indexed.slot.desired_up can)
-state_stops t indexed (Opening o) can = (slot_resigned t indexed, refl)
-state_stops t indexed (Established c) can = (closed_within t indexed c (session_with t indexed.config.target), refl)
-state_stops t indexed (TimedOut link) can = (slot_resigned t indexed, refl)
-state_stops t indexed (Closing c) can = absurd cc
+fault_refused : (t : ScannerTable) (why other : StepFault) (new : ScannerTable) → ◌≡◌ {A = Result (Unit {0}) StepFault} (Err why) (Err other) → Follows (stop_of (Err other)) t (Err other) new → Follows (stop_of (Err other)) t (Err why) new
+fault_refused t why other new is follows = subst (λ (w : StepFault). Follows (stop_of (Err other)) t (Err w) new) (sym (same_fault why other is)) follows
 
-stops : (t : ScannerTable) (number : ℕ) (indexed : IndexedSlot) → slot_at t number ≡ Some indexed → can_stop indexed.slot.desired_up indexed.slot.state ≡ true → (effect : Effect) × (stopped_at t (slot_at t number) ≡ Ok effect)
-stops t number indexed found can =
-    let e = state_stops t indexed indexed.slot.state can in
-    (e.0, ap (stopped_at t) found ∙ e.1)
+takes : (t : ScannerTable) (said : Result Effect StepFault) (last : Progress) (unit : Unit {0}) (answer : Answer) (new : ScannerTable) → Adds said (begun t) (Ok unit) last → answer ≡ progress_answer last [] → new ≡ last.table → stop_of said ≡ Ok (answer, new)
+takes t (Err why) last unit answer new adds reported left = absurd (cc)
+takes t (Ok effect) last unit answer new adds reported left = ap as_ok (transaction_done t effect last answer new adds reported left)
 
-stop_done : (t : ScannerTable) (number : ℕ) (effect : Effect) → stopped_at t (slot_at t number) ≡ Ok effect → stop t number ≡ Ok (done effect)
+-- a stop in a transaction that has just begun
+pub stop_taken : (t : ScannerTable) (number : ℕ) (first last : Progress) (unit : Unit {0}) (answer : Answer) (new : ScannerTable) → first ≡ begun t → Adds (stopped_at first.table (slot_at first.table number)) first (Ok unit) last → answer ≡ progress_answer last [] → new ≡ last.table → stop t number ≡ Ok (answer, new)
 unfolding stop
-stop_done t number effect is = ap stop_of is
+stop_taken t number first last unit answer new begins adds reported left =
+    takes t (stopped_at t (slot_at t number)) last unit answer new (subst (λ (d : Progress). Adds (stopped_at d.table (slot_at d.table number)) d (Ok unit) last) begins adds) reported left
 
-pub stop_ok : (t : ScannerTable) (number : ℕ) (indexed : IndexedSlot) → slot_at t number ≡ Some indexed → can_stop indexed.slot.desired_up indexed.slot.state ≡ true → IsOk (stop t number)
-stop_ok t number indexed found can =
-    let e = stops t number indexed found can in
-    rw (stop_done t number e.0 e.1) refl
+idle_refused : (desired_up : Bool) (t : ScannerTable) (effect : Effect) (last : Progress) (why : StepFault) (new : ScannerTable) → Adds (if desired_up then Ok effect else Err NotAllowedNow) (begun t) (Err why) last → new ≡ t → Follows (stop_of (if desired_up then Ok effect else Err NotAllowedNow)) t (Err why) new
+idle_refused true t effect last why new adds same = effect_refused t effect last why new adds same
+idle_refused false t effect last why new adds same = fault_refused t why NotAllowedNow new adds (refl, same)
 
--- a stop within a transaction that has just begun
-stop_adds : (t : ScannerTable) (number : ℕ) (effect : Effect) (first last : Progress) (unit : Unit {0}) → stopped_at t (slot_at t number) ≡ Ok effect → first ≡ begun t → Adds (stopped_at first.table (slot_at first.table number)) first (Ok unit) last → last ≡ followed (begun t) effect
-stop_adds t number effect first last unit is begins adds =
-    let ran : Adds (stopped_at t (slot_at t number)) (begun t) (Ok unit) last = subst (λ (d : Progress). Adds (stopped_at d.table (slot_at d.table number)) d (Ok unit) last) begins adds in
-    subst (λ (said : Result Effect StepFault). Adds said (begun t) (Ok unit) last) is ran
+state_refused : (t : ScannerTable) (indexed : IndexedSlot) (state : SlotState) (last : Progress) (why : StepFault) (new : ScannerTable) → Adds (stopped t indexed state) (begun t) (Err why) last → new ≡ t → Follows (stop_of (stopped t indexed state)) t (Err why) new
+state_refused t indexed Idle last why new adds same = idle_refused indexed.slot.desired_up t (slot_resigned t indexed) last why new adds same
+state_refused t indexed (Opening o) last why new adds same = effect_refused t (slot_resigned t indexed) last why new adds same
+state_refused t indexed (Established c) last why new adds same = effect_refused t (closed_within t indexed c (session_with t indexed.config.target)) last why new adds same
+state_refused t indexed (TimedOut link) last why new adds same = effect_refused t (slot_resigned t indexed) last why new adds same
+state_refused t indexed (Closing c) last why new adds same = fault_refused t why NotAllowedNow new adds (refl, same)
 
-pub stop_taken : (t : ScannerTable) (number : ℕ) (indexed : IndexedSlot) (first last : Progress) (unit : Unit {0}) (answer : Answer) (new : ScannerTable) → slot_at t number ≡ Some indexed → can_stop indexed.slot.desired_up indexed.slot.state ≡ true → first ≡ begun t → Adds (stopped_at first.table (slot_at first.table number)) first (Ok unit) last → answer ≡ progress_answer last [] → new ≡ last.table → stop t number ≡ Ok (answer, new)
-stop_taken t number indexed first last unit answer new found can begins adds reported left =
-    let e = stops t number indexed found can in
-    let is : last ≡ followed (begun t) e.0 = stop_adds t number e.0 first last unit e.1 begins adds in
-    stop_done t number e.0 e.1 ∙ ap as_ok (transaction_done t e.0 last answer new is reported left)
+found_refused : (t : ScannerTable) (found : Option IndexedSlot) (last : Progress) (why : StepFault) (new : ScannerTable) → Adds (stopped_at t found) (begun t) (Err why) last → new ≡ t → Follows (stop_of (stopped_at t found)) t (Err why) new
+found_refused t None last why new adds same = fault_refused t why NoSuchSlot new adds (refl, same)
+found_refused t (Some indexed) last why new adds same = state_refused t indexed indexed.slot.state last why new adds same
+
+-- and a stop that is refused in one, or finds no memory
+pub stop_refused : (t : ScannerTable) (number : ℕ) (first last : Progress) (why result : StepFault) (new : ScannerTable) → first ≡ begun t → Adds (stopped_at first.table (slot_at first.table number)) first (Err why) last → result ≡ why → new ≡ t → Follows (stop t number) t (Err result) new
+unfolding stop
+stop_refused t number first last why result new begins adds is same =
+    subst (λ (w : StepFault). Follows (stop_of (stopped_at t (slot_at t number))) t (Err w) new) (sym is)
+    (found_refused t (slot_at t number) last why new (subst (λ (d : Progress). Adds (stopped_at d.table (slot_at d.table number)) d (Err why) last) begins adds) same)
 
 -- ---- streams
 

@@ -1,5 +1,5 @@
 -- The effect of a tick.
-use Rattle.std.proofs.Common.{◌≡◌, ℕ, ◌+◌, List, [], map, Result, Ok, refl, ap, ◌∙◌}
+use Rattle.std.proofs.Common.{◌≡◌, ℕ, ◌+◌, List, [], map, Result, Ok, refl, ap, subst, ◌∙◌}
 use Rattle.cip_events.specs.declared.event.Answer.{Answer}
 use Rattle.cip_events.specs.declared.event.OutgoingDatagram.{OutgoingDatagram}
 use Rattle.cip_events.specs.declared.event.StepFault.{StepFault}
@@ -29,6 +29,10 @@ tick_taken t effect d datagrams answer made new is sends makes reported left = r
 pub clock_moved : (t : ScannerTable) (ms n : ℕ) (first : Progress) → first ≡ begun t → n ≡ ms → with_clock (record { 0 = t.clock.0 + n }) first ≡ begun (clocked_table t ms)
 clock_moved t ms n first begins same =
     ap (with_clock (record { 0 = t.clock.0 + n })) begins ∙ ap (λ (m : ℕ). begun (clocked_table t m)) same
+
+-- the part of a tick before its productions
+pub moved_advanced : (t : ScannerTable) (first new : Progress) → first ≡ begun t → new ≡ followed first (advanced first.table) → new ≡ followed (begun t) (advanced t)
+moved_advanced t first new is made = subst (λ (d : Progress). new ≡ followed d (advanced d.table)) is made
 
 abbrev as_ok : Next → Result Next StepFault
 as_ok next = Ok next

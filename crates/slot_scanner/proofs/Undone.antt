@@ -10,8 +10,8 @@ use Rattle.scanner_table.specs.Effects.{Next}
 use Rattle.slot_places.specs.declared.scanner.ScannerState.{ScannerState}
 use Rattle.slot_places.specs.Views.{table_of}
 use Rattle.slot_transactions.specs.declared.transaction.Transaction.{Transaction}
-use Rattle.slot_transactions.specs.Transactions.{begun, view_transaction}
-use Rattle.slot_transactions.specs.Undoing.{State, state_of, state_before, table_with}
+use Rattle.slot_transactions.specs.Transactions.{Progress, begun, view_transaction}
+use Rattle.slot_transactions.specs.Undoing.{state_of, state_before, table_with}
 
 -- a transaction that was undone leaves the table as it was
 pub same_table : (profile : ScannerProfile) (first last : Transaction) (old new : ScannerState) → state_before first ≡ state_of old → state_before last ≡ state_before first → state_of new ≡ state_before last → table_of profile new ≡ table_of profile old
@@ -22,8 +22,12 @@ pub undone_follows : (said : Result Next StepFault) (old new : ScannerTable) (wh
 undone_follows said old new why is same ok = subst (λ (w : StepFault). Follows said old (Err w) new) (sym is) (ok, same)
 
 -- a transaction that has just begun
-pub is_fresh : (profile : ScannerProfile) (first : Transaction) (old : ScannerState) → view_transaction profile first ≡ begun (table_of profile old) → first.scanner ≡ old → view_transaction profile first ≡ begun (table_of profile first.scanner)
-is_fresh profile first old begins same = begins ∙ ap (λ (s : ScannerState). begun (table_of profile s)) (sym same)
+pub is_fresh : (first : Transaction) (t : ScannerTable) → view_transaction first ≡ begun t → view_transaction first ≡ begun (view_transaction first).table
+is_fresh first t begins = begins ∙ ap (λ (d : Progress). begun d.table) (sym begins)
+
+-- the table that a transaction leaves, with the profile that it began with
+pub same_profile : (first last : Transaction) (profile : ScannerProfile) (new : ScannerState) → first.profile.now ≡ profile → last.profile.now ≡ first.profile.now → table_of last.profile.now new ≡ (view_transaction last).table → table_of profile new ≡ (view_transaction last).table
+same_profile first last profile new begins kept ends = ap (λ (p : ScannerProfile). table_of p new) (sym (kept ∙ begins)) ∙ ends
 
 pub both_same : (a b : Answer) (t u : ScannerTable) → a ≡ b → t ≡ u → ◌≡◌ {A = Next} (a, t) (b, u)
 both_same a b t u same are = rw (same, are) refl

@@ -1,5 +1,5 @@
--- Which slots can be started and stopped.
-use Rattle.std.specs.Prelude.{not, Bool, true, false}
+-- Which slots can be started.
+use Rattle.std.specs.Prelude.{not, Bool, false}
 use Rattle.scanner_table.specs.declared.slot.SlotState.{SlotState}
 use Rattle.scanner_table.specs.declared.slot.SlotState.TheVariants.{Idle, Opening, Established, TimedOut, Closing}
 
@@ -10,11 +10,3 @@ can_start desired_up (Opening o) = false
 can_start desired_up (Established c) = false
 can_start desired_up (TimedOut link) = false
 can_start desired_up (Closing c) = false
-
--- the slot can be stopped
-abbrev pub can_stop : Bool → SlotState → Bool
-can_stop desired_up Idle = desired_up
-can_stop desired_up (Opening o) = true
-can_stop desired_up (Established c) = true
-can_stop desired_up (TimedOut link) = true
-can_stop desired_up (Closing c) = false

@@ -2,7 +2,6 @@
 
 ghost use Rattle.std.specs.Prelude.{◌≡◌, []};
 ghost use Rattle.cip_events.specs.Answers.{plain_answer};
-ghost use Rattle.scanner_table.specs.declared.profile.ScannerProfile.{ScannerProfile};
 ghost use Rattle.slot_transactions.specs.Transactions.{view_transaction, progress_answer};
 ghost use Rattle.slot_transactions.specs.Undoing.{state_of, state_before};
 ghost use Rattle.slot_places.specs.Views.{table_of};
@@ -24,23 +23,23 @@ pub fn sent_answer(alloc: Global, datagrams: Vec<OutgoingDatagram>) -> Answer
 }
 
 /// Takes a transaction back: the scanner is as it was before. Returns the fault. Takes no memory.
-pub fn undone(transaction: Transaction, scanner: &mut ScannerState) -> StepFault
-    ensures fault { result ≡ StepFault.OutOfMemory }
-    ensures state { state_of scanner.new ≡ state_before transaction }
+pub fn undone(transaction: Transaction<'_>, scanner: &mut ScannerState, why: StepFault) -> StepFault
+    ensures fault { result ≡ why }
+    ensures state { state_of scanner.new ≡ state_before transaction.entry }
 {
     *scanner = transaction.undo();
-    StepFault::OutOfMemory
+    why
 }
 
 /// Ends a transaction of an event that changes nothing. Returns the answer with this verdict. Takes no memory.
 pub fn unchanged(
     alloc: Global,
-    transaction: Transaction,
+    transaction: Transaction<'_>,
     scanner: &mut ScannerState,
     verdict: Verdict,
 ) -> Answer
     ensures answer { result ≡ plain_answer verdict }
-    ensures state { state_of scanner.new ≡ state_before transaction }
+    ensures state { state_of scanner.new ≡ state_before transaction.entry }
 {
     *scanner = transaction.undo();
     Answer::plain(alloc, verdict)
@@ -48,12 +47,12 @@ pub fn unchanged(
 
 /// Ends a transaction: its table becomes the present one. Returns its answer. Takes no memory.
 pub fn taken(
-    transaction: Transaction,
+    transaction: Transaction<'_>,
     scanner: &mut ScannerState,
     datagrams: Vec<OutgoingDatagram>,
 ) -> Answer
-    ensures answer { (profile : ScannerProfile) → result ≡ progress_answer (view_transaction profile transaction) datagrams.items }
-    ensures table { (profile : ScannerProfile) → table_of profile scanner.new ≡ (view_transaction profile transaction).table }
+    ensures answer { result ≡ progress_answer (view_transaction transaction.entry) datagrams.items }
+    ensures table { table_of transaction.entry.profile.now scanner.new ≡ (view_transaction transaction.entry).table }
 {
     let (answer, next) = transaction.finish(datagrams);
     *scanner = next;

@@ -1,17 +1,13 @@
 //! A scanner over its slots.
 
-use crate::events::{happened, image_at, written};
-use crate::made::{fresh_state, state_of};
-use crate::ticks::{quiet_time, tick};
+use crate::slots::ScannerSlots;
 use cip_tables::{
     Config, Delivery, Device, DeviceTable, Event, NewFault, Outcome, StepFault, TableCopy,
 };
-use cip_types::{Items, Ms, Node, OutOfMemory};
+use cip_types::{Ms, Node, OutOfMemory};
 use scanner_laws::{fresh_tables_are_whole, steps_keep_tables_whole};
-use scanner_table::{ScannerProfile, ScannerTable, copy_of_slots};
 use slot_data::receive;
 use slot_hints::Hints;
-use slot_places::ScannerState;
 use std::alloc::Global;
 use std::marker::Model;
 
@@ -20,9 +16,7 @@ use std::marker::Model;
 /// It keeps the allocator that it was made with. What it remembers beside its slots shows in no outcome.
 #[derive(Drop)]
 pub struct Scanner<H: Hints> {
-    alloc: Global,
-    profile: ScannerProfile,
-    scanner: ScannerState,
+    slots: ScannerSlots,
     hints: H,
 }
 
@@ -30,13 +24,13 @@ impl<H: Hints> Model for Scanner<H> {
     ghost use Rattle.scanner_table.specs.declared.table.ScannerTable.{ScannerTable};
     ghost use Rattle.scanner_laws.specs.Whole.{IsWholeScanner};
     ghost use Rattle.slot_hints.specs.Bounding.{IsHinted};
-    ghost use Rattle.slot_places.specs.Views.{table_of};
+    ghost use Rattle.slot_scanner.specs.Tables.{table_in};
 
     ghost Value = { ScannerTable };
 
-    ghost view = { λ s. table_of s.profile s.scanner };
+    ghost view = { λ s. table_in s.slots };
 
-    ghost invariant = { λ s. IsWholeScanner (table_of s.profile s.scanner) × IsHinted (H.bounds s.hints) (table_of s.profile s.scanner) };
+    ghost invariant = { λ s. IsWholeScanner (table_in s.slots) × IsHinted (H.bounds s.hints) (table_in s.slots) };
 }
 
 impl<H: Hints> Device for Scanner<H> {
@@ -60,11 +54,9 @@ impl<H: Hints> Device for Scanner<H> {
         profile.check()?;
         // The fresh table is whole, since the profile has no fault.
         fresh_tables_are_whole();
-        let scanner = fresh_state(alloc, &profile)?;
+        let slots = ScannerSlots::fresh(alloc, profile)?;
         Ok(Scanner {
-            alloc,
-            profile,
-            scanner,
+            slots,
             hints: H::new(),
         })
     }
@@ -75,20 +67,8 @@ impl<H: Hints> Device for Scanner<H> {
         // The next table is whole, as the invariant of this type says.
         steps_keep_tables_whole();
         match event {
-            Event::Tick { ms } => tick(
-                self.alloc,
-                &self.profile,
-                &mut self.scanner,
-                &mut self.hints,
-                *ms,
-            ),
-            _ => happened(
-                self.alloc,
-                &self.profile,
-                &mut self.scanner,
-                &mut self.hints,
-                event,
-            ),
+            Event::Tick { ms } => self.slots.tick(&mut self.hints, *ms),
+            _ => self.slots.happened(&mut self.hints, event),
         }
     }
 
@@ -97,8 +77,8 @@ impl<H: Hints> Device for Scanner<H> {
         // The next table is whole, as the invariant of this type says.
         steps_keep_tables_whole();
         receive(
-            &self.profile,
-            &mut self.scanner,
+            &self.slots.profile,
+            &mut self.slots.state,
             &mut self.hints,
             peer,
             bytes,
@@ -109,35 +89,26 @@ impl<H: Hints> Device for Scanner<H> {
     fn write_point(&mut self, point: u32, bytes: &[u8]) -> Outcome {
         // The next table is whole, as the invariant of this type says.
         steps_keep_tables_whole();
-        written(self.alloc, &self.profile, &mut self.scanner, point, bytes)
+        self.slots.written(point, bytes)
     }
 
     #[tactic(auto, unfolding(cip_tables::specs::Step::step, scanner_table::specs::Points::read))]
     fn read_point(&self, point: u32) -> Result<&[u8], StepFault> {
-        image_at(&self.profile, &self.scanner, point)
+        self.slots.image_at(point)
     }
 
     fn copy(&self) -> Result<TableCopy, OutOfMemory> {
-        Ok(TableCopy::scanner(ScannerTable {
-            profile: self.profile.copy(self.alloc)?,
-            slots: Items::from_vec(copy_of_slots(self.alloc, &self.scanner.slots)?),
-            run: self.scanner.run,
-            clock: self.scanner.clock,
-            next_id: self.scanner.next_id,
-            next_serial: self.scanner.next_serial,
-            next_request: self.scanner.next_request,
-            streams: Items::copy_of(self.alloc, &self.scanner.streams)?,
-        }))
+        Ok(TableCopy::scanner(self.slots.copy()?))
     }
 
     #[tactic(auto, unfolding(cip_tables::specs::Step::step), using(crate::proofs::Waking::device_rests))]
     fn next_wake(&self) -> Ms {
-        quiet_time(&self.profile, &self.scanner, self.hints.bounds())
+        self.slots.quiet_time(self.hints.bounds())
     }
 
     fn is_whole(&self) {
         // Reading a field gives the prover the invariant of this type.
-        let _clock = self.scanner.clock;
+        let _clock = self.slots.state.clock;
     }
 }
 
@@ -157,12 +128,9 @@ impl<H: Hints> Scanner<H> {
         let DeviceTable::Scanner(table) = copy.table() else {
             return Err(NewFault::WrongKind);
         };
-        let profile = table.profile.copy(alloc)?;
-        let scanner = state_of(alloc, table)?;
+        let slots = ScannerSlots::from_table(alloc, table)?;
         Ok(Scanner {
-            alloc,
-            profile,
-            scanner,
+            slots,
             hints: H::new(),
         })
     }

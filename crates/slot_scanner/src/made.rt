@@ -1,9 +1,10 @@
-//! The first state of a scanner.
+//! The first state of the slots, and copies of their table.
 
 ghost use Rattle.std.specs.Prelude.{◌≡◌, map, IfOk};
 ghost use Rattle.scanner_table.specs.Step.{fresh_slot, scanner_table};
-ghost use Rattle.slot_places.specs.Views.{table_of};
+ghost use Rattle.slot_scanner.specs.Tables.{table_in};
 
+use crate::slots::ScannerSlots;
 use cip_types::{Items, Ms, OutOfMemory};
 use scanner_table::{ScannerProfile, ScannerTable, Slot, SlotConfig, SlotState, copy_of_slots};
 use slot_places::ScannerState;
@@ -34,35 +35,62 @@ fn fresh_slots(alloc: Global, configs: &[SlotConfig]) -> Result<Vec<Slot>, OutOf
     Ok(slots)
 }
 
-/// Makes the state of a fresh scanner.
-pub fn fresh_state(alloc: Global, profile: &ScannerProfile) -> Result<ScannerState, OutOfMemory>
-    ensures { IfOk result (λ scanner. table_of profile.now scanner ≡ scanner_table profile.now) }
-{
-    let slots = fresh_slots(alloc, profile.slots.as_slice())?;
-    Ok(ScannerState {
-        slots,
-        run: false,
-        clock: Ms(0),
-        next_id: 1,
-        next_serial: 1,
-        next_request: 1,
-        streams: Vec::new(alloc),
-    })
-}
+impl ScannerSlots {
+    /// Makes the slots of a fresh scanner.
+    pub fn fresh(alloc: Global, profile: ScannerProfile) -> Result<Self, OutOfMemory>
+        ensures { IfOk result (λ slots. table_in slots ≡ scanner_table profile) }
+    {
+        let slots = fresh_slots(alloc, profile.slots.as_slice())?;
+        let state = ScannerState {
+            slots,
+            run: false,
+            clock: Ms(0),
+            next_id: 1,
+            next_serial: 1,
+            next_request: 1,
+            streams: Vec::new(alloc),
+        };
+        Ok(ScannerSlots {
+            alloc,
+            profile,
+            state,
+        })
+    }
 
-/// Makes the state of a scanner with this table.
-pub fn state_of(alloc: Global, table: &ScannerTable) -> Result<ScannerState, OutOfMemory>
-    ensures { IfOk result (λ scanner. table_of table.now.profile scanner ≡ table.now) }
-{
-    let slots = copy_of_slots(alloc, table.slots.as_slice())?;
-    let streams = Vec::from_slice(alloc, table.streams.as_slice())?;
-    Ok(ScannerState {
-        slots,
-        run: table.run,
-        clock: table.clock,
-        next_id: table.next_id,
-        next_serial: table.next_serial,
-        next_request: table.next_request,
-        streams,
-    })
+    /// Makes the slots of a scanner with this table.
+    pub fn from_table(alloc: Global, table: &ScannerTable) -> Result<Self, OutOfMemory>
+        ensures { IfOk result (λ slots. table_in slots ≡ table.now) }
+    {
+        let profile = table.profile.copy(alloc)?;
+        let state = ScannerState {
+            slots: copy_of_slots(alloc, table.slots.as_slice())?,
+            run: table.run,
+            clock: table.clock,
+            next_id: table.next_id,
+            next_serial: table.next_serial,
+            next_request: table.next_request,
+            streams: Vec::from_slice(alloc, table.streams.as_slice())?,
+        };
+        Ok(ScannerSlots {
+            alloc,
+            profile,
+            state,
+        })
+    }
+
+    /// Copies the table.
+    pub fn copy(&self) -> Result<ScannerTable, OutOfMemory>
+        ensures { IfOk result (λ table. table ≡ table_in self.now) }
+    {
+        Ok(ScannerTable {
+            profile: self.profile.copy(self.alloc)?,
+            slots: Items::from_vec(copy_of_slots(self.alloc, &self.state.slots)?),
+            run: self.state.run,
+            clock: self.state.clock,
+            next_id: self.state.next_id,
+            next_serial: self.state.next_serial,
+            next_request: self.state.next_request,
+            streams: Items::copy_of(self.alloc, &self.state.streams)?,
+        })
+    }
 }

@@ -6,17 +6,18 @@ ghost use Rattle.cip_events.specs.Outcomes.{Follows};
 ghost use Rattle.scanner_table.specs.Encapsulation.{stream_opened, stream_cut, frame};
 ghost use Rattle.scanner_table.specs.Sessions.{is_stream, is_to, is_taken};
 ghost use Rattle.scanner_table.specs.Whole.{IsWhole};
-ghost use Rattle.scanner_table.specs.declared.profile.ScannerProfile.{ScannerProfile};
 ghost use Rattle.slot_places.specs.Views.{table_of};
 ghost use Rattle.slot_runs.specs.FrameOutcomes.{frame_next};
 ghost use Rattle.slot_transactions.specs.Transactions.{view_transaction};
 ghost use Rattle.slot_transactions.specs.Undoing.{state_before, table_with};
+ghost use Rattle.slot_scanner.specs.Tables.{table_in};
 
 use crate::answers::{taken, unchanged, undone};
+use crate::slots::ScannerSlots;
 use cip_events::{Answer, Outcome, StepFault, Verdict};
 use cip_types::limits::MOST_STREAMS;
 use cip_types::{Items, Node, OutOfMemory};
-use scanner_table::{ScannerProfile, Stage, TargetStream};
+use scanner_table::{Stage, TargetStream};
 use slot_places::ScannerState;
 use slot_requests::registration_frame;
 use slot_runs::{FrameOutcome, cut_stream, receive_frame};
@@ -50,34 +51,6 @@ fn add_stream(streams: &mut Vec<TargetStream>, stream: TargetStream) -> Result<(
     Ok(streams.push(stream)?)
 }
 
-/// Opens a stream to a target, and registers a session on it.
-#[tactic(auto, unfolding(scanner_table::specs::Encapsulation::stream_opened))]
-pub fn open_stream(
-    alloc: Global,
-    profile: &ScannerProfile,
-    scanner: &mut ScannerState,
-    number: u16,
-    target: Node,
-) -> Outcome
-    ensures { Follows (stream_opened (table_of profile.now scanner.old) number target) (table_of profile.now scanner.old) result (table_of profile.now scanner.new) }
-{
-    if is_taken(&scanner.streams, number, target) {
-        return Err(StepFault::NotAllowedNow);
-    }
-    let frame = registration_frame(alloc, number)?;
-    let frames = Items::one(alloc, frame)?;
-    let stream = TargetStream {
-        number,
-        peer: target,
-        stage: Stage::Waiting,
-    };
-    add_stream(&mut scanner.streams, stream)?;
-    Ok(Answer {
-        frames,
-        ..Answer::plain(alloc, Verdict::Done)
-    })
-}
-
 fn find_stream(streams: &[TargetStream], number: u16) -> Option<TargetStream>
     ensures { result ≡ find (is_stream number) streams.now }
 {
@@ -87,35 +60,14 @@ fn find_stream(streams: &[TargetStream], number: u16) -> Option<TargetStream>
         .find(|stream| stream.number == number)
 }
 
-/// Takes the cut of a stream, or its close by the target.
-#[tactic(auto, unfolding(scanner_table::specs::Encapsulation::stream_cut))]
-pub fn cut(
-    alloc: Global,
-    profile: &ScannerProfile,
-    scanner: &mut ScannerState,
-    number: u16,
-) -> Outcome
-    requires { IsWhole (table_of profile.now scanner.old) }
-    ensures { Follows (stream_cut (table_of profile.now scanner.old) number) (table_of profile.now scanner.old) result (table_of profile.now scanner.new) }
-{
-    let Some(stream) = find_stream(&scanner.streams, number) else {
-        return Err(StepFault::NotAllowedNow);
-    };
-    let mut transaction = Transaction::begin(alloc, scanner);
-    match cut_stream(&mut transaction, profile, stream) {
-        Ok(()) => Ok(taken(transaction, scanner, Vec::new(alloc))),
-        Err(_) => Err(undone(transaction, scanner)),
-    }
-}
-
 /// Ends the transaction of a frame with this outcome. Returns the answer. Takes no memory.
 fn answer_of(
     alloc: Global,
-    transaction: Transaction,
+    transaction: Transaction<'_>,
     scanner: &mut ScannerState,
     outcome: FrameOutcome,
 ) -> Answer
-    ensures { (profile : ScannerProfile) → (result, table_of profile scanner.new) ≡ frame_next (table_with profile (state_before transaction)) outcome (view_transaction profile transaction) }
+    ensures { let profile = transaction.entry.profile.now in (result, table_of profile scanner.new) ≡ frame_next (table_with profile (state_before transaction.entry)) outcome (view_transaction transaction.entry) }
 {
     match outcome {
         FrameOutcome::Answered => taken(transaction, scanner, Vec::new(alloc)),
@@ -124,24 +76,61 @@ fn answer_of(
     }
 }
 
-/// Takes a frame of a stream.
-#[tactic(auto, unfolding(scanner_table::specs::Encapsulation::frame))]
-pub fn frame(
-    alloc: Global,
-    profile: &ScannerProfile,
-    scanner: &mut ScannerState,
-    number: u16,
-    bytes: &[u8],
-) -> Outcome
-    requires { IsWhole (table_of profile.now scanner.old) }
-    ensures { Follows (frame (table_of profile.now scanner.old) number bytes.now) (table_of profile.now scanner.old) result (table_of profile.now scanner.new) }
-{
-    let Some(stream) = find_stream(&scanner.streams, number) else {
-        return Err(StepFault::NotAllowedNow);
-    };
-    let mut transaction = Transaction::begin(alloc, scanner);
-    match receive_frame(&mut transaction, profile, stream, bytes) {
-        Ok(outcome) => Ok(answer_of(alloc, transaction, scanner, outcome)),
-        Err(_) => Err(undone(transaction, scanner)),
+impl ScannerSlots {
+    /// Opens a stream to a target, and registers a session on it.
+    #[tactic(auto, unfolding(scanner_table::specs::Encapsulation::stream_opened))]
+    pub fn open_stream(&mut self, number: u16, target: Node) -> Outcome
+        ensures step { Follows (stream_opened (table_in self.old) number target) (table_in self.old) result (table_in self.new) }
+        ensures profile { self.new.profile ≡ self.old.profile }
+    {
+        if is_taken(&self.state.streams, number, target) {
+            return Err(StepFault::NotAllowedNow);
+        }
+        let frame = registration_frame(self.alloc, number)?;
+        let frames = Items::one(self.alloc, frame)?;
+        let stream = TargetStream {
+            number,
+            peer: target,
+            stage: Stage::Waiting,
+        };
+        add_stream(&mut self.state.streams, stream)?;
+        Ok(Answer {
+            frames,
+            ..Answer::plain(self.alloc, Verdict::Done)
+        })
+    }
+
+    /// Takes the cut of a stream, or its close by the target.
+    #[tactic(auto, unfolding(scanner_table::specs::Encapsulation::stream_cut))]
+    pub fn cut(&mut self, number: u16) -> Outcome
+        requires { IsWhole (table_in self.old) }
+        ensures step { Follows (stream_cut (table_in self.old) number) (table_in self.old) result (table_in self.new) }
+        ensures profile { self.new.profile ≡ self.old.profile }
+    {
+        let Some(stream) = find_stream(&self.state.streams, number) else {
+            return Err(StepFault::NotAllowedNow);
+        };
+        let mut transaction = Transaction::begin(self.alloc, &self.profile, &mut self.state);
+        match cut_stream(&mut transaction, stream) {
+            Ok(()) => Ok(taken(transaction, &mut self.state, Vec::new(self.alloc))),
+            Err(_) => Err(undone(transaction, &mut self.state, StepFault::OutOfMemory)),
+        }
+    }
+
+    /// Takes a frame of a stream.
+    #[tactic(auto, unfolding(scanner_table::specs::Encapsulation::frame))]
+    pub fn frame(&mut self, number: u16, bytes: &[u8]) -> Outcome
+        requires { IsWhole (table_in self.old) }
+        ensures step { Follows (frame (table_in self.old) number bytes.now) (table_in self.old) result (table_in self.new) }
+        ensures profile { self.new.profile ≡ self.old.profile }
+    {
+        let Some(stream) = find_stream(&self.state.streams, number) else {
+            return Err(StepFault::NotAllowedNow);
+        };
+        let mut transaction = Transaction::begin(self.alloc, &self.profile, &mut self.state);
+        match receive_frame(&mut transaction, stream, bytes) {
+            Ok(outcome) => Ok(answer_of(self.alloc, transaction, &mut self.state, outcome)),
+            Err(_) => Err(undone(transaction, &mut self.state, StepFault::OutOfMemory)),
+        }
     }
 }

@@ -55,12 +55,6 @@ pub at_index : (number : ℕ) (configs : List SlotConfig) (slots : List Slot) (c
 at_index number configs slots config slot is there =
     sym (found_at number configs slots ∙ ap (λ (o : Option SlotConfig). indexed_at number o (slice_get slots number)) is ∙ ap (indexed_at number (Some config)) there)
 
--- an index within a list has an element
-pub there : {A : Type 0} (xs : List A) (i : ℕ) → i < length xs → (x : A) × (slice_get xs i ≡ Some x)
-there [] i lt = absurd (omega arith)
-there (x ∷ xs) zero lt = (x, refl)
-there (x ∷ xs) (suc i) lt = there xs i (omega arith)
-
 pub read_back : {A : Type 0} (xs : List A) (i : ℕ) (x : A) → i < length xs → slice_get (slice_set xs i x) i ≡ Some x
 read_back [] i x lt = absurd (omega arith)
 read_back (y ∷ ys) zero x lt = refl
@@ -76,3 +70,8 @@ refound number configs slots indexed slot is =
 -- what an index reads
 pub got : {A : Type 0} (xs lent : List A) (i : ℕ) (x : A) → lent ≡ xs → i < length xs → x ≡ get_or lent i x → slice_get xs i ≡ Some x
 got xs lent i x same lt is = slice_get-get_or xs i x lt ∙ ap (λ v. Some v) (sym (is ∙ ap (λ l. get_or l i x) same))
+
+-- an index in both lists is the number of a slot
+pub stands_at : (number : ℕ) (configs configs' : List SlotConfig) (slots slots' : List Slot) (config : SlotConfig) (slot : Slot) → configs' ≡ configs → slots' ≡ slots → number < length configs → number < length slots → config ≡ get_or configs' number config → slot ≡ get_or slots' number slot → find (is_numbered number) (indexed_from 0 configs slots) ≡ Some (record { number = number; config = config; slot = slot })
+stands_at number configs configs' slots slots' config slot same are lt lt' is is' =
+    sym (at_index number configs slots config slot (got configs configs' number config same lt is) (got slots slots' number slot are lt' is'))

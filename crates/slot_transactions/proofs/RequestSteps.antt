@@ -1,9 +1,9 @@
 -- Openings and closings as requests and changes of a slot.
-use Rattle.std.proofs.Common.{◌≡◌, ◌≤◌, ◌<◌, ℕ, Bool, true, false, nat_le, if◌then◌else◌, List, [], ◌∷◌, ◌++◌, length, slice_get, slice_set, Option, Some, None, refl, sym, ◌∙◌, ap, subst, arith, IsTrue, Result, Ok, Err}
+use Rattle.std.proofs.Common.{◌≡◌, ◌≤◌, ℕ, Bool, true, false, nat_le, if◌then◌else◌, List, [], ◌∷◌, ◌++◌, slice_get, slice_set, Option, Some, None, refl, sym, ◌∙◌, ap, subst, arith, IsTrue, Result, Ok, Err}
 use Rattle.std.specs.Result.{IfOk}
 use Rattle.cip_types.specs.declared.memory.OutOfMemory as memory
 use Rattle.cip_events.specs.declared.event.StepFault.{StepFault}
-use Rattle.cip_events.specs.declared.event.StepFault.TheVariants.{NoSuchSlot, NotAllowedNow}
+use Rattle.cip_events.specs.declared.event.StepFault.TheVariants.{NotAllowedNow}
 use Rattle.scanner_table.specs.Closing.{stopped, stopped_at, slot_resigned}
 use Rattle.scanner_table.specs.Effects.{Effect}
 use Rattle.scanner_table.specs.declared.slot.Connection.{Connection}
@@ -26,7 +26,7 @@ use Rattle.scanner_table.specs.Slots.{IndexedSlot, slot_at, with_slot}
 use Rattle.slot_transactions.specs.declared.transaction.SlotChange.{SlotChange}
 use Rattle.slot_transactions.specs.Transactions.{Progress, followed, at_found, after_at, slot_changed, with_change, with_request, opening_change, open_requested_within, freshly_started, closing_change, close_requested_within, faulted, Adds}
 use Rattle.slot_transactions.proofs.Faultless.{faultless, all_at, both_so}
-use Rattle.slot_transactions.proofs.Found.{found, at_index, refound, there}
+use Rattle.slot_transactions.proofs.Found.{found, refound}
 
 -- NUMBERS AND LENGTHS
 
@@ -34,10 +34,8 @@ pub within : (a b : ℕ) → nat_le a b ≡ true → a ≤ b
 within a b is = grind (arith, nat_tests)
 
 -- the numbers left for a slot are left for its configuration
-pub left_for : (t : ScannerTable) (number : ℕ) (config : SlotConfig) → number < length t.slots → slice_get t.profile.slots number ≡ Some config → ForSome (slot_at t number) (λ indexed. IsTrue (can_open t indexed.config)) → (has_request t ≡ true) × (has_id t config ≡ true)
-left_for t number config slot_in is left =
-    let s = there t.slots number slot_in in
-    both_so (has_request t) (has_id t config) (left (record { number = number; config = config; slot = s.0 }) (sym (at_index number t.profile.slots t.slots config s.0 is s.1)))
+pub left_for : (t : ScannerTable) (number : ℕ) (indexed : IndexedSlot) → Some indexed ≡ slot_at t number → ForSome (slot_at t number) (λ other. IsTrue (can_open t other.config)) → (has_request t ≡ true) × (has_id t indexed.config ≡ true)
+left_for t number indexed is left = both_so (has_request t) (has_id t indexed.config) (left indexed (sym is))
 
 pub lengths_at : (profile : ScannerProfile) (number : ℕ) (config : SlotConfig) → profile_fault profile ≡ None → slice_get profile.slots number ≡ Some config → has_lengths config ≡ true
 lengths_at profile number config sound is = all_at has_lengths profile.slots number config (faultless profile sound).lengths is
@@ -97,9 +95,6 @@ adds_none so_far new number indexed state is st stops =
     subst (λ (o : Option IndexedSlot). Adds (stopped_at t o) so_far (Err NotAllowedNow) new) is
     (subst (λ (s : SlotState). Adds (stopped t indexed s) so_far (Err NotAllowedNow) new) (sym st)
     (subst (λ (e : Result Effect StepFault). Adds e so_far (Err NotAllowedNow) new) (sym stops) refl))
-
-pub adds_no_slot : (so_far new : Progress) (number : ℕ) → None ≡ slot_at so_far.table number → Adds (stopped_at so_far.table (slot_at so_far.table number)) so_far (Err NoSuchSlot) new
-adds_no_slot so_far new number is = subst (λ (o : Option IndexedSlot). Adds (stopped_at so_far.table o) so_far (Err NoSuchSlot) new) is refl
 
 pub idle_stops : (t : ScannerTable) (indexed : IndexedSlot) → indexed.slot.desired_up ≡ true → stopped t indexed Idle ≡ Ok (slot_resigned t indexed)
 idle_stops t indexed is = ap (λ (b : Bool). if b then Ok (slot_resigned t indexed) else Err NotAllowedNow) is

@@ -1,5 +1,5 @@
 -- Transactions: the effects of one event so far, and the changes of one slot that they are made of.
-use Rattle.std.specs.Prelude.{◌≡◌, ℕ, true, false, List, [], ◌∷◌, ◌++◌, map, Option, Some, None, Result, Ok, Err}
+use Rattle.std.specs.Prelude.{◌≡◌, ◌<◌, ◌≤◌, ◌^◌, ℕ, true, false, List, [], ◌∷◌, ◌++◌, length, map, Option, Some, None, Result, Ok, Err}
 use Rattle.std.specs.Result.{MatchResult}
 use Rattle.cip_types.specs.declared.names.Ms.{Ms}
 use Rattle.cip_types.specs.declared.memory.OutOfMemory as memory
@@ -13,7 +13,6 @@ use Rattle.cip_events.specs.declared.event.Answer.{Answer}
 use Rattle.cip_events.specs.declared.event.Notice.{Notice}
 use Rattle.cip_events.specs.declared.event.OutgoingDatagram.{OutgoingDatagram}
 use Rattle.cip_events.specs.declared.event.Verdict.TheVariants.{Done}
-use Rattle.scanner_table.specs.declared.profile.ScannerProfile.{ScannerProfile}
 use Rattle.scanner_table.specs.declared.profile.SlotConfig.{SlotConfig}
 use Rattle.scanner_table.specs.declared.slot.Connection.{Connection}
 use Rattle.scanner_table.specs.declared.slot.PendingOpen as pending
@@ -39,6 +38,7 @@ use Rattle.cip_types.specs.declared.names.Mismatch.{Mismatch}
 use Rattle.scanner_table.specs.Opening.{later, open_requested}
 use Rattle.scanner_table.specs.declared.table.Stage.{Stage}
 use Rattle.scanner_table.specs.Sessions.{session_with, with_stage, without_stream}
+use Rattle.scanner_table.specs.Profiles.{profile_fault}
 use Rattle.scanner_table.specs.Slots.{IndexedSlot, slot_at}
 use Rattle.slot_transactions.specs.declared.transaction.Transaction.{Transaction}
 use Rattle.slot_transactions.specs.declared.transaction.SlotChange.{SlotChange}
@@ -58,8 +58,16 @@ begun t = record { frames = []; notices = []; table = t }
 abbrev pub followed : Progress → Effect → Progress
 followed so_far effect = record { frames = so_far.frames ++ map sent_frame effect.sent; notices = so_far.notices ++ effect.notices; table = effect.table }
 
-abbrev pub view_transaction : ScannerProfile → Transaction → Progress
-view_transaction profile transaction = record { frames = transaction.frames.items; notices = transaction.notices.items; table = table_of profile transaction.scanner }
+abbrev pub view_transaction : Transaction → Progress
+view_transaction transaction = record { frames = transaction.frames.items; notices = transaction.notices.items; table = table_of transaction.profile.now transaction.scanner }
+
+-- the profile has no fault, and the clock does not pass its end
+abbrev pub IsReady : Transaction → Type 0
+IsReady transaction = (profile_fault transaction.profile.now ≡ None) × (transaction.scanner.clock.0 ≤ 2 ^ 48)
+
+-- there is a slot of the number
+abbrev pub HasSlot : Transaction → ℕ → Type 0
+HasSlot transaction number = (number < length transaction.profile.now.slots) × (number < length transaction.scanner.slots.items)
 
 -- the effect on the slot that the lookup found, if any
 abbrev pub at_found : (ScannerTable → IndexedSlot → Effect) → ScannerTable → Option IndexedSlot → Effect

@@ -1,6 +1,6 @@
 -- What a transaction needs to go back: what the changed slots held, in the order of the changes, and the other parts of the
 -- table as they were at the beginning.
-use Rattle.std.specs.Prelude.{ℕ, Bool, List, [], ◌∷◌, Option, Some, None, slice_get, slice_set, unwrap_or}
+use Rattle.std.specs.Prelude.{◌≡◌, ℕ, Bool, List, [], ◌∷◌, Option, Some, None, slice_get, slice_set, unwrap_or}
 use Rattle.cip_types.specs.declared.names.Ms.{Ms}
 use Rattle.scanner_table.specs.declared.profile.ScannerProfile.{ScannerProfile}
 use Rattle.scanner_table.specs.declared.slot.Slot.{Slot}
@@ -77,3 +77,7 @@ state_before transaction = record {
   next_request = transaction.undo.next_request;
   streams = unwrap_or transaction.undo.streams transaction.scanner.streams.items;
 }
+
+-- the transaction goes on: its profile and its clock stay, and it can still go back to its beginning
+abbrev pub GoesOn : Transaction → Transaction → Type 0
+GoesOn old new = (new.profile.now ≡ old.profile.now) × (new.scanner.clock ≡ old.scanner.clock) × (state_before new ≡ state_before old)

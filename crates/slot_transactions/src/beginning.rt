@@ -1,7 +1,6 @@
 //! The beginning of a transaction.
 
 ghost use Rattle.std.specs.Prelude.{◌≡◌};
-ghost use Rattle.scanner_table.specs.declared.profile.ScannerProfile.{ScannerProfile};
 ghost use Rattle.slot_places.specs.Views.{table_of};
 ghost use Rattle.slot_transactions.specs.Transactions.{begun, view_transaction};
 ghost use Rattle.slot_transactions.specs.Undoing.{state_of, state_before};
@@ -9,6 +8,7 @@ ghost use Rattle.slot_transactions.specs.Undoing.{state_of, state_before};
 use crate::transaction::Transaction;
 use crate::undo::Undo;
 use cip_types::Ms;
+use scanner_table::ScannerProfile;
 use slot_places::ScannerState;
 use std::alloc::Global;
 use std::mem;
@@ -26,14 +26,18 @@ fn empty(alloc: Global) -> ScannerState {
     }
 }
 
-impl Transaction {
+impl<'a> Transaction<'a> {
     /// Begins a transaction on the table, without requests and notices. Takes no memory.
     ///
     /// It takes the table over, and leaves one without slots and streams until the transaction ends.
-    pub fn begin(alloc: Global, scanner: &mut ScannerState) -> Transaction
-        ensures effect { (profile : ScannerProfile) → view_transaction profile result ≡ begun (table_of profile scanner.old) }
+    pub fn begin(
+        alloc: Global,
+        profile: &'a ScannerProfile,
+        scanner: &mut ScannerState,
+    ) -> Transaction<'a>
+        ensures effect { view_transaction result ≡ begun (table_of profile.now scanner.old) }
+        ensures profile { result.profile.now ≡ profile.now }
         ensures scanner { result.scanner ≡ scanner.old }
-        ensures clock { result.scanner.clock ≡ scanner.old.clock }
         ensures kept { state_before result ≡ state_of scanner.old }
     {
         let scanner = mem::replace(scanner, empty(alloc));
@@ -47,6 +51,7 @@ impl Transaction {
         };
         Transaction {
             alloc,
+            profile,
             scanner,
             frames: Vec::new(alloc),
             notices: Vec::new(alloc),

@@ -1,40 +1,35 @@
 //! Connections that time out.
 
-ghost use Rattle.std.specs.Prelude.{◌≡◌, ◌≤◌, ◌^◌, None, IfOk};
-ghost use Rattle.scanner_table.specs.Profiles.{profile_fault};
+ghost use Rattle.std.specs.Prelude.{◌≡◌, IfOk};
 ghost use Rattle.scanner_table.specs.Ticks.{expired};
-ghost use Rattle.slot_transactions.specs.Transactions.{view_transaction, after_at};
-ghost use Rattle.slot_transactions.specs.Undoing.{state_before};
+ghost use Rattle.slot_transactions.specs.Transactions.{view_transaction, after_at, HasSlot, IsReady};
+ghost use Rattle.slot_transactions.specs.Undoing.{GoesOn};
 
 use crate::transaction::{SlotChange, Transaction};
 use crate::waits::later;
 use cip_types::OutOfMemory;
-use scanner_table::{ScannerProfile, SlotState};
-use slot_places::slot_at;
+use scanner_table::SlotState;
 
-impl Transaction {
+impl Transaction<'_> {
     /// Times the connection of a slot out, if it is established. The image stays, and the slot opens again after the retry
     /// time.
     ///
     /// Volume 1, chapter 3, connection timeouts.
-    pub fn expire(&mut self, profile: &ScannerProfile, number: u32) -> Result<(), OutOfMemory>
-        requires faultless { profile_fault profile.now ≡ None }
-        requires time { self.old.scanner.clock.0 ≤ 2 ^ 48 }
-        ensures effect { IfOk result (λ _. view_transaction profile.now self.new ≡ after_at expired number (view_transaction profile.now self.old)) }
-        ensures clock { self.new.scanner.clock ≡ self.old.scanner.clock }
-        ensures kept { state_before self.new ≡ state_before self.old }
+    pub fn expire(&mut self, number: u32) -> Result<(), OutOfMemory>
+        requires ready { IsReady self.old }
+        requires found { HasSlot self.old number }
+        ensures effect { IfOk result (λ _. view_transaction self.new ≡ after_at expired number (view_transaction self.old)) }
+        ensures kept { GoesOn self.old self.new }
     {
-        let Some(indexed) = slot_at(profile.slots.as_slice(), &self.scanner.slots, number) else {
-            return Ok(());
-        };
+        let indexed = self.slot(number);
         let SlotState::Established(connection) = indexed.slot.state else {
             return Ok(());
         };
         let slot_change = SlotChange {
             state: SlotState::TimedOut(connection.link),
             desired_up: indexed.slot.desired_up,
-            retry_at: later(self.scanner.clock, profile.retry),
+            retry_at: later(self.scanner.clock, self.profile.retry),
         };
-        self.change(profile, number, slot_change, None)
+        self.change(number, slot_change, None)
     }
 }

@@ -1,26 +1,19 @@
 //! The end of a transaction.
 
 ghost use Rattle.std.specs.Prelude.{◌≡◌};
-ghost use Rattle.scanner_table.specs.declared.profile.ScannerProfile.{ScannerProfile};
 ghost use Rattle.slot_transactions.specs.Transactions.{view_transaction, progress_answer};
 
 use crate::transaction::Transaction;
 use cip_events::{Answer, OutgoingDatagram, Verdict};
 use cip_types::Items;
 use slot_places::ScannerState;
-use std::alloc::Global;
 
-impl Transaction {
-    /// Returns the allocator of the transaction.
-    pub fn alloc(&self) -> Global {
-        self.alloc
-    }
-
+impl Transaction<'_> {
     /// Ends the transaction: returns the answer with its requests, its notices and these datagrams, and the next table.
     /// Takes no memory.
     pub fn finish(self, datagrams: Vec<OutgoingDatagram>) -> (Answer, ScannerState)
-        ensures answer { (profile : ScannerProfile) → result.0 ≡ progress_answer (view_transaction profile self) datagrams.items }
-        ensures scanner { result.1 ≡ self.scanner }
+        ensures answer { result.0 ≡ progress_answer (view_transaction self.entry) datagrams.items }
+        ensures scanner { result.1 ≡ self.entry.scanner }
     {
         let answer = Answer {
             frames: Items::from_vec(self.frames),

@@ -1,26 +1,23 @@
 //! Openings.
 
-ghost use Rattle.std.specs.Prelude.{◌≡◌, ◌+◌, ◌<◌, length, slice_get, ◌≤◌, ◌^◌, ◌&&◌, ◌||◌, nat_le, None, Some, IfOk, IsTrue, if◌then◌else◌};
+ghost use Rattle.std.specs.Prelude.{◌≡◌, ◌+◌, ◌≤◌, ◌^◌, ◌&&◌, ◌||◌, nat_le, None, Some, IfOk, IsTrue, if◌then◌else◌};
 ghost use Rattle.std.specs.Option.{ForSome};
-ghost use Rattle.scanner_table.specs.Requests.{connection_id, next_requested, opening, is_large, open_fields, numbered, sent_frame};
+ghost use Rattle.scanner_table.specs.Requests.{connection_id, next_requested};
 ghost use Rattle.scanner_table.specs.Opening.{opened, can_open, serial_after};
-ghost use Rattle.scanner_table.specs.Profiles.{profile_fault, has_lengths};
 ghost use Rattle.scanner_table.specs.Slots.{slot_at};
 ghost use Rattle.slot_places.specs.Views.{table_of};
-ghost use Rattle.slot_transactions.specs.Transactions.{view_transaction, after_at, opening_change, open_requested_within, freshly_started};
-ghost use Rattle.slot_transactions.specs.Undoing.{state_before};
+ghost use Rattle.slot_transactions.specs.Transactions.{view_transaction, after_at, open_requested_within, freshly_started, HasSlot, IsReady};
+ghost use Rattle.slot_transactions.specs.Undoing.{GoesOn};
 
-use crate::new_request::{LAST_REQUEST, NewRequest};
+use crate::new_request::LAST_REQUEST;
 use crate::transaction::{SlotChange, Transaction, change_slot};
-use crate::undo::keep_slot;
 use crate::waits::later;
 use cip_types::limits::IDS_PER_INCARNATION;
 use cip_types::{ConnId, OutOfMemory, Triad};
 use conn_state::Requested;
 use scanner_table::{PendingOpen, ScannerProfile, Session, SlotConfig, SlotState};
-use slot_places::{ScannerState, session_with, slot_at};
+use slot_places::{ScannerState, session_with};
 use slot_requests::open_frame;
-use std::alloc::Global;
 
 /// The last serial number. Serial number 1 follows it.
 const LAST_SERIAL: u16 = u16::MAX;
@@ -86,62 +83,33 @@ fn next_requested(
     }
 }
 
-/// Makes a Forward_Open, and the change of the slot that waits for its reply.
-fn opening(
-    alloc: Global,
-    profile: &ScannerProfile,
-    scanner: &ScannerState,
-    config: &SlotConfig,
-    number: u32,
-    session: Session,
-) -> Result<NewRequest, OutOfMemory>
-    requires slot_in { number < length scanner.now.slots.items }
-    requires draws { IsTrue (config.now.multicast || nat_le scanner.now.next_id 16777215) }
-    requires lengths { IsTrue (has_lengths config.now) }
-    requires wait { profile.now.open_timeout ≤ 60000 }
-    requires time { scanner.now.clock.0 ≤ 2 ^ 48 }
-    ensures frame { let t = table_of profile.now scanner.now in IfOk result (λ new_request. new_request.frame ≡ sent_frame (numbered session t.next_request (opening (is_large config.now) (open_fields config.now (next_requested t config.now))))) }
-    ensures slot_change { IfOk result (λ new_request. ForSome (slice_get scanner.now.slots.items number) (λ slot. new_request.slot_change ≡ opening_change (table_of profile.now scanner.now) config.now slot)) }
-{
-    let request = scanner.next_request;
-    let requested = next_requested(profile, scanner, config);
-    let frame = open_frame(alloc, config, &requested, session, request)?;
-    let opening = PendingOpen {
-        request,
-        requested,
-        deadline: later(scanner.clock, profile.open_timeout),
-    };
-    let slot = &scanner.slots[number as usize];
-    let slot_change = SlotChange {
-        state: SlotState::Opening(opening),
-        desired_up: slot.desired_up,
-        retry_at: slot.retry_at,
-    };
-    Ok(NewRequest { frame, slot_change })
-}
-
-impl Transaction {
+impl Transaction<'_> {
     /// Sends the Forward_Open of a slot within a session. Numbers are left for it.
-    fn request_open(
-        &mut self,
-        profile: &ScannerProfile,
-        number: u32,
-        session: Session,
-    ) -> Result<(), OutOfMemory>
-        requires faultless { profile_fault profile.now ≡ None }
-        requires time { self.old.scanner.clock.0 ≤ 2 ^ 48 }
-        requires config_in { number < length profile.now.slots }
-        requires slot_in { number < length self.old.scanner.slots.items }
-        requires left { let t = table_of profile.now self.old.scanner in ForSome (slot_at t number) (λ indexed. IsTrue (can_open t indexed.config)) }
-        ensures effect { IfOk result (λ _. view_transaction profile.now self.new ≡ after_at (open_requested_within session) number (view_transaction profile.now self.old)) }
-        ensures clock { self.new.scanner.clock ≡ self.old.scanner.clock }
-        ensures kept { state_before self.new ≡ state_before self.old }
+    fn request_open(&mut self, number: u32, session: Session) -> Result<(), OutOfMemory>
+        requires ready { IsReady self.old }
+        requires found { HasSlot self.old number }
+        requires left { let t = (view_transaction self.old).table in ForSome (slot_at t number) (λ indexed. IsTrue (can_open t indexed.config)) }
+        ensures effect { IfOk result (λ _. view_transaction self.new ≡ after_at (open_requested_within session) number (view_transaction self.old)) }
+        ensures kept { GoesOn self.old self.new }
     {
-        let config = &profile.slots.as_slice()[number as usize];
-        let new_request = opening(self.alloc, profile, &self.scanner, config, number, session)?;
-        self.scanner.next_id = id_after(config.multicast, self.scanner.next_id);
+        let indexed = self.slot(number);
+        let multicast = indexed.config.multicast;
+        let request = self.scanner.next_request;
+        let requested = next_requested(self.profile, &self.scanner, indexed.config);
+        let frame = open_frame(self.alloc, indexed.config, &requested, session, request)?;
+        let opening = PendingOpen {
+            request,
+            requested,
+            deadline: later(self.scanner.clock, self.profile.open_timeout),
+        };
+        let slot_change = SlotChange {
+            state: SlotState::Opening(opening),
+            desired_up: indexed.slot.desired_up,
+            retry_at: indexed.slot.retry_at,
+        };
+        self.scanner.next_id = id_after(multicast, self.scanner.next_id);
         self.scanner.next_serial = serial_after(self.scanner.next_serial);
-        self.send_request(profile, number, new_request)
+        self.send_request(number, frame, slot_change)
     }
 
     /// Opens a slot by a Forward_Open, if the session with its target is registered. If no number is left, the slot becomes
@@ -149,45 +117,42 @@ impl Transaction {
     ///
     /// Volume 1, chapter 3, Forward_Open service.
     #[tactic(auto, unfolding(scanner_table::specs::Opening::opened))]
-    pub fn open(&mut self, profile: &ScannerProfile, number: u32) -> Result<(), OutOfMemory>
-        requires faultless { profile_fault profile.now ≡ None }
-        requires time { self.old.scanner.clock.0 ≤ 2 ^ 48 }
-        ensures effect { IfOk result (λ _. view_transaction profile.now self.new ≡ after_at opened number (view_transaction profile.now self.old)) }
-        ensures clock { self.new.scanner.clock ≡ self.old.scanner.clock }
-        ensures kept { state_before self.new ≡ state_before self.old }
+    pub fn open(&mut self, number: u32) -> Result<(), OutOfMemory>
+        requires ready { IsReady self.old }
+        requires found { HasSlot self.old number }
+        ensures effect { IfOk result (λ _. view_transaction self.new ≡ after_at opened number (view_transaction self.old)) }
+        ensures kept { GoesOn self.old self.new }
     {
-        let Some(indexed) = slot_at(profile.slots.as_slice(), &self.scanner.slots, number) else {
-            return Ok(());
-        };
+        let indexed = self.slot(number);
         let target = indexed.config.target;
         let multicast = indexed.config.multicast;
         let Some(session) = session_with(&self.scanner.streams, target) else {
             return Ok(());
         };
         if !can_open(&self.scanner, multicast) {
-            return self.exhaust(profile, number);
+            return self.exhaust(number);
         }
-        self.request_open(profile, number, session)
+        self.request_open(number, session)
     }
 
     /// Starts a slot: its connection is desired from now on, and it opens at once if it can.
-    pub fn start(&mut self, profile: &ScannerProfile, number: u32) -> Result<(), OutOfMemory>
-        requires faultless { profile_fault profile.now ≡ None }
-        requires time { self.old.scanner.clock.0 ≤ 2 ^ 48 }
-        ensures effect { IfOk result (λ _. view_transaction profile.now self.new ≡ after_at freshly_started number (view_transaction profile.now self.old)) }
-        ensures clock { self.new.scanner.clock ≡ self.old.scanner.clock }
-        ensures kept { state_before self.new ≡ state_before self.old }
+    pub fn start(&mut self, number: u32) -> Result<(), OutOfMemory>
+        requires ready { IsReady self.old }
+        requires found { HasSlot self.old number }
+        ensures effect { IfOk result (λ _. view_transaction self.new ≡ after_at freshly_started number (view_transaction self.old)) }
+        ensures kept { GoesOn self.old self.new }
     {
-        let Some(indexed) = slot_at(profile.slots.as_slice(), &self.scanner.slots, number) else {
-            return Ok(());
-        };
         let slot_change = SlotChange {
-            state: indexed.slot.state,
+            state: self.slot(number).slot.state,
             desired_up: true,
             retry_at: self.scanner.clock,
         };
-        keep_slot(&mut self.undo.slots, number, indexed.slot)?;
-        change_slot(&mut self.scanner.slots, number, slot_change);
-        self.open(profile, number)
+        change_slot(
+            &mut self.scanner.slots,
+            &mut self.undo.slots,
+            number,
+            slot_change,
+        )?;
+        self.open(number)
     }
 }

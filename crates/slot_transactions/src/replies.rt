@@ -1,14 +1,13 @@
 //! Replies to a Forward_Open.
 
-ghost use Rattle.std.specs.Prelude.{◌≡◌, ◌<◌, ◌≤◌, ◌^◌, ◌++◌, ◌∷◌, [], None, IfOk, OnOk, OnErr, length, slice_get, slice_set};
+ghost use Rattle.std.specs.Prelude.{◌≡◌, ◌<◌, ◌≤◌, ◌^◌, ◌++◌, ◌∷◌, [], IfOk, OnOk, OnErr, length, slice_get, slice_set};
 ghost use Rattle.std.specs.Option.{ForSome};
 ghost use Rattle.cip_types.specs.Cases.{first_case};
 ghost use Rattle.cip_netparams.specs.Rate.{interval_ms, timeout};
 ghost use Rattle.cip_productions.specs.Watchdog.{first_deadline};
 ghost use Rattle.conn_state.specs.Answers.{answer_tests, link_of};
-ghost use Rattle.scanner_table.specs.Profiles.{profile_fault};
-ghost use Rattle.slot_transactions.specs.Transactions.{view_transaction, after_at, answered_by, refused_by, established_by, judged_by, link_or_why, occupied, connection_of, production_of};
-ghost use Rattle.slot_transactions.specs.Undoing.{kept_with_image, state_before};
+ghost use Rattle.slot_transactions.specs.Transactions.{view_transaction, after_at, answered_by, refused_by, established_by, judged_by, link_or_why, occupied, connection_of, production_of, HasSlot, IsReady};
+ghost use Rattle.slot_transactions.specs.Undoing.{GoesOn, kept_with_image};
 
 use crate::transaction::{SlotChange, Transaction, report};
 use crate::undo::SlotBefore;
@@ -21,9 +20,8 @@ use cip_productions::Production;
 use cip_types::limits::FIRST_WATCHDOG_MS;
 use cip_types::{Items, Mismatch, Ms, OutOfMemory};
 use conn_state::{Idle, Link, Requested};
-use scanner_table::{Connection, PendingOpen, ScannerProfile, Slot, SlotConfig, SlotState};
-use slot_places::{SlotTest, any_passes, slot_at};
-use std::alloc::Global;
+use scanner_table::{Connection, PendingOpen, Slot, SlotConfig, SlotState};
+use slot_places::{SlotTest, any_passes};
 use std::mem;
 
 /// Returns the triad and ids of the connection that a successful reply opens, or the mismatch of the reply.
@@ -133,52 +131,40 @@ fn occupy(
     Ok(())
 }
 
-impl Transaction {
+impl Transaction<'_> {
     /// Refuses a reply: the slot becomes idle, and opens again after the retry time.
-    fn refuse(
-        &mut self,
-        profile: &ScannerProfile,
-        number: u32,
-        why: Reason,
-    ) -> Result<(), OutOfMemory>
-        requires faultless { profile_fault profile.now ≡ None }
-        requires time { self.old.scanner.clock.0 ≤ 2 ^ 48 }
-        ensures effect { IfOk result (λ _. view_transaction profile.now self.new ≡ after_at (refused_by why) number (view_transaction profile.now self.old)) }
-        ensures clock { self.new.scanner.clock ≡ self.old.scanner.clock }
-        ensures kept { state_before self.new ≡ state_before self.old }
+    fn refuse(&mut self, number: u32, why: Reason) -> Result<(), OutOfMemory>
+        requires ready { IsReady self.old }
+        requires found { HasSlot self.old number }
+        ensures effect { IfOk result (λ _. view_transaction self.new ≡ after_at (refused_by why) number (view_transaction self.old)) }
+        ensures kept { GoesOn self.old self.new }
     {
-        let Some(indexed) = slot_at(profile.slots.as_slice(), &self.scanner.slots, number) else {
-            return Ok(());
-        };
+        let indexed = self.slot(number);
         let reported = Notice::Refused(indexed.number, why);
         let slot_change = SlotChange {
             state: SlotState::Idle,
             desired_up: indexed.slot.desired_up,
-            retry_at: later(self.scanner.clock, profile.retry),
+            retry_at: later(self.scanner.clock, self.profile.retry),
         };
-        self.change(profile, number, slot_change, Some(reported))
+        self.change(number, slot_change, Some(reported))
     }
 
     /// Establishes a slot with the connection that a successful reply opens, and an image of zeros.
     fn establish(
         &mut self,
-        profile: &ScannerProfile,
         number: u32,
         opening: &PendingOpen,
         opened: &Opened,
         link: Link,
     ) -> Result<(), OutOfMemory>
-        requires faultless { profile_fault profile.now ≡ None }
-        requires time { self.old.scanner.clock.0 ≤ 2 ^ 48 }
+        requires ready { IsReady self.old }
+        requires found { HasSlot self.old number }
         requires named { link ≡ link_of opening.now.requested opened.now }
         requires interval { interval_ms opened.now.t_o_api_us ≤ 10000 }
-        ensures effect { IfOk result (λ _. view_transaction profile.now self.new ≡ after_at (established_by opening.now opened.now) number (view_transaction profile.now self.old)) }
-        ensures clock { self.new.scanner.clock ≡ self.old.scanner.clock }
-        ensures kept { state_before self.new ≡ state_before self.old }
+        ensures effect { IfOk result (λ _. view_transaction self.new ≡ after_at (established_by opening.now opened.now) number (view_transaction self.old)) }
+        ensures kept { GoesOn self.old self.new }
     {
-        let Some(indexed) = slot_at(profile.slots.as_slice(), &self.scanner.slots, number) else {
-            return Ok(());
-        };
+        let indexed = self.slot(number);
         let image = Items::zeros(self.alloc, indexed.config.in_len as usize)?;
         let connection = new_connection(
             self.scanner.clock,
@@ -204,25 +190,21 @@ impl Transaction {
     /// Takes a successful reply to the slot that waits for it: establishes the slot, or refuses the reply for a mismatch.
     fn judge(
         &mut self,
-        profile: &ScannerProfile,
         number: u32,
         opening: &PendingOpen,
         opened: &Opened,
     ) -> Result<(), OutOfMemory>
-        requires faultless { profile_fault profile.now ≡ None }
-        requires time { self.old.scanner.clock.0 ≤ 2 ^ 48 }
-        ensures effect { IfOk result (λ _. view_transaction profile.now self.new ≡ after_at (judged_by opening.now opened.now) number (view_transaction profile.now self.old)) }
-        ensures clock { self.new.scanner.clock ≡ self.old.scanner.clock }
-        ensures kept { state_before self.new ≡ state_before self.old }
+        requires ready { IsReady self.old }
+        requires found { HasSlot self.old number }
+        ensures effect { IfOk result (λ _. view_transaction self.new ≡ after_at (judged_by opening.now opened.now) number (view_transaction self.old)) }
+        ensures kept { GoesOn self.old self.new }
     {
-        let Some(indexed) = slot_at(profile.slots.as_slice(), &self.scanner.slots, number) else {
-            return Ok(());
-        };
+        let indexed = self.slot(number);
         let used = SlotTest::UsesId(indexed.number, indexed.config.target, opened.t_o_id);
-        let id_free = !any_passes(profile.slots.as_slice(), &self.scanner.slots, used);
+        let id_free = !any_passes(self.profile.slots.as_slice(), &self.scanner.slots, used);
         match linked(opening.requested, opened, id_free) {
-            Ok(link) => self.establish(profile, number, opening, opened, link),
-            Err(why) => self.refuse(profile, number, Reason::Mismatch(why)),
+            Ok(link) => self.establish(number, opening, opened, link),
+            Err(why) => self.refuse(number, Reason::Mismatch(why)),
         }
     }
 
@@ -233,23 +215,19 @@ impl Transaction {
     #[tactic(auto, unfolding(scanner_table::specs::Replies::answered))]
     pub fn answer(
         &mut self,
-        profile: &ScannerProfile,
         number: u32,
         opening: &PendingOpen,
         reported: Result<OpenAnswer, Reason>,
     ) -> Result<(), OutOfMemory>
-        requires faultless { profile_fault profile.now ≡ None }
-        requires time { self.old.scanner.clock.0 ≤ 2 ^ 48 }
-        ensures effect { IfOk result (λ _. view_transaction profile.now self.new ≡ after_at (answered_by opening.now reported) number (view_transaction profile.now self.old)) }
-        ensures clock { self.new.scanner.clock ≡ self.old.scanner.clock }
-        ensures kept { state_before self.new ≡ state_before self.old }
+        requires ready { IsReady self.old }
+        requires found { HasSlot self.old number }
+        ensures effect { IfOk result (λ _. view_transaction self.new ≡ after_at (answered_by opening.now reported) number (view_transaction self.old)) }
+        ensures kept { GoesOn self.old self.new }
     {
         match reported {
-            Err(why) => self.refuse(profile, number, why),
-            Ok(OpenAnswer::Refused(refused)) => {
-                self.refuse(profile, number, Reason::Cip(refused.fault))
-            }
-            Ok(OpenAnswer::Opened(opened)) => self.judge(profile, number, opening, &opened),
+            Err(why) => self.refuse(number, why),
+            Ok(OpenAnswer::Refused(refused)) => { self.refuse(number, Reason::Cip(refused.fault)) }
+            Ok(OpenAnswer::Opened(opened)) => self.judge(number, opening, &opened),
         }
     }
 }

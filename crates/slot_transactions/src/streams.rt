@@ -1,10 +1,9 @@
 //! The streams of a scanner within a transaction.
 
 ghost use Rattle.std.specs.Prelude.{◌≡◌, IfOk, filter, map};
-ghost use Rattle.scanner_table.specs.declared.profile.ScannerProfile.{ScannerProfile};
 ghost use Rattle.scanner_table.specs.Sessions.{is_stream, is_other_stream, staged_stream};
 ghost use Rattle.slot_transactions.specs.Transactions.{view_transaction, with_staged, without_cut};
-ghost use Rattle.slot_transactions.specs.Undoing.{state_before};
+ghost use Rattle.slot_transactions.specs.Undoing.{GoesOn};
 
 use crate::transaction::Transaction;
 use crate::undo::keep_streams;
@@ -42,12 +41,11 @@ fn drop_stream(streams: &mut Vec<TargetStream>, number: u16)
     streams.retain(|stream| !is_stream(stream, number));
 }
 
-impl Transaction {
+impl Transaction<'_> {
     /// Sets the stage of a stream's session. `OutOfMemory` is the only error.
     pub fn set_stage(&mut self, number: u16, stage: Stage) -> Result<(), OutOfMemory>
-        ensures effect { IfOk result (λ _. (profile : ScannerProfile) → view_transaction profile self.new ≡ with_staged number stage (view_transaction profile self.old)) }
-        ensures clock { self.new.scanner.clock ≡ self.old.scanner.clock }
-        ensures kept { state_before self.new ≡ state_before self.old }
+        ensures effect { IfOk result (λ _. view_transaction self.new ≡ with_staged number stage (view_transaction self.old)) }
+        ensures kept { GoesOn self.old self.new }
     {
         keep_streams(self.alloc, &mut self.undo.streams, &self.scanner.streams)?;
         stage_streams(&mut self.scanner.streams, number, stage);
@@ -56,9 +54,8 @@ impl Transaction {
 
     /// Removes the stream of a number. `OutOfMemory` is the only error.
     pub fn cut_stream(&mut self, number: u16) -> Result<(), OutOfMemory>
-        ensures effect { IfOk result (λ _. (profile : ScannerProfile) → view_transaction profile self.new ≡ without_cut number (view_transaction profile self.old)) }
-        ensures clock { self.new.scanner.clock ≡ self.old.scanner.clock }
-        ensures kept { state_before self.new ≡ state_before self.old }
+        ensures effect { IfOk result (λ _. view_transaction self.new ≡ without_cut number (view_transaction self.old)) }
+        ensures kept { GoesOn self.old self.new }
     {
         keep_streams(self.alloc, &mut self.undo.streams, &self.scanner.streams)?;
         drop_stream(&mut self.scanner.streams, number);

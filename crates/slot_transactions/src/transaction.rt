@@ -1,24 +1,27 @@
 //! The transaction, and a change of one slot.
 
-ghost use Rattle.std.specs.Prelude.{◌≡◌, ◌++◌, ◌∷◌, ◌<◌, [], length, slice_set, slice_get, IfOk, if◌then◌else◌, ◌==◌};
-ghost use Rattle.std.specs.Option.{ForSome};
-ghost use Rattle.slot_transactions.specs.Transactions.{view_transaction, after_at, with_change, listed, slot_changed};
-ghost use Rattle.slot_transactions.specs.Undoing.{state_before};
+ghost use Rattle.std.specs.Prelude.{◌≡◌, ◌++◌, ◌∷◌, ◌<◌, [], Some, length, slice_set, slice_get, IfOk, IfSome, OnOk, OnErr};
+ghost use Rattle.std.specs.Option.{ForSome, option_map};
 ghost use Rattle.scanner_table.specs.Effects.{state_notices};
+ghost use Rattle.scanner_table.specs.Slots.{slot_at};
+ghost use Rattle.slot_places.specs.Views.{view_slot};
+ghost use Rattle.slot_transactions.specs.Transactions.{view_transaction, after_at, with_change, listed, slot_changed, HasSlot};
+ghost use Rattle.slot_transactions.specs.Undoing.{GoesOn, kept_slot};
 
-use crate::undo::{Undo, keep_slot};
+use crate::undo::{SlotBefore, Undo};
 use cip_events::{Frame, Notice};
 use cip_types::{Ms, OutOfMemory};
 use scanner_table::{ScannerProfile, Slot, SlotState};
-use slot_places::{ScannerState, number_of, slot_at};
+use slot_places::{ScannerState, SlotView, number_of, slot_at};
 use std::alloc::Global;
 
 /// A scanner's table as changed so far, with the requests and notices so far, and with what the changed parts held before.
-///
-/// It keeps the allocator that it was made with.
 #[derive(Drop)]
-pub struct Transaction {
-    pub(crate) alloc: Global,
+pub struct Transaction<'a> {
+    /// The allocator of the scanner.
+    pub alloc: Global,
+    /// The profile of the scanner.
+    pub profile: &'a ScannerProfile,
     pub scanner: ScannerState,
     pub(crate) frames: Vec<Frame>,
     pub(crate) notices: Vec<Notice>,
@@ -33,15 +36,33 @@ pub(crate) struct SlotChange {
     pub retry_at: Ms,
 }
 
-/// Changes the slot of a number. Takes no memory.
-pub(crate) fn change_slot(slots: &mut Vec<Slot>, number: u32, slot_change: SlotChange)
+/// Changes the slot of a number. Keeps what the slot held.
+pub(crate) fn change_slot(
+    slots: &mut Vec<Slot>,
+    kept: &mut Vec<SlotBefore>,
+    number: u32,
+    slot_change: SlotChange,
+) -> Result<(), OutOfMemory>
     requires { number < length slots.old.items }
-    ensures { ForSome (slice_get slots.old.items number) (λ slot. slots.new.items ≡ slice_set slots.old.items number (with_change slot_change slot)) }
+    ensures slot { OnOk result (ForSome (slice_get slots.old.items number) (λ slot. slots.new.items ≡ slice_set slots.old.items number (with_change slot_change slot))) }
+    ensures before { OnOk result (ForSome (slice_get slots.old.items number) (λ slot. kept.new.items ≡ kept.old.items ++ kept_slot number slot ∷ [])) }
+    ensures same { OnErr result (slots.new.items ≡ slots.old.items) }
+    ensures none { OnErr result (kept.new.items ≡ kept.old.items) }
 {
+    kept.reserve(1)?;
     let slot = &mut slots[number as usize];
+    let before = SlotBefore {
+        number,
+        state: slot.state,
+        desired_up: slot.desired_up,
+        retry_at: slot.retry_at,
+        image: None,
+    };
     slot.state = slot_change.state;
     slot.desired_up = slot_change.desired_up;
     slot.retry_at = slot_change.retry_at;
+    kept.push_reserved(before);
+    Ok(())
 }
 
 /// Adds a notice, if there is one, and then a notice of the slot's new state, if its number changes.
@@ -64,23 +85,39 @@ pub(crate) fn report(
     Ok(())
 }
 
-impl Transaction {
+impl Transaction<'_> {
+    /// Returns the slot of a number, if there is one. Takes no memory.
+    pub fn find(&self, number: u32) -> Option<SlotView<'_>>
+        ensures found { option_map view_slot result ≡ slot_at (view_transaction self.now).table number }
+        ensures has { IfSome result (λ _. HasSlot self.now number) }
+    {
+        slot_at(self.profile.slots.as_slice(), &self.scanner.slots, number)
+    }
+
+    /// Returns the slot of a number, which was found before.
+    pub(crate) fn slot(&self, number: u32) -> SlotView<'_>
+        requires { HasSlot self.now number }
+        ensures { slot_at (view_transaction self.now).table number ≡ Some (view_slot result) }
+    {
+        SlotView {
+            number,
+            config: &self.profile.slots.as_slice()[number as usize],
+            slot: &self.scanner.slots[number as usize],
+        }
+    }
+
     /// Changes a slot, and adds the notices of the change.
     pub(crate) fn change(
         &mut self,
-        profile: &ScannerProfile,
         number: u32,
         slot_change: SlotChange,
         reported: Option<Notice>,
     ) -> Result<(), OutOfMemory>
-        ensures effect { IfOk result (λ _. view_transaction profile.now self.new ≡ after_at (slot_changed slot_change reported) number (view_transaction profile.now self.old)) }
-        ensures clock { self.new.scanner.clock ≡ self.old.scanner.clock }
-        ensures kept { state_before self.new ≡ state_before self.old }
+        requires { HasSlot self.old number }
+        ensures effect { IfOk result (λ _. view_transaction self.new ≡ after_at (slot_changed slot_change reported) number (view_transaction self.old)) }
+        ensures kept { GoesOn self.old self.new }
     {
-        let Some(indexed) = slot_at(profile.slots.as_slice(), &self.scanner.slots, number) else {
-            return Ok(());
-        };
-        let old = indexed.slot.state;
+        let old = self.slot(number).slot.state;
         report(
             &mut self.notices,
             reported,
@@ -88,8 +125,12 @@ impl Transaction {
             &old,
             &slot_change.state,
         )?;
-        keep_slot(&mut self.undo.slots, number, indexed.slot)?;
-        change_slot(&mut self.scanner.slots, number, slot_change);
+        change_slot(
+            &mut self.scanner.slots,
+            &mut self.undo.slots,
+            number,
+            slot_change,
+        )?;
         Ok(())
     }
 }

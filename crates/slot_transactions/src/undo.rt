@@ -1,9 +1,9 @@
 //! What a transaction changed, as it was before.
 
-ghost use Rattle.std.specs.Prelude.{◌≡◌, ◌<◌, ◌++◌, ◌∷◌, [], Some, OnOk, OnErr, length, slice_get, slice_set, unwrap_or};
+ghost use Rattle.std.specs.Prelude.{◌≡◌, ◌<◌, Some, OnOk, OnErr, length, slice_get, slice_set, unwrap_or};
 ghost use Rattle.std.specs.Option.{ForSome};
 ghost use Rattle.slot_places.specs.declared.scanner.ScannerState.{ScannerState};
-ghost use Rattle.slot_transactions.specs.Undoing.{kept_slot, slot_before, undone_slots, state_of, state_before};
+ghost use Rattle.slot_transactions.specs.Undoing.{slot_before, undone_slots, state_of, state_before};
 
 use crate::transaction::Transaction;
 use cip_types::{Items, Ms, OutOfMemory};
@@ -41,25 +41,6 @@ pub(crate) struct Undo {
     pub next_serial: u16,
     /// The number of the next request.
     pub next_request: u64,
-}
-
-/// Keeps what a slot holds.
-pub(crate) fn keep_slot(
-    kept: &mut Vec<SlotBefore>,
-    number: u32,
-    slot: &Slot,
-) -> Result<(), OutOfMemory>
-    ensures ok { OnOk result (kept.new.items ≡ kept.old.items ++ kept_slot number slot.now ∷ []) }
-    ensures err { OnErr result (kept.new.items ≡ kept.old.items) }
-{
-    let before = SlotBefore {
-        number,
-        state: slot.state,
-        desired_up: slot.desired_up,
-        retry_at: slot.retry_at,
-        image: None,
-    };
-    Ok(kept.push(before)?)
 }
 
 /// Keeps the streams before their first change.
@@ -115,10 +96,10 @@ fn streams_before(
     }
 }
 
-impl Transaction {
+impl Transaction<'_> {
     /// Ends the transaction without its effects: returns the table as it was at the beginning. Takes no memory.
     pub fn undo(self) -> ScannerState
-        ensures { state_of result ≡ state_before self }
+        ensures { state_of result ≡ state_before self.entry }
     {
         let scanner = self.scanner;
         let undo = self.undo;

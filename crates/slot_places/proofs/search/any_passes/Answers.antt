@@ -6,4 +6,4 @@ use Rattle.slot_places.proofs.SlotLemmas.{some_viewed, found_any}
 use Rattle.slot_places.proofs.search.any_passes.Goals as goal
 
 pub returns : goal.returns
-returns c = c.is_some.ensures ∙ some_viewed view_slot c.find_slot.result ∙ ap is_some c.find_slot.ensures ∙ found_any (passes c.args.test) (indexed_from 0 c.args.configs.now c.args.slots.now)
+returns c = c.is_some.ensures ∙ some_viewed view_slot c.find_slot.result ∙ ap is_some c.find_slot.ensures.found ∙ found_any (passes c.args.test) (indexed_from 0 c.args.configs.now c.args.slots.now)

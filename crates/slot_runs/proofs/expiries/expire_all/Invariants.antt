@@ -1,13 +1,12 @@
-use Rattle.std.proofs.Common.{◌≡◌, drop}
+use Rattle.std.proofs.Common.{drop}
 use Rattle.scanner_table.specs.Ticks.{all_expired, expired, expired_slots}
 use Rattle.slot_transactions.specs.Transactions.{view_transaction, followed}
-use Rattle.slot_transactions.specs.Undoing.{state_before}
+use Rattle.slot_transactions.specs.Undoing.{GoesOn}
 use Rattle.slot_runs.proofs.SlotNumbers.{Remains}
 use Rattle.slot_runs.proofs.expiries.expire_all.Given as goal
 
 abbrev pub invariant-loop-expiry : goal.invariant-loop-expiry
 invariant-loop-expiry l = record {
-  remains : Remains expired (followed (view_transaction l.profile l.fn.transaction) (all_expired (view_transaction l.profile l.fn.transaction).table)) (view_transaction l.profile l.transaction) (drop l.expiry-index (expired_slots (view_transaction l.profile l.fn.transaction).table));
-  clock : l.transaction.scanner.clock ≡ l.fn.transaction.scanner.clock;
-  kept : state_before l.transaction ≡ state_before l.fn.transaction;
+  remains : Remains expired (followed (view_transaction l.fn.transaction) (all_expired (view_transaction l.fn.transaction).table)) (view_transaction l.transaction) (drop l.expiry-index (expired_slots (view_transaction l.fn.transaction).table));
+  kept : GoesOn l.fn.transaction l.transaction;
 }

@@ -3,13 +3,11 @@ use Rattle.std.proofs.lemmas.Bool.Decides.{nat_tests}
 use Rattle.cip_encap.specs.Message.{view_message}
 use Rattle.scanner_table.specs.declared.table.ScannerTable.{ScannerTable}
 use Rattle.scanner_table.specs.Encapsulation.{registered}
-use Rattle.slot_places.specs.Views.{table_of}
 use Rattle.slot_transactions.specs.Transactions.{view_transaction}
 use Rattle.slot_runs.proofs.Answering.{table_done}
 use Rattle.slot_runs.proofs.messages.registered.Goals as goal
 
 pub returns-clause-effect : goal.returns-clause-effect
 returns-clause-effect c =
-    let profile = c.args.profile.now in
     let zero : (c.args.message.now.context == 0) ≡ true = grind (arith, nat_tests) in
-    rw zero (table_done (λ (t : ScannerTable). registered t c.args.stream (view_message c.args.message.now)) (table_of profile c.args.transaction.now.scanner) (view_transaction profile c.args.transaction.now) (view_transaction profile c.register.new.transaction) c.requires.fresh c.in_ok-register.ensures.effect)
+    rw zero (table_done (λ (t : ScannerTable). registered t c.args.stream (view_message c.args.message.now)) (view_transaction c.args.transaction.now).table (view_transaction c.args.transaction.now) (view_transaction c.register.new.transaction) c.requires.fresh c.in_ok-register.ensures.effect)

@@ -1,4 +1,4 @@
-use Rattle.std.proofs.Common.{◌≡◌, Option, Some, ap, Result, ◌∙◌}
+use Rattle.std.proofs.Common.{ap, Result, ◌∙◌}
 use Rattle.cip_fwdopen.specs.declared.reply.OpenAnswer.{OpenAnswer}
 use Rattle.cip_events.specs.declared.event.Reason.{Reason}
 use Rattle.cip_encap.specs.Message.{view_message}
@@ -6,21 +6,20 @@ use Rattle.scanner_table.specs.Closing.{given_up}
 use Rattle.scanner_table.specs.Encapsulation.{is_awaiting}
 use Rattle.scanner_table.specs.Replies.{open_answer}
 use Rattle.scanner_table.specs.Requests.{is_large}
-use Rattle.slot_places.specs.Views.{table_of, view_slot}
+use Rattle.slot_places.specs.Views.{view_slot}
 use Rattle.slot_transactions.specs.Transactions.{view_transaction, after_at, answered_by}
 use Rattle.slot_runs.proofs.Answering.{searched_stands, searched_is, slot_done, awaited, closes}
 use Rattle.slot_runs.proofs.messages.replied_to.Goals as goal
 
 pub returns-in_ok-answer-in-Opening-clause-effect : goal.returns-in_ok-answer-in-Opening-clause-effect
 returns-in_ok-answer-in-Opening-clause-effect c =
-    let profile = c.args.profile.now in
-    let t = table_of profile c.args.transaction.now.scanner in
+    let t = (view_transaction c.args.transaction.now).table in
     let m = view_message c.args.message.now in
     let indexed = view_slot c.in-Some.indexed in
-    let start = view_transaction profile c.args.transaction.now in
+    let start = view_transaction c.args.transaction.now in
     let test = is_awaiting c.args.target m.context in
-    let stands = searched_stands t test c.as_slice.result.now c.deref.result.now indexed c.as_slice.ensures c.deref.ensures.value c.in-Some.ensures in
-    let is = searched_is t test c.as_slice.result.now c.deref.result.now indexed c.as_slice.ensures c.deref.ensures.value c.in-Some.ensures in
+    let stands = searched_stands t test c.as_slice-configs.result.now c.deref.result.now indexed c.as_slice-configs.ensures c.deref.ensures.value c.in-Some.ensures.found in
+    let is = searched_is t test c.as_slice-configs.result.now c.deref.result.now indexed c.as_slice-configs.ensures c.deref.ensures.value c.in-Some.ensures.found in
     let reported = open_answer (is_large indexed.config) m in
     let made = c.in_ok-answer-in-Opening.ensures.effect ∙ ap (λ (r : Result OpenAnswer Reason). after_at (answered_by c.in-Opening.opening r) indexed.number start) (c.open_answer-reported.ensures ∙ ap (λ (large : _). open_answer large m) c.is_large.ensures) in
     slot_done (answered_by c.in-Opening.opening reported) t indexed indexed.number start _ stands c.requires.fresh made
@@ -28,14 +27,13 @@ returns-in_ok-answer-in-Opening-clause-effect c =
 
 pub returns-in_ok-give_up-in-Closing-clause-effect : goal.returns-in_ok-give_up-in-Closing-clause-effect
 returns-in_ok-give_up-in-Closing-clause-effect c =
-    let profile = c.args.profile.now in
-    let t = table_of profile c.args.transaction.now.scanner in
+    let t = (view_transaction c.args.transaction.now).table in
     let m = view_message c.args.message.now in
     let indexed = view_slot c.in-Some.indexed in
-    let start = view_transaction profile c.args.transaction.now in
+    let start = view_transaction c.args.transaction.now in
     let test = is_awaiting c.args.target m.context in
-    let stands = searched_stands t test c.as_slice.result.now c.deref.result.now indexed c.as_slice.ensures c.deref.ensures.value c.in-Some.ensures in
-    let is = searched_is t test c.as_slice.result.now c.deref.result.now indexed c.as_slice.ensures c.deref.ensures.value c.in-Some.ensures in
+    let stands = searched_stands t test c.as_slice-configs.result.now c.deref.result.now indexed c.as_slice-configs.ensures c.deref.ensures.value c.in-Some.ensures.found in
+    let is = searched_is t test c.as_slice-configs.result.now c.deref.result.now indexed c.as_slice-configs.ensures c.deref.ensures.value c.in-Some.ensures.found in
     slot_done given_up t indexed indexed.number start _ stands c.requires.fresh c.in_ok-give_up-in-Closing.ensures.effect
     ∙ closes t m indexed c.in-Closing.field-0 c.in-Closing.is
     ∙ awaited t m indexed _ _ is c.in-Closing.is

@@ -6,5 +6,5 @@ use Rattle.slot_runs.proofs.running.open_ready.Goals as goal
 
 pub returns-clause-effect : goal.returns-clause-effect
 returns-clause-effect c =
-    let d = view_transaction c.args.profile.now c.args.transaction.now in
-    subst (λ (e : Effect). IfOk c.run.result (λ x. view_transaction c.args.profile.now c.run.new.transaction ≡ followed d e)) (ready_is d.table) c.run.ensures.effect
+    let d = view_transaction c.args.transaction.now in
+    subst (λ (e : Effect). IfOk c.run.result (λ x. view_transaction c.run.new.transaction ≡ followed d e)) (ready_is d.table) c.run.ensures.effect

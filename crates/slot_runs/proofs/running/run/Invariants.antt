@@ -1,13 +1,12 @@
 use Rattle.std.proofs.Common.{◌≡◌}
 use Rattle.slot_transactions.specs.Transactions.{view_transaction, followed}
-use Rattle.slot_transactions.specs.Undoing.{state_before}
+use Rattle.slot_transactions.specs.Undoing.{GoesOn}
 use Rattle.slot_runs.specs.Runs.{effect_of, selected, run}
 use Rattle.slot_runs.proofs.Remaining.{left}
 use Rattle.slot_runs.proofs.running.run.Given as goal
 
 abbrev pub invariant-loop-number : goal.invariant-loop-number
 invariant-loop-number l = record {
-  adds : followed (view_transaction l.profile l.fn.transaction) (run l.action l.which (view_transaction l.profile l.fn.transaction).table) ≡ followed (view_transaction l.profile l.transaction) (left (effect_of l.action) (selected l.which) l.number (view_transaction l.profile l.transaction).table);
-  clock : l.transaction.scanner.clock ≡ l.fn.transaction.scanner.clock;
-  kept : state_before l.transaction ≡ state_before l.fn.transaction;
+  adds : followed (view_transaction l.fn.transaction) (run l.action l.which (view_transaction l.fn.transaction).table) ≡ followed (view_transaction l.transaction) (left (effect_of l.action) (selected l.which) l.number (view_transaction l.transaction).table);
+  kept : GoesOn l.fn.transaction l.transaction;
 }

@@ -5,4 +5,4 @@ use Rattle.slot_runs.proofs.sessions.begin_session.Goals as goal
 
 pub returns-clause-effect : goal.returns-clause-effect
 returns-clause-effect c =
-    subst (λ (d : Progress). IfOk c.open_target.result (λ x. view_transaction c.args.profile.now c.open_target.new.transaction ≡ followed d (target_opened c.args.stream.peer d.table))) (c.in_ok-set_stage.ensures.effect c.args.profile.now) c.open_target.ensures.effect
+    subst (λ (d : Progress). IfOk c.open_target.result (λ x. view_transaction c.open_target.new.transaction ≡ followed d (target_opened c.args.stream.peer d.table))) (c.in_ok-set_stage.ensures.effect) c.open_target.ensures.effect

@@ -5,4 +5,4 @@ use Rattle.slot_runs.proofs.Remaining.{adds_nothing}
 use Rattle.slot_runs.proofs.sessions.fail_session.Goals as goal
 
 pub returns-clause-effect : goal.returns-clause-effect
-returns-clause-effect c = c.in_ok-set_stage.ensures.effect c.args.profile.now ∙ sym (adds_nothing (with_staged c.args.stream.number Unused (view_transaction c.args.profile.now c.args.transaction.now)))
+returns-clause-effect c = c.in_ok-set_stage.ensures.effect ∙ sym (adds_nothing (with_staged c.args.stream.number Unused (view_transaction c.args.transaction.now)))

@@ -10,22 +10,25 @@ use Rattle.slot_scanner.proofs.Undone.{both_same}
 use Rattle.slot_scanner.proofs.streams.answer_of.Goals as goal
 
 pub returns-in-Answered : goal.returns-in-Answered
-returns-in-Answered c = λ profile.
+returns-in-Answered c =
+    let profile = c.args.transaction.profile.now in
     let t = table_with profile (state_before c.args.transaction) in
-    let last = view_transaction profile c.args.transaction in
-    let same : ◌≡◌ {A = Next} (c.taken.result, table_of profile c.taken.new.scanner) (frame_next t Answered last) = both_same c.taken.result (progress_answer last []) (table_of profile c.taken.new.scanner) last.table (c.taken.ensures.answer profile ∙ ap (progress_answer last) c.new.ensures.items) (c.taken.ensures.table profile) in
+    let last = view_transaction c.args.transaction in
+    let same : ◌≡◌ {A = Next} (c.taken.result, table_of profile c.taken.new.scanner) (frame_next t Answered last) = both_same c.taken.result (progress_answer last []) (table_of profile c.taken.new.scanner) last.table (c.taken.ensures.answer ∙ ap (progress_answer last) c.new.ensures.items) c.taken.ensures.table in
     same ∙ ap (λ (o : FrameOutcome). frame_next t o last) (sym c.in-Answered.is)
 
 pub returns-in-Ignored : goal.returns-in-Ignored
-returns-in-Ignored c = λ profile.
+returns-in-Ignored c =
+    let profile = c.args.transaction.profile.now in
     let t = table_with profile (state_before c.args.transaction) in
-    let last = view_transaction profile c.args.transaction in
+    let last = view_transaction c.args.transaction in
     let same : ◌≡◌ {A = Next} (c.unchanged.result, table_of profile c.unchanged.new.scanner) (frame_next t Ignored last) = both_same c.unchanged.result _ (table_of profile c.unchanged.new.scanner) t c.unchanged.ensures.answer (ap (table_with profile) c.unchanged.ensures.state) in
     same ∙ ap (λ (o : FrameOutcome). frame_next t o last) (sym c.in-Ignored.is)
 
 pub returns-in-BadFrame : goal.returns-in-BadFrame
-returns-in-BadFrame c = λ profile.
+returns-in-BadFrame c =
+    let profile = c.args.transaction.profile.now in
     let t = table_with profile (state_before c.args.transaction) in
-    let last = view_transaction profile c.args.transaction in
+    let last = view_transaction c.args.transaction in
     let same : ◌≡◌ {A = Next} (c.unchanged-in-BadFrame.result, table_of profile c.unchanged-in-BadFrame.new.scanner) (frame_next t BadFrame last) = both_same c.unchanged-in-BadFrame.result _ (table_of profile c.unchanged-in-BadFrame.new.scanner) t c.unchanged-in-BadFrame.ensures.answer (ap (table_with profile) c.unchanged-in-BadFrame.ensures.state) in
     same ∙ ap (λ (o : FrameOutcome). frame_next t o last) (sym c.in-BadFrame.is)

@@ -1,13 +1,24 @@
-use Rattle.std.proofs.Common.{◌≡◌, subst}
-use Rattle.std.specs.Result.{IfOk}
-use Rattle.scanner_table.specs.Ticks.{advanced}
-use Rattle.slot_places.specs.Views.{table_of}
-use Rattle.slot_transactions.specs.Transactions.{Progress, followed, view_transaction}
-use Rattle.slot_scanner.proofs.Ticking.{clock_moved}
+use Rattle.std.proofs.Common.{sym, ap, subst}
+use Rattle.scanner_table.specs.Whole.{IsWhole}
+use Rattle.slot_transactions.specs.Transactions.{Progress, view_transaction}
+use Rattle.slot_scanner.proofs.Ticking.{clock_moved, moved_advanced}
 use Rattle.slot_scanner.proofs.ticks.advanced.Goals as goal
+
+pub due_datagrams-requires : goal.due_datagrams-requires
+due_datagrams-requires c =
+    let first = view_transaction c.args.transaction.now in
+    let whole = c.advancing_keeps_tables_whole.ensures first.table c.args.ms c.requires.time c.requires.whole in
+    let made = moved_advanced _ _ _ (clock_moved first.table c.args.ms c.from.result first c.requires.fresh c.from.ensures) c.in_ok-advance.ensures.effect in
+    record { whole = subst IsWhole (sym (ap (λ (d : Progress). d.table) made)) whole }
 
 pub returns-clause-effect : goal.returns-clause-effect
 returns-clause-effect c =
-    let profile = c.args.profile.now in
-    let moved = clock_moved (table_of profile c.args.transaction.now.scanner) c.args.ms c.from.result (view_transaction profile c.args.transaction.now) c.requires.fresh c.from.ensures in
-    subst (λ (d : Progress). IfOk c.advance.result (λ x. view_transaction profile c.advance.new.transaction ≡ followed d (advanced d.table))) moved c.advance.ensures.effect
+    let first = view_transaction c.args.transaction.now in
+    moved_advanced _ _ _ (clock_moved first.table c.args.ms c.from.result first c.requires.fresh c.from.ensures) c.in_ok-advance.ensures.effect
+
+pub returns-clause-whole : goal.returns-clause-whole
+returns-clause-whole c =
+    let first = view_transaction c.args.transaction.now in
+    let whole = c.advancing_keeps_tables_whole.ensures first.table c.args.ms c.requires.time c.requires.whole in
+    let made = moved_advanced _ _ _ (clock_moved first.table c.args.ms c.from.result first c.requires.fresh c.from.ensures) c.in_ok-advance.ensures.effect in
+    subst IsWhole (sym (ap (λ (d : Progress). d.table) made)) whole

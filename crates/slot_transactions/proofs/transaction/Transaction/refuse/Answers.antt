@@ -2,4 +2,4 @@ use Rattle.slot_transactions.proofs.Faultless.{retry_fits}
 use Rattle.slot_transactions.proofs.transaction.Transaction.refuse.Goals as goal
 
 pub later-requires-clause-wait : goal.later-requires-clause-wait
-later-requires-clause-wait c = retry_fits c.args.profile.now c.requires.faultless
+later-requires-clause-wait c = retry_fits c.args.self.now.profile.now c.requires.ready.0

@@ -1,25 +1,23 @@
-use Rattle.std.proofs.Common.{◌≡◌, slice_get, Some, subst}
+use Rattle.std.proofs.Common.{◌≡◌, sym, refl, subst}
+use Rattle.scanner_table.specs.Opening.{later}
+use Rattle.scanner_table.specs.declared.slot.SlotState.TheVariants.{Closing}
 use Rattle.std.specs.Result.{IfOk}
+use Rattle.slot_places.specs.Views.{view_slot}
 use Rattle.slot_transactions.specs.Transactions.{Progress, view_transaction}
 use Rattle.slot_transactions.proofs.Faultless.{open_timeout_fits}
-use Rattle.slot_transactions.proofs.Found.{at_index, there, got}
+use Rattle.slot_transactions.proofs.Found.{found}
 use Rattle.slot_transactions.proofs.RequestSteps.{requests_close, lengths_at}
 use Rattle.slot_transactions.proofs.transaction.Transaction.request_close.Goals as goal
 
-pub closing-requires-clause-lengths : goal.closing-requires-clause-lengths
-closing-requires-clause-lengths c =
-    let config = c.index-as_slice-number.result in
-    let is : slice_get c.args.profile.now.slots c.args.number ≡ Some config = got c.args.profile.now.slots c.as_slice.result.now c.args.number config c.as_slice.ensures c.requires.config_in c.index-as_slice-number.is in
-    lengths_at c.args.profile.now c.args.number config c.requires.faultless is
+pub close_frame-requires : goal.close_frame-requires
+close_frame-requires c = lengths_at c.args.self.now.profile.now c.args.number c.slot-indexed.result.config.now c.requires.ready.0 (found c.args.number c.args.self.now.profile.now.slots c.args.self.now.scanner.slots.items (view_slot c.slot-indexed.result) (sym c.slot-indexed.ensures)).config
 
-pub closing-requires-clause-wait : goal.closing-requires-clause-wait
-closing-requires-clause-wait c = open_timeout_fits c.args.profile.now c.requires.faultless
+pub later-requires-clause-wait : goal.later-requires-clause-wait
+later-requires-clause-wait c = open_timeout_fits c.args.self.now.profile.now c.requires.ready.0
 
 pub returns-clause-effect : goal.returns-clause-effect
 returns-clause-effect c =
-    let so_far : Progress = view_transaction c.args.profile.now c.args.self.now in
-    let config = c.index-as_slice-number.result in
-    let is : slice_get c.args.profile.now.slots c.args.number ≡ Some config = got c.args.profile.now.slots c.as_slice.result.now c.args.number config c.as_slice.ensures c.requires.config_in c.index-as_slice-number.is in
-    let s = there c.args.self.now.scanner.slots.items c.args.number c.requires.slot_in in
-    let at = at_index c.args.number c.args.profile.now.slots c.args.self.now.scanner.slots.items config s.0 is s.1 in
-    subst (λ (d : Progress). IfOk c.send_request.result (λ x. view_transaction c.args.profile.now c.send_request.new.self ≡ d)) (requests_close so_far c.args.number (record { number = c.args.number; config = config; slot = s.0 }) c.args.connection.now c.args.session c.in_ok-new_request.new_request.frame c.in_ok-new_request.new_request.slot_change at c.in_ok-new_request.ensures.frame (c.in_ok-new_request.ensures.slot_change s.0 s.1)) c.send_request.ensures.effect
+    let so_far = view_transaction c.args.self.now in
+    let indexed = view_slot c.slot-indexed.result in
+    let wait : c.later.result ≡ later so_far.table.clock so_far.table.profile.open_timeout = c.later.ensures in
+    subst (λ (d : Progress). IfOk c.send_request.result (λ x. view_transaction c.send_request.new.self ≡ d)) (requests_close so_far c.args.number indexed c.args.connection.now c.args.session c.in_ok-frame.frame (record { state = Closing (record { request = so_far.table.next_request; link = c.args.connection.now.link; deadline = c.later.result }); desired_up = c.resigned.result.desired_up; retry_at = c.resigned.result.retry_at }) (sym c.slot-indexed.ensures) c.in_ok-frame.ensures (rw (wait, c.resigned.ensures) refl)) c.send_request.ensures.effect

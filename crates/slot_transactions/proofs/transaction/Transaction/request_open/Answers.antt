@@ -1,44 +1,36 @@
-use Rattle.std.proofs.Common.{◌≡◌, slice_get, Some, subst}
+use Rattle.std.proofs.Common.{◌≡◌, ◌∙◌, sym, refl, subst, ap}
+use Rattle.conn_state.specs.declared.names.Requested.{Requested}
+use Rattle.scanner_table.specs.Opening.{later}
+use Rattle.scanner_table.specs.Requests.{next_requested, sent_frame, numbered, opening, is_large, open_fields}
+use Rattle.scanner_table.specs.declared.slot.SlotState.TheVariants.{Opening}
 use Rattle.std.specs.Result.{IfOk}
-use Rattle.slot_places.specs.Views.{table_of}
+use Rattle.slot_places.specs.Views.{view_slot}
 use Rattle.slot_transactions.specs.Transactions.{Progress, view_transaction}
 use Rattle.slot_transactions.proofs.Faultless.{open_timeout_fits}
-use Rattle.slot_transactions.proofs.Found.{at_index, there, got}
+use Rattle.slot_transactions.proofs.Found.{found}
 use Rattle.slot_transactions.proofs.RequestSteps.{requests_open, left_for, lengths_at, within}
 use Rattle.slot_transactions.proofs.transaction.Transaction.request_open.Goals as goal
 
-pub opening-requires-clause-draws : goal.opening-requires-clause-draws
-opening-requires-clause-draws c =
-    let config = c.index-as_slice-number.result in
-    let is : slice_get c.args.profile.now.slots c.args.number ≡ Some config = got c.args.profile.now.slots c.as_slice.result.now c.args.number config c.as_slice.ensures c.requires.config_in c.index-as_slice-number.is in
-    (left_for (table_of c.args.profile.now c.args.self.now.scanner) c.args.number config c.requires.slot_in is c.requires.left).1
+pub next_requested-requested-requires : goal.next_requested-requested-requires
+next_requested-requested-requires c = (left_for (view_transaction c.args.self.now).table c.args.number (view_slot c.slot-indexed.result) (sym c.slot-indexed.ensures) c.requires.left).1
 
-pub opening-requires-clause-lengths : goal.opening-requires-clause-lengths
-opening-requires-clause-lengths c =
-    let config = c.index-as_slice-number.result in
-    let is : slice_get c.args.profile.now.slots c.args.number ≡ Some config = got c.args.profile.now.slots c.as_slice.result.now c.args.number config c.as_slice.ensures c.requires.config_in c.index-as_slice-number.is in
-    lengths_at c.args.profile.now c.args.number config c.requires.faultless is
+pub open_frame-requires : goal.open_frame-requires
+open_frame-requires c = lengths_at c.args.self.now.profile.now c.args.number c.slot-indexed.result.config.now c.requires.ready.0 (found c.args.number c.args.self.now.profile.now.slots c.args.self.now.scanner.slots.items (view_slot c.slot-indexed.result) (sym c.slot-indexed.ensures)).config
 
-pub opening-requires-clause-wait : goal.opening-requires-clause-wait
-opening-requires-clause-wait c = open_timeout_fits c.args.profile.now c.requires.faultless
+pub later-requires-clause-wait : goal.later-requires-clause-wait
+later-requires-clause-wait c = open_timeout_fits c.args.self.now.profile.now c.requires.ready.0
 
 pub id_after-self-requires : goal.id_after-self-requires
-id_after-self-requires c =
-    let config = c.index-as_slice-number.result in
-    let is : slice_get c.args.profile.now.slots c.args.number ≡ Some config = got c.args.profile.now.slots c.as_slice.result.now c.args.number config c.as_slice.ensures c.requires.config_in c.index-as_slice-number.is in
-    (left_for (table_of c.args.profile.now c.args.self.now.scanner) c.args.number config c.requires.slot_in is c.requires.left).1
+id_after-self-requires c = (left_for (view_transaction c.args.self.now).table c.args.number (view_slot c.slot-indexed.result) (sym c.slot-indexed.ensures) c.requires.left).1
 
-pub send_request-requires : goal.send_request-requires
-send_request-requires c =
-    let config = c.index-as_slice-number.result in
-    let is : slice_get c.args.profile.now.slots c.args.number ≡ Some config = got c.args.profile.now.slots c.as_slice.result.now c.args.number config c.as_slice.ensures c.requires.config_in c.index-as_slice-number.is in
-    within c.args.self.now.scanner.next_request 281474976710656 (left_for (table_of c.args.profile.now c.args.self.now.scanner) c.args.number config c.requires.slot_in is c.requires.left).0
+pub send_request-requires-clause-left : goal.send_request-requires-clause-left
+send_request-requires-clause-left c = within c.args.self.now.scanner.next_request 281474976710656 (left_for (view_transaction c.args.self.now).table c.args.number (view_slot c.slot-indexed.result) (sym c.slot-indexed.ensures) c.requires.left).0
 
 pub returns-clause-effect : goal.returns-clause-effect
 returns-clause-effect c =
-    let so_far : Progress = view_transaction c.args.profile.now c.args.self.now in
-    let config = c.index-as_slice-number.result in
-    let is : slice_get c.args.profile.now.slots c.args.number ≡ Some config = got c.args.profile.now.slots c.as_slice.result.now c.args.number config c.as_slice.ensures c.requires.config_in c.index-as_slice-number.is in
-    let s = there c.args.self.now.scanner.slots.items c.args.number c.requires.slot_in in
-    let at = at_index c.args.number c.args.profile.now.slots c.args.self.now.scanner.slots.items config s.0 is s.1 in
-    subst (λ (d : Progress). IfOk c.send_request.result (λ x. view_transaction c.args.profile.now c.send_request.new.self ≡ d)) (requests_open so_far c.args.number c.id_after-self.result c.serial_after-self.result (record { number = c.args.number; config = config; slot = s.0 }) c.args.session c.in_ok-new_request.new_request.frame c.in_ok-new_request.new_request.slot_change at c.id_after-self.ensures c.serial_after-self.ensures c.in_ok-new_request.ensures.frame (c.in_ok-new_request.ensures.slot_change s.0 s.1)) c.send_request.ensures.effect
+    let so_far = view_transaction c.args.self.now in
+    let indexed = view_slot c.slot-indexed.result in
+    let drawn : c.next_requested-requested.result ≡ next_requested so_far.table indexed.config = c.next_requested-requested.ensures in
+    let wait : c.later.result ≡ later so_far.table.clock so_far.table.profile.open_timeout = c.later.ensures in
+    let sent : c.in_ok-frame.frame ≡ sent_frame (numbered c.args.session so_far.table.next_request (opening (is_large indexed.config) (open_fields indexed.config (next_requested so_far.table indexed.config)))) = c.in_ok-frame.ensures ∙ ap (λ (r : Requested). sent_frame (numbered c.args.session so_far.table.next_request (opening (is_large indexed.config) (open_fields indexed.config r)))) drawn in
+    subst (λ (d : Progress). IfOk c.send_request.result (λ x. view_transaction c.send_request.new.self ≡ d)) (requests_open so_far c.args.number c.id_after-self.result c.serial_after-self.result indexed c.args.session c.in_ok-frame.frame (record { state = Opening (record { request = so_far.table.next_request; requested = c.next_requested-requested.result; deadline = c.later.result }); desired_up = indexed.slot.desired_up; retry_at = indexed.slot.retry_at }) (sym c.slot-indexed.ensures) c.id_after-self.ensures c.serial_after-self.ensures sent (rw (drawn, wait) refl)) c.send_request.ensures.effect

@@ -1,50 +1,43 @@
-use Rattle.std.proofs.Common.{◌≡◌, find, Some, None, refl}
+use Rattle.std.proofs.Common.{sym, refl}
 use Rattle.scanner_table.specs.Closing.{slot_resigned}
-use Rattle.scanner_table.specs.Slots.{is_numbered, indexed_from}
 use Rattle.scanner_table.specs.declared.slot.SlotState.TheVariants.{Idle, Opening, Established, TimedOut, Closing}
 use Rattle.slot_places.specs.Views.{view_slot}
 use Rattle.slot_transactions.specs.Transactions.{Progress, view_transaction, closed}
-use Rattle.slot_transactions.proofs.RequestSteps.{adds, adds_none, adds_no_slot, idle_stops, idle_stays}
+use Rattle.slot_transactions.proofs.RequestSteps.{adds, adds_none, idle_stops, idle_stays}
 use Rattle.slot_transactions.proofs.transaction.Transaction.stop.Goals as goal
-
-pub returns-in_default-clause-effect : goal.returns-in_default-clause-effect
-returns-in_default-clause-effect c =
-    let so_far : Progress = view_transaction c.args.profile.now c.args.self.now in
-    let is : None ≡ find (is_numbered c.args.number) (indexed_from 0 c.args.profile.now.slots c.args.self.now.scanner.slots.items) = rw (← c.as_slice.ensures, ← c.deref.ensures.value) c.in_default.ensures in
-    adds_no_slot so_far _ c.args.number is
 
 pub returns-in-Idle-clause-effect : goal.returns-in-Idle-clause-effect
 returns-in-Idle-clause-effect c =
-    let so_far : Progress = view_transaction c.args.profile.now c.args.self.now in
-    let is : Some (view_slot c.in-Some.indexed) ≡ find (is_numbered c.args.number) (indexed_from 0 c.args.profile.now.slots c.args.self.now.scanner.slots.items) = rw (← c.as_slice.ensures, ← c.deref.ensures.value) c.in-Some.ensures in
-    adds so_far (view_transaction c.args.profile.now c.resign.new.self) c.args.number (view_slot c.in-Some.indexed) Idle slot_resigned c.resign.result c.faulted.result is c.in-Idle.is (idle_stops so_far.table (view_slot c.in-Some.indexed) c.if-desired_up.true) c.faulted.ensures c.resign.ensures.effect
+    let so_far : Progress = view_transaction c.args.self.now in
+    let is = sym c.slot-indexed.ensures in
+    adds so_far (view_transaction c.resign.new.self) c.args.number (view_slot c.slot-indexed.result) Idle slot_resigned c.resign.result c.faulted.result is c.in-Idle.is (idle_stops so_far.table (view_slot c.slot-indexed.result) c.if-desired_up.true) c.faulted.ensures c.resign.ensures.effect
 
 pub returns-in-Opening-clause-effect : goal.returns-in-Opening-clause-effect
 returns-in-Opening-clause-effect c =
-    let so_far : Progress = view_transaction c.args.profile.now c.args.self.now in
-    let is : Some (view_slot c.in-Some.indexed) ≡ find (is_numbered c.args.number) (indexed_from 0 c.args.profile.now.slots c.args.self.now.scanner.slots.items) = rw (← c.as_slice.ensures, ← c.deref.ensures.value) c.in-Some.ensures in
-    adds so_far (view_transaction c.args.profile.now c.resign-in-Opening.new.self) c.args.number (view_slot c.in-Some.indexed) (Opening c.in-Opening.field-0) slot_resigned c.resign-in-Opening.result c.faulted-in-Opening.result is c.in-Opening.is refl c.faulted-in-Opening.ensures c.resign-in-Opening.ensures.effect
+    let so_far : Progress = view_transaction c.args.self.now in
+    let is = sym c.slot-indexed.ensures in
+    adds so_far (view_transaction c.resign-in-Opening.new.self) c.args.number (view_slot c.slot-indexed.result) (Opening c.in-Opening.field-0) slot_resigned c.resign-in-Opening.result c.faulted-in-Opening.result is c.in-Opening.is refl c.faulted-in-Opening.ensures c.resign-in-Opening.ensures.effect
 
 pub returns-in-TimedOut-clause-effect : goal.returns-in-TimedOut-clause-effect
 returns-in-TimedOut-clause-effect c =
-    let so_far : Progress = view_transaction c.args.profile.now c.args.self.now in
-    let is : Some (view_slot c.in-Some.indexed) ≡ find (is_numbered c.args.number) (indexed_from 0 c.args.profile.now.slots c.args.self.now.scanner.slots.items) = rw (← c.as_slice.ensures, ← c.deref.ensures.value) c.in-Some.ensures in
-    adds so_far (view_transaction c.args.profile.now c.resign-in-TimedOut.new.self) c.args.number (view_slot c.in-Some.indexed) (TimedOut c.in-TimedOut.field-0) slot_resigned c.resign-in-TimedOut.result c.faulted-in-TimedOut.result is c.in-TimedOut.is refl c.faulted-in-TimedOut.ensures c.resign-in-TimedOut.ensures.effect
+    let so_far : Progress = view_transaction c.args.self.now in
+    let is = sym c.slot-indexed.ensures in
+    adds so_far (view_transaction c.resign-in-TimedOut.new.self) c.args.number (view_slot c.slot-indexed.result) (TimedOut c.in-TimedOut.field-0) slot_resigned c.resign-in-TimedOut.result c.faulted-in-TimedOut.result is c.in-TimedOut.is refl c.faulted-in-TimedOut.ensures c.resign-in-TimedOut.ensures.effect
 
 pub returns-in-Established-clause-effect : goal.returns-in-Established-clause-effect
 returns-in-Established-clause-effect c =
-    let so_far : Progress = view_transaction c.args.profile.now c.args.self.now in
-    let is : Some (view_slot c.in-Some.indexed) ≡ find (is_numbered c.args.number) (indexed_from 0 c.args.profile.now.slots c.args.self.now.scanner.slots.items) = rw (← c.as_slice.ensures, ← c.deref.ensures.value) c.in-Some.ensures in
-    adds so_far (view_transaction c.args.profile.now c.close.new.self) c.args.number (view_slot c.in-Some.indexed) (Established c.in-Established.connection) (closed c.in-Established.connection) c.close.result c.faulted-in-Established.result is c.in-Established.is refl c.faulted-in-Established.ensures c.close.ensures.effect
+    let so_far : Progress = view_transaction c.args.self.now in
+    let is = sym c.slot-indexed.ensures in
+    adds so_far (view_transaction c.close.new.self) c.args.number (view_slot c.slot-indexed.result) (Established c.in-Established.connection) (closed c.in-Established.connection) c.close.result c.faulted-in-Established.result is c.in-Established.is refl c.faulted-in-Established.ensures c.close.ensures.effect
 
 pub returns-in-Idle-2-clause-effect : goal.returns-in-Idle-2-clause-effect
 returns-in-Idle-2-clause-effect c =
-    let so_far : Progress = view_transaction c.args.profile.now c.args.self.now in
-    let is : Some (view_slot c.in-Some.indexed) ≡ find (is_numbered c.args.number) (indexed_from 0 c.args.profile.now.slots c.args.self.now.scanner.slots.items) = rw (← c.as_slice.ensures, ← c.deref.ensures.value) c.in-Some.ensures in
-    adds_none so_far _ c.args.number (view_slot c.in-Some.indexed) Idle is c.in-Idle.is (idle_stays so_far.table (view_slot c.in-Some.indexed) c.if-desired_up.false)
+    let so_far : Progress = view_transaction c.args.self.now in
+    let is = sym c.slot-indexed.ensures in
+    adds_none so_far _ c.args.number (view_slot c.slot-indexed.result) Idle is c.in-Idle.is (idle_stays so_far.table (view_slot c.slot-indexed.result) c.if-desired_up.false)
 
 pub returns-in-Closing-clause-effect : goal.returns-in-Closing-clause-effect
 returns-in-Closing-clause-effect c =
-    let so_far : Progress = view_transaction c.args.profile.now c.args.self.now in
-    let is : Some (view_slot c.in-Some.indexed) ≡ find (is_numbered c.args.number) (indexed_from 0 c.args.profile.now.slots c.args.self.now.scanner.slots.items) = rw (← c.as_slice.ensures, ← c.deref.ensures.value) c.in-Some.ensures in
-    adds_none so_far _ c.args.number (view_slot c.in-Some.indexed) (Closing c.in-Closing.field-0) is c.in-Closing.is refl
+    let so_far : Progress = view_transaction c.args.self.now in
+    let is = sym c.slot-indexed.ensures in
+    adds_none so_far _ c.args.number (view_slot c.slot-indexed.result) (Closing c.in-Closing.field-0) is c.in-Closing.is refl

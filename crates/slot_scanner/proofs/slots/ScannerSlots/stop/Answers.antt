@@ -1,0 +1,18 @@
+use Rattle.std.proofs.Common.{◌∙◌, ap}
+use Rattle.slot_places.specs.Views.{table_of}
+use Rattle.slot_transactions.specs.Transactions.{view_transaction, progress_answer}
+use Rattle.slot_scanner.proofs.Doing.{stop_taken, stop_refused}
+use Rattle.slot_scanner.proofs.Undone.{same_table, same_profile}
+use Rattle.slot_scanner.proofs.slots.ScannerSlots.stop.Goals as goal
+
+pub returns-in-Ok-clause-step : goal.returns-in-Ok-clause-step
+returns-in-Ok-clause-step c =
+    let profile = c.args.self.now.profile in
+    let last = view_transaction c.stop.new.self in
+    stop_taken (table_of profile c.args.self.now.state) c.args.number (view_transaction c.begin-transaction.result) last tt c.taken.result _ c.begin-transaction.ensures.effect c.in-Ok.ensures.effect (c.taken.ensures.answer ∙ ap (progress_answer last) c.new.ensures.items) (same_profile c.begin-transaction.result c.stop.new.self profile c.taken.new.scanner c.begin-transaction.ensures.profile c.stop.ensures.kept.0 c.taken.ensures.table)
+
+pub returns-in-Err-clause-step : goal.returns-in-Err-clause-step
+returns-in-Err-clause-step c =
+    let profile = c.args.self.now.profile in
+    let same = same_table profile c.begin-transaction.result c.stop.new.self c.args.self.now.state c.undone.new.scanner c.begin-transaction.ensures.kept c.stop.ensures.kept.2 c.undone.ensures.state in
+    stop_refused (table_of profile c.args.self.now.state) c.args.number (view_transaction c.begin-transaction.result) (view_transaction c.stop.new.self) c.in-Err.why c.undone.result (table_of profile c.undone.new.scanner) c.begin-transaction.ensures.effect c.in-Err.ensures.effect c.undone.ensures.fault same
