@@ -101,14 +101,13 @@ fn push_change(
         return Ok(());
     }
     let copy = Items::copy_of(alloc, bytes)?;
-    push_line(alloc, out, number, ms, watched.kind, watched.point, bytes)?;
+    push_line(out, number, ms, watched.kind, watched.point, bytes)?;
     watched.bytes = copy;
     Ok(())
 }
 
 /// Appends the line of a point.
 fn push_line(
-    alloc: Global,
     out: &mut String,
     number: u64,
     ms: u64,
@@ -120,7 +119,7 @@ fn push_line(
 {
     let word = word_of(kind);
     write!(out, "{number} at {ms} {word} {point}")?;
-    push_last_bytes(alloc, out, bytes)
+    push_last_bytes(out, bytes)
 }
 
 /// The word of a kind of point.

@@ -103,7 +103,7 @@ impl<W: Write + Drop, O: Write, E: Write> Witness<W, O, E> {
         ensures kept { self.new.recorder ≡ self.old.recorder }
     {
         let mut text = String::new(self.alloc);
-        push_outcome(self.alloc, &mut text, self.recorder.count(), outcome)?;
+        push_outcome(&mut text, self.recorder.count(), outcome)?;
         self.print(text.as_bytes())
     }
 

@@ -18,7 +18,6 @@ use trace_text::{push_config, push_event, push_outcome};
 /// leaves whole events. A record that has ended is closed, and never begins again; the count goes on.
 #[derive(Drop)]
 pub struct Recorder<W> {
-    alloc: Global,
     out: Option<W>,
     count: u64,
     left: usize,
@@ -32,7 +31,6 @@ impl<W: Write + Drop> Recorder<W> {
         ensures count { result.count ≡ 0 }
     {
         Recorder {
-            alloc,
             out: None,
             count: 0,
             left: 0,
@@ -48,10 +46,9 @@ impl<W: Write + Drop> Recorder<W> {
     {
         let mut out = out;
         let mut text = String::new(alloc);
-        push_config(alloc, &mut text, config)?;
+        push_config(&mut text, config)?;
         let left = hand_over(&text, &mut out, LONGEST_TRACE)?;
         Ok(Recorder {
-            alloc,
             out: Some(out),
             count: 0,
             left,
@@ -92,15 +89,7 @@ impl<W: Write + Drop> Recorder<W> {
             return None;
         };
         let count = self.count;
-        match append(
-            self.alloc,
-            &mut self.text,
-            &mut out,
-            self.left,
-            count,
-            event,
-            outcome,
-        ) {
+        match append(&mut self.text, &mut out, self.left, count, event, outcome) {
             Ok(left) => {
                 self.left = left;
                 self.out = Some(out);
@@ -113,7 +102,6 @@ impl<W: Write + Drop> Recorder<W> {
 
 /// Writes an event of this number with its outcome. Answers how many more bytes the record may have.
 fn append<W: Write>(
-    alloc: Global,
     text: &mut String,
     out: &mut W,
     left: usize,
@@ -124,8 +112,8 @@ fn append<W: Write>(
     ensures { IfOk result (λ now. AppendsWithin (W.contents out.old) left (entry_text number event.now outcome.now) (W.contents out.new) now) }
 {
     text.clear();
-    push_event(alloc, text, event)?;
-    push_outcome(alloc, text, number, outcome)?;
+    push_event(text, event)?;
+    push_outcome(text, number, outcome)?;
     hand_over(text, out, left)
 }
 

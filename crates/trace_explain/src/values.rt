@@ -40,5 +40,5 @@ pub fn push_data(alloc: Global, out: &mut String, bytes: &[u8]) -> Result<(), Ou
     }
     let len = bytes.len();
     write!(out, "{len} bytes of data ")?;
-    push_bytes(alloc, out, bytes)
+    push_bytes(out, bytes)
 }

@@ -63,18 +63,9 @@ fn with_frame(answer: Answer, frame: Frame) -> Result<Answer, LineFault>
     if !answer.datagrams.as_slice().is_empty() || !answer.notices.as_slice().is_empty() {
         return Err(LineFault::Bad);
     }
-    let Answer {
-        frames,
-        datagrams,
-        verdict,
-        notices,
-    } = answer;
-    let frames = with_item(frames, frame)?;
     Ok(Answer {
-        frames,
-        datagrams,
-        verdict,
-        notices,
+        frames: with_item(answer.frames, frame)?,
+        ..answer
     })
 }
 
@@ -84,36 +75,18 @@ fn with_datagram(answer: Answer, outgoing: OutgoingDatagram) -> Result<Answer, L
     if !answer.notices.as_slice().is_empty() {
         return Err(LineFault::Bad);
     }
-    let Answer {
-        frames,
-        datagrams,
-        verdict,
-        notices,
-    } = answer;
-    let datagrams = with_item(datagrams, outgoing)?;
     Ok(Answer {
-        frames,
-        datagrams,
-        verdict,
-        notices,
+        datagrams: with_item(answer.datagrams, outgoing)?,
+        ..answer
     })
 }
 
 fn with_notice(answer: Answer, notice: Notice) -> Result<Answer, LineFault>
     ensures { Finds (Some (record answer { notices = answer.notices ++ notice ∷ [] })) result }
 {
-    let Answer {
-        frames,
-        datagrams,
-        verdict,
-        notices,
-    } = answer;
-    let notices = with_item(notices, notice)?;
     Ok(Answer {
-        frames,
-        datagrams,
-        verdict,
-        notices,
+        notices: with_item(answer.notices, notice)?,
+        ..answer
     })
 }
 

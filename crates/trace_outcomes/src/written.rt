@@ -1,6 +1,6 @@
 //! Outcomes as they are written.
 
-ghost use Rattle.std.specs.Prelude.{◌≡◌, ◌++◌, OnOk, IfOk, string_bytes, flat_map, codes};
+ghost use Rattle.std.specs.Prelude.{◌≡◌, ◌++◌, OnOk, IfOk, string_bytes, flat_map, codes, decimal};
 ghost use Rattle.trace_words.specs.Words.{bytes_word, extended_word};
 ghost use Rattle.trace_outcomes.specs.Written.{fault_word, delivery_word, verdict_words, triad_words, refusal_words, mismatch_words, reason_words, recipient_words, frame_line, outgoing_line, notice_words, notice_line, answer_text, fault_line, outcome_text};
 
@@ -10,7 +10,9 @@ use cip_events::{
 };
 use cip_types::{ConnId, Fault, Mismatch, OutOfMemory, Triad};
 use std::alloc::Global;
-use trace_words::{push_bytes, push_last_bytes, push_node, push_nodes, push_text};
+use trace_words::{
+    push_bytes, push_digits, push_last_bytes, push_node, push_nodes, push_number, push_text,
+};
 
 /// The lines for the outcome of event number `number`: the verdict, and then the frames, the datagrams and the notices
 /// of its answer, each in order; or the fault.
@@ -18,21 +20,16 @@ pub fn write_outcome(alloc: Global, number: u64, outcome: &Outcome) -> Result<St
     ensures { IfOk result (λ text. string_bytes text ≡ outcome_text number outcome.now) }
 {
     let mut text = String::new(alloc);
-    push_outcome(alloc, &mut text, number, outcome)?;
+    push_outcome(&mut text, number, outcome)?;
     Ok(text)
 }
 
 /// Appends the same lines. If an allocation is refused, a part of them may be appended.
-pub fn push_outcome(
-    alloc: Global,
-    out: &mut String,
-    number: u64,
-    outcome: &Outcome,
-) -> Result<(), OutOfMemory>
+pub fn push_outcome(out: &mut String, number: u64, outcome: &Outcome) -> Result<(), OutOfMemory>
     ensures { OnOk result (string_bytes out.new ≡ string_bytes out.old ++ outcome_text number outcome.now) }
 {
     match outcome {
-        Ok(answer) => push_answer(alloc, out, number, answer),
+        Ok(answer) => push_answer(out, number, answer),
         Err(fault) => push_fault(out, number, *fault),
     }
 }
@@ -45,20 +42,23 @@ fn push_fault(out: &mut String, number: u64, fault: StepFault) -> Result<(), Out
     Ok(())
 }
 
-fn push_answer(
-    alloc: Global,
-    out: &mut String,
-    number: u64,
-    answer: &Answer,
-) -> Result<(), OutOfMemory>
+fn push_answer(out: &mut String, number: u64, answer: &Answer) -> Result<(), OutOfMemory>
     ensures { OnOk result (string_bytes out.new ≡ string_bytes out.old ++ answer_text number answer.now) }
 {
-    write!(out, "{number} ")?;
-    push_verdict(alloc, out, &answer.verdict)?;
+    push_front(out, number, " ")?;
+    push_verdict(out, &answer.verdict)?;
     out.push_str("\n")?;
-    push_frames(alloc, out, number, answer.frames.as_slice())?;
-    push_outgoing_datagrams(alloc, out, number, answer.datagrams.as_slice())?;
-    push_notices(alloc, out, number, answer.notices.as_slice())
+    push_frames(out, number, answer.frames.as_slice())?;
+    push_outgoing_datagrams(out, number, answer.datagrams.as_slice())?;
+    push_notices(out, number, answer.notices.as_slice())
+}
+
+/// Appends what a line begins with: the number of the event, and what follows it.
+fn push_front(out: &mut String, number: u64, behind: &str) -> Result<(), OutOfMemory>
+    ensures { OnOk result (string_bytes out.new ≡ string_bytes out.old ++ (decimal number ++ behind.now)) }
+{
+    push_number(out, number)?;
+    push_text(out, behind)
 }
 
 /// The name of a fault, which is that of its case.
@@ -76,23 +76,23 @@ fn fault_name(fault: StepFault) -> &'static str
     }
 }
 
-fn push_verdict(alloc: Global, out: &mut String, verdict: &Verdict) -> Result<(), OutOfMemory>
+fn push_verdict(out: &mut String, verdict: &Verdict) -> Result<(), OutOfMemory>
     ensures { OnOk result (string_bytes out.new ≡ string_bytes out.old ++ verdict_words verdict.now) }
 {
     match verdict {
         Verdict::Done => push_text(out, "done"),
         Verdict::BadFrame => push_text(out, "bad-frame"),
         Verdict::Ignored => push_text(out, "ignored"),
-        Verdict::Value(bytes) => push_value(alloc, out, bytes.as_slice()),
+        Verdict::Value(bytes) => push_value(out, bytes.as_slice()),
         Verdict::Delivered(delivery) => push_text(out, delivery_name(*delivery)),
     }
 }
 
-fn push_value(alloc: Global, out: &mut String, bytes: &[u8]) -> Result<(), OutOfMemory>
+fn push_value(out: &mut String, bytes: &[u8]) -> Result<(), OutOfMemory>
     ensures { OnOk result (string_bytes out.new ≡ string_bytes out.old ++ (codes "value " ++ bytes_word bytes.now)) }
 {
     out.push_str("value ")?;
-    push_bytes(alloc, out, bytes)
+    push_bytes(out, bytes)
 }
 
 /// The word for the delivery of a datagram.
@@ -111,22 +111,16 @@ fn delivery_name(delivery: Delivery) -> &'static str
     }
 }
 
-fn push_frames(
-    alloc: Global,
-    out: &mut String,
-    number: u64,
-    frames: &[Frame],
-) -> Result<(), OutOfMemory>
+fn push_frames(out: &mut String, number: u64, frames: &[Frame]) -> Result<(), OutOfMemory>
     ensures { OnOk result (string_bytes out.new ≡ string_bytes out.old ++ flat_map (frame_line number) frames.now) }
 {
     for frame in frames {
-        push_frame(alloc, out, number, frame)?;
+        push_frame(out, number, frame)?;
     }
     Ok(())
 }
 
 fn push_outgoing_datagrams(
-    alloc: Global,
     out: &mut String,
     number: u64,
     outgoing_datagrams: &[OutgoingDatagram],
@@ -134,43 +128,36 @@ fn push_outgoing_datagrams(
     ensures { OnOk result (string_bytes out.new ≡ string_bytes out.old ++ flat_map (outgoing_line number) outgoing_datagrams.now) }
 {
     for outgoing in outgoing_datagrams {
-        push_outgoing(alloc, out, number, outgoing)?;
+        push_outgoing(out, number, outgoing)?;
     }
     Ok(())
 }
 
-fn push_notices(
-    alloc: Global,
-    out: &mut String,
-    number: u64,
-    notices: &[Notice],
-) -> Result<(), OutOfMemory>
+fn push_notices(out: &mut String, number: u64, notices: &[Notice]) -> Result<(), OutOfMemory>
     ensures { OnOk result (string_bytes out.new ≡ string_bytes out.old ++ flat_map (notice_line number) notices.now) }
 {
     for notice in notices {
-        push_notice(alloc, out, number, *notice)?;
+        push_notice(out, number, *notice)?;
     }
     Ok(())
 }
 
-fn push_frame(
-    alloc: Global,
-    out: &mut String,
-    number: u64,
-    frame: &Frame,
-) -> Result<(), OutOfMemory>
+fn push_frame(out: &mut String, number: u64, frame: &Frame) -> Result<(), OutOfMemory>
     ensures { OnOk result (string_bytes out.new ≡ string_bytes out.old ++ frame_line number frame.now) }
 {
-    write!(out, "{number} ")?;
+    push_front(out, number, " ")?;
     push_recipient(out, frame.to)?;
-    push_last_bytes(alloc, out, frame.bytes.as_slice())
+    push_last_bytes(out, frame.bytes.as_slice())
 }
 
 fn push_recipient(out: &mut String, recipient: Recipient) -> Result<(), OutOfMemory>
     ensures { OnOk result (string_bytes out.new ≡ string_bytes out.old ++ recipient_words recipient) }
 {
     match recipient {
-        Recipient::Stream(stream) => Ok(write!(out, "frame {stream}")?),
+        Recipient::Stream(stream) => {
+            out.push_str("frame ")?;
+            push_number(out, u64::from(stream))
+        }
         Recipient::Peer(node) => {
             out.push_str("reply ")?;
             push_node(out, node)
@@ -179,106 +166,98 @@ fn push_recipient(out: &mut String, recipient: Recipient) -> Result<(), OutOfMem
 }
 
 fn push_outgoing(
-    alloc: Global,
     out: &mut String,
     number: u64,
     outgoing: &OutgoingDatagram,
 ) -> Result<(), OutOfMemory>
     ensures { OnOk result (string_bytes out.new ≡ string_bytes out.old ++ outgoing_line number outgoing.now) }
 {
-    write!(out, "{number} send ")?;
+    push_front(out, number, " send ")?;
     push_node(out, outgoing.address)?;
     out.push_str(" ")?;
     push_nodes(out, outgoing.nodes.as_slice())?;
-    push_last_bytes(alloc, out, outgoing.bytes.as_slice())?;
+    push_last_bytes(out, outgoing.bytes.as_slice())?;
     Ok(())
 }
 
-fn push_notice(
-    alloc: Global,
-    out: &mut String,
-    number: u64,
-    notice: Notice,
-) -> Result<(), OutOfMemory>
+fn push_notice(out: &mut String, number: u64, notice: Notice) -> Result<(), OutOfMemory>
     ensures { OnOk result (string_bytes out.new ≡ string_bytes out.old ++ notice_line number notice) }
 {
-    write!(out, "{number} note ")?;
-    push_notice_words(alloc, out, notice)?;
+    push_front(out, number, " note ")?;
+    push_notice_words(out, notice)?;
     push_text(out, "\n")
 }
 
-fn push_notice_words(alloc: Global, out: &mut String, notice: Notice) -> Result<(), OutOfMemory>
+fn push_notice_words(out: &mut String, notice: Notice) -> Result<(), OutOfMemory>
     ensures { OnOk result (string_bytes out.new ≡ string_bytes out.old ++ notice_words notice) }
 {
     match notice {
-        Notice::Opened(triad, id) => push_opened(alloc, out, triad, id),
+        Notice::Opened(triad, id) => push_opened(out, triad, id),
         Notice::Closed(triad) => push_triad(out, "closed ", triad),
         Notice::Expired(triad) => push_triad(out, "expired ", triad),
         Notice::Dropped(triad) => push_triad(out, "dropped ", triad),
         Notice::Replaced(triad) => push_triad(out, "replaced ", triad),
         Notice::StreamClosed(stream) => Ok(write!(out, "stream-closed {stream}")?),
         Notice::Slot(slot, state) => Ok(write!(out, "slot {slot} {state}")?),
-        Notice::Refused(slot, why) => push_refused(alloc, out, slot, why),
+        Notice::Refused(slot, why) => push_refused(out, slot, why),
         Notice::NoIds(slot) => Ok(write!(out, "no-ids {slot}")?),
     }
 }
 
-fn push_refused(alloc: Global, out: &mut String, slot: u32, why: Reason) -> Result<(), OutOfMemory>
+fn push_refused(out: &mut String, slot: u32, why: Reason) -> Result<(), OutOfMemory>
     ensures { OnOk result (string_bytes out.new ≡ string_bytes out.old ++ notice_words (Notice.Refused slot why)) }
 {
     write!(out, "refused {slot} ")?;
-    push_reason(alloc, out, why)
+    push_reason(out, why)
 }
 
-fn push_reason(alloc: Global, out: &mut String, why: Reason) -> Result<(), OutOfMemory>
+fn push_reason(out: &mut String, why: Reason) -> Result<(), OutOfMemory>
     ensures { OnOk result (string_bytes out.new ≡ string_bytes out.old ++ reason_words why) }
 {
     match why {
         Reason::Encap(status) => Ok(write!(out, "encap {status}")?),
         Reason::Unreadable => push_text(out, "unreadable"),
-        Reason::Cip(fault) => push_refusal(alloc, out, fault),
-        Reason::Mismatch(why) => push_mismatch(alloc, out, why),
+        Reason::Cip(fault) => push_refusal(out, fault),
+        Reason::Mismatch(why) => push_mismatch(out, why),
     }
 }
 
-fn push_mismatch(alloc: Global, out: &mut String, why: Mismatch) -> Result<(), OutOfMemory>
+fn push_mismatch(out: &mut String, why: Mismatch) -> Result<(), OutOfMemory>
     ensures { OnOk result (string_bytes out.new ≡ string_bytes out.old ++ mismatch_words why) }
 {
     match why {
         Mismatch::Triad => push_text(out, "mismatch Triad"),
         Mismatch::Id => push_text(out, "mismatch Id"),
         Mismatch::Api => push_text(out, "mismatch Api"),
-        Mismatch::Refused(fault) => push_refusal(alloc, out, fault),
+        Mismatch::Refused(fault) => push_refusal(out, fault),
     }
 }
 
-fn push_refusal(alloc: Global, out: &mut String, fault: Fault) -> Result<(), OutOfMemory>
+fn push_refusal(out: &mut String, fault: Fault) -> Result<(), OutOfMemory>
     ensures { OnOk result (string_bytes out.new ≡ string_bytes out.old ++ refusal_words fault) }
 {
-    let general = hex::encode(alloc, &[fault.general])?;
-    let general = general.as_str();
-    write!(out, "cip {general} ")?;
-    push_extended(alloc, out, fault.extended)
+    out.push_str("cip ")?;
+    push_digits(out, &[fault.general])?;
+    out.push_str(" ")?;
+    push_extended(out, fault.extended)
 }
 
 /// An extended status as four lower-case hexadecimal digits; `-` for none.
-fn push_extended(alloc: Global, out: &mut String, extended: Option<u16>) -> Result<(), OutOfMemory>
+fn push_extended(out: &mut String, extended: Option<u16>) -> Result<(), OutOfMemory>
     ensures { OnOk result (string_bytes out.new ≡ string_bytes out.old ++ extended_word extended) }
 {
     let Some(extended) = extended else {
         return push_text(out, "-");
     };
-    let digits = hex::encode(alloc, extended.to_be_bytes().as_slice())?;
-    push_text(out, digits.as_str())
+    push_digits(out, extended.to_be_bytes().as_slice())
 }
 
-fn push_opened(alloc: Global, out: &mut String, triad: Triad, id: ConnId) -> Result<(), OutOfMemory>
+fn push_opened(out: &mut String, triad: Triad, id: ConnId) -> Result<(), OutOfMemory>
     ensures { OnOk result (string_bytes out.new ≡ string_bytes out.old ++ notice_words (Notice.Opened triad id)) }
 {
     push_triad(out, "opened ", triad)?;
     out.push_str(" ")?;
-    let id = hex::encode(alloc, id.0.to_be_bytes().as_slice())?;
-    push_text(out, id.as_str())
+    push_digits(out, id.0.to_be_bytes().as_slice())
 }
 
 fn push_triad(out: &mut String, front: &str, triad: Triad) -> Result<(), OutOfMemory>

@@ -23,8 +23,7 @@ pub fn push_profile(out: &mut String, profile: &Profile) -> Result<(), OutOfMemo
 fn push_adapter(out: &mut String, profile: &Profile) -> Result<(), OutOfMemory>
     ensures { OnOk result (string_bytes out.new ≡ string_bytes out.old ++ line_text (adapter_words profile.now)) }
 {
-    let incarnation = profile.incarnation;
-    write!(out, "adapter {incarnation} ")?;
+    write!(out, "adapter {} ", profile.incarnation)?;
     push_node(out, profile.node)?;
     out.push_str(" ")?;
     push_node(out, Node(profile.mask))?;
@@ -108,8 +107,10 @@ fn push_config(out: &mut String, config: Option<InputPoint>) -> Result<(), OutOf
 fn push_heartbeat(out: &mut String, profile: &Profile) -> Result<(), OutOfMemory>
     ensures { OnOk result (string_bytes out.new ≡ string_bytes out.old ++ line_text (heartbeat_words profile.now)) }
 {
-    let input_only = profile.input_only;
-    let listen_only = profile.listen_only;
-    write!(out, "heartbeat {input_only} {listen_only}\n")?;
+    write!(
+        out,
+        "heartbeat {} {}\n",
+        profile.input_only, profile.listen_only
+    )?;
     Ok(())
 }

@@ -10,51 +10,45 @@ use cip_netparams::Trigger;
 use cip_productions::Kind;
 use cip_types::OutOfMemory;
 use scanner_table::{ScannerProfile, SlotConfig};
-use std::alloc::Global;
-use trace_words::{push_bytes, push_node, push_text};
+use trace_words::{push_bytes, push_digits, push_node, push_text};
 
 /// Appends the lines of a scanner's profile. If an allocation is refused, a part of them may be appended.
-pub fn push_scanner(
-    alloc: Global,
-    out: &mut String,
-    profile: &ScannerProfile,
-) -> Result<(), OutOfMemory>
+pub fn push_scanner(out: &mut String, profile: &ScannerProfile) -> Result<(), OutOfMemory>
     ensures { OnOk result (string_bytes out.new ≡ string_bytes out.old ++ scanner_text profile.now) }
 {
     push_first(out, profile)?;
-    push_slots(alloc, out, profile.slots.as_slice())
+    push_slots(out, profile.slots.as_slice())
 }
 
 fn push_first(out: &mut String, profile: &ScannerProfile) -> Result<(), OutOfMemory>
     ensures { OnOk result (string_bytes out.new ≡ string_bytes out.old ++ line_text (scanner_words profile.now)) }
 {
-    let incarnation = profile.incarnation;
-    let vendor = profile.vendor;
-    let serial = profile.serial;
-    let open_timeout = profile.open_timeout;
-    let retry = profile.retry;
-    write!(out, "scanner {incarnation} ")?;
+    write!(out, "scanner {} ", profile.incarnation)?;
     push_node(out, profile.node)?;
-    write!(out, " {vendor} {serial} {open_timeout} {retry}\n")?;
+    write!(
+        out,
+        " {} {} {} {}\n",
+        profile.vendor, profile.serial, profile.open_timeout, profile.retry
+    )?;
     Ok(())
 }
 
-fn push_slots(alloc: Global, out: &mut String, slots: &[SlotConfig]) -> Result<(), OutOfMemory>
+fn push_slots(out: &mut String, slots: &[SlotConfig]) -> Result<(), OutOfMemory>
     ensures { OnOk result (string_bytes out.new ≡ string_bytes out.old ++ flat_map (λ slot. line_text (slot_words slot)) slots.now) }
 {
     for slot in slots {
-        push_slot(alloc, out, slot)?;
+        push_slot(out, slot)?;
     }
     Ok(())
 }
 
-fn push_slot(alloc: Global, out: &mut String, slot: &SlotConfig) -> Result<(), OutOfMemory>
+fn push_slot(out: &mut String, slot: &SlotConfig) -> Result<(), OutOfMemory>
     ensures { OnOk result (string_bytes out.new ≡ string_bytes out.old ++ line_text (slot_words slot.now)) }
 {
     push_purpose(out, slot)?;
     push_sizes(out, slot)?;
-    push_key(alloc, out, slot.key)?;
-    push_slot_end(alloc, out, slot)?;
+    push_key(out, slot.key)?;
+    push_slot_end(out, slot)?;
     Ok(())
 }
 
@@ -71,8 +65,7 @@ fn push_purpose(out: &mut String, slot: &SlotConfig) -> Result<(), OutOfMemory>
 fn push_kind(out: &mut String, kind: Kind) -> Result<(), OutOfMemory>
     ensures { OnOk result (string_bytes out.new ≡ string_bytes out.old ++ (codes " " ++ (kind_word kind ++ codes " "))) }
 {
-    let kind = kind_name(kind);
-    Ok(write!(out, " {kind} ")?)
+    Ok(write!(out, " {} ", kind_name(kind))?)
 }
 
 fn kind_name(kind: Kind) -> &'static str
@@ -99,17 +92,17 @@ fn push_instance(out: &mut String, instance: Option<u32>) -> Result<(), OutOfMem
 fn push_sizes(out: &mut String, slot: &SlotConfig) -> Result<(), OutOfMemory>
     ensures { OnOk result (string_bytes out.new ≡ string_bytes out.old ++ (codes " " ++ (join_with_byte 32 (size_words slot.now []) ++ codes " "))) }
 {
-    let consumed = slot.consumed;
-    let produced = slot.produced;
-    let out_len = slot.out_len;
-    let in_len = slot.in_len;
-    let o_t_rpi = slot.o_t_rpi;
-    let t_o_rpi = slot.t_o_rpi;
-    let mult = slot.mult;
-    let hearers = multicast_name(slot.multicast);
     write!(
         out,
-        " {consumed} {produced} {out_len} {in_len} {o_t_rpi} {t_o_rpi} {mult} {hearers} "
+        " {} {} {} {} {} {} {} {} ",
+        slot.consumed,
+        slot.produced,
+        slot.out_len,
+        slot.in_len,
+        slot.o_t_rpi,
+        slot.t_o_rpi,
+        slot.mult,
+        multicast_name(slot.multicast)
     )?;
     Ok(())
 }
@@ -121,7 +114,7 @@ fn multicast_name(multicast: bool) -> &'static str
 }
 
 /// Appends the bytes of a key segment behind its format; `-` for no key.
-fn push_key(alloc: Global, out: &mut String, key: Option<ElectronicKey>) -> Result<(), OutOfMemory>
+fn push_key(out: &mut String, key: Option<ElectronicKey>) -> Result<(), OutOfMemory>
     ensures { OnOk result (string_bytes out.new ≡ string_bytes out.old ++ key_word key) }
 {
     let Some(key) = key else {
@@ -131,16 +124,15 @@ fn push_key(alloc: Global, out: &mut String, key: Option<ElectronicKey>) -> Resu
     let [t0, t1] = key.device_type.to_le_bytes();
     let [p0, p1] = key.product.to_le_bytes();
     let revision = key.major + if key.compatible { 128 } else { 0 };
-    let digits = hex::encode(alloc, &[v0, v1, t0, t1, p0, p1, revision, key.minor])?;
-    push_text(out, digits.as_str())
+    push_digits(out, &[v0, v1, t0, t1, p0, p1, revision, key.minor])
 }
 
 /// Appends a space, a slot's configuration data, the trigger of its target's productions, and the end of the line.
-fn push_slot_end(alloc: Global, out: &mut String, slot: &SlotConfig) -> Result<(), OutOfMemory>
+fn push_slot_end(out: &mut String, slot: &SlotConfig) -> Result<(), OutOfMemory>
     ensures { OnOk result (string_bytes out.new ≡ string_bytes out.old ++ (codes " " ++ line_text (bytes_word slot.now.config_data ∷ rate_words slot.now.trigger slot.now.inhibit))) }
 {
     out.push_str(" ")?;
-    push_bytes(alloc, out, slot.config_data.as_slice())?;
+    push_bytes(out, slot.config_data.as_slice())?;
     push_rate(out, slot.trigger, slot.inhibit)
 }
 

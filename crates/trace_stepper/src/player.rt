@@ -33,7 +33,7 @@ pub fn play<D: Device + Drop, O: Write>(
     while let Some(outcome) = stepper.next()? {
         let number = place_after(trace, place);
         text.clear();
-        push_outcome(alloc, &mut text, number as u64, &outcome)?;
+        push_outcome(&mut text, number as u64, &outcome)?;
         write_text(out, text.as_bytes())?;
         differs = judge(trace, place, differs, &outcome);
         place = number;

@@ -1,21 +1,45 @@
 -- The lines of a text, one after the other.
-use Rattle.std.proofs.Common.{Ok, Err, Result, ◌≡◌, ◌≢◌, ℕ, ◌+◌, ◌-◌, ◌<◌, Bool, true, false, cond, ltb, get_or, List, [], ◌∷◌, length, take, drop, Some, None, refl, ap, ◌∙◌, arith}
+use Rattle.std.proofs.Common.{Ok, Err, Result, ◌≡◌, ◌≢◌, ℕ, ◌+◌, ◌-◌, ◌<◌, Bool, true, false, cond, ltb, get_or, List, [], ◌∷◌, length, take, drop, Some, None, refl, sym, ap, ◌∙◌, arith}
 use Rattle.std.specs.Prelude.{position, Option, IfNone, ok_or}
 use Rattle.std.specs.List.{position_or_len}
 use Rattle.std.proofs.lemmas.Bool.Decides.{nat_tests}
 use Rattle.std.proofs.lemmas.List.{take_all, length-drop, drop-drop}
-use Rattle.std.proofs.lemmas.List.Sums.{fails_before_first}
+use Rattle.std.proofs.lemmas.List.Sums.{fails_before_first, position_or_len_is}
+use Rattle.memchr.specs.Find.{IsFirstByte, is_byte}
 use Rattle.std.proofs.lemmas.List.Elements.{All-from_get_or}
 use Rattle.std.proofs.lemmas.List.Splits.{slice_split_first, slice_split_none, length-slice_split}
 use Rattle.trace_text.specs.declared.builder.TraceBuilder.{TraceBuilder}
+use Rattle.trace_text.specs.declared.forms.TraceLine.{TraceLine}
 use Rattle.trace_text.specs.declared.trace.Trace.{Trace}
 use Rattle.trace_text.specs.declared.trace.TraceFault.{TraceFault}
 use Rattle.trace_text.specs.declared.trace.TraceFault.TheVariants.{BadLine}
-use Rattle.trace_text.specs.Reading.{is_line_feed, parts_of, builder_after, state_after, parsed, parsed_from, ended}
+use Rattle.trace_text.specs.Reading.{is_line_feed, parts_of, builder_after, builder_with, state_after, parsed, parsed_from, ended, Leaves}
+use Rattle.trace_words.specs.declared.words.LineFault.{LineFault}
+use Rattle.trace_words.specs.declared.words.LineFault.TheVariants.{Bad, OutOfMemory}
+use Rattle.trace_words.specs.Reader.{Finds}
 
 chosen : (b : Bool) (n i : ℕ) → cond b (Some n) None ≡ Some i → (b ≡ true) × (n ≡ i)
 chosen true n i e = (refl, cc)
 chosen false n i e = absurd (cc)
+
+not_true : (b : Bool) → ¬ (b ≡ true) → b ≡ false
+not_true true none = absurd (none refl)
+not_true false none = refl
+
+not_within : (n : ℕ) → cond (ltb n n) (Some n) None ≡ None
+not_within n = let past : ltb n n ≡ false = grind (arith, nat_tests) in ap (λ b. cond b (Some n) None) past
+
+within_is : (k n : ℕ) → k < n → cond (ltb k n) (Some k) None ≡ Some k
+within_is k n below = let within : ltb k n ≡ true = grind (arith, nat_tests) in ap (λ b. cond b (Some k) None) within
+
+-- the first LF is found by a search
+pub found_byte : (text : List ℕ) (found : Option ℕ) → IsFirstByte (is_byte 10) text found → found ≡ position is_line_feed text
+found_byte text None none =
+    let at : position_or_len is_line_feed text ≡ length text = position_or_len_is is_line_feed text (length text) 0 (omega arith) (λ k below. not_true _ (none k (omega arith) below)) (λ below. absurd (omega arith)) in
+    sym (ap (λ n. cond (ltb n (length text)) (Some n) None) at ∙ not_within (length text))
+found_byte text (Some k) first =
+    let at : position_or_len is_line_feed text ≡ k = position_or_len_is is_line_feed text k 0 (omega (arith, first.0.high)) (λ i below. not_true _ (first.0.before i (omega arith) below)) (λ below. first.1) in
+    sym (ap (λ n. cond (ltb n (length text)) (Some n) None) at ∙ within_is k (length text) first.0.high)
 
 -- the first LF parts a line from the rest
 pub first_line : (text : List ℕ) (i : ℕ) → position is_line_feed text ≡ Some i → parts_of text ≡ take i text ∷ parts_of (drop (i + 1) text)
@@ -62,6 +86,11 @@ pub stays_bad : (number bad : ℕ) (parts : Parts) → parsed_from number (Err b
 stays_bad number bad [] = refl
 stays_bad number bad (last ∷ []) = refl
 stays_bad number bad (line ∷ next ∷ parts) = stays_bad (number + 1) bad (next ∷ parts)
+
+-- a line that is refused behind the profile
+pub line_refused : (builder before after : TraceBuilder) (line : TraceLine) (fault : LineFault) → builder ≡ before → Leaves (builder_with before line) (Err fault) after → Finds (builder_with builder line) (Err fault)
+line_refused builder before after line Bad is refused = ap (λ b. builder_with b line) is ∙ refused
+line_refused builder before after line OutOfMemory is refused = tt
 
 -- a line that is good
 pub good_line : (said : Result Trace TraceFault) (number : ℕ) (builder builder' : TraceBuilder) (text rest line : List ℕ) → said ≡ parsed_from number (Ok builder) (parts_of text) → parts_of text ≡ line ∷ parts_of rest → builder_after builder line ≡ Some builder' → said ≡ parsed_from (number + 1) (Ok builder') (parts_of rest)

@@ -21,6 +21,8 @@ use Rattle.trace_text.specs.declared.trace.Trace.{Trace}
 use Rattle.trace_text.specs.declared.trace.TraceFault.{TraceFault}
 use Rattle.trace_text.specs.declared.trace.TraceFault.TheVariants as fault
 use Rattle.trace_text.specs.Forms.{line_of}
+use Rattle.trace_words.specs.declared.words.LineFault.{LineFault}
+use Rattle.trace_words.specs.declared.words.LineFault.TheVariants.{Bad, OutOfMemory}
 use Rattle.trace_profiles.specs.Profiles.{profile_with}
 use Rattle.trace_profiles.specs.Slots.{scanner_with}
 use Rattle.trace_outcomes.specs.Recorded.{recorded_with}
@@ -114,3 +116,9 @@ trace_reading text = parsed_from 1 (Ok Empty) (parts_of text)
 abbrev pub Answers : Result Trace TraceFault → Result Trace TraceFault → Type 0
 Answers said (Err fault.OutOfMemory) = Unit {0}
 Answers said result = result ≡ said
+
+-- A function left the part that was read so far. If an allocation was refused, nothing is promised.
+abbrev pub Leaves : Option TraceBuilder → Result Unit LineFault → TraceBuilder → Type 0
+Leaves said (Ok done) builder = said ≡ Some builder
+Leaves said (Err Bad) builder = said ≡ None
+Leaves said (Err OutOfMemory) builder = Unit {0}

@@ -1,16 +1,16 @@
 //! The part of a trace that was read so far.
 
-ghost use Rattle.std.specs.Prelude.{◌≡◌, ◌==◌, ◌+◌, length, ◌++◌, [], Some, None, IfOk, option_to_list};
+ghost use Rattle.std.specs.Prelude.{◌≡◌, ◌==◌, ◌+◌, length, ◌++◌, OnOk, option_to_list};
 ghost use Rattle.trace_words.specs.Reader.{Finds};
-ghost use Rattle.trace_outcomes.specs.Recorded.{recorded_with};
-ghost use Rattle.trace_profiles.specs.Profiles.{profile_with};
-ghost use Rattle.trace_text.specs.Reading.{with_part, builder_with};
+ghost use Rattle.cip_tables.specs.declared.table.Config.{Config};
+ghost use Rattle.trace_text.specs.Reading.{builder_with, Leaves};
 
 use crate::forms::TraceLine;
 use cip_tables::{Config, Event, InputPoint, Outcome, OutputPoint};
 use cip_types::{Items, OutOfMemory};
 use scanner_table::SlotConfig;
 use std::alloc::Global;
+use std::mem;
 use trace_outcomes::{Part, Recorded, recorded_with, with_item};
 use trace_profiles::{AdapterLine, ScannerLine, profile_with, scanner_with};
 use trace_words::LineFault;
@@ -46,10 +46,29 @@ pub enum TraceBuilder {
     },
 }
 
-/// The part that was read so far, with one line more.
+/// Adds one line to the part that was read so far. After a fault the part is of no use.
 ///
 /// The faults: `Bad` if the line is not allowed there, and `OutOfMemory`.
-pub fn builder_with(
+pub fn add_line(
+    alloc: Global,
+    builder: &mut TraceBuilder,
+    parsed: TraceLine,
+) -> Result<(), LineFault>
+    ensures { Leaves (builder_with builder.old parsed) result builder.new }
+{
+    // (in place, since most lines are events)
+    match builder {
+        TraceBuilder::Events { entries, last, .. } => add_to_events(alloc, entries, last, parsed),
+        _ => {
+            let before = mem::replace(builder, TraceBuilder::Empty);
+            *builder = builder_with(alloc, before, parsed)?;
+            Ok(())
+        }
+    }
+}
+
+/// The part that was read so far, with one line more.
+fn builder_with(
     alloc: Global,
     builder: TraceBuilder,
     parsed: TraceLine,
@@ -72,9 +91,18 @@ pub fn builder_with(
         TraceBuilder::Slots { scanner, slots } => after_slots(alloc, scanner, slots, parsed),
         TraceBuilder::Events {
             config,
-            entries,
-            last,
-        } => after_events(alloc, config, entries, last, parsed),
+            mut entries,
+            mut last,
+        } => {
+            match add_to_events(alloc, &mut entries, &mut last, parsed) {
+                Ok(()) => Ok(TraceBuilder::Events {
+                    config,
+                    entries,
+                    last,
+                }),
+                Err(fault) => Err(fault),
+            }
+        }
     }
 }
 
@@ -187,62 +215,47 @@ fn after_slots(
     }
 }
 
-fn after_events(
+/// Adds a line behind those of a profile.
+fn add_to_events(
     alloc: Global,
-    config: Config,
-    entries: Items<(Event, Recorded)>,
-    last: Option<(Event, Option<Outcome>)>,
+    entries: &mut Items<(Event, Recorded)>,
+    last: &mut Option<(Event, Option<Outcome>)>,
     parsed: TraceLine,
-) -> Result<TraceBuilder, LineFault>
-    ensures { Finds (builder_with (TraceBuilder.Events config entries last) parsed) result }
+) -> Result<(), LineFault>
+    ensures { (made_of : Config) → Leaves (builder_with (TraceBuilder.Events made_of entries.old last.old) parsed) result (TraceBuilder.Events made_of entries.new last.new) }
 {
     match parsed {
-        TraceLine::Event(event) => after_next(alloc, config, entries, last, event),
-        TraceLine::Recorded(number, part) => match last {
-            Some(last) => after_event(alloc, config, entries, last, number, part),
-            None => Err(LineFault::Bad),
-        },
+        TraceLine::Event(event) => {
+            let before = mem::replace(last, Some((event, None)));
+            add_last(alloc, entries, before)?;
+            Ok(())
+        }
+        TraceLine::Recorded(number, part) => {
+            add_part(alloc, entries.as_slice(), last, number, part)
+        }
         _ => Err(LineFault::Bad),
     }
 }
 
-fn after_next(
+/// Adds a part to the outcome of the event that came last, whose number it has.
+fn add_part(
     alloc: Global,
-    config: Config,
-    entries: Items<(Event, Recorded)>,
-    last: Option<(Event, Option<Outcome>)>,
-    event: Event,
-) -> Result<TraceBuilder, LineFault>
-    ensures { Finds (builder_with (TraceBuilder.Events config entries last) (TraceLine.Event event)) result }
-{
-    let entries = with_last(alloc, entries, last)?;
-    Ok(TraceBuilder::Events {
-        config,
-        entries,
-        last: Some((event, None)),
-    })
-}
-
-fn after_event(
-    alloc: Global,
-    config: Config,
-    entries: Items<(Event, Recorded)>,
-    last: (Event, Option<Outcome>),
+    entries: &[(Event, Recorded)],
+    last: &mut Option<(Event, Option<Outcome>)>,
     number: u64,
     part: Part,
-) -> Result<TraceBuilder, LineFault>
-    ensures { Finds (with_part config entries last number part) result }
+) -> Result<(), LineFault>
+    ensures { (made_of : Config) → Leaves (builder_with (TraceBuilder.Events made_of entries.now last.old) (TraceLine.Recorded number part)) result (TraceBuilder.Events made_of entries.now last.new) }
 {
-    if !is_next_number(entries.as_slice(), number) {
+    let Some((event, recorded)) = last.take() else {
+        return Err(LineFault::Bad);
+    };
+    if !is_next_number(entries, number) {
         return Err(LineFault::Bad);
     }
-    let (event, recorded) = last;
     let outcome = recorded_with(alloc, recorded, part)?;
-    Ok(TraceBuilder::Events {
-        config,
-        entries,
-        last: Some((event, Some(outcome))),
-    })
+    *last = Some((event, Some(outcome)));
+    Ok(())
 }
 
 /// Whether the next event has this number, from 1.
@@ -252,17 +265,19 @@ fn is_next_number(entries: &[(Event, Recorded)], number: u64) -> bool
     number == entries.len() as u64 + 1
 }
 
-/// Events with their recorded outcomes, and the last one of them.
-pub fn with_last(
+/// Adds the last event with its recorded outcome to those before it.
+pub fn add_last(
     alloc: Global,
-    entries: Items<(Event, Recorded)>,
+    entries: &mut Items<(Event, Recorded)>,
     last: Option<(Event, Option<Outcome>)>,
-) -> Result<Items<(Event, Recorded)>, OutOfMemory>
-    ensures { IfOk result (λ more. more ≡ entries ++ option_to_list last) }
+) -> Result<(), OutOfMemory>
+    ensures { OnOk result (entries.new ≡ entries.old ++ option_to_list last) }
 {
     let Some((event, recorded)) = last else {
-        return Ok(entries);
+        return Ok(());
     };
     let recorded = Recorded::of(alloc, recorded)?;
-    with_item(entries, (event, recorded))
+    let before = mem::replace(entries, Items::new(alloc));
+    *entries = with_item(before, (event, recorded))?;
+    Ok(())
 }

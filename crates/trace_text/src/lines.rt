@@ -1,6 +1,6 @@
 //! The lines of a trace, one by one.
 
-ghost use Rattle.std.specs.Prelude.{◌≡◌, drop};
+ghost use Rattle.std.specs.Prelude.{◌≡◌, take};
 ghost use Rattle.trace_words.specs.Reader.{unread_words, Takes, Finds, meaning};
 ghost use Rattle.trace_words.specs.Words.{number_of};
 ghost use Rattle.trace_text.specs.Forms.{event_of, is_ascii, line_of, line_meanings, line_reader, numbered};
@@ -29,10 +29,8 @@ pub fn read_line(alloc: Global, line: &[u8]) -> Result<TraceLine, LineFault>
     if !is_ascii(line) {
         return Err(LineFault::Bad);
     }
-    match str::from_utf8(line) {
-        Ok(text) => read_words(alloc, &mut Words::of(text)),
-        Err(_) => Err(LineFault::Bad),
-    }
+    let text = unsafe { str::from_utf8_unchecked(line) };
+    read_words(alloc, &mut Words::of(text))
 }
 
 /// The event of a line. The line has no LF at its end.
@@ -51,13 +49,34 @@ pub fn read_event_line(alloc: Global, line: &[u8]) -> Result<Event, LineFault>
 fn is_ascii(line: &[u8]) -> bool
     ensures { result ≡ is_ascii line.now }
 {
-    line.iter().all(|byte| *byte < 128)
+    line.is_ascii()
 }
 
 fn read_words(alloc: Global, words: &mut Words<'_>) -> Result<TraceLine, LineFault>
     ensures { Takes (line_reader (unread_words words.old)) result (unread_words words.new) }
 {
+    // (most lines are events, so their words come first)
     let word = words.word()?;
+    match word {
+        "datagram" => read_datagram(alloc, words).map(TraceLine::Event),
+        "tick" => read_tick(words).map(TraceLine::Event),
+        "request" => read_request(alloc, words).map(TraceLine::Event),
+        "write" => read_write(alloc, words).map(TraceLine::Event),
+        "read" => read_read(words).map(TraceLine::Event),
+        "frame" => read_frame(alloc, words).map(TraceLine::Event),
+        "stream" => read_stream(words).map(TraceLine::Event),
+        "cut" => read_cut(words).map(TraceLine::Event),
+        "mode" => read_mode(words).map(TraceLine::Event),
+        "start" => read_start(words).map(TraceLine::Event),
+        "stop" => read_stop(words).map(TraceLine::Event),
+        _ => read_other(alloc, words, word),
+    }
+}
+
+/// What follows a word that begins no line of an event.
+fn read_other(alloc: Global, words: &mut Words<'_>, word: &str) -> Result<TraceLine, LineFault>
+    ensures { Takes (meaning (take 7 line_meanings) (numbered (number_of 64 word.now)) word.now (unread_words words.old)) result (unread_words words.new) }
+{
     match word {
         "adapter" => read_adapter(words).map(TraceLine::Adapter),
         "output" => read_output(words).map(TraceLine::Output),
@@ -66,26 +85,6 @@ fn read_words(alloc: Global, words: &mut Words<'_>) -> Result<TraceLine, LineFau
         "heartbeat" => read_heartbeat(words).map(TraceLine::Heartbeat),
         "scanner" => read_scanner(words).map(TraceLine::Scanner),
         "slot" => read_slot(alloc, words).map(TraceLine::Slot),
-        _ => read_event(alloc, words, word),
-    }
-}
-
-/// What follows a word that begins no line of a profile.
-fn read_event(alloc: Global, words: &mut Words<'_>, word: &str) -> Result<TraceLine, LineFault>
-    ensures { Takes (meaning (drop 7 line_meanings) (numbered (number_of 64 word.now)) word.now (unread_words words.old)) result (unread_words words.new) }
-{
-    match word {
-        "request" => read_request(alloc, words).map(TraceLine::Event),
-        "stream" => read_stream(words).map(TraceLine::Event),
-        "frame" => read_frame(alloc, words).map(TraceLine::Event),
-        "cut" => read_cut(words).map(TraceLine::Event),
-        "datagram" => read_datagram(alloc, words).map(TraceLine::Event),
-        "write" => read_write(alloc, words).map(TraceLine::Event),
-        "read" => read_read(words).map(TraceLine::Event),
-        "tick" => read_tick(words).map(TraceLine::Event),
-        "mode" => read_mode(words).map(TraceLine::Event),
-        "start" => read_start(words).map(TraceLine::Event),
-        "stop" => read_stop(words).map(TraceLine::Event),
         _ => read_recorded(alloc, words, word),
     }
 }

@@ -3,15 +3,15 @@
 //! LF ends a line, and one space separates its words. Empty lines and lines that begin with `#` are skipped.
 
 ghost use Rattle.std.specs.Prelude.{◌≡◌, ℕ, ◌<◌, ◌+◌, List, ◌∷◌, position, length, IfSome, IfNone, IfErr, IsOk, ◌↔◌, Some, None, [], Result, Ok};
-ghost use Rattle.trace_words.specs.Reader.{Finds};
-ghost use Rattle.trace_text.specs.Reading.{is_line_feed, is_skipped, parts_of, builder_after, parsed, judged_by, trace_reading, Answers};
+ghost use Rattle.trace_text.specs.Reading.{is_line_feed, is_skipped, parts_of, builder_after, parsed, judged_by, trace_reading, Answers, Leaves};
 ghost use Rattle.trace_text.specs.Texts.{IsTraceReading};
 ghost use Rattle.cip_tables.specs.Step.{config_fault};
 
-use crate::builder::{TraceBuilder, builder_with, with_last};
+use crate::builder::{TraceBuilder, add_last, add_line};
 use crate::lines::read_line;
 use cip_tables::{Config, Event, ProfileFault};
 use cip_types::{Items, OutOfMemory};
+use memchr::memchr;
 use std::alloc::Global;
 use thiserror::Error;
 use trace_outcomes::Recorded;
@@ -63,11 +63,11 @@ pub fn read_trace(alloc: Global, text: &[u8]) -> Result<Trace, TraceFault>
     let mut number = 1;
     let mut rest = text;
     while let Some((line, after)) = first_line(rest) {
-        builder = match builder_after(alloc, builder, line) {
-            Ok(builder) => builder,
+        match add_text(alloc, &mut builder, line) {
+            Ok(()) => {}
             Err(LineFault::Bad) => return Err(TraceFault::BadLine(number)),
             Err(LineFault::OutOfMemory) => return Err(TraceFault::OutOfMemory),
-        };
+        }
         number += 1;
         rest = after;
     }
@@ -101,23 +101,19 @@ fn first_line(text: &[u8]) -> Option<(&[u8], &[u8])>
 fn line_len(text: &[u8]) -> Option<usize>
     ensures { result ≡ position is_line_feed text.now }
 {
-    text.iter().position(|byte| *byte == b'\n')
+    memchr(b'\n', text)
 }
 
-/// The part that was read so far, with one line more.
+/// Adds the text of a line to the part that was read so far.
 #[tactic(auto, unfolding(crate::specs::Reading::builder_after))]
-fn builder_after(
-    alloc: Global,
-    builder: TraceBuilder,
-    line: &[u8],
-) -> Result<TraceBuilder, LineFault>
-    ensures { Finds (builder_after builder line.now) result }
+fn add_text(alloc: Global, builder: &mut TraceBuilder, line: &[u8]) -> Result<(), LineFault>
+    ensures { Leaves (builder_after builder.old line.now) result builder.new }
 {
     if is_skipped(line) {
-        return Ok(builder);
+        return Ok(());
     }
     let parsed = read_line(alloc, line)?;
-    builder_with(alloc, builder, parsed)
+    add_line(alloc, builder, parsed)
 }
 
 /// Whether a line is skipped.
@@ -143,11 +139,11 @@ fn parsed(alloc: Global, builder: TraceBuilder, number: u64) -> Result<Trace, Tr
         }
         TraceBuilder::Events {
             config,
-            entries,
+            mut entries,
             last,
         } => {
-            let events = with_last(alloc, entries, last)?;
-            judged(config, events)
+            add_last(alloc, &mut entries, last)?;
+            judged(config, entries)
         }
         _ => Err(TraceFault::BadLine(number)),
     }

@@ -18,69 +18,56 @@ pub fn write_trace(alloc: Global, trace: &Trace) -> Result<String, OutOfMemory>
     ensures { IfOk result (λ text. string_bytes text ≡ trace_text trace.now) }
 {
     let mut out = String::new(alloc);
-    push_config(alloc, &mut out, &trace.config)?;
-    push_entries(alloc, &mut out, trace.events.as_slice())?;
+    push_config(&mut out, &trace.config)?;
+    push_entries(&mut out, trace.events.as_slice())?;
     Ok(out)
 }
 
 /// Appends the lines of a device's profile. They begin the text of each trace of such a device, and are the whole text of
 /// a trace without events. If an allocation is refused, a part of them may be appended.
-pub fn push_config(alloc: Global, out: &mut String, config: &Config) -> Result<(), OutOfMemory>
+pub fn push_config(out: &mut String, config: &Config) -> Result<(), OutOfMemory>
     ensures { OnOk result (string_bytes out.new ≡ string_bytes out.old ++ config_lines config.now) }
 {
     match config {
         Config::Adapter(profile) => push_profile(out, profile),
-        Config::Scanner(profile) => push_scanner(alloc, out, profile),
+        Config::Scanner(profile) => push_scanner(out, profile),
     }
 }
 
-fn push_entries(
-    alloc: Global,
-    out: &mut String,
-    entries: &[(Event, Recorded)],
-) -> Result<(), OutOfMemory>
+fn push_entries(out: &mut String, entries: &[(Event, Recorded)]) -> Result<(), OutOfMemory>
     ensures { OnOk result (string_bytes out.new ≡ string_bytes out.old ++ entries_text 1 entries.now) }
 {
     for (index, entry) in entries.iter().enumerate() {
-        push_event(alloc, out, &entry.0)?;
-        push_recorded(alloc, out, index as u64 + 1, &entry.1)?;
+        push_event(out, &entry.0)?;
+        push_recorded(out, index as u64 + 1, &entry.1)?;
     }
     Ok(())
 }
 
-fn push_recorded(
-    alloc: Global,
-    out: &mut String,
-    number: u64,
-    recorded: &Recorded,
-) -> Result<(), OutOfMemory>
+fn push_recorded(out: &mut String, number: u64, recorded: &Recorded) -> Result<(), OutOfMemory>
     ensures { OnOk result (string_bytes out.new ≡ string_bytes out.old ++ recorded_text number recorded.now) }
 {
     match recorded.get() {
-        Some(outcome) => push_outcome(alloc, out, number, outcome),
+        Some(outcome) => push_outcome(out, number, outcome),
         None => Ok(()),
     }
 }
 
 /// Appends the line of an event, with the LF that ends it. If an allocation is refused, a part of it may be appended.
-pub fn push_event(alloc: Global, out: &mut String, event: &Event) -> Result<(), OutOfMemory>
+pub fn push_event(out: &mut String, event: &Event) -> Result<(), OutOfMemory>
     ensures { OnOk result (string_bytes out.new ≡ string_bytes out.old ++ line_text (event_words event.now)) }
 {
     match event {
-        Event::Request { peer, bytes } => {
-            push_of_node(alloc, out, "request", *peer, bytes.as_slice())
-        }
+        Event::Request { peer, bytes } => { push_of_node(out, "request", *peer, bytes.as_slice()) }
         Event::StreamOpened { stream, peer } => push_stream(out, *stream, *peer),
         Event::Frame { stream, bytes } => {
-            push_of_number(alloc, out, "frame", u32::from(*stream), bytes.as_slice())
+            push_of_number(out, "frame", u32::from(*stream), bytes.as_slice())
         }
         Event::StreamCut { stream } => push_number(out, "cut", u32::from(*stream)),
         Event::Datagram { peer, bytes } => {
-            push_of_node(alloc, out, "datagram", *peer, bytes.as_slice())
+            push_of_node(out, "datagram", *peer, bytes.as_slice())
         }
-        Event::Write { point, bytes } => {
-            push_of_number(alloc, out, "write", *point, bytes.as_slice())
-        }
+        Event::Write { point, bytes } => { push_of_number(out, "write", *point, bytes.as_slice()) }
         Event::Read { point } => push_number(out, "read", *point),
         Event::Tick { ms } => push_number(out, "tick", *ms),
         Event::Mode { run } => push_mode(out, *run),
@@ -119,7 +106,6 @@ fn push_stream(out: &mut String, stream: u16, peer: Node) -> Result<(), OutOfMem
 }
 
 fn push_of_node(
-    alloc: Global,
     out: &mut String,
     keyword: &str,
     node: Node,
@@ -129,12 +115,11 @@ fn push_of_node(
 {
     write!(out, "{keyword} ")?;
     push_node(out, node)?;
-    push_last_bytes(alloc, out, bytes)?;
+    push_last_bytes(out, bytes)?;
     Ok(())
 }
 
 fn push_of_number(
-    alloc: Global,
     out: &mut String,
     keyword: &str,
     number: u32,
@@ -143,5 +128,5 @@ fn push_of_number(
     ensures { OnOk result (string_bytes out.new ≡ string_bytes out.old ++ line_text (keyword.now ∷ decimal number ∷ bytes_word bytes.now ∷ [])) }
 {
     write!(out, "{keyword} {number}")?;
-    push_last_bytes(alloc, out, bytes)
+    push_last_bytes(out, bytes)
 }

@@ -1,3 +1,4 @@
+mod HexWords
 mod LineWords
 mod NodeWords
 mod NumberWords

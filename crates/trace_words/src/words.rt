@@ -1,13 +1,14 @@
 //! The words of a line: numbers, addresses, bytes.
 
 ghost use Rattle.std.specs.Prelude.{◌≡◌, ◌↔◌, ◌==◌, [], IsOk, IsTrue, IfErr};
+ghost use Rattle.std.specs.Result.{result_ok};
+ghost use Rattle.hex.specs.Hex.{hex_digit_value, pair_value};
 ghost use Rattle.trace_words.specs.Words.{is_short_form, is_dash, number_of, node_of, nodes_of, action_of, bytes_of, digits_of, id_of, general_of, extended_of, instance_of};
 ghost use Rattle.trace_words.specs.Reader.{Finds};
 
 use adapter_table::Action;
 use cip_types::{ConnId, Items, Node, OutOfMemory};
-use hex::FromHexError;
-use std::alloc::{AllocFailed, Global};
+use std::alloc::{AllocError, AllocFailed, Global};
 use std::net::Ipv4Addr;
 use thiserror::Error;
 
@@ -42,16 +43,13 @@ impl<T: Drop> From<AllocFailed<T>> for LineFault {
     }
 }
 
-impl From<FromHexError> for LineFault {
-    ghost use Rattle.trace_words.specs.Faults.{line_fault_of};
+impl From<AllocError> for LineFault {
+    ghost use Rattle.trace_words.specs.declared.words.LineFault.TheVariants as fault;
 
-    ghost from_gives = { λ error fault. fault ≡ line_fault_of error };
+    ghost from_gives = { λ _ f. f ≡ fault.OutOfMemory };
 
-    fn from(error: FromHexError) -> LineFault {
-        match error {
-            FromHexError::OutOfMemory => LineFault::OutOfMemory,
-            _ => LineFault::Bad,
-        }
+    fn from(_refused: AllocError) -> LineFault {
+        LineFault::OutOfMemory
     }
 }
 
@@ -295,8 +293,38 @@ fn read_digits(alloc: Global, word: &str) -> Result<Items<u8>, LineFault>
     if word.is_empty() {
         return Err(LineFault::Bad);
     }
-    let bytes = hex::decode(alloc, word)?;
+    let mut bytes = Vec::with_capacity(alloc, word.len() / 2)?;
+    let mut rest = word.as_bytes();
+    while let [high, low, after @ ..] = rest {
+        let Some(byte) = byte_of(*high, *low) else {
+            return Err(LineFault::Bad);
+        };
+        bytes.push(byte)?;
+        rest = after;
+    }
+    if !rest.is_empty() {
+        return Err(LineFault::Bad);
+    }
     Ok(Items::from_vec(bytes))
+}
+
+/// The byte of two hexadecimal digits.
+fn byte_of(high: u8, low: u8) -> Option<u8>
+    ensures { result ≡ result_ok (pair_value high low 0) }
+{
+    Some(digit_value(high)? * 16 + digit_value(low)?)
+}
+
+/// The value of a hexadecimal digit of either case.
+fn digit_value(digit: u8) -> Option<u8>
+    ensures { result ≡ hex_digit_value digit }
+{
+    match digit {
+        b'0'..=b'9' => Some(digit - b'0'),
+        b'a'..=b'f' => Some(digit - b'a' + 10),
+        b'A'..=b'F' => Some(digit - b'A' + 10),
+        _ => None,
+    }
 }
 
 /// A connection id as eight hexadecimal digits of either case.

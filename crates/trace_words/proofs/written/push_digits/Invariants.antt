@@ -1,0 +1,9 @@
+use Rattle.std.proofs.Common.{◌≡◌, ◌++◌, string_bytes, length}
+use Rattle.hex.specs.Hex.{encode_lower}
+use Rattle.trace_words.proofs.written.push_digits.Given as goal
+
+abbrev pub invariant-loop-rest : goal.invariant-loop-rest
+invariant-loop-rest l = string_bytes l.out ++ encode_lower l.rest ≡ string_bytes l.fn.out ++ encode_lower l.fn.bytes
+
+abbrev pub decreases-loop-rest : goal.decreases-loop-rest
+decreases-loop-rest l = length l.rest
