@@ -1,4 +1,4 @@
 pub mod Calls
-pub mod Lending
+pub mod Exchange
 pub mod Places
 pub mod Statuses

@@ -50,7 +50,7 @@ pub extern "C" fn eip_c_new(
 {
     match opened(alloc, profile, number) {
         Ok(holder) => {
-            *at = HandlePlace::of(holder);
+            at.put(holder);
             DONE
         }
         Err(status) => status,
@@ -74,7 +74,10 @@ pub extern "C" fn eip_c_answer(
     ensures answer { Reports device.old.value.answer (status_of result) (out.old, size.old) (out.new, size.new) }
     ensures unchanged { device.new.value ≡ device.old.value }
 {
-    report(alloc, &device.holder().answer, out, size)
+    let holder = device.place.take();
+    let status = report(alloc, &holder.answer, out, size);
+    device.place.put(holder);
+    status
 }
 
 // MESSAGES
@@ -99,7 +102,7 @@ pub extern "C" fn eip_c_request(
         peer: Node(peer),
         bytes,
     };
-    device.holder().answered(alloc, &event, out, size)
+    device.answered(alloc, &event, out, size)
 }
 
 /// A peer opens a stream, which gets this number.
@@ -119,7 +122,7 @@ pub extern "C" fn eip_c_stream(
         stream,
         peer: Node(peer),
     };
-    device.holder().answered(alloc, &event, out, size)
+    device.answered(alloc, &event, out, size)
 }
 
 /// A stream brings the bytes of one encapsulation message.
@@ -139,7 +142,7 @@ pub extern "C" fn eip_c_frame(
         return OUT_OF_MEMORY;
     };
     let event = Event::Frame { stream, bytes };
-    device.holder().answered(alloc, &event, out, size)
+    device.answered(alloc, &event, out, size)
 }
 
 /// A stream breaks, or its peer closes it.
@@ -155,7 +158,7 @@ pub extern "C" fn eip_c_cut(
         device.old.value result device.new.value (out.old, size.old) (out.new, size.new) }
 {
     let event = Event::StreamCut { stream };
-    device.holder().answered(alloc, &event, out, size)
+    device.answered(alloc, &event, out, size)
 }
 
 /// A peer sends a class 1 datagram. Answers the number of its delivery. Takes no memory, and never fails.
@@ -166,7 +169,9 @@ pub extern "C" fn eip_c_datagram(device: &mut Held, peer: u32, bytes: &[u8]) -> 
     ensures number { delivery_number (delivery_of result) ≡ result }
     ensures answer { device.new.value.answer ≡ device.old.value.answer }
 {
-    let delivery = device.holder().station.deliver(Node(peer), bytes);
+    let mut holder = device.place.take();
+    let delivery = holder.station.deliver(Node(peer), bytes);
+    device.place.put(holder);
     delivery_number(delivery)
 }
 
@@ -185,7 +190,10 @@ pub extern "C" fn eip_c_write(
     ensures { Answers (Write point bytes.now)
         device.old.value result device.new.value (out.old, size.old) (out.new, size.new) }
 {
-    device.holder().written(alloc, point, bytes, out, size)
+    let mut holder = device.place.take();
+    let status = holder.written(alloc, point, bytes, out, size);
+    device.place.put(holder);
+    status
 }
 
 /// Writes the value of a point, as it is. Takes no memory.
@@ -195,7 +203,10 @@ pub extern "C" fn eip_c_read(device: &mut Held, point: u32, out: &mut [u8], size
         (status_of result) (out.old, size.old) (out.new, size.new) }
     ensures unchanged { device.new.value ≡ device.old.value }
 {
-    device.holder().value(point, out, size)
+    let holder = device.place.take();
+    let status = holder.value(point, out, size);
+    device.place.put(holder);
+    status
 }
 
 /// Milliseconds pass, at most 60,000.
@@ -211,7 +222,7 @@ pub extern "C" fn eip_c_tick(
         device.old.value result device.new.value (out.old, size.old) (out.new, size.new) }
 {
     let event = Event::Tick { ms };
-    device.holder().answered(alloc, &event, out, size)
+    device.answered(alloc, &event, out, size)
 }
 
 /// Answers for how many milliseconds the device needs no tick: each tick of fewer answers nothing, and moves the clock alone.
@@ -222,7 +233,10 @@ pub extern "C" fn eip_c_next_wake(device: &mut Held) -> u32
     ensures longest { result ≤ longest_tick }
     ensures unchanged { device.new.value ≡ device.old.value }
 {
-    device.holder().station.next_wake().0 as u32
+    let holder = device.place.take();
+    let wake = holder.station.next_wake().0 as u32;
+    device.place.put(holder);
+    wake
 }
 
 // THE APPLICATION OF A SCANNER
@@ -240,7 +254,7 @@ pub extern "C" fn eip_c_mode(
         device.old.value result device.new.value (out.old, size.old) (out.new, size.new) }
 {
     let event = Event::Mode { run };
-    device.holder().answered(alloc, &event, out, size)
+    device.answered(alloc, &event, out, size)
 }
 
 /// The connection of a slot is opened, and kept open.
@@ -256,7 +270,7 @@ pub extern "C" fn eip_c_start(
         device.old.value result device.new.value (out.old, size.old) (out.new, size.new) }
 {
     let event = Event::Start { slot };
-    device.holder().answered(alloc, &event, out, size)
+    device.answered(alloc, &event, out, size)
 }
 
 /// The connection of a slot is closed.
@@ -272,5 +286,5 @@ pub extern "C" fn eip_c_stop(
         device.old.value result device.new.value (out.old, size.old) (out.new, size.new) }
 {
     let event = Event::Stop { slot };
-    device.holder().answered(alloc, &event, out, size)
+    device.answered(alloc, &event, out, size)
 }
