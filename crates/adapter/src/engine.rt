@@ -91,7 +91,7 @@ impl<T: ConnectionTable> Adapter<T> {
     }
 
     /// The connection that an open request is admitted as, or why it is refused. Takes no memory.
-    fn judge<'a>(&self, request: &OpenRequest<'a>) -> Result<Admission<'a>, Refusal>
+    fn judge<'a>(&self, request: &OpenRequest<&'a [u8]>) -> Result<Admission<'a>, Refusal>
         ensures admission { Gives view_admission result (admission self.now (view_open request.now)) }
         ensures drawn { IfOk result (λ a. a.drawn ≡ drawn_ids a.multicast a.group) }
     {
@@ -140,7 +140,7 @@ impl<T: ConnectionTable> Adapter<T> {
     }
 
     /// The T->O id of a connection that is opened.
-    fn opened_t_o_id(&self, request: &OpenRequest<'_>, admission: &Admission<'_>) -> ConnId
+    fn opened_t_o_id(&self, request: &OpenRequest<&[u8]>, admission: &Admission<'_>) -> ConnId
         requires { self.now.next_id + drawn_ids admission.now.multicast admission.now.group ≤ 16777216 }
         ensures { result
             ≡ opened_t_o_id self.now (view_open request.now) admission.now.multicast admission.now.group }
@@ -154,7 +154,7 @@ impl<T: ConnectionTable> Adapter<T> {
 
     /// The connection that an admitted request opens.
     #[tactic(auto, unfolding(adapter_table::specs::Opening::opened_row))]
-    fn opened_row(&self, peer: Node, request: &OpenRequest<'_>, admission: &Admission<'_>) -> Row
+    fn opened_row(&self, peer: Node, request: &OpenRequest<&[u8]>, admission: &Admission<'_>) -> Row
         requires waits { admission.now.watchdog.0 ≤ 5120000 }
         requires left { self.now.next_id + drawn_ids admission.now.multicast admission.now.group ≤ 16777216 }
         requires draws { 1 ≤ drawn_ids admission.now.multicast admission.now.group }
@@ -185,7 +185,7 @@ impl<T: ConnectionTable> Adapter<T> {
         &mut self,
         route: Route,
         large: bool,
-        request: &OpenRequest<'_>,
+        request: &OpenRequest<&[u8]>,
         admitted: &Admission<'_>,
     ) -> Outcome
         requires admitted { admission self.old (view_open request.now) ≡ Ok (view_admission admitted.now) }
@@ -209,7 +209,7 @@ impl<T: ConnectionTable> Adapter<T> {
 
     /// A Forward_Open of either size.
     #[tactic(auto, unfolding(adapter_table::specs::Requests::served_open))]
-    fn forward_open(&mut self, route: Route, large: bool, request: &OpenRequest<'_>) -> Outcome
+    fn forward_open(&mut self, route: Route, large: bool, request: &OpenRequest<&[u8]>) -> Outcome
         ensures { Follows (Ok (routed self.old route
             (Some (served_open self.old (peer_of route) large (view_open request.now))))) self.old result self.new }
     {
@@ -264,7 +264,7 @@ impl<T: ConnectionTable> Adapter<T> {
 
     /// A Forward_Close.
     #[tactic(auto, unfolding(adapter_table::specs::Requests::served_close))]
-    fn forward_close(&mut self, route: Route, request: &CloseRequest<'_>) -> Outcome
+    fn forward_close(&mut self, route: Route, request: &CloseRequest<&[u8]>) -> Outcome
         ensures { Follows (Ok (routed self.old route (Some (served_close self.old (view_close request.now)))))
             self.old result self.new }
     {

@@ -50,7 +50,7 @@ use cip_router::Refusal;
 #[tactic(auto, unfolding(adapter_table::specs::Checks::verdict), using(crate::proofs::Order::verdict_is_staged))]
 pub fn admit<'a, C: ConnectionsView>(
     view: &View<'_, C>,
-    request: &OpenRequest<'a>,
+    request: &OpenRequest<&'a [u8]>,
 ) -> Result<Admission<'a>, Refusal>
     ensures verdict { Gives view_admission result (verdict (seen C.rows view.now request.now.triad) (view_open request.now)) }
     ensures drawn { IfOk result (λ a. a.drawn ≡ drawn_ids a.multicast a.group) }
@@ -68,7 +68,7 @@ pub fn admit<'a, C: ConnectionsView>(
 #[tactic(auto, unfolding(crate::specs::Stages::request_check))]
 fn transport_of<C: ConnectionsView>(
     view: &View<'_, C>,
-    request: &OpenRequest<'_>,
+    request: &OpenRequest<&[u8]>,
     path: &Option<ConnPath<'_>>,
 ) -> Result<Transport, Refusal>
     ensures passed { IsPassed (request_check (seen C.rows view.now request.now.triad) (view_open request.now)
@@ -110,7 +110,7 @@ fn transport_of<C: ConnectionsView>(
 /// The points that a path names, or the refusal of check 9.
 fn points_of<'a, C: ConnectionsView>(
     view: &View<'_, C>,
-    request: &OpenRequest<'a>,
+    request: &OpenRequest<&'a [u8]>,
     path: Option<ConnPath<'a>>,
     multicast: bool,
 ) -> Result<Points<'a>, Refusal>
@@ -138,7 +138,7 @@ fn points_of<'a, C: ConnectionsView>(
 #[tactic(auto, unfolding(crate::specs::Stages::points_check))]
 fn check_points<C: ConnectionsView>(
     view: &View<'_, C>,
-    request: &OpenRequest<'_>,
+    request: &OpenRequest<&[u8]>,
     points: &Points<'_>,
     admission: &Admission<'_>,
 ) -> Result<(), Refusal>

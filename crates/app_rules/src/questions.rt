@@ -79,7 +79,7 @@ pub fn key_check(identity: &Identity, path: &Option<ConnPath<'_>>) -> Result<(),
 }
 
 /// Whether the multiplier is out of range, or a redundant owner is requested.
-pub fn is_unserved(request: &OpenRequest<'_>) -> bool
+pub fn is_unserved(request: &OpenRequest<&[u8]>) -> bool
     ensures { result ≡ is_unserved (view_open request.now) }
 {
     request.multiplier > 7 || request.o_t_params.redundant || request.t_o_params.redundant
@@ -193,7 +193,7 @@ pub fn changes_config<C: ConnectionsView>(view: &View<'_, C>, admission: &Admiss
 
 /// Whether an O->T size is not that of the consumed point: a sequence count, and an owner's data behind a
 /// run/idle header.
-pub fn has_other_o_t_size(request: &OpenRequest<'_>, points: &Points<'_>) -> bool
+pub fn has_other_o_t_size(request: &OpenRequest<&[u8]>, points: &Points<'_>) -> bool
     ensures { result ≡ has_other_o_t_size (view_open request.now) (view_points points.now) }
 {
     let size = request.o_t_params.size;
@@ -204,7 +204,7 @@ pub fn has_other_o_t_size(request: &OpenRequest<'_>, points: &Points<'_>) -> boo
 }
 
 /// Whether a T->O size is not that of the produced point: a sequence count and the input.
-pub fn has_other_t_o_size(request: &OpenRequest<'_>, points: &Points<'_>) -> bool
+pub fn has_other_t_o_size(request: &OpenRequest<&[u8]>, points: &Points<'_>) -> bool
     ensures { result ≡ has_other_t_o_size (view_open request.now) (view_points points.now) }
 {
     let size = request.t_o_params.size;

@@ -1,6 +1,6 @@
 -- The written texts: the writer's order of segments, and the shortest form of each (Volume 1,
 -- appendix C, segment types).
-use Rattle.std.specs.Prelude.{◌≡◌, ℕ, ◌*◌, ◌/◌, ◌<◌, ◌^◌, nat_lt, if◌then◌else◌, List, [], ◌∷◌, ◌++◌, length, map, option_to_list, IfSome}
+use Rattle.std.specs.Prelude.{◌≡◌, ℕ, ◌*◌, ◌/◌, ◌<◌, ◌^◌, nat_lt, if◌then◌else◌, List, [], ◌∷◌, ◌++◌, length, map, option_to_list, Option, Some, None, IfSome}
 use Rattle.std.specs.List.{flat_map}
 use Rattle.std.specs.Int.{w16, w32, to_le_bytes}
 use Rattle.cip_epath.specs.declared.path.Target.{Target}
@@ -34,6 +34,11 @@ path_segments p =
 -- the text of a path
 abbrev pub path_text : PathFields → List ℕ
 path_text p = flat_map segment_text (path_segments p)
+
+-- the text of a part that may be missing
+abbrev pub optional_text : {A : Type 0} → (A → List ℕ) → Option A → List ℕ
+optional_text text None = []
+optional_text text (Some part) = text part
 
 -- class, instance, attribute
 abbrev pub target_segments : Target → List SegmentValue

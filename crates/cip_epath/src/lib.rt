@@ -21,4 +21,4 @@ pub use key::{ElectronicKey, KeyFault};
 pub use laws::reads_back;
 pub use path::{ConnPath, Target};
 pub use read::{read_path, read_target};
-pub use write::{write_path, write_target};
+pub use write::{path_len, put_path, write_path, write_target};

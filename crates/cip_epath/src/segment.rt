@@ -11,8 +11,14 @@ pub const ELECTRONIC_KEY: u8 = 0x34;
 /// The only format of an electronic key: vendor, device type, product code, revision.
 pub const KEY_FORMAT: u8 = 4;
 
+/// The bytes of an electronic key segment.
+pub const KEY_LEN: usize = 10;
+
 /// The first byte of a production inhibit time segment.
 pub const PRODUCTION_INHIBIT: u8 = 0x43;
+
+/// The bytes of a production inhibit time segment.
+pub const INHIBIT_LEN: usize = 2;
 
 /// The first byte of a simple data segment.
 pub const SIMPLE_DATA: u8 = 0x80;

@@ -1,16 +1,20 @@
 //! Writing paths.
 
-ghost use Rattle.std.specs.Prelude.{◌≡◌, ◌/◌, ◌%◌, ◌≤◌, ◌++◌, ◌∷◌, [], length, Ok, OnOk, IfOk, IfSome};
+ghost use Rattle.std.specs.Prelude.{◌≡◌, ◌+◌, ◌/◌, ◌%◌, ◌^◌, ◌<◌, ◌≤◌, ◌++◌, ◌∷◌, [], length, ℕ, Ok, OnOk, IfOk, IfSome};
+ghost use Rattle.std.specs.Option.{option_map};
 ghost use Rattle.cip_epath.specs.ElectronicKey.{view_key};
+ghost use Rattle.cip_epath.specs.declared.segment.LogicalType.{LogicalType};
+ghost use Rattle.cip_epath.specs.declared.segment.LogicalType.TheVariants.{Instance};
 ghost use Rattle.cip_epath.specs.Segment.{type_code, key_text, KeyFits};
 ghost use Rattle.cip_epath.specs.Path.{view_path, IsPath, IsTarget, IsTextOf};
 ghost use Rattle.cip_epath.specs.Reading.{path_reading, target_reading};
-ghost use Rattle.cip_epath.specs.Written.{logical_text, path_text, target_text, AreWords, PathFits};
+ghost use Rattle.cip_epath.specs.Written.{logical_text, optional_text, path_text, target_text, AreWords, PathFits};
 
 use crate::key::ElectronicKey;
 use crate::path::{ConnPath, Target};
 use crate::segment::{
-    ELECTRONIC_KEY, KEY_FORMAT, LOGICAL, LogicalType, PRODUCTION_INHIBIT, SIMPLE_DATA,
+    ELECTRONIC_KEY, INHIBIT_LEN, KEY_FORMAT, KEY_LEN, LOGICAL, LogicalType, PRODUCTION_INHIBIT,
+    SIMPLE_DATA,
 };
 use cip_types::OutOfMemory;
 use cip_types::fields::{put_bytes, put_u16, put_u32};
@@ -60,49 +64,117 @@ fn put_key(out: &mut Vec<u8>, key: &ElectronicKey) -> Result<(), OutOfMemory>
     Ok(())
 }
 
-/// Appends an inhibit segment.
-fn put_inhibit(out: &mut Vec<u8>, ms: u8) -> Result<(), OutOfMemory>
-    ensures { OnOk result (out.new.items ≡ out.old.items ++ 0x43 ∷ ms ∷ []) }
+/// Appends an inhibit segment, if there is an inhibit time.
+fn put_inhibit(out: &mut Vec<u8>, inhibit: Option<u8>) -> Result<(), OutOfMemory>
+    ensures fits { IfSome inhibit (λ ms. ms < 2 ^ 8) }
+    ensures text { OnOk result (out.new.items ≡ out.old.items ++ optional_text (λ ms. 0x43 ∷ ms ∷ []) inhibit) }
 {
-    put_bytes(out, &[PRODUCTION_INHIBIT, ms])
+    match inhibit {
+        Some(ms) => put_bytes(out, &[PRODUCTION_INHIBIT, ms]),
+        None => Ok(()),
+    }
 }
 
-/// Appends a data segment.
-fn put_data(out: &mut Vec<u8>, content: &[u8]) -> Result<(), OutOfMemory>
-    requires { AreWords content.now }
-    ensures { OnOk result (out.new.items ≡ out.old.items ++ 0x80 ∷ length content.now / 2 ∷ content.now) }
+/// Appends a logical segment, if there is a value.
+fn put_optional(out: &mut Vec<u8>, kind: LogicalType, value: Option<u32>) -> Result<(), OutOfMemory>
+    ensures fits { IfSome value (λ n. n < 2 ^ 32) }
+    ensures text { OnOk result (out.new.items ≡ out.old.items ++ optional_text (λ n. logical_text kind n) value) }
 {
+    match value {
+        Some(value) => put_logical(out, kind, value),
+        None => Ok(()),
+    }
+}
+
+/// Appends a data segment, if there is one.
+fn put_data(out: &mut Vec<u8>, content: Option<&[u8]>) -> Result<(), OutOfMemory>
+    requires { IfSome (option_map (λ lent. lent.now) content) AreWords }
+    ensures { OnOk result (out.new.items ≡ out.old.items
+        ++ optional_text (λ lent. 0x80 ∷ length lent.now / 2 ∷ lent.now) content.entry) }
+{
+    let Some(content) = content else {
+        return Ok(());
+    };
     put_bytes(out, &[SIMPLE_DATA, (content.len() / 2) as u8])?;
     put_bytes(out, content)
 }
 
-/// The bytes of the path.
-fn path_bytes(alloc: Global, path: &ConnPath<'_>) -> Result<Vec<u8>, OutOfMemory>
-    requires words { IfSome (view_path path.now).segment AreWords }
-    requires short { length (path_text (view_path path.now)) ≤ 510 }
-    ensures { IfOk result (λ v. PathFits (view_path path.now) × (v.items ≡ path_text (view_path path.now))) }
+/// Appends the shortest bytes of the path, in this order: key, inhibit time, class, configuration as an instance,
+/// consumed and produced point as connection points, data. OutOfMemory is the only fault.
+///
+/// Volume 1, appendix C, segment types, and chapter 3, connection path.
+pub fn put_path(out: &mut Vec<u8>, path: &ConnPath<'_>) -> Result<(), OutOfMemory>
+    // The data segment has whole words, which one byte counts.
+    requires { IfSome (view_path path.now).segment AreWords }
+    ensures text { OnOk result (out.new.items ≡ out.old.items ++ path_text (view_path path.now)) }
+    ensures fits { OnOk result (PathFits (view_path path.now)) }
 {
-    let mut out = Vec::new(alloc);
     if let Some(key) = &path.key {
-        put_key(&mut out, key)?;
+        put_key(out, key)?;
     }
-    if let Some(ms) = path.inhibit {
-        put_inhibit(&mut out, ms)?;
-    }
-    put_logical(&mut out, LogicalType::Class, path.class)?;
-    if let Some(config) = path.config {
-        put_logical(&mut out, LogicalType::Instance, config)?;
-    }
-    put_logical(&mut out, LogicalType::ConnectionPoint, path.consumed)?;
-    put_logical(&mut out, LogicalType::ConnectionPoint, path.produced)?;
-    if let Some(content) = path.segment {
-        put_data(&mut out, content)?;
-    }
-    Ok(out)
+    put_inhibit(out, path.inhibit)?;
+    put_logical(out, LogicalType::Class, path.class)?;
+    put_optional(out, LogicalType::Instance, path.config)?;
+    put_logical(out, LogicalType::ConnectionPoint, path.consumed)?;
+    put_logical(out, LogicalType::ConnectionPoint, path.produced)?;
+    put_data(out, path.segment)?;
+    Ok(())
 }
 
-/// The shortest bytes of the path, in this order: key, inhibit time, class, configuration as an instance,
-/// consumed and produced point as connection points, data.
+/// The bytes of a logical segment of any type, in the shortest format for its value.
+fn logical_len(value: u32) -> usize
+    ensures len { (kind : LogicalType) → length (logical_text kind value) ≡ result }
+    ensures most { result ≤ 6 }
+{
+    if value < 0x100 {
+        2
+    } else if value < 0x1_0000 {
+        4
+    } else {
+        6
+    }
+}
+
+/// The bytes of an optional key and an optional inhibit time.
+fn front_len(path: &ConnPath<'_>) -> usize
+    ensures { result ≡ length (optional_text (λ k. key_text (view_key k)) path.now.key)
+        + length (optional_text (λ (ms : ℕ). 0x43 ∷ ms ∷ []) path.now.inhibit) }
+{
+    match (path.key, path.inhibit) {
+        (Some(_), Some(_)) => KEY_LEN + INHIBIT_LEN,
+        (Some(_), None) => KEY_LEN,
+        (None, Some(_)) => INHIBIT_LEN,
+        (None, None) => 0,
+    }
+}
+
+/// The bytes of an optional configuration.
+fn config_len(config: Option<u32>) -> usize
+    ensures len { result ≡ length (optional_text (λ n. logical_text Instance n) config) }
+    ensures most { result ≤ 6 }
+{
+    match config {
+        Some(config) => logical_len(config),
+        None => 0,
+    }
+}
+
+/// How many bytes `put_path` appends. It takes no memory.
+///
+/// Volume 1, appendix C, segment types.
+pub fn path_len(path: &ConnPath<'_>) -> usize
+    requires { IfSome (view_path path.now).segment AreWords }
+    ensures { result ≡ length (path_text (view_path path.now)) }
+{
+    let points = logical_len(path.consumed) + logical_len(path.produced);
+    let front = front_len(path) + logical_len(path.class) + config_len(path.config) + points;
+    match path.segment {
+        Some(content) => front + 2 + content.len(),
+        None => front,
+    }
+}
+
+/// The shortest bytes of the path, as `put_path` appends them.
 ///
 /// Volume 1, appendix C, segment types, and chapter 3, connection path.
 pub fn write_path(alloc: Global, path: &ConnPath<'_>) -> Result<Vec<u8>, OutOfMemory>
@@ -116,7 +188,9 @@ pub fn write_path(alloc: Global, path: &ConnPath<'_>) -> Result<Vec<u8>, OutOfMe
     ensures whole_words { IfOk result (λ v. length v.items % 2 ≡ 0) }
     ensures short { IfOk result (λ v. length v.items ≤ 510) }
 {
-    path_bytes(alloc, path)
+    let mut out = Vec::with_capacity(alloc, path_len(path))?;
+    put_path(&mut out, path)?;
+    Ok(out)
 }
 
 /// The shortest bytes of a request path: class, instance, and the attribute if there is one.
@@ -130,8 +204,6 @@ pub fn write_target(alloc: Global, target: &Target) -> Result<Vec<u8>, OutOfMemo
     let mut out = Vec::new(alloc);
     put_logical(&mut out, LogicalType::Class, target.class)?;
     put_logical(&mut out, LogicalType::Instance, target.instance)?;
-    if let Some(attribute) = target.attribute {
-        put_logical(&mut out, LogicalType::Attribute, attribute)?;
-    }
+    put_optional(&mut out, LogicalType::Attribute, target.attribute)?;
     Ok(out)
 }

@@ -1,5 +1,5 @@
 -- The data of a Forward_Close is read one way, and what is written is read again.
-use Rattle.std.proofs.Common.{◌≡◌, ℕ, ◌/◌, ◌%◌, ◌<◌, List, ◌∷◌, ◌++◌, length, Some, None, Result, Ok, Err, refl, arith}
+use Rattle.std.proofs.Common.{◌≡◌, ℕ, ◌+◌, ◌/◌, ◌%◌, ◌<◌, List, ◌∷◌, ◌++◌, length, Some, None, Result, Ok, Err, refl, arith}
 use Rattle.std.specs.List.{AllByRecursion}
 use Rattle.cip_types.specs.Fields.{fields_text, fields_at}
 use Rattle.cip_types.specs.Texts.{IsPrefixFree, found_image, IsTailedText, tailed_found}
@@ -69,3 +69,8 @@ pub close_text_reads : (p : CloseFields) → CloseFits p → close_reading (clos
 unfolding close_text
 close_text_reads p fits =
     ends_path (fields_text close_widths (close_numbers p) ++ p.path) (close_numbers p) p.path (fields_again close_widths wide (close_numbers p) p.path fits.numbers) fits.words
+
+-- the bytes of what is written
+pub close_text_len : (p : CloseFields) → length (close_text p) ≡ 12 + length p.path
+unfolding close_text
+close_text_len p = omega arith

@@ -1,5 +1,5 @@
 -- The data of a Forward_Open is read one way, and what is written is read again.
-use Rattle.std.proofs.Common.{◌≡◌, ℕ, ◌/◌, ◌%◌, ◌<◌, Bool, true, false, List, ◌∷◌, ◌++◌, length, Some, None, Result, Ok, Err, refl, ap, ◌∙◌, arith}
+use Rattle.std.proofs.Common.{◌≡◌, if◌then◌else◌, ℕ, ◌+◌, ◌/◌, ◌%◌, ◌<◌, Bool, true, false, List, ◌∷◌, ◌++◌, length, Some, None, Result, Ok, Err, refl, ap, ◌∙◌, arith}
 use Rattle.std.specs.Int.{w32, to_le_bytes}
 use Rattle.std.specs.List.{AllByRecursion}
 use Rattle.cip_types.specs.Fields.{fields_text, fields_at}
@@ -96,3 +96,9 @@ unfolding open_text
 open_text_reads large p fits =
     ends_path large (fields_text (open_widths large) (open_numbers large p) ++ p.path) (open_numbers large p) p.path (fields_again (open_widths large) (wide large) (open_numbers large p) p.path fits.numbers) fits.words
     ∙ ap Ok (same_open large p fits)
+
+-- the bytes of what is written
+pub open_text_len : (large : Bool) (p : OpenFields) → length (open_text large p) ≡ (if large then 40 else 36) + length p.path
+unfolding open_text
+open_text_len true p = omega arith
+open_text_len false p = omega arith

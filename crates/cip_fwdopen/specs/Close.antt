@@ -14,10 +14,14 @@
 -- The application reply follows. The data of a failure is as for a Forward_Open.
 use Rattle.std.specs.Prelude.{◌≡◌, ◌≢◌, ◌==◌, ℕ, ◌*◌, ◌/◌, if◌then◌else◌, List, [], ◌∷◌, ◌++◌, length, slice_index, Option, Result}
 use Rattle.std.specs.Int.{Width, w8, w16, w32}
+use Rattle.std.specs.Borrow.{Bor}
 use Rattle.cip_types.specs.declared.Fault.{Fault}
 use Rattle.cip_types.specs.declared.Triad.{Triad}
 use Rattle.cip_types.specs.Fields.{fields_text, AreFields}
 use Rattle.cip_types.specs.Texts.{IsImage, found_image, Tailed, IsTailedText, tailed_found}
+use Rattle.cip_epath.specs.declared.path.ConnPath.{ConnPath}
+use Rattle.cip_epath.specs.Path.{view_path}
+use Rattle.cip_epath.specs.Written.{path_text}
 use Rattle.cip_fwdopen.specs.declared.fault.ReadFault.{ReadFault}
 use Rattle.cip_fwdopen.specs.declared.close.CloseRequest.{CloseRequest}
 use Rattle.cip_fwdopen.specs.declared.close.CloseAnswer.{CloseAnswer}
@@ -33,9 +37,17 @@ pub record CloseFields : Type 0 where
   pub triad : Triad
   pub path : List ℕ
 
--- the contents of a request of the program
-abbrev pub view_close : CloseRequest → CloseFields
-view_close r = record { priority_tick = r.priority_tick; ticks = r.ticks; triad = r.triad; path = r.path.now }
+-- the contents of a request of the program, with the text of its path
+abbrev pub close_contents : {P : Type 0} → CloseRequest P → List ℕ → CloseFields
+close_contents r path = record { priority_tick = r.priority_tick; ticks = r.ticks; triad = r.triad; path = path }
+
+-- the contents of a request that was read
+abbrev pub view_close : CloseRequest (Bor (List ℕ)) → CloseFields
+view_close r = close_contents r r.path.now
+
+-- the contents of a request that is written
+abbrev pub sent_close : CloseRequest ConnPath → CloseFields
+sent_close r = close_contents r (path_text (view_path r.path))
 
 -- ---- requests
 

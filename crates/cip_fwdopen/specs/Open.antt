@@ -15,10 +15,14 @@
 -- The path follows. Connection parameters have 4 bytes in a Large_Forward_Open.
 use Rattle.std.specs.Prelude.{◌≡◌, ℕ, ◌*◌, ◌/◌, ◌≤◌, Bool, if◌then◌else◌, List, [], ◌∷◌, ◌++◌, length, slice_index, Result}
 use Rattle.std.specs.Int.{Width, w8, w16, w32}
+use Rattle.std.specs.Borrow.{Bor}
 use Rattle.cip_types.specs.declared.ConnId.{ConnId}
 use Rattle.cip_types.specs.declared.Triad.{Triad}
 use Rattle.cip_types.specs.Fields.{fields_text, AreFields}
 use Rattle.cip_types.specs.Texts.{IsImage, found_image, Tailed, IsTailedText, tailed_found}
+use Rattle.cip_epath.specs.declared.path.ConnPath.{ConnPath}
+use Rattle.cip_epath.specs.Path.{view_path}
+use Rattle.cip_epath.specs.Written.{path_text}
 use Rattle.cip_netparams.specs.declared.NetParams.{NetParams}
 use Rattle.cip_netparams.specs.Word.{params16, params32, word16, word32}
 use Rattle.cip_fwdopen.specs.declared.fault.ReadFault.{ReadFault}
@@ -40,9 +44,9 @@ pub record OpenFields : Type 0 where
   pub trigger : ℕ
   pub path : List ℕ
 
--- the contents of a request of the program
-abbrev pub view_open : OpenRequest → OpenFields
-view_open r = record {
+-- the contents of a request of the program, with the text of its path
+abbrev pub open_contents : {P : Type 0} → OpenRequest P → List ℕ → OpenFields
+open_contents r path = record {
   priority_tick = r.priority_tick;
   ticks = r.ticks;
   o_t_id = r.o_t_id;
@@ -54,8 +58,16 @@ view_open r = record {
   t_o_rpi = r.t_o_rpi;
   t_o_params = r.t_o_params;
   trigger = r.trigger;
-  path = r.path.now;
+  path = path;
 }
+
+-- the contents of a request that was read
+abbrev pub view_open : OpenRequest (Bor (List ℕ)) → OpenFields
+view_open r = open_contents r r.path.now
+
+-- the contents of a request that is written
+abbrev pub sent_open : OpenRequest ConnPath → OpenFields
+sent_open r = open_contents r (path_text (view_path r.path))
 
 -- ---- reading
 

@@ -1,35 +1,41 @@
 //! The data of a Forward_Close, and replies to it.
 
-ghost use Rattle.std.specs.Prelude.{◌≡◌, ◌%◌, ◌≤◌, ◌++◌, length, Result, IfOk, OnOk, Ok};
+ghost use Rattle.std.specs.Prelude.{◌≡◌, ◌*◌, ◌%◌, ◌≤◌, ◌++◌, ℕ, List, length, Result, IfOk, IfSome, OnOk, Ok};
+ghost use Rattle.cip_epath.specs.Path.{view_path};
+ghost use Rattle.cip_epath.specs.Written.{path_text, AreWords};
 ghost use Rattle.cip_fwdopen.specs.declared.fault.ReadFault.{ReadFault};
 ghost use Rattle.cip_fwdopen.specs.declared.close.CloseReply.{CloseReply};
 ghost use Rattle.cip_fwdopen.specs.Readings.{seen};
-ghost use Rattle.cip_fwdopen.specs.Close.{CloseFields, CloseFits, view_close, IsCloseText, IsCloseReading, close_reading, close_text, closed_text, closed_reply, closed_reading, close_answer_reading, IsCloseReplyText, IsCloseReplyReading, close_reply_reading};
+ghost use Rattle.cip_fwdopen.specs.Close.{CloseFields, CloseFits, close_contents, view_close, sent_close, IsCloseText, IsCloseReading, close_reading, close_text, closed_text, closed_reply, closed_reading, close_answer_reading, IsCloseReplyText, IsCloseReplyReading, close_reply_reading};
 
 use crate::fault::ReadFault;
 use crate::front::{CloseFront, ClosedFront, unread_at};
 use crate::reply::{Refused, failure_of};
 use crate::service::{FORWARD_CLOSE, REPLY};
-use crate::write::put_triad;
-use cip_types::fields::{put_bytes, put_u8};
+use crate::write::{put_triad, put_two};
+use cip_epath::{ConnPath, path_len, put_path};
+use cip_types::fields::put_bytes;
 use cip_types::{Fault, OutOfMemory, Triad};
 use std::alloc::Global;
+
+/// The bytes of a Forward_Close before its path.
+const CLOSE_FRONT_LEN: usize = 12;
 
 /// The length of the reply to a successful close, in bytes.
 const CLOSED_LEN: usize = 14;
 
-/// The data of a Forward_Close.
+/// The data of a Forward_Close. `P` is the connection path: its bytes, not decoded, in a request that is read, and a
+/// `ConnPath` in one that is sent.
 ///
 /// Volume 1, chapter 3, Forward_Close service.
 #[derive(Clone, Copy)]
-pub struct CloseRequest<'a> {
+pub struct CloseRequest<P> {
     /// Priority and time tick of the unconnected request.
     pub priority_tick: u8,
     /// Its time-out, in ticks.
     pub ticks: u8,
     pub triad: Triad,
-    /// The bytes of the connection path, not decoded.
-    pub path: &'a [u8],
+    pub path: P,
 }
 
 /// The answer of a reply to a Forward_Close.
@@ -49,7 +55,7 @@ pub struct CloseReply {
     pub answer: CloseAnswer,
 }
 
-fn whole_close(bytes: &[u8]) -> Result<CloseRequest<'_>, ReadFault>
+fn whole_close(bytes: &[u8]) -> Result<CloseRequest<&[u8]>, ReadFault>
     ensures { seen view_close result ≡ close_reading bytes.now }
 {
     let Some((front, rest)) = CloseFront::at(bytes) else {
@@ -76,7 +82,7 @@ fn whole_close(bytes: &[u8]) -> Result<CloseRequest<'_>, ReadFault>
 /// path; never Path.
 ///
 /// Volume 1, chapter 3, Forward_Close service.
-pub fn read_close(bytes: &[u8]) -> Result<CloseRequest<'_>, ReadFault>
+pub fn read_close(bytes: &[u8]) -> Result<CloseRequest<&[u8]>, ReadFault>
     ensures value { seen view_close result ≡ close_reading bytes.now }
     // The result is a reading of the bytes.
     ensures reading { IsCloseReading bytes.now (seen view_close result) }
@@ -145,33 +151,63 @@ pub fn read_close_reply(bytes: &[u8]) -> Result<CloseReply, ReadFault>
     whole_reply(bytes)
 }
 
-/// The bytes of a Forward_Close's data.
-fn close_bytes(alloc: Global, request: &CloseRequest<'_>) -> Result<Vec<u8>, OutOfMemory>
-    requires whole_words { length request.now.path.now % 2 ≡ 0 }
-    requires short { length request.now.path.now ≤ 510 }
-    ensures { IfOk result (λ v. CloseFits (view_close request.now) × (v.items ≡ close_text (view_close request.now))) }
+/// Appends the fields of a Forward_Close before its path, with the reserved byte zero. A path of so many words is to
+/// follow.
+fn put_close_front<P>(
+    out: &mut Vec<u8>,
+    request: &CloseRequest<P>,
+    words: u8,
+) -> Result<(), OutOfMemory>
+    ensures { (path : List ℕ) → length path ≡ 2 * words → OnOk result (CloseFits (close_contents request.now path)
+        × (out.new.items ++ path ≡ out.old.items ++ close_text (close_contents request.now path))) }
 {
-    let mut out = Vec::new(alloc);
-    put_u8(&mut out, request.priority_tick)?;
-    put_u8(&mut out, request.ticks)?;
-    put_triad(&mut out, request.triad)?;
-    put_bytes(&mut out, &[(request.path.len() / 2) as u8, 0])?;
-    put_bytes(&mut out, request.path)?;
-    Ok(out)
+    put_two(out, request.priority_tick, request.ticks)?;
+    put_triad(out, request.triad)?;
+    put_two(out, words, 0)?;
+    Ok(())
+}
+
+/// The bytes of a Forward_Close's data with a path of so many bytes.
+///
+/// Volume 1, chapter 3, Forward_Close service.
+pub fn close_len(path_len: usize) -> usize
+    requires { path_len ≤ 510 }
+    ensures { (request : CloseFields) → length request.path ≡ path_len → length (close_text request) ≡ result }
+{
+    CLOSE_FRONT_LEN + path_len
+}
+
+/// Appends the data of a Forward_Close, with the reserved byte zero. OutOfMemory is the only fault of this and the
+/// other writers.
+///
+/// Volume 1, chapter 3, Forward_Close service.
+pub fn put_close(out: &mut Vec<u8>, request: &CloseRequest<ConnPath<'_>>) -> Result<(), OutOfMemory>
+    // The data segment of the path has whole words, which one byte counts.
+    requires words { IfSome (view_path request.now.path).segment AreWords }
+    // One byte counts the words of the path.
+    requires short { length (path_text (view_path request.now.path)) ≤ 510 }
+    ensures { OnOk result (out.new.items ≡ out.old.items ++ close_text (sent_close request.now)) }
+{
+    let words = (path_len(&request.path) / 2) as u8;
+    put_close_front(out, request, words)?;
+    put_path(out, &request.path)?;
+    Ok(())
 }
 
 /// Writes the data of a Forward_Close, with the reserved byte zero. The path has whole words, at most 255.
-/// OutOfMemory is the only fault of this and the other writers.
 ///
 /// Volume 1, chapter 3, Forward_Close service.
-pub fn write_close(alloc: Global, request: &CloseRequest<'_>) -> Result<Vec<u8>, OutOfMemory>
+pub fn write_close(alloc: Global, request: &CloseRequest<&[u8]>) -> Result<Vec<u8>, OutOfMemory>
     requires whole_words { length request.now.path.now % 2 ≡ 0 }
     requires short { length request.now.path.now ≤ 510 }
     ensures text { IfOk result (λ v. v.items ≡ close_text (view_close request.now)) }
     ensures is_text { IfOk result (λ v. IsCloseText v.items (view_close request.now)) }
     ensures read_back { IfOk result (λ v. close_reading v.items ≡ Ok (view_close request.now)) }
 {
-    close_bytes(alloc, request)
+    let mut out = Vec::new(alloc);
+    put_close_front(&mut out, request, (request.path.len() / 2) as u8)?;
+    put_bytes(&mut out, request.path)?;
+    Ok(out)
 }
 
 /// Appends the reply to a successful close, with no application reply: 14 bytes. OutOfMemory is the only fault.
@@ -185,15 +221,6 @@ pub fn put_closed(out: &mut Vec<u8>, triad: Triad) -> Result<(), OutOfMemory>
     put_bytes(out, &[0, 0])
 }
 
-/// The bytes of the reply to a successful close.
-fn closed_bytes(alloc: Global, triad: Triad) -> Result<Vec<u8>, OutOfMemory>
-    ensures { IfOk result (λ v. v.items ≡ closed_text triad) }
-{
-    let mut out = Vec::with_capacity(alloc, CLOSED_LEN)?;
-    put_closed(&mut out, triad)?;
-    Ok(out)
-}
-
 /// Writes the reply to a successful close, with no application reply.
 ///
 /// Volume 1, chapter 3, Forward_Close service, successful response.
@@ -202,5 +229,7 @@ pub fn write_closed(alloc: Global, triad: Triad) -> Result<Vec<u8>, OutOfMemory>
     ensures is_text { IfOk result (λ v. IsCloseReplyText v.items (closed_reply triad)) }
     ensures read_back { IfOk result (λ v. close_reply_reading v.items ≡ Ok (closed_reply triad)) }
 {
-    closed_bytes(alloc, triad)
+    let mut out = Vec::with_capacity(alloc, CLOSED_LEN)?;
+    put_closed(&mut out, triad)?;
+    Ok(out)
 }

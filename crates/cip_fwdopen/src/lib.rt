@@ -14,8 +14,8 @@ pub mod service;
 mod write;
 
 pub use close::{
-    CloseAnswer, CloseReply, CloseRequest, put_closed, read_close, read_close_reply, write_close,
-    write_closed,
+    CloseAnswer, CloseReply, CloseRequest, close_len, put_close, put_closed, read_close,
+    read_close_reply, write_close, write_closed,
 };
 pub use fault::ReadFault;
 pub use get::{GetAnswer, GetReply, put_got, read_get_reply, write_get, write_got};
@@ -23,4 +23,6 @@ pub use laws::reads_back;
 pub use message::{Request, read_request};
 pub use open::{OpenRequest, read_open};
 pub use reply::{OpenAnswer, OpenReply, Opened, Refused, read_open_reply};
-pub use write::{put_opened, put_refused, write_open, write_opened, write_refused};
+pub use write::{
+    open_len, put_open, put_opened, put_refused, write_open, write_opened, write_refused,
+};

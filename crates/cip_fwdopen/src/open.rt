@@ -11,11 +11,12 @@ use crate::fixed::OpenFront;
 use cip_netparams::{NetParams, read16, read32};
 use cip_types::{ConnId, Triad};
 
-/// The data of a Forward_Open or of a Large_Forward_Open. Packet intervals are in microseconds.
+/// The data of a Forward_Open or of a Large_Forward_Open. Packet intervals are in microseconds. `P` is the connection
+/// path: its bytes, not decoded, in a request that is read, and a `ConnPath` in one that is sent.
 ///
 /// Volume 1, chapter 3, Forward_Open service.
 #[derive(Clone, Copy)]
-pub struct OpenRequest<'a> {
+pub struct OpenRequest<P> {
     /// Priority and time tick of the unconnected request.
     pub priority_tick: u8,
     /// Its time-out, in ticks.
@@ -31,8 +32,7 @@ pub struct OpenRequest<'a> {
     pub t_o_params: NetParams,
     /// The transport class and trigger byte, not decoded.
     pub trigger: u8,
-    /// The bytes of the connection path, not decoded.
-    pub path: &'a [u8],
+    pub path: P,
 }
 
 fn params_of(large: bool, word: u32) -> NetParams
@@ -45,7 +45,7 @@ fn params_of(large: bool, word: u32) -> NetParams
     }
 }
 
-fn request_of<'a>(large: bool, fixed: OpenFront, path: &'a [u8]) -> OpenRequest<'a>
+fn request_of<'a>(large: bool, fixed: OpenFront, path: &'a [u8]) -> OpenRequest<&'a [u8]>
     ensures { view_open result ≡ open_of large (numbers_of fixed, path.now) }
 {
     OpenRequest {
@@ -68,7 +68,7 @@ fn request_of<'a>(large: bool, fixed: OpenFront, path: &'a [u8]) -> OpenRequest<
     }
 }
 
-fn whole_open(large: bool, bytes: &[u8]) -> Result<OpenRequest<'_>, ReadFault>
+fn whole_open(large: bool, bytes: &[u8]) -> Result<OpenRequest<&[u8]>, ReadFault>
     ensures { seen view_open result ≡ open_reading large bytes.now }
 {
     let Some((fixed, rest)) = OpenFront::at(large, bytes) else {
@@ -91,7 +91,7 @@ fn whole_open(large: bool, bytes: &[u8]) -> Result<OpenRequest<'_>, ReadFault>
 /// path; never Path.
 ///
 /// Volume 1, chapter 3, Forward_Open and Large_Forward_Open services.
-pub fn read_open(large: bool, bytes: &[u8]) -> Result<OpenRequest<'_>, ReadFault>
+pub fn read_open(large: bool, bytes: &[u8]) -> Result<OpenRequest<&[u8]>, ReadFault>
     ensures value { seen view_open result ≡ open_reading large bytes.now }
     // The result is a reading of the bytes.
     ensures reading { IsOpenReading large bytes.now (seen view_open result) }

@@ -1,18 +1,27 @@
 //! Writing the data of a Forward_Open, and the replies to it.
 
-ghost use Rattle.std.specs.Prelude.{◌≡◌, ◌≢◌, ◌%◌, ◌≤◌, ◌++◌, length, IfOk, OnOk, Ok};
+ghost use Rattle.std.specs.Prelude.{◌≡◌, ◌≢◌, ◌*◌, ◌^◌, ◌%◌, ◌<◌, ◌≤◌, ◌++◌, ◌∷◌, [], ℕ, List, length, IfOk, IfSome, OnOk, Ok};
+ghost use Rattle.cip_epath.specs.Path.{view_path};
+ghost use Rattle.cip_epath.specs.Written.{path_text, AreWords};
 ghost use Rattle.std.specs.Int.{w32, to_le_bytes};
 ghost use Rattle.cip_types.specs.Fields.{fields_text};
-ghost use Rattle.cip_fwdopen.specs.Open.{view_open, params_width, params_word, greatest_size, open_text, OpenFits, IsOpenText, open_reading};
+ghost use Rattle.cip_fwdopen.specs.Open.{OpenFields, open_contents, view_open, sent_open, params_width, params_word, greatest_size, open_text, OpenFits, IsOpenText, open_reading};
 ghost use Rattle.cip_fwdopen.specs.Reply.{opened_service, opened_text, opened_reply, refused_text, refused_reply, IsOpenReplyText, open_reply_reading, extended_text, failure_text, triad_widths, triad_numbers, OpenedFits, TriadFits};
 
 use crate::open::OpenRequest;
 use crate::reply::Opened;
 use crate::service::{FORWARD_OPEN, LARGE_FORWARD_OPEN, REPLY};
+use cip_epath::{ConnPath, path_len, put_path};
 use cip_netparams::{NetParams, write16, write32};
 use cip_types::fields::{put_bytes, put_u8, put_u16, put_u32};
 use cip_types::{Fault, OutOfMemory, Triad};
 use std::alloc::Global;
+
+/// The bytes of a Forward_Open before its path.
+const FRONT_LEN: usize = 36;
+
+/// The bytes of a Large_Forward_Open before its path.
+const LARGE_FRONT_LEN: usize = 40;
 
 /// The length of the reply to a successful open, in bytes.
 const OPENED_LEN: usize = 30;
@@ -26,6 +35,22 @@ fn put_params(out: &mut Vec<u8>, large: bool, params: &NetParams) -> Result<(), 
         return put_u32(out, write32(params));
     }
     put_u16(out, write16(params))
+}
+
+/// Appends two bytes. The types keep them within their fields.
+pub fn put_two(out: &mut Vec<u8>, first: u8, second: u8) -> Result<(), OutOfMemory>
+    ensures text { OnOk result (out.new.items ≡ out.old.items ++ first ∷ second ∷ []) }
+    ensures fits { (first < 2 ^ 8) × (second < 2 ^ 8) }
+{
+    put_bytes(out, &[first, second])
+}
+
+/// Appends a number of four bytes. The types keep it within its field.
+fn put_long(out: &mut Vec<u8>, number: u32) -> Result<(), OutOfMemory>
+    ensures text { OnOk result (out.new.items ≡ out.old.items ++ to_le_bytes w32 number) }
+    ensures fits { number < 2 ^ 32 }
+{
+    put_u32(out, number)
 }
 
 /// Appends a triad. The types keep its numbers within their fields.
@@ -46,43 +71,84 @@ fn put_direction(
     params: &NetParams,
 ) -> Result<(), OutOfMemory>
     requires { params.now.size ≤ greatest_size large }
-    ensures { OnOk result (out.new.items ≡ out.old.items
+    ensures fits { rpi < 2 ^ 32 }
+    ensures text { OnOk result (out.new.items ≡ out.old.items
         ++ (to_le_bytes w32 rpi ++ to_le_bytes (params_width large) (params_word large params.now))) }
 {
     put_u32(out, rpi)?;
     put_params(out, large, params)
 }
 
-/// Appends the data of a Forward_Open, or of a Large_Forward_Open.
-fn put_open(out: &mut Vec<u8>, large: bool, request: &OpenRequest<'_>) -> Result<(), OutOfMemory>
-    requires whole_words { length request.now.path.now % 2 ≡ 0 }
-    requires short { length request.now.path.now ≤ 510 }
+/// Appends the fields of a Forward_Open, or of a Large_Forward_Open, before its path, with reserved bytes and spare bits
+/// zero. A path of so many words is to follow.
+fn put_open_front<P>(
+    out: &mut Vec<u8>,
+    large: bool,
+    request: &OpenRequest<P>,
+    words: u8,
+) -> Result<(), OutOfMemory>
     requires o_t_size { request.now.o_t_params.size ≤ greatest_size large }
     requires t_o_size { request.now.t_o_params.size ≤ greatest_size large }
-    ensures { OnOk result (OpenFits large (view_open request.now)
-        × (out.new.items ≡ out.old.items ++ open_text large (view_open request.now))) }
+    ensures { (path : List ℕ) → length path ≡ 2 * words → OnOk result (OpenFits large (open_contents request.now path)
+        × (out.new.items ++ path ≡ out.old.items ++ open_text large (open_contents request.now path))) }
 {
-    put_bytes(out, &[request.priority_tick, request.ticks])?;
-    put_u32(out, request.o_t_id.0)?;
-    put_u32(out, request.t_o_id.0)?;
+    put_two(out, request.priority_tick, request.ticks)?;
+    put_long(out, request.o_t_id.0)?;
+    put_long(out, request.t_o_id.0)?;
     put_triad(out, request.triad)?;
-    put_bytes(out, &[request.multiplier, 0, 0, 0])?;
+    put_two(out, request.multiplier, 0)?;
+    put_two(out, 0, 0)?;
     put_direction(out, large, request.o_t_rpi, &request.o_t_params)?;
     put_direction(out, large, request.t_o_rpi, &request.t_o_params)?;
-    put_bytes(out, &[request.trigger, (request.path.len() / 2) as u8])?;
-    put_bytes(out, request.path)?;
+    put_two(out, request.trigger, words)?;
+    Ok(())
+}
+
+/// The bytes of the data of a Forward_Open, or of a Large_Forward_Open, with a path of so many bytes.
+///
+/// Volume 1, chapter 3, Forward_Open and Large_Forward_Open services.
+pub fn open_len(large: bool, path_len: usize) -> usize
+    requires { path_len ≤ 510 }
+    ensures { (request : OpenFields) → length request.path ≡ path_len → length (open_text large request) ≡ result }
+{
+    if large {
+        LARGE_FRONT_LEN + path_len
+    } else {
+        FRONT_LEN + path_len
+    }
+}
+
+/// Appends the data of a Forward_Open, or of a Large_Forward_Open, with reserved bytes and spare bits zero. In a
+/// Forward_Open the sizes have at most nine bits. OutOfMemory is the only fault of this and the other writers.
+///
+/// Volume 1, chapter 3, Forward_Open and Large_Forward_Open services.
+pub fn put_open(
+    out: &mut Vec<u8>,
+    large: bool,
+    request: &OpenRequest<ConnPath<'_>>,
+) -> Result<(), OutOfMemory>
+    // The data segment of the path has whole words, which one byte counts.
+    requires words { IfSome (view_path request.now.path).segment AreWords }
+    // One byte counts the words of the path.
+    requires short { length (path_text (view_path request.now.path)) ≤ 510 }
+    requires o_t_size { request.now.o_t_params.size ≤ greatest_size large }
+    requires t_o_size { request.now.t_o_params.size ≤ greatest_size large }
+    ensures { OnOk result (out.new.items ≡ out.old.items ++ open_text large (sent_open request.now)) }
+{
+    let words = (path_len(&request.path) / 2) as u8;
+    put_open_front(out, large, request, words)?;
+    put_path(out, &request.path)?;
     Ok(())
 }
 
 /// Writes the data of a Forward_Open or of a Large_Forward_Open, with reserved bytes and spare bits zero.
 /// The path has whole words, at most 255, and in a Forward_Open the sizes have at most nine bits.
-/// OutOfMemory is the only fault of this and the other writers.
 ///
 /// Volume 1, chapter 3, Forward_Open and Large_Forward_Open services.
 pub fn write_open(
     alloc: Global,
     large: bool,
-    request: &OpenRequest<'_>,
+    request: &OpenRequest<&[u8]>,
 ) -> Result<Vec<u8>, OutOfMemory>
     requires whole_words { length request.now.path.now % 2 ≡ 0 }
     requires short { length request.now.path.now ≤ 510 }
@@ -93,7 +159,8 @@ pub fn write_open(
     ensures read_back { IfOk result (λ v. open_reading large v.items ≡ Ok (view_open request.now)) }
 {
     let mut out = Vec::new(alloc);
-    put_open(&mut out, large, request)?;
+    put_open_front(&mut out, large, request, (request.path.len() / 2) as u8)?;
+    put_bytes(&mut out, request.path)?;
     Ok(out)
 }
 
@@ -176,20 +243,6 @@ pub fn put_refused(
     put_failure(out, triad)
 }
 
-/// The bytes of the reply that refuses a request of the service.
-fn refused_bytes(
-    alloc: Global,
-    service: u8,
-    fault: Fault,
-    triad: Option<Triad>,
-) -> Result<Vec<u8>, OutOfMemory>
-    ensures { IfOk result (λ v. v.items ≡ refused_text service fault triad) }
-{
-    let mut out = Vec::new(alloc);
-    put_refused(&mut out, service, fault, triad)?;
-    Ok(out)
-}
-
 /// Writes the whole reply that refuses a request of the service. Its data is the triad, if one is given,
 /// with remaining path size 0. The general status of a refusal is not 0.
 ///
@@ -205,5 +258,7 @@ pub fn write_refused(
     ensures is_text { IfOk result (λ v. IsOpenReplyText v.items (refused_reply service fault triad)) }
     ensures read_back { IfOk result (λ v. open_reply_reading v.items ≡ Ok (refused_reply service fault triad)) }
 {
-    refused_bytes(alloc, service, fault, triad)
+    let mut out = Vec::new(alloc);
+    put_refused(&mut out, service, fault, triad)?;
+    Ok(out)
 }

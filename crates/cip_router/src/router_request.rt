@@ -23,11 +23,11 @@ pub enum RouterRequest<'a> {
     /// The router refuses the request of this service.
     Refused(u8, Status),
     /// The close of a connection.
-    Closing(CloseRequest<'a>),
+    Closing(CloseRequest<&'a [u8]>),
     /// A service of an assembly instance: the service, the instance, the attribute and the data.
     Assembly(u8, u32, Option<u32>, &'a [u8]),
     /// A connection, by a Forward_Open or (`true`) a Large_Forward_Open.
-    Opening(bool, OpenRequest<'a>),
+    Opening(bool, OpenRequest<&'a [u8]>),
 }
 
 /// The status for unreadable data of a service.

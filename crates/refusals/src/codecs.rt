@@ -113,6 +113,7 @@ fn path(alloc: Global) -> Result<Vec<u8>, OutOfMemory> {
 
 /// The data of a Forward_Open.
 fn open(alloc: Global) -> Result<Vec<u8>, OutOfMemory> {
+    let path: &[u8] = &BYTES;
     let request = OpenRequest {
         priority_tick: 10,
         ticks: 14,
@@ -125,18 +126,19 @@ fn open(alloc: Global) -> Result<Vec<u8>, OutOfMemory> {
         t_o_rpi: 10_000,
         t_o_params: PARAMS,
         trigger: 1,
-        path: &BYTES,
+        path,
     };
     write_open(alloc, false, &request)
 }
 
 /// The data of a Forward_Close.
 fn close(alloc: Global) -> Result<Vec<u8>, OutOfMemory> {
+    let path: &[u8] = &BYTES;
     let request = CloseRequest {
         priority_tick: 10,
         ticks: 14,
         triad: TRIAD,
-        path: &BYTES,
+        path,
     };
     write_close(alloc, &request)
 }

@@ -36,7 +36,7 @@ fn push_refused(out: &mut String, service: u8, status: Status) -> Result<(), Out
     push_fault(out, status.fault())
 }
 
-fn push_close(out: &mut String, request: &CloseRequest<'_>) -> Result<(), OutOfMemory> {
+fn push_close(out: &mut String, request: &CloseRequest<&[u8]>) -> Result<(), OutOfMemory> {
     push_text(out, "Forward_Close of ")?;
     push_triad(out, request.triad)
 }
@@ -67,7 +67,7 @@ fn push_open(
     out: &mut String,
     config: &Config,
     large: bool,
-    request: &OpenRequest<'_>,
+    request: &OpenRequest<&[u8]>,
 ) -> Result<(), OutOfMemory> {
     push_text(
         out,

@@ -1,5 +1,4 @@
-use Rattle.std.proofs.Common.{ℕ, ◌<◌, ◌^◌, arith, Fits, w32, rules, subst, sym, List}
-use Rattle.std.specs.Prelude.{IfSome}
+use Rattle.std.proofs.Common.{ℕ, arith, Fits, w32, rules, subst, sym, List}
 use Rattle.std.proofs.lemmas.Grind.{common_steps}
 use Rattle.cip_epath.specs.Path.{IsTarget, IsTextOf}
 use Rattle.cip_epath.specs.Written.{TargetFits}
@@ -14,8 +13,7 @@ pub returns-clause-is_text : goal.returns-clause-is_text
 returns-clause-is_text c =
     let class : Fits w32 c.args.target.now.class = search rules in
     let instance : Fits w32 c.args.target.now.instance = search rules in
-    let attribute : IfSome c.args.target.now.attribute (λ n. n < 2 ^ 32) = search rules in
-    let fits : TargetFits c.args.target.now = record { class = class.fits; instance = instance.fits; attribute = attribute } in
+    let fits : TargetFits c.args.target.now = record { class = class.fits; instance = instance.fits; attribute = c.put_optional.ensures.fits } in
     subst (λ (text : List ℕ). IsTextOf IsTarget text c.args.target.now) (sym (returns-clause-text c)) (target_text_is _ fits)
 
 pub returns-clause-read_back : goal.returns-clause-read_back

@@ -1,16 +1,16 @@
-use Rattle.std.proofs.Common.{◌≡◌, List, ℕ, sym, subst, ap, ◌∙◌, Ok}
-use Rattle.std.proofs.lemmas.Result.{IfOk-weaker}
-use Rattle.cip_fwdopen.specs.Close.{view_close, IsCloseText, close_reading}
+use Rattle.std.proofs.Common.{◌≡◌, List, ℕ, [], ◌++◌, arith, sym, subst, ap, ◌∙◌}
+use Rattle.cip_fwdopen.specs.Close.{view_close, close_text, CloseFits, IsCloseText, close_reading}
 use Rattle.cip_fwdopen.proofs.CloseLaws.{close_text_is, close_text_reads}
 use Rattle.cip_fwdopen.proofs.close.write_close.Goals as goal
 
+told : (c : goal.In_ok-put_bytes) → CloseFits (view_close c.args.request.now) × (c.put_close_front.new.out.items ++ c.args.request.now.path.now ≡ [] ++ close_text (view_close c.args.request.now))
+told c = rw c.new-out.ensures.items at c.in_ok-put_close_front.ensures c.args.request.now.path.now (omega (arith, c.requires.whole_words, c.requires.short))
+
 pub returns-clause-text : goal.returns-clause-text
-returns-clause-text c = IfOk-weaker c.close_bytes.result _ _ (λ v is. is.1) c.close_bytes.ensures
+returns-clause-text c = c.in_ok-put_bytes.ensures.ok ∙ (told c).1
 
 pub returns-clause-is_text : goal.returns-clause-is_text
-returns-clause-is_text c =
-    let request = view_close c.args.request.now in
-    IfOk-weaker c.close_bytes.result _ (λ v. IsCloseText v.items request) (λ v is. subst (λ (text : List ℕ). IsCloseText text request) (sym is.1) (close_text_is request is.0)) c.close_bytes.ensures
+returns-clause-is_text c = subst (λ (text : List ℕ). IsCloseText text (view_close c.args.request.now)) (sym (returns-clause-text c)) (close_text_is (view_close c.args.request.now) (told c).0)
 
 pub returns-clause-read_back : goal.returns-clause-read_back
-returns-clause-read_back c = IfOk-weaker c.close_bytes.result _ (λ v. close_reading v.items ≡ Ok (view_close c.args.request.now)) (λ v is. ap close_reading is.1 ∙ close_text_reads (view_close c.args.request.now) is.0) c.close_bytes.ensures
+returns-clause-read_back c = ap close_reading (returns-clause-text c) ∙ close_text_reads (view_close c.args.request.now) (told c).0
