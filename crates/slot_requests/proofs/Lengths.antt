@@ -12,6 +12,8 @@ use Rattle.cip_epath.specs.ElectronicKey.{KeyFields}
 use Rattle.cip_epath.specs.Path.{PathFields}
 use Rattle.cip_epath.specs.Segment.{SegmentValue, logical, key, bytes, inhibit, logical_byte}
 use Rattle.cip_epath.specs.Written.{segment_text, path_segments, path_text, AreWords}
+use Rattle.cip_fwdopen.specs.Close.{CloseFields, close_text}
+use Rattle.cip_fwdopen.specs.Open.{OpenFields, open_text}
 use Rattle.cip_productions.specs.declared.kind.Kind.{Kind}
 use Rattle.cip_productions.specs.declared.kind.Kind.TheVariants.{ExclusiveOwner, InputOnly, ListenOnly}
 use Rattle.scanner_table.specs.declared.profile.SlotConfig.{SlotConfig}
@@ -143,3 +145,14 @@ path_most c few =
 -- a byte counts the words of the path
 pub path_short : (c : SlotConfig) → IsTrue (has_lengths c) → length (path_text (slot_path c)) ≤ 510
 path_short c is = omega (arith, texts_short (path_segments (slot_path c)), path_most c (short_config c is).few)
+
+-- ---- the data of requests
+
+pub open_short : (large : Bool) (p : OpenFields) → length p.path ≤ 510 → length (open_text large p) ≤ 1000
+unfolding open_text
+open_short true p short = omega (arith, short)
+open_short false p short = omega (arith, short)
+
+pub close_short : (p : CloseFields) → length p.path ≤ 510 → length (close_text p) ≤ 1000
+unfolding close_text
+close_short p short = omega (arith, short)

@@ -1,23 +1,24 @@
 //! The frames of requests.
 
-ghost use Rattle.std.specs.Prelude.{◌≡◌, ◌≤◌, IfOk, IsTrue, None, length};
+ghost use Rattle.std.specs.Prelude.{◌≡◌, ◌≤◌, ◌++◌, ℕ, List, IfOk, IsTrue, length};
 ghost use Rattle.cip_encap.specs.Message.{view_header};
-ghost use Rattle.cip_fwdopen.specs.Open.{view_open, open_text};
-ghost use Rattle.cip_fwdopen.specs.Close.{close_text};
-ghost use Rattle.scanner_table.specs.Requests.{id_or_zero, is_large, open_fields, close_fields, open_service, opening, closing, registration, numbered, sent_frame};
+ghost use Rattle.cip_epath.specs.Path.{view_path};
+ghost use Rattle.cip_fwdopen.specs.Open.{sent_open};
+ghost use Rattle.scanner_table.specs.Requests.{id_or_zero, is_large, slot_path, open_fields, close_fields, open_service, opening, closing, registration, numbered, sent_frame};
 ghost use Rattle.scanner_table.specs.Profiles.{has_lengths};
-ghost use Rattle.slot_requests.specs.Requests.{request_numbers, manager_frame};
+ghost use Rattle.slot_requests.specs.Requests.{request_numbers, manager_bytes};
 
-use crate::paths::write_slot_path;
+use crate::paths::slot_path;
 use crate::sizes::{is_large, o_t_params, t_o_params};
 use cip_encap::command::{REGISTER_SESSION, SEND_RR_DATA};
 use cip_encap::{
     HEADER_LEN, MessageHeader, MessageView, items_len, put_items_header, put_message_header,
     write_message,
 };
+use cip_epath::{ConnPath, path_len};
 use cip_events::{Frame, Recipient};
 use cip_fwdopen::service::{FORWARD_CLOSE, FORWARD_OPEN, LARGE_FORWARD_OPEN};
-use cip_fwdopen::{CloseRequest, OpenRequest, write_close, write_open};
+use cip_fwdopen::{CloseRequest, OpenRequest, close_len, open_len, put_close, put_open};
 use cip_types::fields::put_bytes;
 use cip_types::{ConnId, Items, OutOfMemory, Triad};
 use conn_state::Requested;
@@ -66,29 +67,26 @@ fn request_header(session: Session, number: u64, len: u16) -> MessageHeader
     }
 }
 
-/// The frame of a request to the Connection Manager, within a session. It is written into one buffer.
-fn manager_frame(
+/// The message with a request to the Connection Manager, within a session, up to the request's data. The data, of this
+/// length, are to follow, and there is room for them.
+fn manager_front(
     alloc: Global,
     session: Session,
     number: u64,
     service: u8,
-    body: &[u8],
-) -> Result<Frame, OutOfMemory>
-    requires { length body.now ≤ 1000 }
-    ensures { IfOk result (λ frame. frame ≡ manager_frame session number service body.now) }
+    len: usize,
+) -> Result<Vec<u8>, OutOfMemory>
+    requires { len ≤ 1000 }
+    ensures { (body : List ℕ) → length body ≡ len → IfOk result (λ v. v.items ++ body ≡ manager_bytes session number service body) }
 {
     let manager = [service, 2, 0x20, 6, 0x24, 1];
-    let request_len = manager.len() + body.len();
-    let len = items_len(request_len, None);
-    let mut out = Vec::with_capacity(alloc, HEADER_LEN + len)?;
-    put_message_header(&mut out, &request_header(session, number, len as u16))?;
+    let request_len = manager.len() + len;
+    let items = items_len(request_len, None);
+    let mut out = Vec::with_capacity(alloc, HEADER_LEN + items)?;
+    put_message_header(&mut out, &request_header(session, number, items as u16))?;
     put_items_header(&mut out, request_len as u16, None)?;
     put_bytes(&mut out, &manager)?;
-    put_bytes(&mut out, body)?;
-    Ok(Frame {
-        to: Recipient::Stream(session.stream),
-        bytes: Items::from_vec(out),
-    })
+    Ok(out)
 }
 
 fn open_service(large: bool) -> u8
@@ -107,10 +105,11 @@ fn id_or_zero(id: Option<ConnId>) -> ConnId
     id.unwrap_or(ConnId(0))
 }
 
-/// Returns the fields of a slot's Forward_Open.
-fn open_request<'a>(config: &SlotConfig, requested: &Requested, path: &'a [u8]) -> OpenRequest<'a>
+/// Returns the contents of a slot's Forward_Open.
+fn open_request<'a>(config: &'a SlotConfig, requested: &Requested) -> OpenRequest<ConnPath<'a>>
     requires { IsTrue (has_lengths config.now) }
-    ensures { view_open result ≡ record (open_fields config.now requested.now) { path = path.now } }
+    ensures contents { sent_open result ≡ open_fields config.now requested.now }
+    ensures path { view_path result.path ≡ slot_path config.now }
 {
     OpenRequest {
         priority_tick: PRIORITY_TICK,
@@ -124,23 +123,8 @@ fn open_request<'a>(config: &SlotConfig, requested: &Requested, path: &'a [u8]) 
         t_o_rpi: config.t_o_rpi,
         t_o_params: t_o_params(config),
         trigger: config.trigger.byte(),
-        path,
+        path: slot_path(config),
     }
-}
-
-/// Writes the data of a slot's Forward_Open.
-fn open_body(
-    alloc: Global,
-    config: &SlotConfig,
-    requested: &Requested,
-) -> Result<Vec<u8>, OutOfMemory>
-    requires { IsTrue (has_lengths config.now) }
-    ensures text { IfOk result (λ v. v.items ≡ open_text (is_large config.now) (open_fields config.now requested.now)) }
-    ensures short { IfOk result (λ v. length v.items ≤ 1000) }
-{
-    let path = write_slot_path(alloc, config)?;
-    let request = open_request(config, requested, &path);
-    write_open(alloc, is_large(config), &request)
 }
 
 /// Makes the frame of a slot's Forward_Open, or of a Large_Forward_Open if a size needs it, within a session. The
@@ -157,25 +141,15 @@ pub fn open_frame(
     requires { IsTrue (has_lengths config.now) }
     ensures { IfOk result (λ frame. frame ≡ sent_frame (numbered session number (opening (is_large config.now) (open_fields config.now requested.now)))) }
 {
-    let body = open_body(alloc, config, requested)?;
-    let service = open_service(is_large(config));
-    manager_frame(alloc, session, number, service, &body)
-}
-
-/// The data of the request that ends a slot's connection.
-fn close_body(alloc: Global, config: &SlotConfig, triad: Triad) -> Result<Vec<u8>, OutOfMemory>
-    requires { IsTrue (has_lengths config.now) }
-    ensures text { IfOk result (λ v. v.items ≡ close_text (close_fields config.now triad)) }
-    ensures short { IfOk result (λ v. length v.items ≤ 1000) }
-{
-    let path = write_slot_path(alloc, config)?;
-    let request = CloseRequest {
-        priority_tick: PRIORITY_TICK,
-        ticks: TICKS,
-        triad,
-        path: &path,
-    };
-    write_close(alloc, &request)
+    let request = open_request(config, requested);
+    let large = is_large(config);
+    let len = open_len(large, path_len(&request.path));
+    let mut out = manager_front(alloc, session, number, open_service(large), len)?;
+    put_open(&mut out, large, &request)?;
+    Ok(Frame {
+        to: Recipient::Stream(session.stream),
+        bytes: Items::from_vec(out),
+    })
 }
 
 /// Makes the frame of a slot's Forward_Close, within a session. The number of the request is the sender context.
@@ -192,6 +166,17 @@ pub fn close_frame(
     requires { IsTrue (has_lengths config.now) }
     ensures { IfOk result (λ frame. frame ≡ sent_frame (numbered session number (closing (close_fields config.now triad)))) }
 {
-    let body = close_body(alloc, config, triad)?;
-    manager_frame(alloc, session, number, FORWARD_CLOSE, &body)
+    let request = CloseRequest {
+        priority_tick: PRIORITY_TICK,
+        ticks: TICKS,
+        triad,
+        path: slot_path(config),
+    };
+    let len = close_len(path_len(&request.path));
+    let mut out = manager_front(alloc, session, number, FORWARD_CLOSE, len)?;
+    put_close(&mut out, &request)?;
+    Ok(Frame {
+        to: Recipient::Stream(session.stream),
+        bytes: Items::from_vec(out),
+    })
 }
