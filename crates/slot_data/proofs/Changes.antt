@@ -1,11 +1,11 @@
 -- Slots that change in place.
-use Rattle.std.proofs.Common.{◌≡◌, ◌<◌, ◌≤◌, ℕ, suc, ◌+◌, ◌==◌, Result, Bool, true, false, cond, List, [], ◌∷◌, ◌++◌, length, map, take, drop, get_or, set, drop-cons, find, Option, Some, Ok, refl, sym, ◌∙◌, ap, subst, arith, append_assoc}
+use Rattle.std.proofs.Common.{◌≡◌, ◌<◌, ◌≤◌, ℕ, suc, ◌+◌, ◌==◌, Result, Bool, true, false, cond, List, [], ◌∷◌, ◌++◌, length, map, take, drop, get_or, set, drop-cons, find, Option, Some, Ok, refl, sym, ◌∙◌, ap, subst, arith}
 use Rattle.std.specs.List.{filter_map, cons_option}
 use Rattle.std.proofs.lemmas.List.{append-nil, map-append}
 use Rattle.std.proofs.lemmas.List.Elements.{filter_map-append}
 use Rattle.cip_events.specs.declared.event.OutgoingDatagram.{OutgoingDatagram}
 use Rattle.cip_productions.specs.Productions.{sent}
-use Rattle.scanner_table.specs.Productions.{written_state, connection_production, state_production, slot_production}
+use Rattle.scanner_table.specs.Productions.{connection_production, state_production, slot_production}
 use Rattle.std.proofs.lemmas.Grind.{common_steps}
 use Rattle.cip_datagram.specs.Datagram.{DatagramFields}
 use Rattle.cip_events.specs.declared.event.Delivery.{Delivery}
@@ -79,32 +79,9 @@ map_more f xs ys i d y lt same mapped is =
     let rest = mapped.rest in
     record { front = grind (arith, common_steps); rest = grind (arith, common_steps) }
 
--- the slots from a number on begin with the slot of that number
-pub rest_begins : (index : ℕ) (configs : List SlotConfig) (slots : List Slot) (d : SlotConfig) (e : Slot) → index < length configs → index < length slots → indexed_from index (drop index configs) (drop index slots) ≡ record { number = index; config = get_or configs index d; slot = get_or slots index e } ∷ indexed_from (suc index) (drop (suc index) configs) (drop (suc index) slots)
-rest_begins index configs slots d e lt lt' = rw (drop-cons configs index d lt, drop-cons slots index e lt') refl
-
 -- a loop over slots that has changed the slots up to i
 abbrev pub Renewed : List SlotConfig → List Slot → List Slot → ℕ → Type 0
 Renewed configs old new i = map moded_slot (indexed_from 0 configs old) ≡ take i new ++ map moded_slot (indexed_from i (drop i configs) (drop i new))
-
--- a slot whose state is that after a change of mode
-moded_by : (b : Bool) (slot : Slot) → record slot { state = cond b (written_state slot.state) slot.state } ≡ cond b (record slot { state = written_state slot.state }) slot
-moded_by true slot = refl
-moded_by false slot = refl
-
-pub renewed_more : (configs : List SlotConfig) (old slots : List Slot) (i : ℕ) (config d : SlotConfig) (slot new e : Slot) → i < length configs → i < length slots → Renewed configs old slots i → config ≡ get_or configs i d → slot ≡ get_or slots i e → new ≡ record slot { state = cond (is_owner config.kind) (written_state slot.state) slot.state } → Renewed configs old (set slots i new) (i + 1)
-renewed_more configs old slots i config d slot new e lt lt' so_far is stood changed =
-    let moded : new ≡ moded_slot (record { number = i; config = get_or configs i d; slot = get_or slots i e }) = changed ∙ moded_by (is_owner config.kind) slot ∙ ap (λ (c : SlotConfig). moded_slot (record { number = i; config = c; slot = slot })) is ∙ ap (λ (s : Slot). moded_slot (record { number = i; config = get_or configs i d; slot = s })) stood in
-    let front : take (i + 1) (set slots i new) ≡ take i slots ++ new ∷ [] = grind (arith, common_steps) in
-    let behind : drop (i + 1) (set slots i new) ≡ drop (i + 1) slots = grind (arith, common_steps) in
-    let up : suc i ≡ i + 1 = omega arith in
-    so_far
-    ∙ ap (λ l. take i slots ++ map moded_slot l) (rest_begins i configs slots d e lt lt')
-    ∙ ap (λ s. take i slots ++ s ∷ map moded_slot (indexed_from (suc i) (drop (suc i) configs) (drop (suc i) slots))) (sym moded)
-    ∙ ap (λ n. take i slots ++ new ∷ map moded_slot (indexed_from n (drop n configs) (drop n slots))) up
-    ∙ sym (append_assoc (take i slots) (new ∷ []) (map moded_slot (indexed_from (i + 1) (drop (i + 1) configs) (drop (i + 1) slots))))
-    ∙ ap (λ l. l ++ map moded_slot (indexed_from (i + 1) (drop (i + 1) configs) (drop (i + 1) slots))) (sym front)
-    ∙ ap (λ l. take (i + 1) (set slots i new) ++ map moded_slot (indexed_from (i + 1) (drop (i + 1) configs) l)) (sym behind)
 
 no_slots : (number : ℕ) (configs : List SlotConfig) → indexed_from number configs [] ≡ []
 no_slots number [] = refl

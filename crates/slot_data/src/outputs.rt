@@ -4,7 +4,6 @@ ghost use Rattle.std.specs.Prelude.{◌≡◌, ◌≤◌, IfErr, map, length, if
 ghost use Rattle.cip_events.specs.Answers.{plain_answer};
 ghost use Rattle.cip_events.specs.declared.event.Verdict.TheVariants.{Done};
 ghost use Rattle.cip_productions.specs.Kinds.{is_owner};
-ghost use Rattle.scanner_table.specs.declared.profile.ScannerProfile.{ScannerProfile};
 ghost use Rattle.scanner_table.specs.Slots.{indexed_from};
 ghost use Rattle.scanner_table.specs.Productions.{written_state};
 ghost use Rattle.scanner_table.specs.Points.{output_slot, moded_slot, write, mode};

@@ -1,6 +1,6 @@
 //! The datagrams that slots send.
 
-ghost use Rattle.std.specs.Prelude.{◌≡◌, ◌≤◌, All, ◌^◌, ◌+◌, ◌++◌, ◌∷◌, [], OnOk, map, filter, length, IfOk, if◌then◌else◌};
+ghost use Rattle.std.specs.Prelude.{◌≡◌, ◌≤◌, All, ◌^◌, ◌+◌, ◌++◌, ◌∷◌, [], OnOk, map, filter, length, IfOk};
 ghost use Rattle.std.specs.Int.{w32, to_le_bytes};
 ghost use Rattle.std.specs.List.{filter_map};
 ghost use Rattle.cip_datagram.specs.Header.{mode_header};
@@ -9,7 +9,7 @@ ghost use Rattle.cip_productions.specs.Productions.{sent};
 ghost use Rattle.scanner_table.specs.declared.profile.ScannerProfile.{ScannerProfile};
 ghost use Rattle.scanner_table.specs.declared.slot.Slot.{Slot};
 ghost use Rattle.scanner_table.specs.Slots.{indexed_from};
-ghost use Rattle.scanner_table.specs.Productions.{slot_data, state_is_due, produced_state, connection_producer, connection_production, slot_production, is_due, due_of, by_due, due_productions, produced_connection, produced_slot, produced_table};
+ghost use Rattle.scanner_table.specs.Productions.{slot_data, connection_production, slot_production, is_due, due_of, by_due, due_productions, produced_connection, produced_slot, produced_table};
 ghost use Rattle.scanner_table.specs.Whole.{IsWhole};
 ghost use Rattle.slot_places.specs.declared.indexed_slots.SlotView.{SlotView};
 ghost use Rattle.slot_places.specs.Views.{view_slot, table_of};

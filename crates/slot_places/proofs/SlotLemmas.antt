@@ -1,5 +1,5 @@
 -- The slot of a number.
-use Rattle.std.proofs.Common.{◌≡◌, Bool, true, false, ◌<◌, ℕ, zero, suc, ◌+◌, ◌==◌, List, [], ◌∷◌, find, slice_get, get_or, length, drop, drop-cons, min, cond, ◌||◌, ◌++◌, map, filter, ◌≤◌, Option, slice_set, subst, Some, None, refl, sym, ◌∙◌, ap, arith}
+use Rattle.std.proofs.Common.{◌≡◌, Bool, true, false, ◌<◌, ℕ, zero, suc, ◌+◌, ◌==◌, List, [], ◌∷◌, find, slice_get, get_or, length, drop, drop-cons, min, cond, ◌||◌, ◌++◌, filter, ◌≤◌, Option, subst, Some, None, refl, sym, ◌∙◌, ap, arith}
 use Rattle.std.proofs.lemmas.Bool.Decides.{nat_tests}
 use Rattle.std.proofs.lemmas.List.{append-nil}
 use Rattle.std.proofs.lemmas.Option.{slice_get-get_or, slice_get_past}
@@ -8,20 +8,12 @@ use Rattle.std.specs.List.{list_any}
 use Rattle.scanner_table.specs.declared.profile.SlotConfig.{SlotConfig}
 use Rattle.scanner_table.specs.declared.slot.Slot.{Slot}
 use Rattle.scanner_table.specs.Slots.{IndexedSlot, indexed_from, is_numbered}
-use Rattle.slot_places.specs.Views.{changed_slot}
 
 -- the indexed slot of a configuration and a slot, if both are there
 abbrev pub indexed_at : ℕ → Option SlotConfig → Option Slot → Option IndexedSlot
 indexed_at number None slot = None
 indexed_at number (Some config) None = None
 indexed_at number (Some config) (Some slot) = Some (record { number = number; config = config; slot = slot })
-
-past : (number from : ℕ) (configs : List SlotConfig) (slots : List Slot) → number < from → find (is_numbered number) (indexed_from from configs slots) ≡ None
-past number from [] slots lt = refl
-past number from (config ∷ configs) [] lt = refl
-past number from (config ∷ configs) (slot ∷ slots) lt =
-    let other : (from == number) ≡ false = grind (arith, nat_tests) in
-    rw other (past number (suc from) configs slots (omega arith))
 
 found_from : (number index from : ℕ) (configs : List SlotConfig) (slots : List Slot) → number ≡ from + index → find (is_numbered number) (indexed_from from configs slots) ≡ indexed_at number (slice_get configs index) (slice_get slots index)
 found_from number index from [] slots is = refl
@@ -137,30 +129,3 @@ found_slot test configs slots indexed is =
     let stands = found_stands test 0 configs slots indexed is in
     let same : stands.index ≡ indexed.number = omega (arith, stands.number) in
     (subst (λ n. slice_get configs n ≡ Some indexed.config) same stands.config, subst (λ n. slice_get slots n ≡ Some indexed.slot) same stands.slot)
-
-same_slot : (b : Bool) (slot : Slot) (indexed : IndexedSlot) → b ≡ false → cond b (record indexed { slot = slot }) indexed ≡ indexed
-same_slot true slot indexed is = absurd (let e : true ≡ false = is in cc)
-same_slot false slot indexed is = refl
-
--- the slots from a larger number on do not change
-unchanged : (number from : ℕ) (configs : List SlotConfig) (slots : List Slot) (slot : Slot) → number < from → map (changed_slot number slot) (indexed_from from configs slots) ≡ indexed_from from configs slots
-unchanged number from [] slots slot lt = refl
-unchanged number from (config ∷ configs) [] slot lt = refl
-unchanged number from (config ∷ configs) (first ∷ slots) slot lt =
-    let other : (from == number) ≡ false = grind (arith, nat_tests) in
-    rw (other, unchanged number (suc from) configs slots slot (omega arith)) refl
-
-changed_from : (number index from : ℕ) (configs : List SlotConfig) (slots : List Slot) (slot : Slot) → number ≡ from + index → indexed_from from configs (slice_set slots index slot) ≡ map (changed_slot number slot) (indexed_from from configs slots)
-changed_from number index from [] slots slot is = refl
-changed_from number zero from (config ∷ configs) [] slot is = refl
-changed_from number (suc index) from (config ∷ configs) [] slot is = refl
-changed_from number zero from (config ∷ configs) (first ∷ slots) slot is =
-    let same : from ≡ number = omega (arith, is) in
-    let here : (number == number) ≡ true = grind (arith, nat_tests) in
-    rw (same, here, unchanged number (suc number) configs slots slot (omega arith)) refl
-changed_from number (suc index) from (config ∷ configs) (first ∷ slots) slot is =
-    let other : (from == number) ≡ false = grind (arith, nat_tests, is) in
-    rw (other, changed_from number index (suc from) configs slots slot (omega (arith, is))) refl
-
-pub slot_changed : (configs : List SlotConfig) (slots : List Slot) (number : ℕ) (slot : Slot) → indexed_from 0 configs (slice_set slots number slot) ≡ map (changed_slot number slot) (indexed_from 0 configs slots)
-slot_changed configs slots number slot = changed_from number number 0 configs slots slot (omega arith)

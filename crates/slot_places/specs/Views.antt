@@ -1,9 +1,8 @@
 -- The types of this crate as values of the definitions.
-use Rattle.std.specs.Prelude.{ℕ, Bool, if◌then◌else◌}
+use Rattle.std.specs.Prelude.{◌&&◌, Bool}
 use Rattle.scanner_table.specs.declared.profile.ScannerProfile.{ScannerProfile}
 use Rattle.scanner_table.specs.declared.table.ScannerTable.{ScannerTable}
-use Rattle.scanner_table.specs.declared.slot.Slot.{Slot}
-use Rattle.scanner_table.specs.Slots.{IndexedSlot, is_numbered}
+use Rattle.scanner_table.specs.Slots.{IndexedSlot, is_with}
 use Rattle.scanner_table.specs.Opening.{is_ready_slot}
 use Rattle.scanner_table.specs.Replies.{uses_id}
 use Rattle.scanner_table.specs.Encapsulation.{is_awaiting}
@@ -12,7 +11,7 @@ use Rattle.scanner_table.specs.Ticks.{has_expired, is_overdue}
 use Rattle.scanner_table.specs.Productions.{is_due}
 use Rattle.slot_places.specs.declared.indexed_slots.SlotView.{SlotView}
 use Rattle.slot_places.specs.declared.search.SlotTest.{SlotTest}
-use Rattle.slot_places.specs.declared.search.SlotTest.TheVariants.{For, Awaiting, UsesId, Ready, Expired, Overdue, Due}
+use Rattle.slot_places.specs.declared.search.SlotTest.TheVariants.{For, Awaiting, UsesId, Ready, ReadyWith, With, Expired, Overdue, Due}
 use Rattle.slot_places.specs.declared.scanner.ScannerState.{ScannerState}
 
 -- an indexed slot, wherever its parts are in memory
@@ -38,10 +37,8 @@ passes (For peer id) = is_for peer id.0
 passes (Awaiting target number) = is_awaiting target number
 passes (UsesId number target id) = uses_id number target id
 passes (Ready clock) = is_ready_slot clock
+passes (ReadyWith target clock) = λ indexed. is_ready_slot clock indexed && is_with target indexed
+passes (With target) = is_with target
 passes (Expired clock) = has_expired clock
 passes (Overdue clock) = is_overdue clock
 passes (Due clock) = is_due clock
-
--- the indexed slot, with another slot if it has this number
-abbrev pub changed_slot : ℕ → Slot → IndexedSlot → IndexedSlot
-changed_slot number slot indexed = if is_numbered number indexed then record indexed { slot = slot } else indexed

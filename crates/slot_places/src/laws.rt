@@ -1,10 +1,9 @@
 //! Laws of indexed slots. A law call does nothing; its contract states the law.
 
-ghost use Rattle.std.specs.Prelude.{◌≡◌, ◌<◌, ℕ, suc, Bool, List, ◌∷◌, length, drop, find, map, get_or, slice_get, slice_set, Some};
+ghost use Rattle.std.specs.Prelude.{◌≡◌, ◌<◌, ℕ, suc, Bool, List, ◌∷◌, length, drop, find, get_or, slice_get, Some};
 ghost use Rattle.scanner_table.specs.declared.profile.SlotConfig.{SlotConfig};
 ghost use Rattle.scanner_table.specs.declared.slot.Slot.{Slot};
 ghost use Rattle.scanner_table.specs.Slots.{IndexedSlot, indexed_from};
-ghost use Rattle.slot_places.specs.Views.{changed_slot};
 
 /// A slot that a search finds has the configuration and the slot of its number.
 pub fn found_slots_match()
@@ -15,10 +14,4 @@ pub fn found_slots_match()
 #[tactic(auto, using(crate::proofs::SlotLemmas::rest_begins))]
 pub fn slots_go_on()
     ensures { (index : ℕ) (configs : List SlotConfig) (slots : List Slot) (config : SlotConfig) (slot : Slot) → index < length configs → index < length slots → indexed_from index (drop index configs) (drop index slots) ≡ record { number = index; config = get_or configs index config; slot = get_or slots index slot } ∷ indexed_from (suc index) (drop (suc index) configs) (drop (suc index) slots) }
-{}
-
-/// If one slot is replaced, no other indexed slot changes.
-#[tactic(auto, using(crate::proofs::SlotLemmas::slot_changed))]
-pub fn one_slot_changes()
-    ensures { (configs : List SlotConfig) (slots : List Slot) (number : ℕ) (slot : Slot) → indexed_from 0 configs (slice_set slots number slot) ≡ map (changed_slot number slot) (indexed_from 0 configs slots) }
 {}

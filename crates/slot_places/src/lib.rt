@@ -11,7 +11,7 @@ mod search;
 mod states;
 
 pub use indexed_slots::{SlotView, slot_at};
-pub use laws::{found_slots_match, one_slot_changes, slots_go_on};
+pub use laws::{found_slots_match, slots_go_on};
 pub use scanner::{ScannerState, session_with};
 pub use search::{SlotTest, any_passes, find_slot, slots_that};
-pub use states::{consumes, has_expired, is_due, is_overdue, is_ready, number_of, waits_for};
+pub use states::{is_due, number_of};

@@ -1,13 +1,10 @@
 //! A scanner's table beside its profile, and the sessions of its streams.
 
-ghost use Rattle.std.specs.Prelude.{◌≡◌, IfOk, find, option_and_then};
-ghost use Rattle.scanner_table.specs.declared.profile.ScannerProfile.{ScannerProfile};
-ghost use Rattle.scanner_table.specs.Sessions.{is_to, session_at, session_on};
-ghost use Rattle.slot_places.specs.Views.{table_of};
+ghost use Rattle.std.specs.Prelude.{◌≡◌, find, option_and_then};
+ghost use Rattle.scanner_table.specs.Sessions.{is_to, session_on};
 
-use cip_types::{Ms, Node, OutOfMemory};
-use scanner_table::{Session, Slot, Stage, TargetStream, copy_of_slots};
-use std::alloc::Global;
+use cip_types::{Ms, Node};
+use scanner_table::{Session, Slot, Stage, TargetStream};
 
 /// A scanner's table without its profile: its slots in the profile's order, whether its application runs, its
 /// clock, the counter part of the next connection id, the serial number of the next opening, the number of the
@@ -21,34 +18,6 @@ pub struct ScannerState {
     pub next_serial: u16,
     pub next_request: u64,
     pub streams: Vec<TargetStream>,
-}
-
-fn copy_of_streams(
-    alloc: Global,
-    streams: &[TargetStream],
-) -> Result<Vec<TargetStream>, OutOfMemory>
-    ensures { IfOk result (λ copies. copies.items ≡ streams.now) }
-{
-    Ok(Vec::from_slice(alloc, streams)?)
-}
-
-impl ScannerState {
-    /// A copy of the table.
-    pub fn copy(&self, alloc: Global) -> Result<ScannerState, OutOfMemory>
-        ensures { IfOk result (λ copy. (profile : ScannerProfile) → table_of profile copy ≡ table_of profile self.now) }
-    {
-        let slots = copy_of_slots(alloc, &self.slots)?;
-        let streams = copy_of_streams(alloc, &self.streams)?;
-        Ok(ScannerState {
-            slots,
-            run: self.run,
-            clock: self.clock,
-            next_id: self.next_id,
-            next_serial: self.next_serial,
-            next_request: self.next_request,
-            streams,
-        })
-    }
 }
 
 fn session_on(stream: TargetStream) -> Option<Session>

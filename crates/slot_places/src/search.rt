@@ -1,9 +1,9 @@
 //! Searches among slots.
 
-ghost use Rattle.std.specs.Prelude.{◌≡◌, ◌<◌, ◌≤◌, ◌^◌, ◌==◌, find, filter, map, length, IfOk, IfSome};
+ghost use Rattle.std.specs.Prelude.{◌≡◌, ◌<◌, ◌≤◌, ◌^◌, find, filter, map, length, IfOk, IfSome};
 ghost use Rattle.std.specs.Option.{option_map};
 ghost use Rattle.std.specs.List.{list_any};
-ghost use Rattle.scanner_table.specs.Slots.{is_with, is_numbered, indexed_from};
+ghost use Rattle.scanner_table.specs.Slots.{is_with, indexed_from};
 ghost use Rattle.scanner_table.specs.Replies.{uses_id};
 ghost use Rattle.slot_places.specs.Views.{view_slot, passes};
 
@@ -24,6 +24,10 @@ pub enum SlotTest {
     UsesId(u32, Node, ConnId),
     /// The slot's connection is desired, is not open, and its retry time has come.
     Ready(Ms),
+    /// The slot is of this target, and is ready to open at this time.
+    ReadyWith(Node, Ms),
+    /// The slot is of this target.
+    With(Node),
     /// The slot is established, and its deadline has come.
     Expired(Ms),
     /// The deadline of the slot's request has come.
@@ -57,6 +61,10 @@ impl SlotTest {
             }
             SlotTest::UsesId(number, target, id) => uses_id(indexed, number, target, id),
             SlotTest::Ready(clock) => is_ready(indexed.slot, clock),
+            SlotTest::ReadyWith(target, clock) => {
+                is_ready(indexed.slot, clock) && is_with(indexed, target)
+            }
+            SlotTest::With(target) => is_with(indexed, target),
             SlotTest::Expired(clock) => has_expired(state, clock),
             SlotTest::Overdue(clock) => is_overdue(state, clock),
             SlotTest::Due(clock) => is_due(state, clock),

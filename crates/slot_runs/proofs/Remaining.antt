@@ -1,9 +1,9 @@
 -- A run over slots by their numbers: the whole adds what was added so far, and then what the slots
 -- from the next number on add.
-use Rattle.std.proofs.Common.{◌≡◌, ◌<◌, ◌≤◌, ℕ, zero, suc, ◌+◌, ◌==◌, Bool, true, false, cond, List, [], ◌∷◌, ◌++◌, length, map, drop, filter, find, Option, Some, None, refl, sym, ◌∙◌, ap, arith, append_assoc}
+use Rattle.std.proofs.Common.{◌≡◌, ◌<◌, ℕ, zero, suc, ◌+◌, ◌==◌, Bool, true, false, cond, List, [], ◌∷◌, ◌++◌, map, drop, filter, find, Option, Some, None, refl, sym, ◌∙◌, ap, arith, append_assoc}
 use Rattle.std.specs.Prelude.{option_to_list}
 use Rattle.std.proofs.lemmas.Bool.Decides.{nat_tests}
-use Rattle.std.proofs.lemmas.List.{map-append, append-nil, drop_all}
+use Rattle.std.proofs.lemmas.List.{map-append, append-nil}
 use Rattle.scanner_table.specs.declared.profile.ScannerProfile.{ScannerProfile}
 use Rattle.scanner_table.specs.declared.profile.SlotConfig.{SlotConfig}
 use Rattle.scanner_table.specs.declared.slot.Slot.{Slot}
@@ -14,9 +14,10 @@ use Rattle.scanner_table.specs.Effects.{Effect, nothing, after, on_each}
 use Rattle.slot_transactions.specs.declared.transaction.Transaction.{Transaction}
 use Rattle.slot_transactions.specs.Transactions.{Progress, followed, at_found, after_at}
 use Rattle.slot_transactions.specs.Undoing.{GoesOn}
-use Rattle.slot_runs.specs.declared.slot_filter.SlotFilter.{SlotFilter}
-use Rattle.slot_runs.specs.declared.slot_filter.SlotAction.{SlotAction}
-use Rattle.slot_runs.specs.Runs.{effect_of, selected, at_passes}
+use Rattle.slot_places.specs.declared.search.SlotTest.{SlotTest}
+use Rattle.slot_places.specs.Views.{passes}
+use Rattle.slot_runs.specs.declared.running.SlotAction.{SlotAction}
+use Rattle.slot_runs.specs.Runs.{effect_of, at_passes}
 use Rattle.slot_runs.proofs.Tame.{Changes, IsTame, actions_are_tame}
 
 -- two effects add what they do one after the other
@@ -50,9 +51,6 @@ go_on number (suc index) from (config ∷ configs) (slot ∷ slots) is =
 -- the slot of the number, if there is one, and the later ones
 remaining : (t : ScannerTable) (number : ℕ) → indexed_from number (drop number t.profile.slots) (drop number t.slots) ≡ option_to_list (slot_at t number) ++ indexed_from (suc number) (drop (suc number) t.profile.slots) (drop (suc number) t.slots)
 remaining t number = go_on number number 0 t.profile.slots t.slots (omega arith)
-
-ends : (number : ℕ) (configs : List SlotConfig) (slots : List Slot) → length configs ≤ number → indexed_from number (drop number configs) (drop number slots) ≡ []
-ends number configs slots le = rw (drop_all number configs le) refl
 
 find_passes : (test : IndexedSlot → Bool) (b : Bool) (first indexed : IndexedSlot) (rest : Option IndexedSlot) → test first ≡ b → (rest ≡ Some indexed → test indexed ≡ true) → cond b (Some first) rest ≡ Some indexed → test indexed ≡ true
 find_passes test true first indexed rest is later e = let same : first ≡ indexed = cc in ap test (sym same) ∙ is
@@ -90,10 +88,10 @@ record Taken (effect : ScannerTable → IndexedSlot → Effect) (test : IndexedS
   pub all : filter test (option_to_list (slot_at t number) ++ rest) ≡ indexed ∷ filter test rest
 
 taken : (effect : ScannerTable → IndexedSlot → Effect) (test : IndexedSlot → Bool) (t : ScannerTable) (number : ℕ) (rest : List IndexedSlot) (found : Option IndexedSlot) → slot_at t number ≡ found → at_passes test found ≡ true → Taken effect test t number rest
-taken effect test t number rest None is passes = absurd (let e : false ≡ true = passes in cc)
-taken effect test t number rest (Some indexed) is passes = record { indexed = indexed; found = is; all = ap (λ (o : Option IndexedSlot). filter test (option_to_list o ++ rest)) is ∙ kept } where
+taken effect test t number rest None is holds = absurd (let e : false ≡ true = holds in cc)
+taken effect test t number rest (Some indexed) is holds = record { indexed = indexed; found = is; all = ap (λ (o : Option IndexedSlot). filter test (option_to_list o ++ rest)) is ∙ kept } where
   kept : filter test (indexed ∷ rest) ≡ indexed ∷ filter test rest
-  kept = let holds : test indexed ≡ true = passes in rw holds refl
+  kept = let is : test indexed ≡ true = holds in rw is refl
 
 -- a change of one slot leaves the later slots
 tail_same : (number n : ℕ) (t u : ScannerTable) → Changes n t u → n < suc number → indexed_from (suc number) (drop (suc number) t.profile.slots) (drop (suc number) t.slots) ≡ indexed_from (suc number) (drop (suc number) u.profile.slots) (drop (suc number) u.slots)
@@ -103,10 +101,10 @@ tail_same number n t u changes below =
 
 -- a slot that passes adds its effect
 pub take_one : (effect : ScannerTable → IndexedSlot → Effect) (test : IndexedSlot → Bool) (all now next : Progress) (number : ℕ) → IsTame effect → all ≡ followed now (left effect test number now.table) → at_passes test (slot_at now.table number) ≡ true → next ≡ after_at effect number now → all ≡ followed next (left effect test (suc number) next.table)
-take_one effect test all now next number tame is passes made =
+take_one effect test all now next number tame is holds made =
     let t = now.table in
     let rest = indexed_from (suc number) (drop (suc number) t.profile.slots) (drop (suc number) t.slots) in
-    let one = taken effect test t number rest (slot_at t number) refl passes in
+    let one = taken effect test t number rest (slot_at t number) refl holds in
     let adds : next ≡ followed now (effect t one.indexed) = made ∙ ap (λ (o : Option IndexedSlot). followed now (at_found effect t o)) one.found in
     let changes = tame t one.indexed in
     let below : one.indexed.number < suc number = omega (arith, found_number t number one.indexed one.found) in
@@ -118,22 +116,17 @@ take_one effect test all now next number tame is passes made =
     ∙ ap (λ (ps : List IndexedSlot). followed (followed now (effect t one.indexed)) (on_each effect (filter test ps) u)) same
     ∙ ap (λ (d : Progress). followed d (left effect test (suc number) d.table)) (sym adds)
 
--- behind the last number nothing is left
-pub run_ends : (effect : ScannerTable → IndexedSlot → Effect) (test : IndexedSlot → Bool) (all now : Progress) (number : ℕ) → length now.table.profile.slots ≤ number → all ≡ followed now (left effect test number now.table) → all ≡ now
-run_ends effect test all now number past is =
-    is ∙ ap (λ (ps : List IndexedSlot). followed now (on_each effect (filter test ps) now.table)) (ends number now.table.profile.slots now.table.slots past) ∙ adds_nothing now
-
 -- ---- the steps of the loop
 
-pub take_next : (action : SlotAction) (which : SlotFilter) (all now next : Progress) (number : ℕ) → all ≡ followed now (left (effect_of action) (selected which) number now.table) → at_passes (selected which) (slot_at now.table number) ≡ true → next ≡ after_at (effect_of action) number now → all ≡ followed next (left (effect_of action) (selected which) (number + 1) next.table)
-take_next action which all now next number is passes made =
+pub take_next : (action : SlotAction) (test : SlotTest) (all now next : Progress) (number : ℕ) → all ≡ followed now (left (effect_of action) (passes test) number now.table) → at_passes (passes test) (slot_at now.table number) ≡ true → next ≡ after_at (effect_of action) number now → all ≡ followed next (left (effect_of action) (passes test) (number + 1) next.table)
+take_next action test all now next number is holds made =
     let up : number + 1 ≡ suc number = omega arith in
-    rw up (take_one (effect_of action) (selected which) all now next number (actions_are_tame action) is passes made)
+    rw up (take_one (effect_of action) (passes test) all now next number (actions_are_tame action) is holds made)
 
-pub skip_next : (action : SlotAction) (which : SlotFilter) (all now : Progress) (number : ℕ) → all ≡ followed now (left (effect_of action) (selected which) number now.table) → at_passes (selected which) (slot_at now.table number) ≡ false → all ≡ followed now (left (effect_of action) (selected which) (number + 1) now.table)
-skip_next action which all now number is fails =
+pub skip_next : (action : SlotAction) (test : SlotTest) (all now : Progress) (number : ℕ) → all ≡ followed now (left (effect_of action) (passes test) number now.table) → at_passes (passes test) (slot_at now.table number) ≡ false → all ≡ followed now (left (effect_of action) (passes test) (number + 1) now.table)
+skip_next action test all now number is fails =
     let up : number + 1 ≡ suc number = omega arith in
-    rw up (skip (effect_of action) (selected which) all now number is fails)
+    rw up (skip (effect_of action) (passes test) all now number is fails)
 
 -- a transaction that goes on twice goes on
 pub goes_on : (first then last : Transaction) → GoesOn first then → GoesOn then last → GoesOn first last

@@ -1,8 +1,9 @@
 -- Slots of a table, each with a number of its own, in any order.
-use Rattle.std.proofs.Common.{◌≡◌, ◌<◌, ℕ, zero, suc, ◌+◌, ◌==◌, Bool, true, false, cond, List, [], ◌∷◌, filter, find, slice_get, Option, Some, None, refl, sym, ◌∙◌, ap, subst, arith}
+use Rattle.std.proofs.Common.{◌≡◌, ◌<◌, ℕ, zero, suc, ◌+◌, ◌==◌, Bool, true, false, cond, List, [], ◌∷◌, filter, find, length, slice_get, Option, Some, None, refl, sym, ◌∙◌, ap, subst, arith}
 use Rattle.std.specs.List.{list_any}
 use Rattle.std.proofs.lemmas.Bool.{or_parts}
 use Rattle.std.proofs.lemmas.Bool.Decides.{nat_tests}
+use Rattle.std.proofs.lemmas.Option.{slice_get_within}
 use Rattle.cip_types.specs.Order.{inserted, in_order}
 use Rattle.scanner_table.specs.declared.profile.ScannerProfile.{ScannerProfile}
 use Rattle.scanner_table.specs.declared.profile.SlotConfig.{SlotConfig}
@@ -36,6 +37,15 @@ found_from number (suc index) from (config ∷ configs) (slot ∷ slots) is =
 
 at_get : (t : ScannerTable) (number : ℕ) → slot_at t number ≡ indexed_at number (slice_get t.profile.slots number) (slice_get t.slots number)
 at_get t number = found_from number number 0 t.profile.slots t.slots (omega arith)
+
+both_within : (number : ℕ) (configs : List SlotConfig) (slots : List Slot) (indexed : IndexedSlot) (config : Option SlotConfig) (slot : Option Slot) → slice_get configs number ≡ config → slice_get slots number ≡ slot → indexed_at number config slot ≡ Some indexed → (number < length configs) × (number < length slots)
+both_within number configs slots indexed None slot at at' is = absurd (cc)
+both_within number configs slots indexed (Some config) None at at' is = absurd (cc)
+both_within number configs slots indexed (Some config) (Some slot) at at' is = (slice_get_within configs number config at, slice_get_within slots number slot at')
+
+-- the number of a slot of the table is within its lists
+pub stands_within : (t : ScannerTable) (number : ℕ) (indexed : IndexedSlot) → slot_at t number ≡ Some indexed → (number < length t.profile.slots) × (number < length t.slots)
+stands_within t number indexed is = both_within number t.profile.slots t.slots indexed _ _ refl refl (sym (at_get t number) ∙ is)
 
 -- the slots of other numbers than that of a changed slot stay
 at_other : (t u : ScannerTable) (number n : ℕ) → Changes number t u → (n == number) ≡ false → slot_at u n ≡ slot_at t n

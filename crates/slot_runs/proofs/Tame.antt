@@ -13,8 +13,8 @@ use Rattle.scanner_table.specs.Effects.{Effect}
 use Rattle.scanner_table.specs.Opening.{can_open, open_requested, exhausted, opened_within, opened}
 use Rattle.scanner_table.specs.Closing.{given_up_state}
 use Rattle.scanner_table.specs.Ticks.{expired, expired_state}
-use Rattle.slot_runs.specs.declared.slot_filter.SlotAction.{SlotAction}
-use Rattle.slot_runs.specs.declared.slot_filter.SlotAction.TheVariants as slot_action
+use Rattle.slot_runs.specs.declared.running.SlotAction.{SlotAction}
+use Rattle.slot_runs.specs.declared.running.SlotAction.TheVariants as slot_action
 use Rattle.slot_runs.specs.Runs.{effect_of}
 
 -- the table has the profile, and but for the slot of a number the slots, of another

@@ -8,7 +8,6 @@ mod expiries;
 mod messages;
 mod running;
 mod sessions;
-mod slot_filter;
 
 pub use expiries::{advance, expire_all};
 pub use messages::{FrameOutcome, receive_frame};

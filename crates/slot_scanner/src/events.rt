@@ -3,7 +3,6 @@
 ghost use Rattle.std.specs.Prelude.{◌≡◌, ◌≢◌, Ok, Err, Some, None, IfOk, IfErr, true};
 ghost use Rattle.cip_events.specs.Outcomes.{Follows};
 ghost use Rattle.cip_tables.specs.Step.{image_of, is_datagram};
-ghost use Rattle.scanner_table.specs.Datagrams.{delivered, received};
 ghost use Rattle.scanner_table.specs.Points.{read, write, mode};
 ghost use Rattle.scanner_table.specs.Slots.{slot_at};
 ghost use Rattle.scanner_table.specs.Step.{scanner_step};

@@ -1,6 +1,6 @@
 //! The slots of a scanner, and their starts and stops.
 
-ghost use Rattle.std.specs.Prelude.{◌≡◌, IsOk};
+ghost use Rattle.std.specs.Prelude.{◌≡◌};
 ghost use Rattle.cip_events.specs.Outcomes.{Follows};
 ghost use Rattle.scanner_table.specs.Points.{start, stop};
 ghost use Rattle.scanner_table.specs.Whole.{IsWhole};

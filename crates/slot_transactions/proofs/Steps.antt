@@ -25,11 +25,6 @@ use Rattle.slot_transactions.proofs.Found.{found}
 pub still : (so_far : Progress) → so_far ≡ followed so_far (nothing so_far.table)
 still so_far = rw (append-nil so_far.frames, append-nil so_far.notices) refl
 
--- the same where no slot has the number
-pub none_found : (effect : ScannerTable → IndexedSlot → Effect) (so_far : Progress) (number : ℕ) → None ≡ slot_at so_far.table number → so_far ≡ followed so_far (at_number effect so_far.table number)
-none_found effect so_far number is =
-    still so_far ∙ ap (λ (o : Option IndexedSlot). followed so_far (at_found effect so_far.table o)) is
-
 pub some_found : (effect : ScannerTable → IndexedSlot → Effect) (so_far new : Progress) (number : ℕ) (indexed : IndexedSlot) → Some indexed ≡ slot_at so_far.table number → new ≡ followed so_far (effect so_far.table indexed) → new ≡ followed so_far (at_number effect so_far.table number)
 some_found effect so_far new number indexed is made =
     made ∙ ap (λ (o : Option IndexedSlot). followed so_far (at_found effect so_far.table o)) is
@@ -45,14 +40,6 @@ slot_changed_adds so_far number slot_change reported indexed notices slots is sa
     let put : slots ≡ slice_set so_far.table.slots number (with_change slot_change indexed.slot) = set indexed.slot known.slot in
     let at = sym known.numbered in
     some_found (slot_changed slot_change reported) so_far _ number indexed is (changed_adds so_far indexed (with_change slot_change indexed.slot) (listed reported) notices slots (said ∙ ap (λ (n : ℕ). so_far.notices ++ (listed reported ++ state_notices n indexed.slot.state slot_change.state)) at) (put ∙ ap (λ (n : ℕ). slice_set so_far.table.slots n (with_change slot_change indexed.slot)) at))
-
--- an effect that is a change of one slot
-pub by_change : (effect : ScannerTable → IndexedSlot → Effect) (so_far new : Progress) (number : ℕ) (slot_change : SlotChange) (reported : Option Notice) (indexed : IndexedSlot) → Some indexed ≡ slot_at so_far.table number → new ≡ after_at (slot_changed slot_change reported) number so_far → slot_changed slot_change reported so_far.table indexed ≡ effect so_far.table indexed → new ≡ after_at effect number so_far
-by_change effect so_far new number slot_change reported indexed is made same =
-    made
-    ∙ ap (λ (o : Option IndexedSlot). followed so_far (at_found (slot_changed slot_change reported) so_far.table o)) (sym is)
-    ∙ ap (followed so_far) same
-    ∙ ap (λ (o : Option IndexedSlot). followed so_far (at_found effect so_far.table o)) is
 
 -- a slot that has a connection
 pub occupied_adds : (so_far : Progress) (number : ℕ) (opening : pending.PendingOpen) (opened : made.Opened) (link : Link) (connection : Connection) (image : List ℕ) (indexed : IndexedSlot) (notices : List Notice) (slots : List Slot) → Some indexed ≡ slot_at so_far.table number → link ≡ link_of opening.requested opened → connection ≡ connection_of so_far.table.clock indexed.config indexed.number opening.request link opened → image ≡ replicate indexed.config.in_len 0 → notices ≡ so_far.notices ++ (listed {A = Notice} None ++ state_notices number indexed.slot.state (Established connection)) → ForSome (slice_get so_far.table.slots number) (λ slot. slots ≡ slice_set so_far.table.slots number (occupied (Established connection) image slot)) → record { frames = so_far.frames; notices = notices; table = record so_far.table { slots = slots } } ≡ followed so_far (at_number (established_by opening opened) so_far.table number)

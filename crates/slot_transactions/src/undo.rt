@@ -2,7 +2,6 @@
 
 ghost use Rattle.std.specs.Prelude.{◌≡◌, ◌<◌, Some, OnOk, OnErr, length, slice_get, slice_set, unwrap_or};
 ghost use Rattle.std.specs.Option.{ForSome};
-ghost use Rattle.slot_places.specs.declared.scanner.ScannerState.{ScannerState};
 ghost use Rattle.slot_transactions.specs.Undoing.{slot_before, undone_slots, state_of, state_before};
 
 use crate::transaction::Transaction;

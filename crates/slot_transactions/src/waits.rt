@@ -1,6 +1,6 @@
 //! Deadlines.
 
-ghost use Rattle.std.specs.Prelude.{◌≡◌, ◌+◌, ◌≤◌, ◌^◌};
+ghost use Rattle.std.specs.Prelude.{◌≡◌, ◌≤◌, ◌^◌};
 ghost use Rattle.scanner_table.specs.Opening.{later};
 
 use cip_types::Ms;

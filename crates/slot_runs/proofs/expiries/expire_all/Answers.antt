@@ -1,27 +1,25 @@
-use Rattle.std.proofs.Common.{List, get_or, ap, refl, ◌∙◌, arith}
-use Rattle.cip_types.specs.Order.{in_order}
+use Rattle.std.proofs.Common.{List, ℕ, get_or, ap, refl, arith}
 use Rattle.slot_transactions.specs.Transactions.{view_transaction}
-use Rattle.slot_runs.specs.declared.expiries.Expiry.{Expiry}
-use Rattle.slot_runs.specs.Expiries.{expires_before}
 use Rattle.slot_runs.proofs.Remaining.{goes_on}
-use Rattle.slot_runs.proofs.Ordered.{expiries_are, all_remain, one_expires, all_expire}
+use Rattle.slot_runs.proofs.Ordered.{all_remain, next_stands, one_expires, all_expire}
 use Rattle.slot_runs.proofs.expiries.expire_all.Goals as goal
 
-pub loop-expiry-init : goal.loop-expiry-init
-loop-expiry-init c = record { remains = all_remain (view_transaction c.args.transaction.now); kept = (refl, refl, refl) }
+pub loop-number-init : goal.loop-number-init
+loop-number-init c = record { remains = all_remain (view_transaction c.args.transaction.now); kept = (refl, refl, refl) }
 
-pub loop-expiry-preserved : goal.loop-expiry-preserved
-loop-expiry-preserved c =
+pub expire-requires-clause-found : goal.expire-requires-clause-found
+expire-requires-clause-found c =
     let t = (view_transaction c.args.transaction.now).table in
-    let are = expiries_are t c.in_ok-found.found.items c.in_ok-ordered.ordered.items c.in_ok-found.ensures (c.in_ok-ordered.ensures ∙ ap (in_order expires_before) c.deref.ensures.value) in
-    let none : Expiry = record { deadline = record { 0 = 0 }; number = 0 } in
+    next_stands _ (view_transaction c.loop-number.transaction) t c.in_ok-numbers.numbers.items c.loop-number.number-index _ 0 c.in_ok-numbers.ensures (omega arith) (ap (λ (ns : List ℕ). get_or ns c.loop-number.number-index 0) c.deref-number-items.ensures.value) c.loop-number.invariant.remains
+
+pub loop-number-preserved : goal.loop-number-preserved
+loop-number-preserved c =
+    let t = (view_transaction c.args.transaction.now).table in
     record {
-      remains = one_expires _ (view_transaction c.loop-expiry.transaction) (view_transaction c.expire_slot.new.transaction) t c.in_ok-ordered.ordered.items c.loop-expiry.expiry-index _ none are (omega arith) (ap (λ (es : List Expiry). get_or es c.loop-expiry.expiry-index none) c.deref-expiry-items.ensures.value) c.loop-expiry.invariant.remains c.in_ok-expire_slot.ensures.effect;
-      kept = goes_on c.args.transaction.now c.loop-expiry.transaction c.expire_slot.new.transaction c.loop-expiry.invariant.kept c.in_ok-expire_slot.ensures.kept;
+      remains = one_expires _ (view_transaction c.loop-number.transaction) (view_transaction c.expire.new.self) t c.in_ok-numbers.numbers.items c.loop-number.number-index _ 0 c.in_ok-numbers.ensures (omega arith) (ap (λ (ns : List ℕ). get_or ns c.loop-number.number-index 0) c.deref-number-items.ensures.value) c.loop-number.invariant.remains c.in_ok-expire.ensures.effect;
+      kept = goes_on c.args.transaction.now c.loop-number.transaction c.expire.new.self c.loop-number.invariant.kept c.in_ok-expire.ensures.kept;
     }
 
 pub returns-clause-effect : goal.returns-clause-effect
 returns-clause-effect c =
-    let t = (view_transaction c.args.transaction.now).table in
-    let are = expiries_are t c.in_ok-found.found.items c.in_ok-ordered.ordered.items c.in_ok-found.ensures (c.in_ok-ordered.ensures ∙ ap (in_order expires_before) c.deref.ensures.value) in
-    all_expire _ (view_transaction c.loop-expiry.transaction) t c.in_ok-ordered.ordered.items c.loop-expiry.expiry-index are (omega arith) c.loop-expiry.invariant.remains
+    all_expire _ (view_transaction c.loop-number.transaction) (view_transaction c.args.transaction.now).table c.in_ok-numbers.numbers.items c.loop-number.number-index c.in_ok-numbers.ensures (omega arith) c.loop-number.invariant.remains

@@ -5,8 +5,8 @@ use Rattle.slot_transactions.specs.Undoing.{GoesOn}
 use Rattle.slot_runs.proofs.SlotNumbers.{Remains}
 use Rattle.slot_runs.proofs.expiries.expire_all.Given as goal
 
-abbrev pub invariant-loop-expiry : goal.invariant-loop-expiry
-invariant-loop-expiry l = record {
-  remains : Remains expired (followed (view_transaction l.fn.transaction) (all_expired (view_transaction l.fn.transaction).table)) (view_transaction l.transaction) (drop l.expiry-index (expired_slots (view_transaction l.fn.transaction).table));
+abbrev pub invariant-loop-number : goal.invariant-loop-number
+invariant-loop-number l = record {
+  remains : Remains expired (followed (view_transaction l.fn.transaction) (all_expired (view_transaction l.fn.transaction).table)) (view_transaction l.transaction) (drop l.number-index (expired_slots (view_transaction l.fn.transaction).table));
   kept : GoesOn l.fn.transaction l.transaction;
 }

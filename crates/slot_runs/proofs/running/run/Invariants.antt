@@ -1,12 +1,13 @@
 use Rattle.std.proofs.Common.{◌≡◌}
+use Rattle.slot_places.specs.Views.{passes}
 use Rattle.slot_transactions.specs.Transactions.{view_transaction, followed}
 use Rattle.slot_transactions.specs.Undoing.{GoesOn}
-use Rattle.slot_runs.specs.Runs.{effect_of, selected, run}
+use Rattle.slot_runs.specs.Runs.{effect_of, run}
 use Rattle.slot_runs.proofs.Remaining.{left}
 use Rattle.slot_runs.proofs.running.run.Given as goal
 
 abbrev pub invariant-loop-number : goal.invariant-loop-number
 invariant-loop-number l = record {
-  adds : followed (view_transaction l.fn.transaction) (run l.action l.which (view_transaction l.fn.transaction).table) ≡ followed (view_transaction l.transaction) (left (effect_of l.action) (selected l.which) l.number (view_transaction l.transaction).table);
+  adds : followed (view_transaction l.fn.transaction) (run l.action l.test (view_transaction l.fn.transaction).table) ≡ followed (view_transaction l.transaction) (left (effect_of l.action) (passes l.test) l.number (view_transaction l.transaction).table);
   kept : GoesOn l.fn.transaction l.transaction;
 }
