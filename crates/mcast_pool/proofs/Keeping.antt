@@ -1,9 +1,7 @@
 -- Groups that change stay apart, within their limits, and few.
-use Rattle.std.proofs.Common.{◌≡◌, ◌<◌, ◌≤◌, ℕ, ◌+◌, ◌-◌, ◌^◌, ◌==◌, ◌&&◌, ◌||◌, Bool, true, false, cond, List, [], ◌∷◌, ◌++◌, length, map, take, drop, find, Option, Some, None, refl, sym, ap, subst, ◌∙◌, arith}
+use Rattle.std.proofs.Common.{◌≡◌, ◌<◌, ◌≤◌, ℕ, ◌+◌, ◌-◌, ◌^◌, ◌==◌, ◌&&◌, ◌||◌, Bool, true, false, cond, List, [], ◌∷◌, ◌++◌, length, map, find, Option, Some, None, refl, sym, subst, ◌∙◌, arith}
 use Rattle.std.specs.List.{list_any}
 use Rattle.std.proofs.lemmas.Bool.Decides.{nat_tests}
-use Rattle.std.proofs.lemmas.List.{length-map}
-use Rattle.cip_types.specs.Indices.{written_back}
 use Rattle.cip_types.specs.declared.names.Ms.{Ms}
 use Rattle.cip_netparams.specs.declared.Trigger.{Trigger}
 use Rattle.cip_netparams.specs.declared.Trigger.TheVariants.{Cyclic, ChangeOfState}
@@ -296,9 +294,3 @@ pool_more new groups capacity fits one unused apart few pool =
 pub no_more_groups : (groups : List Group) → AreGroups groups → length groups ≤ subscribers groups
 no_more_groups [] each = omega arith
 no_more_groups (group ∷ groups) each = let rest = no_more_groups groups each.3 in let one = each.1 in omega arith
-
--- a list that is written back over a vector of its length
-pub pool_back : (change : Group → Group) (n capacity : ℕ) (xs old new : List Group) → old ≡ xs → length old ≡ n → new ≡ map change old → IsPool (map change xs) capacity → IsPool (take n (new ++ drop (length new) xs)) capacity
-pool_back change n capacity xs old new same long is pool =
-    let len : length new ≡ n = ap (λ l. length l) is ∙ length-map old change ∙ long in
-    rw (written_back n xs new len) (rw is (rw same pool))

@@ -1,11 +1,11 @@
 -- Groups by their indexes in a list.
-use Rattle.std.proofs.Common.{◌≡◌, ◌<◌, ◌≤◌, ℕ, ◌==◌, ◌&&◌, ◌||◌, Bool, true, false, true≢false, cond, List, [], ◌∷◌, length, get_or, set, find, Option, Some, None, zero, suc, refl, sym, ap, subst, ◌∙◌, nat_lt, is_some, arith, rules}
+use Rattle.std.proofs.Common.{◌≡◌, ◌<◌, ◌≤◌, ℕ, ◌==◌, ◌&&◌, ◌||◌, Bool, true, false, true≢false, cond, List, [], ◌∷◌, ◌++◌, length, map, take, drop, get_or, set, find, Option, Some, None, zero, suc, refl, sym, ap, subst, ◌∙◌, nat_lt, is_some, arith, rules}
 use Rattle.std.specs.List.{list_any, position, position_or_len, remove}
 use Rattle.std.specs.Option.{IsSome}
 use Rattle.std.proofs.lemmas.Bool.Decides.{nat_tests, Decides-eqb}
 use Rattle.std.proofs.lemmas.List.{get_or-set_same}
 use Rattle.std.proofs.lemmas.List.Quantifiers.{position-Some}
-use Rattle.cip_types.specs.Indices.{Mapped, mapped_at, find_none}
+use Rattle.cip_types.specs.Indices.{Mapped, mapped_at, map_done, written_back, find_none}
 use Rattle.mcast_pool.specs.declared.group.Group.{Group}
 use Rattle.mcast_pool.specs.Groups.{has_number, number_of, numbered, is_like, serves, index_for, joined_group, change_first, left, one_less, subscribers, AreGroups, FitsGroup}
 
@@ -27,6 +27,11 @@ changed_there test change (group ∷ groups) zero d is = rw is.passes refl
 changed_there test change (group ∷ groups) (suc at) d is =
     let no : test group ≡ false = is.fails 0 (omega arith) in
     rw no (ap (λ l. group ∷ l) (changed_there test change groups at d (later test group groups at d is)))
+
+-- the same, of what has been made of the group at the index
+pub change_at : (test : Group → Bool) (change : Group → Group) (groups : List Group) (at : ℕ) (group new : Group) → position test groups ≡ Some at → group ≡ get_or groups at group → new ≡ change group → set groups at new ≡ change_first test change groups
+change_at test change groups at group new found there is =
+    ap (set groups at) (is ∙ ap change there) ∙ changed_there test change groups at group (first_at test groups at group found)
 
 pub found_there : (test : Group → Bool) (groups : List Group) (at : ℕ) (d : Group) → IsFirst test groups at d → find test groups ≡ Some (get_or groups at d)
 found_there test [] at d is = let lt = is.within in absurd (omega arith)
@@ -100,6 +105,11 @@ few_index (group ∷ groups) (suc i) d lt = let rest = few_index groups i d (ome
 -- one that a loop over the groups has not changed yet is within the limits
 pub fits_mapped : (change : Group → Group) (xs ys : List Group) (i : ℕ) (d : Group) → AreGroups xs → i < length xs → length ys ≡ length xs → Mapped change xs ys i → FitsGroup (get_or ys i d)
 fits_mapped change xs ys i d each lt same mapped = subst FitsGroup (sym (mapped_at change xs ys i d lt same mapped)) (fits_index xs i d each lt)
+
+-- the groups that a loop has changed, written back over their vector
+pub mapped_back : (change : Group → Group) (n : ℕ) (xs old new : List Group) (i : ℕ) → old ≡ xs → length old ≡ n → length old ≤ i → length new ≡ length old → Mapped change old new i → take n (new ++ drop (length new) xs) ≡ map change xs
+mapped_back change n xs old new i same long le kept mapped =
+    written_back n xs new (kept ∙ long) ∙ map_done change old new i le kept mapped ∙ ap (map change) same
 
 -- NUMBERS
 

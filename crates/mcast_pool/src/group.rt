@@ -2,7 +2,7 @@
 
 ghost use Rattle.std.specs.Prelude.{◌≡◌, ◌≤◌, ◌+◌, ◌^◌, true, ◌||◌};
 ghost use Rattle.cip_productions.specs.Productions.{is_on_change, is_production_due};
-ghost use Rattle.mcast_pool.specs.Groups.{has_number, serves, is_last, begun, one_more, touched_production, touched, produced_group, produced_if_due, written_and_changed, is_at_once, is_new_at_once, FitsGroup, MayProduce};
+ghost use Rattle.mcast_pool.specs.Groups.{has_number, serves, begun, one_more, touched_production, touched, produced_group, produced_if_due, written_and_changed, is_at_once, is_new_at_once, FitsGroup, MayProduce};
 
 use cip_netparams::Trigger;
 use cip_productions::{
@@ -31,13 +31,6 @@ pub(crate) fn serves(group: &Group, point: u32) -> bool
     ensures { result ≡ serves point group.now }
 {
     group.shared && group.producer.point == point
-}
-
-/// Whether a group has one connection.
-pub(crate) fn is_last(group: &Group) -> bool
-    ensures { result ≡ is_last group.now }
-{
-    group.subscribers == 1
 }
 
 /// A group of one connection.

@@ -6,11 +6,12 @@ ghost use Rattle.cip_datagram.specs.Datagram.{datagram_text};
 ghost use Rattle.cip_productions.specs.Productions.{production_datagram};
 ghost use Rattle.mcast_pool.specs.Groups.{has_number, begun, production_of, producer_of, touched, produced_group, produced_if_due, written_and_changed, is_at_once, is_new_at_once, numbered, IsInUse, subscribers, joined_group, change_first, joined_by, joined, left, is_last, lowest, first_due, FitsGroup, MayProduce, AreGroups};
 
-use crate::group::{Group, begun};
+use crate::group::{
+    Group, begun, has_number, is_at_once, is_new_at_once, produced_group, produced_if_due, touched,
+    written_and_changed,
+};
 use crate::groups::{
-    count_at_once, find_group, find_with_hint, first_due, hint_after, index_for, index_of,
-    index_with_hint, lowest_at_once, produce_all, produce_at, subscribe, touch_all, unsubscribe,
-    write_all,
+    find_with_hint, index_for, index_of, index_with_hint, lower, subscribe, unsubscribe,
 };
 use cip_datagram::{Datagram, write_datagram};
 use cip_productions::{Producer, Production, next_count};
@@ -112,7 +113,7 @@ impl Pool {
     pub fn group(&self, number: u32) -> Option<Group>
         ensures { result ≡ numbered number self.now }
     {
-        find_group(&self.groups, number)
+        self.group_with_hint(number, 0)
     }
 
     /// The same. The search tries one index first. Takes no memory.
@@ -175,7 +176,9 @@ impl Pool {
         requires { clock.0 ≤ 2 ^ 48 }
         ensures { self.new ≡ map (touched clock point) self.old }
     {
-        touch_all(&mut self.groups, clock, point);
+        for group in self.groups.iter_mut() {
+            *group = touched(*group, clock, point);
+        }
     }
 
     /// How many producers of a point a change of state makes produce at once. Takes no memory.
@@ -185,7 +188,10 @@ impl Pool {
         requires { clock.0 ≤ 2 ^ 48 }
         ensures { result ≡ length (filter (is_at_once clock point) self.now) }
     {
-        count_at_once(&self.groups, clock, point)
+        self.groups
+            .iter()
+            .filter(|group| is_at_once(group, clock, point))
+            .count()
     }
 
     /// The lowest number of those that have not produced their new data yet. Takes no memory.
@@ -193,7 +199,14 @@ impl Pool {
         requires { clock.0 ≤ 2 ^ 48 }
         ensures { result ≡ lowest (is_new_at_once clock point) self.now }
     {
-        lowest_at_once(&self.groups, clock, point)
+        let mut lowest = None;
+        for at in (0..self.groups.len()).rev() {
+            let group = &self.groups[at];
+            if is_new_at_once(group, clock, point) {
+                lowest = Some(lower(group.producer.production.producer, lowest));
+            }
+        }
+        lowest
     }
 
     /// A producer produces: it appends its next datagram with these data (a run/idle header among them, if it has
@@ -213,8 +226,9 @@ impl Pool {
     {
         // The producer may produce, so its group is in the list.
         let at = index_of(&self.groups, number).unwrap();
-        append_datagram(&self.groups[at].producer, input, out);
-        produce_at(&mut self.groups, number, at, clock);
+        let group = &mut self.groups[at];
+        append_datagram(&group.producer, input, out);
+        *group = produced_group(*group, clock);
     }
 
     /// All producers that are due have produced. Takes no memory.
@@ -224,7 +238,9 @@ impl Pool {
         requires { clock.0 ≤ 2 ^ 48 }
         ensures { self.new ≡ map (produced_if_due clock) self.old }
     {
-        produce_all(&mut self.groups, clock);
+        for group in self.groups.iter_mut() {
+            *group = produced_if_due(*group, clock);
+        }
     }
 
     /// The producers of a point have new data, and those that a change of state makes produce at once have
@@ -235,14 +251,20 @@ impl Pool {
         requires { clock.0 ≤ 2 ^ 48 }
         ensures { self.new ≡ map (written_and_changed clock point) self.old }
     {
-        write_all(&mut self.groups, clock, point);
+        for group in self.groups.iter_mut() {
+            *group = written_and_changed(*group, clock, point);
+        }
     }
 
     /// When the first producer is due; `u64::MAX` if there is none. Takes no memory.
     pub fn first_due(&self) -> u64
         ensures { result ≡ first_due self.now }
     {
-        first_due(&self.groups)
+        let mut first = u64::MAX;
+        for at in (0..self.groups.len()).rev() {
+            first = first.min(self.groups[at].producer.production.due.0);
+        }
+        first
     }
 
     /// When a producer is due. Takes no memory.
@@ -250,12 +272,7 @@ impl Pool {
         requires { IsInUse number self.now }
         ensures { Some result ≡ option_map (λ group. group.producer.production.due) (numbered number self.now) }
     {
-        // The number is in use, so its group is in the list.
-        find_group(&self.groups, number)
-            .unwrap()
-            .producer
-            .production
-            .due
+        self.production(number).due
     }
 
     /// The production of a producer. The search tries one index first. Takes no memory.
@@ -264,11 +281,7 @@ impl Pool {
         requires { IsInUse number self.now }
         ensures { Some result ≡ option_map production_of (numbered number self.now) }
     {
-        // The number is in use, so its group is in the list.
-        find_with_hint(&self.groups, number, hint)
-            .unwrap()
-            .producer
-            .production
+        self.producer_with_hint(number, hint).production
     }
 
     /// The producer of a number. The search tries one index first. Takes no memory.
@@ -281,12 +294,16 @@ impl Pool {
         find_with_hint(&self.groups, number, hint).unwrap().producer
     }
 
-    /// The index to try first for the producer after this one. Takes no memory.
+    /// The index to try first for the producer after this one: the next one, if this one is at the index. Takes no
+    /// memory.
     #[inline(always)]
     pub fn hint_after(&self, number: u32, hint: usize) -> usize
         ensures { result ≤ hint + 1 }
     {
-        hint_after(&self.groups, number, hint)
+        match self.groups.get(hint) {
+            Some(group) if has_number(group, number) => hint.saturating_add(1),
+            _ => hint,
+        }
     }
 
     /// The production of a producer. Takes no memory.
@@ -294,10 +311,6 @@ impl Pool {
         requires { IsInUse number self.now }
         ensures { Some result ≡ option_map production_of (numbered number self.now) }
     {
-        // The number is in use, so its group is in the list.
-        find_group(&self.groups, number)
-            .unwrap()
-            .producer
-            .production
+        self.production_with_hint(number, 0)
     }
 }

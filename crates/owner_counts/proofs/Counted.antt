@@ -1,13 +1,11 @@
 -- Counts of connections that one more joins, and one leaves.
-use Rattle.std.proofs.Common.{◌≡◌, ◌<◌, ◌≤◌, ℕ, ◌+◌, ◌==◌, ◌&&◌, Bool, true, false, cond, if◌then◌else◌, not, List, [], ◌∷◌, ◌++◌, length, filter, refl, sym, ap, subst, ◌∙◌, true≢false, arith}
-use Rattle.cip_productions.specs.declared.kind.Kind.{Kind}
+use Rattle.std.proofs.Common.{◌≡◌, ◌<◌, ◌≤◌, ℕ, ◌+◌, ◌==◌, ◌&&◌, Bool, true, false, cond, if◌then◌else◌, not, List, [], ◌∷◌, ◌++◌, length, filter, refl, sym, ap, ◌∙◌, arith}
 use Rattle.cip_productions.specs.declared.kind.Kind.TheVariants.{ListenOnly}
 use Rattle.cip_productions.specs.Kinds.{is_owner, same_kind}
 use Rattle.adapter_table.specs.Connections.{Row}
 use Rattle.adapter_table.specs.Rows.{is_established, drives, supports}
-use Rattle.std.proofs.lemmas.Bool.Decides.{Decides-eqb}
 use Rattle.owner_counts.specs.declared.counts.Count.{Count}
-use Rattle.owner_counts.specs.Counts.{number_at, total, more_if, less_if, one_more, one_less, AreCounts, AreRules}
+use Rattle.owner_counts.specs.Counts.{number_at, total, more_if, less_if, AreCounts}
 use Rattle.owner_counts.proofs.Counting.{one_at, number_more, number_less, total_more, total_less, total_one_less, counts_more, counts_less}
 
 pub filter_last : (test : Row → Bool) (rows : List Row) (row : Row) → length (filter test (rows ++ row ∷ [])) ≡ length (filter test rows) + (if test row then 1 else 0)

@@ -50,36 +50,6 @@ fn raise(counts: &mut Vec<Count>, point: u32, at: usize)
     count.number += 1;
 }
 
-/// Adds one to the count of a point. Takes no memory.
-fn count_in(counts: &mut Vec<Count>, point: u32)
-    requires few { total counts.old.items < 64 }
-    requires space { vec_len counts.old < vec_capacity counts.old }
-    ensures counts { counts.new.items ≡ one_more point counts.old.items }
-    ensures capacity { vec_capacity counts.new ≡ vec_capacity counts.old }
-{
-    match index_of(counts, point) {
-        Some(at) => raise(counts, point, at),
-        None => counts.push_reserved(Count { point, number: 1 }),
-    }
-}
-
-/// Subtracts one from the count of a point; a count of zero is removed. Takes no memory.
-fn count_out(counts: &mut Vec<Count>, point: u32)
-    requires some { 1 ≤ number_at point counts.old.items }
-    requires counts { AreCounts counts.old.items }
-    ensures counts { counts.new.items ≡ one_less point counts.old.items }
-    ensures capacity { vec_capacity counts.new ≡ vec_capacity counts.old }
-{
-    // The count of the point is at least 1, so it is in the list.
-    let at = index_of(counts, point).unwrap();
-    if counts[at].number == 1 {
-        counts.remove(at);
-    } else {
-        let count = &mut counts[at];
-        count.number -= 1;
-    }
-}
-
 /// Adds one to the count of a point, if the connection is counted. Takes no memory.
 pub(crate) fn count_in_if(counts: &mut Vec<Count>, counted: bool, point: u32)
     requires few { total counts.old.items < 64 }
@@ -87,19 +57,31 @@ pub(crate) fn count_in_if(counts: &mut Vec<Count>, counted: bool, point: u32)
     ensures counts { counts.new.items ≡ more_if counted point counts.old.items }
     ensures capacity { vec_capacity counts.new ≡ vec_capacity counts.old }
 {
-    if counted {
-        count_in(counts, point);
+    if !counted {
+        return;
+    }
+    match index_of(counts, point) {
+        Some(at) => raise(counts, point, at),
+        None => counts.push_reserved(Count { point, number: 1 }),
     }
 }
 
-/// Subtracts one from the count of a point, if the connection was counted. Takes no memory.
+/// Subtracts one from the count of a point, if the connection was counted; a count of zero is removed. Takes no memory.
 pub(crate) fn count_out_if(counts: &mut Vec<Count>, counted: bool, point: u32)
     requires some { counted ≡ true → 1 ≤ number_at point counts.old.items }
     requires counts { AreCounts counts.old.items }
     ensures counts { counts.new.items ≡ less_if counted point counts.old.items }
     ensures capacity { vec_capacity counts.new ≡ vec_capacity counts.old }
 {
-    if counted {
-        count_out(counts, point);
+    if !counted {
+        return;
+    }
+    // The count of the point is at least 1, so it is in the list.
+    let at = index_of(counts, point).unwrap();
+    if counts[at].number == 1 {
+        counts.remove(at);
+    } else {
+        let count = &mut counts[at];
+        count.number -= 1;
     }
 }

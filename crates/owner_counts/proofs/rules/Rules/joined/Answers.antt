@@ -1,6 +1,5 @@
-use Rattle.std.proofs.Common.{◌≡◌, ◌≤◌, ◌<◌, ◌∙◌, ℕ, Bool, true, if◌then◌else◌, ◌++◌, ◌∷◌, [], List, length, sym, ap, subst, arith}
+use Rattle.std.proofs.Common.{◌<◌, ◌∙◌, Bool, if◌then◌else◌, List, sym, ap, subst, arith}
 use Rattle.cip_productions.specs.declared.kind.Kind.TheVariants.{ListenOnly}
-use Rattle.adapter_table.specs.Connections.{Row}
 use Rattle.adapter_table.specs.Rows.{drives, supports}
 use Rattle.owner_counts.specs.declared.counts.Count.{Count}
 use Rattle.owner_counts.specs.Counts.{Counts, number_at, total, is_driver, is_supporter, AreCounted}
