@@ -1,9 +1,8 @@
 -- A producer of a pool is due where the producer of a connection is.
-use Rattle.std.proofs.Common.{◌≡◌, ◌≤◌, ℕ, Bool, true, false, cond, ◌||◌, List, [], ◌∷◌, map, find, Option, Some, None, refl, sym, ap, ◌∙◌, true≢false, arith}
+use Rattle.std.proofs.Common.{◌≡◌, ℕ, Bool, true, false, cond, ◌||◌, List, [], ◌∷◌, map, find, Option, Some, None, refl, sym, ap, ◌∙◌, true≢false, arith}
 use Rattle.std.specs.List.{list_any, AllByRecursion}
 use Rattle.cip_types.specs.declared.names.Ms.{Ms}
 use Rattle.adapter_table.specs.Connections.{Row}
-use Rattle.adapter_table.specs.declared.row.State.{State}
 use Rattle.adapter_table.specs.declared.row.State.TheVariants.{Established}
 use Rattle.adapter_table.specs.Rows.{Each}
 use Rattle.adapter_table.specs.Productions.{state_is_due}
@@ -11,9 +10,9 @@ use Rattle.adapter_table.specs.Productions as rows
 use Rattle.mcast_pool.specs.declared.group.Group.{Group}
 use Rattle.mcast_pool.specs.Groups.{has_number, number_of, numbered, is_due, AreGroups}
 use Rattle.conn_slab.specs.Records.{Record, row_of, state_of, production_in}
-use Rattle.conn_slab.specs.Layout.{IsServed, SharesBy, SharesFound, members, count_in, IsBalanced}
+use Rattle.conn_slab.specs.Layout.{IsServed, SharesBy, SharesFound, count_in, IsBalanced}
 use Rattle.conn_slab.proofs.Numbers.{found_passes, found_by_number, some_served}
-use Rattle.conn_slab.proofs.Balance.{Witness, witness}
+use Rattle.conn_slab.proofs.Balance.{witness}
 
 -- ---- a connection's is one of the pool
 

@@ -1,5 +1,5 @@
 -- The invariant of `Connections`. No public clause cites this module.
-use Rattle.std.specs.Prelude.{ℕ, ◌≡◌, ◌≤◌, ◌+◌, ◌==◌, Bool, false, if◌then◌else◌, List, [], ◌∷◌, length, Option, Some, None, is_some}
+use Rattle.std.specs.Prelude.{ℕ, ◌≡◌, ◌≤◌, ◌+◌, ◌==◌, Bool, true, false, if◌then◌else◌, List, [], ◌∷◌, length, Option, Some, None, is_some}
 use Rattle.std.specs.List.{AllByRecursion}
 use Rattle.slab.specs.Slab.{Slab, get}
 use Rattle.cip_productions.specs.declared.production.Producer.{Producer}
@@ -79,6 +79,10 @@ LeadsTo pool (Some r) = IsLive pool r.state
 -- the key is of a record whose producer, if it has one, is in the pool
 abbrev pub Leads : Slab Record → List Group → ℕ → Type 0
 Leads records pool key = LeadsTo pool (get records key)
+
+-- there is a record under the key
+abbrev pub IsStored : Slab Record → ℕ → Type 0
+IsStored records key = is_some (get records key) ≡ true
 
 -- what a pool requires of a joining connection
 pub record MayJoin (producer : Producer) (shared : Bool) (api : ℕ) (pool : List Group) : Type 0 where

@@ -1,9 +1,11 @@
--- The producers of connections by their numbers (Volume 1, chapter 3, class 1 transport).
+-- The producers of connections by their numbers, and their peers (Volume 1, chapter 3, class 1 transport).
 use Rattle.std.specs.Prelude.{ℕ, ◌==◌, Bool, List, find, Option}
 use Rattle.std.specs.List.{filter_map}
 use Rattle.cip_productions.specs.declared.production.Producer.{Producer}
 use Rattle.adapter_table.specs.Connections.{Row}
-use Rattle.adapter_table.specs.Productions.{producer_in}
+use Rattle.adapter_table.specs.Productions.{producer_in, producer_number}
+use Rattle.conn_slab.specs.declared.peers.Peer.{Peer}
+use Rattle.conn_slab.specs.Records.{Record}
 
 -- this is the producer's number
 abbrev pub is_producer : ℕ → Producer → Bool
@@ -12,3 +14,11 @@ is_producer number producer = producer.production.producer == number
 -- the producer of this number, as its first connection has it
 abbrev pub producer_by : ℕ → List Row → Option Producer
 producer_by number rows = find (is_producer number) (filter_map producer_in rows)
+
+-- the peer of a connection, and the number of its producer, which an established one has
+abbrev pub peer_in : Row → Peer
+peer_in row = record { node = row.peer; producer = producer_number row.state }
+
+-- the same of its record
+abbrev pub peer_by : Record → Peer
+peer_by r = record { node = r.peer; producer = r.state }

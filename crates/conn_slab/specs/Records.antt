@@ -1,5 +1,5 @@
 -- Records of connections, whose productions are in a pool, and the connections of records.
-use Rattle.std.specs.Prelude.{ℕ, ◌==◌, ◌&&◌, Bool, false, List, [], Option, Some, None, is_some}
+use Rattle.std.specs.Prelude.{ℕ, ◌==◌, ◌&&◌, Bool, false, List, Option, Some, None, is_some}
 use Rattle.cip_types.specs.declared.names.Triad.{Triad}
 use Rattle.cip_netparams.specs.declared.Trigger.TheVariants.{Cyclic}
 use Rattle.cip_productions.specs.declared.production.Production.{Production}

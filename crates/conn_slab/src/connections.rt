@@ -15,7 +15,7 @@ ghost use Rattle.conn_slab.specs.Records.{row_of};
 ghost use Rattle.conn_slab.specs.Layout.{IsConsistent};
 ghost use Rattle.conn_slab.specs.Reception.{IsReceived, reception};
 ghost use Rattle.conn_slab.specs.Bounds.{first_end, AllNotDueBefore};
-ghost use Rattle.conn_slab.specs.Producing.{producer_by};
+ghost use Rattle.conn_slab.specs.Producing.{producer_by, peer_in};
 ghost use Rattle.conn_slab.specs.Connections.{without, AreConnections, timed_out_if, accepting_if, is_opened_at, is_listening};
 
 use crate::bounds::first_end;
@@ -23,6 +23,7 @@ use crate::index::{
     Sources, Triads, find_at_position, has_listeners, hint_among, put_last, reserve_record,
     running, take_record,
 };
+use crate::peers::Peers;
 use crate::producers::{enter, has_due, leave, row_of};
 use crate::reception::{Received, receive_record};
 use crate::record::{Record, Source, key_for, record_of};
@@ -149,6 +150,18 @@ impl Connections {
             keys: self.by_triad.values(),
             pool: &self.pool,
             hint: 0,
+        }
+    }
+
+    /// The peers of the connections, in opening order. Takes no memory.
+    ///
+    /// Volume 2, chapter 3, multicast connections.
+    pub fn peers(&self) -> Peers<'_>
+        ensures { result ≡ map peer_in self.now }
+    {
+        Peers {
+            records: &self.records,
+            keys: self.by_triad.values(),
         }
     }
 

@@ -8,11 +8,13 @@
 mod bounds;
 mod connections;
 mod index;
+mod peers;
 mod producers;
 mod reception;
 mod record;
 mod rows;
 
 pub use connections::Connections;
+pub use peers::{Peer, Peers};
 pub use reception::Received;
 pub use rows::Rows;

@@ -1,6 +1,7 @@
 -- Producers and their consumers, added from one connection after another.
-use Rattle.std.proofs.Common.{◌≡◌, ◌≤◌, ℕ, zero, suc, ◌+◌, ◌-◌, Bool, true, false, ◌||◌, ◌==◌, List, [], ◌∷◌, ◌++◌, length, map, take, drop, Option, Some, None, refl, sym, ◌∙◌, ap, subst, arith}
+use Rattle.std.proofs.Common.{◌≡◌, ◌<◌, ◌≤◌, ℕ, zero, suc, ◌+◌, ◌-◌, Bool, true, false, ◌||◌, ◌==◌, List, [], ◌∷◌, ◌++◌, length, map, take, drop, get_or, Option, Some, None, refl, sym, ◌∙◌, ap, subst, arith}
 use Rattle.std.specs.List.{list_any, filter_map}
+use Rattle.std.proofs.lemmas.Grind.{common_steps}
 use Rattle.std.proofs.lemmas.List.{append-nil, append_assoc}
 use Rattle.std.proofs.lemmas.List.Elements.{filter_map-append}
 use Rattle.cip_types.specs.declared.names.Node.{Node}
@@ -8,8 +9,11 @@ use Rattle.cip_types.specs.Firsts.{IsTransitive, first_more}
 use Rattle.cip_types.specs.Order.{first_of_each, unless}
 use Rattle.adapter_table.specs.Connections.{Row}
 use Rattle.adapter_table.specs.Productions.{consumers}
+use Rattle.conn_slab.specs.declared.peers.Peer.{Peer}
+use Rattle.conn_slab.specs.Producing.{peer_in}
 use Rattle.due_datagrams.specs.declared.consumer_table.Entry.{Entry}
-use Rattle.due_datagrams.specs.ConsumerTables.{ProducerConsumers, number_in, same_number, numbers, consumers_of, consumers_by_producer, nodes_in, consumers_in, AreWithin, has_number, is_of, more_by}
+use Rattle.due_datagrams.specs.ConsumerTables.{ProducerConsumers, number_in, same_number, numbers, consumers_of, consumers_by_producer, consumers_among, nodes_in, consumers_in, AreWithin, has_number, is_of, more_by}
+use Rattle.due_datagrams.proofs.Gathering.{among_are}
 use Rattle.due_datagrams.proofs.Logic.{same_by, map_append, drop_front, length_append, take_whole}
 
 -- ---- entries whose nodes come before others
@@ -46,7 +50,7 @@ last_nodes nodes added entry first count =
     ∙ ap (λ (n : ℕ). take n added) count ∙ take_whole added
 
 -- one more entry, whose nodes are put last
-pub entry_more : (added : List Node) (entries new : List Entry) (nodes old : List Node) (entry : Entry) → AreWithin (length old) entries → nodes ≡ old ++ added → new ≡ entries ++ entry ∷ [] → entry.first ≡ length old → entry.count ≡ length added → (map (consumers_in nodes) new ≡ map (consumers_in old) entries ++ (record { number = entry.number; nodes = added }) ∷ []) × AreWithin (length nodes) new
+entry_more : (added : List Node) (entries new : List Entry) (nodes old : List Node) (entry : Entry) → AreWithin (length old) entries → nodes ≡ old ++ added → new ≡ entries ++ entry ∷ [] → entry.first ≡ length old → entry.count ≡ length added → (map (consumers_in nodes) new ≡ map (consumers_in old) entries ++ (record { number = entry.number; nodes = added }) ∷ []) × AreWithin (length nodes) new
 entry_more added entries new nodes old entry within are is first count =
     let len : length nodes ≡ length old + length added = ap (length {A = Node}) are ∙ length_append old added in (
       ap (map (consumers_in nodes)) is
@@ -57,13 +61,10 @@ entry_more added entries new nodes old entry within are is first count =
       subst (AreWithin (length nodes)) (sym is) (within_last (length nodes) entries entry (within_more (length old) (length nodes) entries within (omega (arith, len))) (omega (arith, len, count, first))),
     )
 
-pub entry_added : (rows : List Row) (number : ℕ) (entries new : List Entry) (nodes old : List Node) (entry : Entry) (all : ℕ) → AreWithin (length old) entries → nodes ≡ old ++ consumers number rows → new ≡ entries ++ entry ∷ [] → entry.number ≡ number → entry.first ≡ length old → all ≡ length nodes → entry.count ≡ all - entry.first → (map (consumers_in nodes) new ≡ map (consumers_in old) entries ++ consumers_of rows number ∷ []) × AreWithin (length nodes) new
-entry_added rows number entries new nodes old entry all within are is same first whole count =
-    let len : length nodes ≡ length old + length (consumers number rows) = ap (length {A = Node}) are ∙ length_append old (consumers number rows) in
-    let more = entry_more (consumers number rows) entries new nodes old entry within are is first (omega (arith, len, first, whole, count)) in (
-      more.0 ∙ ap (λ (n : ℕ). let it : ProducerConsumers = record { number = n; nodes = consumers number rows } in map (consumers_in old) entries ++ it ∷ []) same,
-      more.1,
-    )
+pub entry_added : (added : List Node) (entries new : List Entry) (nodes old : List Node) (entry : Entry) (all : ℕ) → AreWithin (length old) entries → nodes ≡ old ++ added → new ≡ entries ++ entry ∷ [] → entry.first ≡ length old → all ≡ length nodes → entry.count ≡ all - entry.first → (map (consumers_in nodes) new ≡ map (consumers_in old) entries ++ (record { number = entry.number; nodes = added }) ∷ []) × AreWithin (length nodes) new
+entry_added added entries new nodes old entry all within are is first whole count =
+    let len : length nodes ≡ length old + length added = ap (length {A = Node}) are ∙ length_append old added in
+    entry_more added entries new nodes old entry within are is first (omega (arith, len, first, whole, count))
 
 pub any_entry : (number : ℕ) (nodes : List Node) (entries : List Entry) → list_any (has_number number) (map (consumers_in nodes) entries) ≡ list_any (is_of number) entries
 any_entry number nodes [] = refl
@@ -102,24 +103,52 @@ served_by rows front row (Some number) is =
     ∙ serve_step (list_any (λ first. same_number first number) (numbers front)) rows (numbers front) number
     ∙ ap (λ b. map (consumers_of rows) (numbers front) ++ unless b (consumers_of rows number)) (sym (any_producer rows number (numbers front)))
 
--- those of the connections so far
-pub record TakenUp (rows rest : List Row) (consumer_table : List ProducerConsumers) : Type 0 where
+-- those of the connections so far, whose peers come before these
+pub record TakenUp (rows : List Row) (ahead : List Peer) (consumer_table : List ProducerConsumers) : Type 0 where
   pub front : List Row
+  pub rest : List Row
   pub split : front ++ rest ≡ rows
+  pub left : map peer_in rest ≡ ahead
   pub are : consumer_table ≡ map (consumers_of rows) (numbers front)
 
-pub taken_none : (rows : List Row) → TakenUp rows rows []
-taken_none rows = record { front = []; split = refl; are = refl }
+pub taken_none : (rows : List Row) (peers : List Peer) → peers ≡ map peer_in rows → TakenUp rows peers []
+taken_none rows peers are = record { front = []; rest = rows; split = refl; left = sym are; are = refl }
 
-pub taken_more : (rows rest : List Row) (row : Row) (consumer_table new : List ProducerConsumers) → TakenUp rows (row ∷ rest) consumer_table → new ≡ consumer_table ++ more_by rows consumer_table (number_in row) → TakenUp rows rest new
-taken_more rows rest row consumer_table new so is = record {
-  front = so.front ++ row ∷ [];
-  split = append_assoc so.front (row ∷ []) rest ∙ so.split;
-  are = is ∙ ap (λ (l : List ProducerConsumers). l ++ more_by rows l (number_in row)) so.are ∙ sym (served_by rows so.front row (number_in row) refl);
-}
+taken_next : (rows front rest : List Row) (ahead : List Peer) (peer : Peer) (consumer_table new : List ProducerConsumers) → front ++ rest ≡ rows → map peer_in rest ≡ peer ∷ ahead → consumer_table ≡ map (consumers_of rows) (numbers front) → new ≡ consumer_table ++ more_by rows consumer_table peer.producer → TakenUp rows ahead new
+taken_next rows front [] ahead peer consumer_table new split left are is = absurd cc
+taken_next rows front (row ∷ rest) ahead peer consumer_table new split left are is =
+    let here : peer_in row ≡ peer = cc in
+    record {
+      front = front ++ row ∷ [];
+      rest = rest;
+      split = append_assoc front (row ∷ []) rest ∙ split;
+      left = cc;
+      are =
+          is ∙ ap (λ (p : Peer). consumer_table ++ more_by rows consumer_table p.producer) (sym here)
+          ∙ ap (λ (l : List ProducerConsumers). l ++ more_by rows l (number_in row)) are ∙ sym (served_by rows front row (number_in row) refl);
+    }
+
+pub taken_more : (rows : List Row) (ahead : List Peer) (peer : Peer) (consumer_table new : List ProducerConsumers) → TakenUp rows (peer ∷ ahead) consumer_table → new ≡ consumer_table ++ more_by rows consumer_table peer.producer → TakenUp rows ahead new
+taken_more rows ahead peer consumer_table new so is = taken_next rows so.front so.rest ahead peer consumer_table new so.split so.left so.are is
+
+-- the peers from an index on, and those behind it
+pub taken_at : (rows : List Row) (peers : List Peer) (i : ℕ) (d : Peer) (consumer_table : List ProducerConsumers) → i < length peers → TakenUp rows (drop i peers) consumer_table → TakenUp rows (get_or peers i d ∷ drop (i + 1) peers) consumer_table
+taken_at rows peers i d consumer_table lt so =
+    let next : drop i peers ≡ get_or peers i d ∷ drop (i + 1) peers = grind (arith, common_steps) in
+    subst (λ (l : List Peer). TakenUp rows l consumer_table) next so
+
+none_left : (rest : List Row) → map peer_in rest ≡ [] → rest ≡ []
+none_left [] none = refl
+none_left (row ∷ rest) none = absurd cc
 
 pub taken_all : (rows : List Row) (consumer_table : List ProducerConsumers) → TakenUp rows [] consumer_table → consumer_table ≡ consumers_by_producer rows
-taken_all rows consumer_table so = so.are ∙ ap (λ (l : List Row). map (consumers_of rows) (numbers l)) (sym (append-nil so.front) ∙ so.split)
+taken_all rows consumer_table so =
+    so.are ∙ ap (λ (l : List Row). map (consumers_of rows) (numbers l)) (sym (append-nil so.front) ∙ ap (λ (l : List Row). so.front ++ l) (sym (none_left so.rest so.left)) ∙ so.split)
+
+pub taken_past : (rows : List Row) (peers : List Peer) (i : ℕ) (consumer_table : List ProducerConsumers) → length peers ≤ i → TakenUp rows (drop i peers) consumer_table → consumer_table ≡ consumers_by_producer rows
+taken_past rows peers i consumer_table le so =
+    let past : drop i peers ≡ [] = grind (arith, common_steps) in
+    taken_all rows consumer_table (subst (λ (l : List Peer). TakenUp rows l consumer_table) past so)
 
 -- a producer that is there adds nothing, and a new one is appended
 pub known : (rows : List Row) (nodes : List Node) (entries lent : List Entry) (o : Option ℕ) (number : ℕ) (b : Bool) → o ≡ Some number → b ≡ list_any (is_of number) lent → lent ≡ entries → b ≡ true → map (consumers_in nodes) entries ≡ map (consumers_in nodes) entries ++ more_by rows (map (consumers_in nodes) entries) o
@@ -127,7 +156,8 @@ known rows nodes entries lent o number b is has same holds =
     let any : list_any (has_number number) (map (consumers_in nodes) entries) ≡ true = any_entry number nodes entries ∙ sym (has ∙ ap (list_any (is_of number)) same) ∙ holds in
     rw (is, any) (sym (append-nil (map (consumers_in nodes) entries)))
 
-pub added : (rows : List Row) (nodes : List Node) (entries lent : List Entry) (o : Option ℕ) (number : ℕ) (b : Bool) (new : List ProducerConsumers) → o ≡ Some number → b ≡ list_any (is_of number) lent → lent ≡ entries → b ≡ false → new ≡ map (consumers_in nodes) entries ++ consumers_of rows number ∷ [] → new ≡ map (consumers_in nodes) entries ++ more_by rows (map (consumers_in nodes) entries) o
-added rows nodes entries lent o number b new is has same fails last =
+pub added : (rows : List Row) (peers : List Peer) (nodes : List Node) (entries lent : List Entry) (o : Option ℕ) (number : ℕ) (b : Bool) (new : List ProducerConsumers) → peers ≡ map peer_in rows → o ≡ Some number → b ≡ list_any (is_of number) lent → lent ≡ entries → b ≡ false → new ≡ map (consumers_in nodes) entries ++ (record { number = number; nodes = consumers_among number peers }) ∷ [] → new ≡ map (consumers_in nodes) entries ++ more_by rows (map (consumers_in nodes) entries) o
+added rows peers nodes entries lent o number b new all is has same fails last =
     let any : list_any (has_number number) (map (consumers_in nodes) entries) ≡ false = any_entry number nodes entries ∙ sym (has ∙ ap (list_any (is_of number)) same) ∙ fails in
-    rw (is, any) last
+    let consumers_are : consumers_among number peers ≡ consumers number rows = ap (consumers_among number) all ∙ among_are number rows in
+    rw (is, any) (last ∙ ap (λ (l : List Node). let it : ProducerConsumers = record { number = number; nodes = l } in map (consumers_in nodes) entries ++ it ∷ []) consumers_are)

@@ -4,12 +4,16 @@ use Rattle.std.specs.List.{list_any}
 use Rattle.std.proofs.lemmas.Bool.{eqb-true}
 use Rattle.std.proofs.lemmas.List.Elements.{filter-append}
 use Rattle.cip_productions.specs.declared.production.Producer.{Producer}
+use Rattle.cip_types.specs.declared.names.Node.{Node}
 use Rattle.cip_types.specs.Order.{first_of_each, unless}
 use Rattle.adapter_table.specs.Connections.{Row}
 use Rattle.adapter_table.specs.declared.row.State.{State}
 use Rattle.adapter_table.specs.declared.row.State.TheVariants.{Established, TimedOut}
 use Rattle.adapter_table.specs.Productions.{producer_number, is_produced_by, has_number as made_by, group, peer_of, same_node, producers}
-use Rattle.due_datagrams.specs.ConsumerTables.{ProducerConsumers, number_in, same_number, numbers, consumers_of, has_number, more_by, IsNewIfSingle}
+use Rattle.conn_slab.specs.declared.peers.Peer.{Peer}
+use Rattle.conn_slab.specs.Producing.{peer_in}
+use Rattle.due_datagrams.specs.ConsumerTables.{ProducerConsumers, number_in, same_number, numbers, consumers_of, consumers_among, has_number, more_by, IsNewIfSingle}
+use Rattle.due_datagrams.proofs.Gathering.{among_one}
 use Rattle.due_datagrams.proofs.Logic.{numbered, length_append}
 use Rattle.due_datagrams.proofs.Entries.{TakenUp, any_producer}
 use Rattle.due_datagrams.proofs.Numbers.{is_number, number_of, numbers_are, any_producers}
@@ -67,23 +71,30 @@ unnamed : (number : ℕ) (rows : List Row) → group number rows ≡ [] → list
 unnamed number rows none =
     ap (list_any (λ n. same_number n number)) (numbers_are rows) ∙ named number (producers rows) ∙ any_producers number rows ∙ none_made number rows none
 
-new_one : (rows rest : List Row) (row : Row) (known : List ProducerConsumers) (so : TakenUp rows (row ∷ rest) known) (o : Option ℕ) → number_in row ≡ o → IsNewIfSingle rows known row o
-new_one rows rest row known so None is = tt
-new_one rows rest row known so (Some number) is = λ one.
+new_one : (rows front rest : List Row) (row : Row) (known : List ProducerConsumers) → front ++ row ∷ rest ≡ rows → known ≡ map (consumers_of rows) (numbers front) → (o : Option ℕ) → number_in row ≡ o → IsNewIfSingle rows known row.peer o
+new_one rows front rest row known split are None is = tt
+new_one rows front rest row known split are (Some number) is = λ one.
     let has : is_produced_by number row ≡ true = made number row.state is in
-    let apart = alone number so.front row rest has (ap (λ (l : List Row). length (group number l)) so.split ∙ eqb-true _ _ one) in
+    let apart = alone number front row rest has (ap (λ (l : List Row). length (group number l)) split ∙ eqb-true _ _ one) in
     let any : list_any (has_number number) known ≡ false =
-    ap (list_any (has_number number)) so.are ∙ any_producer rows number (numbers so.front) ∙ unnamed number so.front apart.before in
-    let whole : group number rows ≡ row ∷ [] = ap (group number) (sym so.split) ∙ group_alone number so.front row rest has apart in
+    ap (list_any (has_number number)) are ∙ any_producer rows number (numbers front) ∙ unnamed number front apart.before in
+    let whole : group number rows ≡ row ∷ [] = ap (group number) (sym split) ∙ group_alone number front row rest has apart in
     ap (λ (b : Bool). unless b (consumers_of rows number)) any
     ∙ ap (λ (l : List Row). let it : ProducerConsumers = record { number = number; nodes = first_of_each same_node (map peer_of l) } in it ∷ []) whole
 
--- the producer of the next connection is new if no other connection has it
-pub single_is_new : (rows rest : List Row) (row : Row) (known : List ProducerConsumers) → TakenUp rows (row ∷ rest) known → IsNewIfSingle rows known row (number_in row)
-single_is_new rows rest row known so = new_one rows rest row known so (number_in row) refl
+next_is_new : (rows front rest : List Row) (ahead : List Peer) (peer : Peer) (known : List ProducerConsumers) → front ++ rest ≡ rows → map peer_in rest ≡ peer ∷ ahead → known ≡ map (consumers_of rows) (numbers front) → IsNewIfSingle rows known peer.node peer.producer
+next_is_new rows front [] ahead peer known split left are = absurd cc
+next_is_new rows front (row ∷ rest) ahead peer known split left are =
+    let here : peer_in row ≡ peer = cc in
+    subst (λ (p : Peer). IsNewIfSingle rows known p.node p.producer) here (new_one rows front rest row known split are (number_in row) refl)
+
+-- the producer of the next peer is new if no other connection has it
+pub single_is_new : (rows : List Row) (ahead : List Peer) (peer : Peer) (known : List ProducerConsumers) → TakenUp rows (peer ∷ ahead) known → IsNewIfSingle rows known peer.node peer.producer
+single_is_new rows ahead peer known so = next_is_new rows so.front so.rest ahead peer known so.split so.left so.are
 
 -- and is added
-pub single_added : (rows : List Row) (known new : List ProducerConsumers) (row : Row) (o : Option ℕ) (number : ℕ) (b : Bool) → o ≡ Some number → IsNewIfSingle rows known row o → b ≡ (length (group number rows) == 1) → b ≡ true → new ≡ known ++ (record { number = number; nodes = row.peer ∷ [] }) ∷ [] → new ≡ known ++ more_by rows known o
-single_added rows known new row o number b is single one holds last =
-    let fresh : IsNewIfSingle rows known row (Some number) = subst (IsNewIfSingle rows known row) is single in
-    last ∙ ap (λ (l : List ProducerConsumers). known ++ l) (sym (fresh (sym one ∙ holds))) ∙ ap (λ (o : Option ℕ). known ++ more_by rows known o) (sym is)
+pub single_added : (rows : List Row) (known new : List ProducerConsumers) (peer : Peer) (number : ℕ) (b : Bool) → peer.producer ≡ Some number → IsNewIfSingle rows known peer.node peer.producer → b ≡ (length (group number rows) == 1) → b ≡ true → new ≡ known ++ (record { number = number; nodes = consumers_among number (peer ∷ []) }) ∷ [] → new ≡ known ++ more_by rows known peer.producer
+single_added rows known new peer number b is single one holds last =
+    let fresh : IsNewIfSingle rows known peer.node (Some number) = subst (IsNewIfSingle rows known peer.node) is single in
+    last ∙ ap (λ (l : List Node). let it : ProducerConsumers = record { number = number; nodes = l } in known ++ it ∷ []) (among_one number peer is)
+    ∙ ap (λ (l : List ProducerConsumers). known ++ l) (sym (fresh (sym one ∙ holds))) ∙ ap (λ (o : Option ℕ). known ++ more_by rows known o) (sym is)

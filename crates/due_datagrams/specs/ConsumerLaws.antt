@@ -1,5 +1,5 @@
 -- Producers keep their consumers if each connection keeps its peer and the number of its producer.
-use Rattle.std.proofs.Common.{◌≡◌, ℕ, Bool, true, false, cond, ◌==◌, List, [], ◌∷◌, map, Option, Some, None, refl, sym, ◌∙◌, ap}
+use Rattle.std.proofs.Common.{◌≡◌, ℕ, Bool, true, false, cond, List, [], ◌∷◌, map, Option, Some, None, refl, sym, ◌∙◌, ap}
 use Rattle.std.specs.List.{filter_map}
 use Rattle.cip_types.specs.declared.names.Node.{Node}
 use Rattle.cip_types.specs.Order.{first_of_each}
@@ -7,24 +7,19 @@ use Rattle.adapter_table.specs.Connections.{Row}
 use Rattle.adapter_table.specs.declared.row.State.{State}
 use Rattle.adapter_table.specs.declared.row.State.TheVariants.{Established, TimedOut}
 use Rattle.adapter_table.specs.Productions.{producer_number, has_number, is_produced_by, group, same_node, peer_of}
-use Rattle.due_datagrams.specs.ConsumerTables.{ProducerConsumers, number_in, same_number, numbers, consumers_of, consumers_by_producer}
+use Rattle.due_datagrams.specs.ConsumerTables.{ProducerConsumers, number_in, is_number, same_number, numbers, consumers_of, consumers_by_producer}
 
 -- a connection keeps its peer and the number of its producer
 pub record KeepsProducer (row changed : Row) : Type 0 where
   pub peer : changed.peer ≡ row.peer
   pub number : number_in changed ≡ number_in row
 
-numbered_by : ℕ → Option ℕ → Bool
-numbered_by number None = false
-numbered_by number (Some other) = other == number
-
-by_number : (number : ℕ) (state : State) → has_number number state ≡ numbered_by number (producer_number state)
-unfolding numbered_by
+pub by_number : (number : ℕ) (state : State) → has_number number state ≡ is_number number (producer_number state)
 by_number number (Established production) = refl
 by_number number TimedOut = refl
 
 made_kept : (number : ℕ) (row changed : Row) → KeepsProducer row changed → is_produced_by number changed ≡ is_produced_by number row
-made_kept number row changed keeps = by_number number changed.state ∙ ap (numbered_by number) keeps.number ∙ sym (by_number number row.state)
+made_kept number row changed keeps = by_number number changed.state ∙ ap (is_number number) keeps.number ∙ sym (by_number number row.state)
 
 numbers_step : (row changed : Row) (rows rest : List Row) (o : Option ℕ) → number_in row ≡ o → number_in changed ≡ o → filter_map number_in rest ≡ filter_map number_in rows → filter_map number_in (changed ∷ rest) ≡ filter_map number_in (row ∷ rows)
 numbers_step row changed rows rest None is was same = rw (is, was) same

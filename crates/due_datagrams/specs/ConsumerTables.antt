@@ -1,11 +1,12 @@
 -- The consumers of each producer, in the order of their first connections (Volume 1, chapter 3, class 1
 -- transport; Volume 2, chapter 3, multicast connections).
-use Rattle.std.specs.Prelude.{ℕ, ◌≡◌, ◌≤◌, ◌+◌, ◌==◌, Bool, true, if◌then◌else◌, List, [], ◌∷◌, map, length, take, drop, Option, Some, None}
+use Rattle.std.specs.Prelude.{ℕ, ◌≡◌, ◌≤◌, ◌+◌, ◌==◌, Bool, true, false, if◌then◌else◌, List, [], ◌∷◌, map, filter, length, take, drop, Option, Some, None}
 use Rattle.std.specs.List.{list_any, filter_map}
 use Rattle.cip_types.specs.declared.names.Node.{Node}
 use Rattle.cip_types.specs.Order.{first_of_each, unless}
 use Rattle.adapter_table.specs.Connections.{Row}
-use Rattle.adapter_table.specs.Productions.{producer_number, is_produced_by, group, same_node, consumers}
+use Rattle.adapter_table.specs.Productions.{producer_number, group, same_node, consumers}
+use Rattle.conn_slab.specs.declared.peers.Peer.{Peer}
 use Rattle.due_datagrams.specs.declared.consumer_table.Entry.{Entry}
 
 -- the number of a producer, and the nodes that consume its datagrams
@@ -50,16 +51,31 @@ has_number number serving = serving.number == number
 abbrev pub is_of : ℕ → Entry → Bool
 is_of number entry = entry.number == number
 
--- the node that one more connection adds to the known ones of a producer
-abbrev pub one_consumer : ℕ → Row → List Node → List Node
-one_consumer number row known = if is_produced_by number row then unless (list_any (λ other. same_node other row.peer) known) row.peer else []
+-- the peer has the producer of this number
+abbrev pub is_number : ℕ → Option ℕ → Bool
+is_number number None = false
+is_number number (Some other) = other == number
+
+abbrev pub has_producer : ℕ → Peer → Bool
+has_producer number peer = is_number number peer.producer
+
+abbrev pub node_of : Peer → Node
+node_of peer = peer.node
+
+-- the nodes among peers that consume the datagrams of a producer
+abbrev pub consumers_among : ℕ → List Peer → List Node
+consumers_among number peers = first_of_each same_node (map node_of (filter (has_producer number) peers))
+
+-- the node that one more peer adds to the known ones of a producer
+abbrev pub one_consumer : ℕ → Peer → List Node → List Node
+one_consumer number peer known = if has_producer number peer then unless (list_any (λ other. same_node other peer.node) known) peer.node else []
 
 -- the entry that one more producer adds, unless it is there
 abbrev pub more_by : List Row → List ProducerConsumers → Option ℕ → List ProducerConsumers
 more_by rows known None = []
 more_by rows known (Some number) = unless (list_any (has_number number) known) (consumers_of rows number)
 
--- if the connection alone has its producer, the known ones are without it, and the peer of the connection is its consumer
-abbrev pub IsNewIfSingle : List Row → List ProducerConsumers → Row → Option ℕ → Type 0
-IsNewIfSingle rows known row None = Unit {0}
-IsNewIfSingle rows known row (Some number) = (length (group number rows) == 1) ≡ true → unless (list_any (has_number number) known) (consumers_of rows number) ≡ (record { number = number; nodes = row.peer ∷ [] }) ∷ []
+-- if one connection alone has the producer, the known ones are without it, and this node is its consumer
+abbrev pub IsNewIfSingle : List Row → List ProducerConsumers → Node → Option ℕ → Type 0
+IsNewIfSingle rows known node None = Unit {0}
+IsNewIfSingle rows known node (Some number) = (length (group number rows) == 1) ≡ true → unless (list_any (has_number number) known) (consumers_of rows number) ≡ (record { number = number; nodes = node ∷ [] }) ∷ []

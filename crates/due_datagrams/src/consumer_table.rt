@@ -2,14 +2,13 @@
 
 ghost use Rattle.std.specs.Prelude.{◌≡◌, ◌≤◌, ◌++◌, ◌∷◌, [], true, IfOk, map, drop, length, vec_len};
 ghost use Rattle.std.specs.List.{list_any};
-ghost use Rattle.cip_types.specs.Order.{unless};
-ghost use Rattle.adapter_table.specs.Productions.{same_node, consumers};
-ghost use Rattle.due_datagrams.specs.ConsumerTables.{number_in, consumers_by_producer, consumers_in, consumers_of, is_of, more_by, one_consumer, AreWithin, IsNewIfSingle};
+ghost use Rattle.conn_slab.specs.Producing.{peer_in};
+ghost use Rattle.due_datagrams.specs.ConsumerTables.{consumers_among, consumers_by_producer, consumers_in, is_of, more_by, one_consumer, AreWithin, IsNewIfSingle};
 
-use adapter_table::{Row, State, has_node, is_produced_by};
+use adapter_table::has_node;
 use cip_types::limits::MOST_CONNECTIONS;
 use cip_types::{Node, OutOfMemory};
-use conn_slab::Connections;
+use conn_slab::{Connections, Peer};
 use std::alloc::Global;
 use std::marker::Model;
 
@@ -28,6 +27,8 @@ pub(crate) struct Entry {
 pub struct ConsumerTable {
     entries: Vec<Entry>,
     nodes: Vec<Node>,
+    /// The peers of the connections, while the table is built.
+    peers: Vec<Peer>,
 }
 
 impl Model for ConsumerTable {
@@ -41,42 +42,30 @@ impl Model for ConsumerTable {
     ghost invariant = { λ s. AreWithin (length s.nodes.items) s.entries.items };
 }
 
-/// Adds a node that is not among those from an index on. False without spare capacity.
-fn add_node(nodes: &mut Vec<Node>, first: usize, peer: Node) -> bool
+/// Adds the node of a peer of the producer of this number, unless it is among the nodes from an index on. False without
+/// spare capacity.
+fn add_consumer(nodes: &mut Vec<Node>, first: usize, peer: Peer, number: u32) -> bool
     requires { first ≤ vec_len nodes.old }
-    ensures { result ≡ true → nodes.new.items
-        ≡ nodes.old.items ++ unless (list_any (λ other. same_node other peer) (drop first nodes.old.items)) peer }
+    ensures { result ≡ true
+        → nodes.new.items ≡ nodes.old.items ++ one_consumer number peer (drop first nodes.old.items) }
 {
-    if has_node(&nodes[first..], peer) {
+    if peer.producer != Some(number) || has_node(&nodes[first..], peer.node) {
         return true;
     }
     if nodes.len() >= nodes.capacity() {
         return false;
     }
-    nodes.push_reserved(peer);
+    nodes.push_reserved(peer.node);
     true
 }
 
-/// Adds the peer of a connection that has the producer of this number, unless it is among the nodes from an index on.
-/// False without spare capacity.
-fn add_consumer(nodes: &mut Vec<Node>, first: usize, row: &Row, number: u32) -> bool
-    requires { first ≤ vec_len nodes.old }
-    ensures { result ≡ true
-        → nodes.new.items ≡ nodes.old.items ++ one_consumer number row.now (drop first nodes.old.items) }
-{
-    if !is_produced_by(row, number) {
-        return true;
-    }
-    add_node(nodes, first, row.peer)
-}
-
-/// Adds the nodes that consume the datagrams of a producer. False without spare capacity.
-fn add_consumers(nodes: &mut Vec<Node>, connections: &Connections, number: u32) -> bool
-    ensures { result ≡ true → nodes.new.items ≡ nodes.old.items ++ consumers number connections.now }
+/// Adds the nodes among peers that consume the datagrams of a producer. False without spare capacity.
+fn add_consumers(nodes: &mut Vec<Node>, peers: &[Peer], number: u32) -> bool
+    ensures { result ≡ true → nodes.new.items ≡ nodes.old.items ++ consumers_among number peers.now }
 {
     let first = nodes.len();
-    for row in connections.rows() {
-        if !add_consumer(nodes, first, &row, number) {
+    for peer in peers {
+        if !add_consumer(nodes, first, *peer, number) {
             return false;
         }
     }
@@ -89,20 +78,16 @@ fn has_entry(entries: &[Entry], number: u32) -> bool
     entries.iter().any(|entry| entry.number == number)
 }
 
-/// Adds a producer, and the nodes that consume its datagrams. False without spare capacity.
-fn add_entry(
-    entries: &mut Vec<Entry>,
-    nodes: &mut Vec<Node>,
-    connections: &Connections,
-    number: u32,
-) -> bool
+/// Adds a producer, and the nodes among peers that consume its datagrams. False without spare capacity.
+fn add_entry(entries: &mut Vec<Entry>, nodes: &mut Vec<Node>, peers: &[Peer], number: u32) -> bool
     requires { AreWithin (length nodes.old.items) entries.old.items }
     ensures within { result ≡ true → AreWithin (length nodes.new.items) entries.new.items }
     ensures added { result ≡ true → map (consumers_in nodes.new.items) entries.new.items
-        ≡ map (consumers_in nodes.old.items) entries.old.items ++ consumers_of connections.now number ∷ [] }
+        ≡ map (consumers_in nodes.old.items) entries.old.items
+        ++ (record { number = number; nodes = consumers_among number peers.now }) ∷ [] }
 {
     let first = nodes.len();
-    if entries.len() >= entries.capacity() || !add_consumers(nodes, connections, number) {
+    if entries.len() >= entries.capacity() || !add_consumers(nodes, peers, number) {
         return false;
     }
     let count = nodes.len() - first;
@@ -114,66 +99,67 @@ fn add_entry(
     true
 }
 
-/// Adds a producer that one node alone consumes. False without spare capacity.
-fn add_single(entries: &mut Vec<Entry>, nodes: &mut Vec<Node>, number: u32, node: Node) -> bool
-    requires { AreWithin (length nodes.old.items) entries.old.items }
-    ensures within { result ≡ true → AreWithin (length nodes.new.items) entries.new.items }
-    ensures added { result ≡ true → map (consumers_in nodes.new.items) entries.new.items
-        ≡ map (consumers_in nodes.old.items) entries.old.items ++ (record { number = number; nodes = node ∷ [] }) ∷ [] }
-{
-    let first = nodes.len();
-    if entries.len() >= entries.capacity() || first >= nodes.capacity() {
-        return false;
-    }
-    nodes.push_reserved(node);
-    entries.push_reserved(Entry {
-        number,
-        first,
-        count: 1,
-    });
-    true
-}
-
-/// Adds the producer of a connection, unless it is there. False without spare capacity.
+/// Adds the producer of a peer, unless it is there. False without spare capacity.
 ///
-/// The producer of one connection alone is looked for neither among the entries nor in other connections.
+/// The producer of one connection alone is looked for neither among the entries nor among the other peers.
 fn add_producer(
     entries: &mut Vec<Entry>,
     nodes: &mut Vec<Node>,
     connections: &Connections,
-    row: &Row,
+    peers: &[Peer],
+    peer: Peer,
 ) -> bool
+    requires peers { peers.now ≡ map peer_in connections.now }
     requires within { AreWithin (length nodes.old.items) entries.old.items }
-    requires single { IsNewIfSingle connections.now (map (consumers_in nodes.old.items) entries.old.items) row.now (number_in row.now) }
+    requires single { IsNewIfSingle connections.now (map (consumers_in nodes.old.items) entries.old.items) peer.node peer.producer }
     ensures within { result ≡ true → AreWithin (length nodes.new.items) entries.new.items }
     ensures added { result ≡ true
         → map (consumers_in nodes.new.items) entries.new.items ≡ map (consumers_in nodes.old.items) entries.old.items
-        ++ more_by connections.now (map (consumers_in nodes.old.items) entries.old.items) (number_in row.now) }
+        ++ more_by connections.now (map (consumers_in nodes.old.items) entries.old.items) peer.producer }
 {
-    let State::Established(production) = &row.state else {
+    let Some(number) = peer.producer else {
         return true;
     };
-    let number = production.producer;
     if connections.is_single(number, entries.len()) {
-        return add_single(entries, nodes, number, row.peer);
+        return add_entry(entries, nodes, &[peer], number);
     }
     if has_entry(entries, number) {
         return true;
     }
-    add_entry(entries, nodes, connections, number)
+    add_entry(entries, nodes, peers, number)
 }
 
-/// Adds the producers of connections. False without spare capacity.
-fn add_producers(entries: &mut Vec<Entry>, nodes: &mut Vec<Node>, connections: &Connections) -> bool
-    requires { entries.old.items ≡ [] }
+/// Adds the producers of peers. False without spare capacity.
+fn add_producers(
+    entries: &mut Vec<Entry>,
+    nodes: &mut Vec<Node>,
+    connections: &Connections,
+    peers: &[Peer],
+) -> bool
+    requires peers { peers.now ≡ map peer_in connections.now }
+    requires none { entries.old.items ≡ [] }
     ensures within { result ≡ true → AreWithin (length nodes.new.items) entries.new.items }
     ensures consumer_table { result ≡ true
         → map (consumers_in nodes.new.items) entries.new.items ≡ consumers_by_producer connections.now }
 {
-    for row in connections.rows() {
-        if !add_producer(entries, nodes, connections, &row) {
+    for peer in peers {
+        if !add_producer(entries, nodes, connections, peers, *peer) {
             return false;
         }
+    }
+    true
+}
+
+/// Adds the peers of connections. False without spare capacity.
+fn add_peers(peers: &mut Vec<Peer>, connections: &Connections) -> bool
+    requires { peers.old.items ≡ [] }
+    ensures { result ≡ true → peers.new.items ≡ map peer_in connections.now }
+{
+    for peer in connections.peers() {
+        if peers.len() >= peers.capacity() {
+            return false;
+        }
+        peers.push_reserved(peer);
     }
     true
 }
@@ -186,6 +172,7 @@ impl ConsumerTable {
         Ok(ConsumerTable {
             entries: Vec::with_capacity(alloc, MOST_CONNECTIONS)?,
             nodes: Vec::with_capacity(alloc, MOST_CONNECTIONS)?,
+            peers: Vec::with_capacity(alloc, MOST_CONNECTIONS)?,
         })
     }
 
@@ -198,7 +185,9 @@ impl ConsumerTable {
     {
         self.entries.clear();
         self.nodes.clear();
-        let found = add_producers(&mut self.entries, &mut self.nodes, connections);
+        self.peers.clear();
+        let found = add_peers(&mut self.peers, connections)
+            && add_producers(&mut self.entries, &mut self.nodes, connections, &self.peers);
         if !found {
             self.entries.clear();
         }
