@@ -45,9 +45,6 @@ impl Recorded {
     pub fn get(&self) -> Option<&Outcome>
         ensures { option_map (λ outcome. outcome.now) result ≡ self.now }
     {
-        match &self.kept {
-            Some(kept) => Some(kept),
-            None => None,
-        }
+        self.kept.as_deref()
     }
 }

@@ -1,8 +1,8 @@
 //! The lines of a recorded outcome.
 
 ghost use Rattle.std.specs.Prelude.{◌≡◌};
-ghost use Rattle.trace_words.specs.Reader.{unread_words, Takes};
-ghost use Rattle.trace_outcomes.specs.Parts.{bytes_to, reply_reader, frame_out_reader, outgoing_reader, fault_of, verdict_of, value_reader, fault_reader, part_reader};
+ghost use Rattle.trace_words.specs.Reader.{unread_words, Takes, next_word};
+ghost use Rattle.trace_outcomes.specs.Parts.{bytes_to, outgoing_reader, fault_of, verdict_of, part_reader};
 
 use crate::notice_lines::read_notice;
 use crate::part::Part;
@@ -18,16 +18,27 @@ pub fn read_part(alloc: Global, words: &mut Words<'_>) -> Result<Part, LineFault
 {
     let word = words.word()?;
     match word {
-        "value" => read_value(alloc, words).map(Part::Verdict),
-        "fault" => last_fault(words).map(Part::Fault),
-        "reply" => read_reply(alloc, words).map(Part::Frame),
-        "frame" => read_frame_out(alloc, words).map(Part::Frame),
+        "value" => {
+            let bytes = words.bytes(alloc)?;
+            words.last(Part::Verdict(Verdict::Value(bytes)))
+        }
+        "fault" => {
+            let fault = read_fault(words)?;
+            words.last(Part::Fault(fault))
+        }
+        "reply" => {
+            let node = words.node()?;
+            read_bytes_to(alloc, words, Recipient::Peer(node)).map(Part::Frame)
+        }
+        "frame" => {
+            let stream = words.u16()?;
+            read_bytes_to(alloc, words, Recipient::Stream(stream)).map(Part::Frame)
+        }
         "send" => read_outgoing(alloc, words).map(Part::Datagram),
         "note" => read_notice(alloc, words).map(Part::Notice),
         _ => {
-            let parsed = read_verdict(word).ok_or(LineFault::Bad)?;
-            words.end()?;
-            Ok(Part::Verdict(parsed))
+            let verdict = read_verdict(word).ok_or(LineFault::Bad)?;
+            words.last(Part::Verdict(verdict))
         }
     }
 }
@@ -53,76 +64,38 @@ fn read_verdict(word: &str) -> Option<Verdict>
     }
 }
 
-/// What follows `value`: `HEX`.
-fn read_value(alloc: Global, words: &mut Words<'_>) -> Result<Verdict, LineFault>
-    ensures { Takes (value_reader (unread_words words.old)) result (unread_words words.new) }
-{
-    let bytes = words.bytes(alloc)?;
-    words.end()?;
-    Ok(Verdict::Value(bytes))
-}
-
-/// What follows `fault`: its name.
-fn last_fault(words: &mut Words<'_>) -> Result<StepFault, LineFault>
-    ensures { Takes (fault_reader (unread_words words.old)) result (unread_words words.new) }
-{
-    let name = read_fault(words.word()?).ok_or(LineFault::Bad)?;
-    words.end()?;
-    Ok(name)
-}
-
 /// A fault by its name.
 #[tactic(auto, unfolding(crate::specs::Parts::fault_of))]
-fn read_fault(name: &str) -> Option<StepFault>
-    ensures { result ≡ fault_of name.now }
+fn read_fault(words: &mut Words<'_>) -> Result<StepFault, LineFault>
+    ensures { Takes (next_word fault_of (unread_words words.old)) result (unread_words words.new) }
 {
-    match name {
-        "OutOfMemory" => Some(StepFault::OutOfMemory),
-        "TickTooLong" => Some(StepFault::TickTooLong),
-        "ClockEnd" => Some(StepFault::ClockEnd),
-        "NoSuchPoint" => Some(StepFault::NoSuchPoint),
-        "WrongLength" => Some(StepFault::WrongLength),
-        "NoSuchSlot" => Some(StepFault::NoSuchSlot),
-        "NotAllowedNow" => Some(StepFault::NotAllowedNow),
-        _ => None,
+    match words.word()? {
+        "OutOfMemory" => Ok(StepFault::OutOfMemory),
+        "TickTooLong" => Ok(StepFault::TickTooLong),
+        "ClockEnd" => Ok(StepFault::ClockEnd),
+        "NoSuchPoint" => Ok(StepFault::NoSuchPoint),
+        "WrongLength" => Ok(StepFault::WrongLength),
+        "NoSuchSlot" => Ok(StepFault::NoSuchSlot),
+        "NotAllowedNow" => Ok(StepFault::NotAllowedNow),
+        _ => Err(LineFault::Bad),
     }
-}
-
-/// What follows `reply`: `NODE HEX`.
-fn read_reply(alloc: Global, words: &mut Words<'_>) -> Result<Frame, LineFault>
-    ensures { Takes (reply_reader (unread_words words.old)) result (unread_words words.new) }
-{
-    let node = words.node()?;
-    read_bytes_to(alloc, words, Recipient::Peer(node))
-}
-
-/// What follows `frame`: `STREAM HEX`.
-fn read_frame_out(alloc: Global, words: &mut Words<'_>) -> Result<Frame, LineFault>
-    ensures { Takes (frame_out_reader (unread_words words.old)) result (unread_words words.new) }
-{
-    let stream = words.u16()?;
-    read_bytes_to(alloc, words, Recipient::Stream(stream))
 }
 
 fn read_bytes_to(alloc: Global, words: &mut Words<'_>, to: Recipient) -> Result<Frame, LineFault>
     ensures { Takes (bytes_to to (unread_words words.old)) result (unread_words words.new) }
 {
     let bytes = words.bytes(alloc)?;
-    words.end()?;
-    Ok(Frame { to, bytes })
+    words.last(Frame { to, bytes })
 }
 
 /// What follows `send`: `ADDRESS NODES HEX`.
 fn read_outgoing(alloc: Global, words: &mut Words<'_>) -> Result<OutgoingDatagram, LineFault>
     ensures { Takes (outgoing_reader (unread_words words.old)) result (unread_words words.new) }
 {
-    let address = words.node()?;
-    let nodes = words.nodes(alloc)?;
-    let bytes = words.bytes(alloc)?;
-    words.end()?;
-    Ok(OutgoingDatagram {
-        address,
-        nodes: Consumers::from_vec(nodes.into_vec()),
-        bytes: SmallBytes::from_vec(bytes.into_vec()),
-    })
+    let outgoing = OutgoingDatagram {
+        address: words.node()?,
+        nodes: Consumers::from_vec(words.nodes(alloc)?.into_vec()),
+        bytes: SmallBytes::from_vec(words.bytes(alloc)?.into_vec()),
+    };
+    words.last(outgoing)
 }

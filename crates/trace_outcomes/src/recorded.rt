@@ -1,11 +1,11 @@
 //! An outcome as it is recorded, part by part.
 
-ghost use Rattle.std.specs.Prelude.{◌≡◌, ◌++◌, ◌∷◌, [], Some, None, IfOk};
+ghost use Rattle.std.specs.Prelude.{◌≡◌, ◌++◌, ◌∷◌, [], IfOk};
 ghost use Rattle.trace_words.specs.Reader.{Finds};
-ghost use Rattle.trace_outcomes.specs.Recorded.{plain_answer_of, with_frame, with_datagram, recorded_with};
+ghost use Rattle.trace_outcomes.specs.Recorded.{with_frame, with_datagram, recorded_with};
 
 use crate::part::Part;
-use cip_events::{Answer, Frame, Notice, Outcome, OutgoingDatagram, Verdict};
+use cip_events::{Answer, Frame, Outcome, OutgoingDatagram};
 use cip_types::{Items, OutOfMemory};
 use std::alloc::Global;
 use trace_words::LineFault;
@@ -18,41 +18,15 @@ pub fn recorded_with(
 ) -> Result<Outcome, LineFault>
     ensures { Finds (recorded_with recorded part) result }
 {
-    match recorded {
-        None => first_part(alloc, part),
-        Some(Ok(answer)) => answer_with(answer, part),
-        Some(Err(_)) => Err(LineFault::Bad),
-    }
-}
-
-fn first_part(alloc: Global, part: Part) -> Result<Outcome, LineFault>
-    ensures { Finds (recorded_with None part) result }
-{
-    match part {
-        Part::Verdict(verdict) => Ok(Ok(plain_answer_of(alloc, verdict))),
-        Part::Fault(fault) => Ok(Err(fault)),
-        _ => Err(LineFault::Bad),
-    }
-}
-
-fn plain_answer_of(alloc: Global, verdict: Verdict) -> Answer
-    ensures { result ≡ plain_answer_of verdict }
-{
-    Answer {
-        frames: Items::new(alloc),
-        datagrams: Items::new(alloc),
-        verdict,
-        notices: Items::new(alloc),
-    }
-}
-
-fn answer_with(answer: Answer, part: Part) -> Result<Outcome, LineFault>
-    ensures { Finds (recorded_with (Some (Ok answer)) part) result }
-{
-    match part {
-        Part::Frame(frame) => Ok(Ok(with_frame(answer, frame)?)),
-        Part::Datagram(outgoing) => Ok(Ok(with_datagram(answer, outgoing)?)),
-        Part::Notice(notice) => Ok(Ok(with_notice(answer, notice)?)),
+    match (recorded, part) {
+        (None, Part::Verdict(verdict)) => Ok(Ok(Answer::plain(alloc, verdict))),
+        (None, Part::Fault(fault)) => Ok(Err(fault)),
+        (Some(Ok(answer)), Part::Frame(frame)) => Ok(Ok(with_frame(answer, frame)?)),
+        (Some(Ok(answer)), Part::Datagram(outgoing)) => Ok(Ok(with_datagram(answer, outgoing)?)),
+        (Some(Ok(answer)), Part::Notice(notice)) => Ok(Ok(Answer {
+            notices: with_item(answer.notices, notice)?,
+            ..answer
+        })),
         _ => Err(LineFault::Bad),
     }
 }
@@ -77,15 +51,6 @@ fn with_datagram(answer: Answer, outgoing: OutgoingDatagram) -> Result<Answer, L
     }
     Ok(Answer {
         datagrams: with_item(answer.datagrams, outgoing)?,
-        ..answer
-    })
-}
-
-fn with_notice(answer: Answer, notice: Notice) -> Result<Answer, LineFault>
-    ensures { Finds (Some (record answer { notices = answer.notices ++ notice ∷ [] })) result }
-{
-    Ok(Answer {
-        notices: with_item(answer.notices, notice)?,
         ..answer
     })
 }

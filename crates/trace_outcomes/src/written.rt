@@ -1,14 +1,13 @@
 //! Outcomes as they are written.
 
 ghost use Rattle.std.specs.Prelude.{◌≡◌, ◌++◌, OnOk, IfOk, string_bytes, flat_map, codes, decimal};
-ghost use Rattle.trace_words.specs.Words.{bytes_word, extended_word};
-ghost use Rattle.trace_outcomes.specs.Written.{fault_word, delivery_word, verdict_words, triad_words, refusal_words, mismatch_words, reason_words, recipient_words, frame_line, outgoing_line, notice_words, notice_line, answer_text, fault_line, outcome_text};
+ghost use Rattle.trace_outcomes.specs.Written.{fault_word, delivery_word, verdict_words, triad_words, refusal_words, reason_words, recipient_words, frame_line, outgoing_line, notice_words, notice_line, answer_text, outcome_text};
 
 use cip_events::{
     Answer, Delivery, Frame, Notice, Outcome, OutgoingDatagram, Reason, Recipient, StepFault,
     Verdict,
 };
-use cip_types::{ConnId, Fault, Mismatch, OutOfMemory, Triad};
+use cip_types::{Fault, Mismatch, OutOfMemory, Triad};
 use std::alloc::Global;
 use trace_words::{
     push_bytes, push_digits, push_last_bytes, push_node, push_nodes, push_number, push_text,
@@ -30,16 +29,8 @@ pub fn push_outcome(out: &mut String, number: u64, outcome: &Outcome) -> Result<
 {
     match outcome {
         Ok(answer) => push_answer(out, number, answer),
-        Err(fault) => push_fault(out, number, *fault),
+        Err(fault) => Ok(write!(out, "{number} fault {}\n", fault_name(*fault))?),
     }
-}
-
-fn push_fault(out: &mut String, number: u64, fault: StepFault) -> Result<(), OutOfMemory>
-    ensures { OnOk result (string_bytes out.new ≡ string_bytes out.old ++ fault_line number fault) }
-{
-    let name = fault_name(fault);
-    write!(out, "{number} fault {name}\n")?;
-    Ok(())
 }
 
 fn push_answer(out: &mut String, number: u64, answer: &Answer) -> Result<(), OutOfMemory>
@@ -83,16 +74,12 @@ fn push_verdict(out: &mut String, verdict: &Verdict) -> Result<(), OutOfMemory>
         Verdict::Done => push_text(out, "done"),
         Verdict::BadFrame => push_text(out, "bad-frame"),
         Verdict::Ignored => push_text(out, "ignored"),
-        Verdict::Value(bytes) => push_value(out, bytes.as_slice()),
+        Verdict::Value(bytes) => {
+            out.push_str("value ")?;
+            push_bytes(out, bytes.as_slice())
+        }
         Verdict::Delivered(delivery) => push_text(out, delivery_name(*delivery)),
     }
-}
-
-fn push_value(out: &mut String, bytes: &[u8]) -> Result<(), OutOfMemory>
-    ensures { OnOk result (string_bytes out.new ≡ string_bytes out.old ++ (codes "value " ++ bytes_word bytes.now)) }
-{
-    out.push_str("value ")?;
-    push_bytes(out, bytes)
 }
 
 /// The word for the delivery of a datagram.
@@ -115,7 +102,9 @@ fn push_frames(out: &mut String, number: u64, frames: &[Frame]) -> Result<(), Ou
     ensures { OnOk result (string_bytes out.new ≡ string_bytes out.old ++ flat_map (frame_line number) frames.now) }
 {
     for frame in frames {
-        push_frame(out, number, frame)?;
+        push_front(out, number, " ")?;
+        push_recipient(out, frame.to)?;
+        push_last_bytes(out, frame.bytes.as_slice())?;
     }
     Ok(())
 }
@@ -128,7 +117,11 @@ fn push_outgoing_datagrams(
     ensures { OnOk result (string_bytes out.new ≡ string_bytes out.old ++ flat_map (outgoing_line number) outgoing_datagrams.now) }
 {
     for outgoing in outgoing_datagrams {
-        push_outgoing(out, number, outgoing)?;
+        push_front(out, number, " send ")?;
+        push_node(out, outgoing.address)?;
+        out.push_str(" ")?;
+        push_nodes(out, outgoing.nodes.as_slice())?;
+        push_last_bytes(out, outgoing.bytes.as_slice())?;
     }
     Ok(())
 }
@@ -137,17 +130,11 @@ fn push_notices(out: &mut String, number: u64, notices: &[Notice]) -> Result<(),
     ensures { OnOk result (string_bytes out.new ≡ string_bytes out.old ++ flat_map (notice_line number) notices.now) }
 {
     for notice in notices {
-        push_notice(out, number, *notice)?;
+        push_front(out, number, " note ")?;
+        push_notice_words(out, *notice)?;
+        out.push_str("\n")?;
     }
     Ok(())
-}
-
-fn push_frame(out: &mut String, number: u64, frame: &Frame) -> Result<(), OutOfMemory>
-    ensures { OnOk result (string_bytes out.new ≡ string_bytes out.old ++ frame_line number frame.now) }
-{
-    push_front(out, number, " ")?;
-    push_recipient(out, frame.to)?;
-    push_last_bytes(out, frame.bytes.as_slice())
 }
 
 fn push_recipient(out: &mut String, recipient: Recipient) -> Result<(), OutOfMemory>
@@ -165,50 +152,27 @@ fn push_recipient(out: &mut String, recipient: Recipient) -> Result<(), OutOfMem
     }
 }
 
-fn push_outgoing(
-    out: &mut String,
-    number: u64,
-    outgoing: &OutgoingDatagram,
-) -> Result<(), OutOfMemory>
-    ensures { OnOk result (string_bytes out.new ≡ string_bytes out.old ++ outgoing_line number outgoing.now) }
-{
-    push_front(out, number, " send ")?;
-    push_node(out, outgoing.address)?;
-    out.push_str(" ")?;
-    push_nodes(out, outgoing.nodes.as_slice())?;
-    push_last_bytes(out, outgoing.bytes.as_slice())?;
-    Ok(())
-}
-
-fn push_notice(out: &mut String, number: u64, notice: Notice) -> Result<(), OutOfMemory>
-    ensures { OnOk result (string_bytes out.new ≡ string_bytes out.old ++ notice_line number notice) }
-{
-    push_front(out, number, " note ")?;
-    push_notice_words(out, notice)?;
-    push_text(out, "\n")
-}
-
 fn push_notice_words(out: &mut String, notice: Notice) -> Result<(), OutOfMemory>
     ensures { OnOk result (string_bytes out.new ≡ string_bytes out.old ++ notice_words notice) }
 {
     match notice {
-        Notice::Opened(triad, id) => push_opened(out, triad, id),
+        Notice::Opened(triad, id) => {
+            push_triad(out, "opened ", triad)?;
+            out.push_str(" ")?;
+            push_digits(out, id.0.to_be_bytes().as_slice())
+        }
         Notice::Closed(triad) => push_triad(out, "closed ", triad),
         Notice::Expired(triad) => push_triad(out, "expired ", triad),
         Notice::Dropped(triad) => push_triad(out, "dropped ", triad),
         Notice::Replaced(triad) => push_triad(out, "replaced ", triad),
         Notice::StreamClosed(stream) => Ok(write!(out, "stream-closed {stream}")?),
         Notice::Slot(slot, state) => Ok(write!(out, "slot {slot} {state}")?),
-        Notice::Refused(slot, why) => push_refused(out, slot, why),
+        Notice::Refused(slot, why) => {
+            write!(out, "refused {slot} ")?;
+            push_reason(out, why)
+        }
         Notice::NoIds(slot) => Ok(write!(out, "no-ids {slot}")?),
     }
-}
-
-fn push_refused(out: &mut String, slot: u32, why: Reason) -> Result<(), OutOfMemory>
-    ensures { OnOk result (string_bytes out.new ≡ string_bytes out.old ++ notice_words (Notice.Refused slot why)) }
-{
-    write!(out, "refused {slot} ")?;
-    push_reason(out, why)
 }
 
 fn push_reason(out: &mut String, why: Reason) -> Result<(), OutOfMemory>
@@ -217,19 +181,10 @@ fn push_reason(out: &mut String, why: Reason) -> Result<(), OutOfMemory>
     match why {
         Reason::Encap(status) => Ok(write!(out, "encap {status}")?),
         Reason::Unreadable => push_text(out, "unreadable"),
-        Reason::Cip(fault) => push_refusal(out, fault),
-        Reason::Mismatch(why) => push_mismatch(out, why),
-    }
-}
-
-fn push_mismatch(out: &mut String, why: Mismatch) -> Result<(), OutOfMemory>
-    ensures { OnOk result (string_bytes out.new ≡ string_bytes out.old ++ mismatch_words why) }
-{
-    match why {
-        Mismatch::Triad => push_text(out, "mismatch Triad"),
-        Mismatch::Id => push_text(out, "mismatch Id"),
-        Mismatch::Api => push_text(out, "mismatch Api"),
-        Mismatch::Refused(fault) => push_refusal(out, fault),
+        Reason::Mismatch(Mismatch::Triad) => push_text(out, "mismatch Triad"),
+        Reason::Mismatch(Mismatch::Id) => push_text(out, "mismatch Id"),
+        Reason::Mismatch(Mismatch::Api) => push_text(out, "mismatch Api"),
+        Reason::Cip(fault) | Reason::Mismatch(Mismatch::Refused(fault)) => push_refusal(out, fault),
     }
 }
 
@@ -239,35 +194,19 @@ fn push_refusal(out: &mut String, fault: Fault) -> Result<(), OutOfMemory>
     out.push_str("cip ")?;
     push_digits(out, &[fault.general])?;
     out.push_str(" ")?;
-    push_extended(out, fault.extended)
-}
-
-/// An extended status as four lower-case hexadecimal digits; `-` for none.
-fn push_extended(out: &mut String, extended: Option<u16>) -> Result<(), OutOfMemory>
-    ensures { OnOk result (string_bytes out.new ≡ string_bytes out.old ++ extended_word extended) }
-{
-    let Some(extended) = extended else {
-        return push_text(out, "-");
-    };
-    push_digits(out, extended.to_be_bytes().as_slice())
-}
-
-fn push_opened(out: &mut String, triad: Triad, id: ConnId) -> Result<(), OutOfMemory>
-    ensures { OnOk result (string_bytes out.new ≡ string_bytes out.old ++ notice_words (Notice.Opened triad id)) }
-{
-    push_triad(out, "opened ", triad)?;
-    out.push_str(" ")?;
-    push_digits(out, id.0.to_be_bytes().as_slice())
+    match fault.extended {
+        Some(extended) => push_digits(out, extended.to_be_bytes().as_slice()),
+        None => push_text(out, "-"),
+    }
 }
 
 fn push_triad(out: &mut String, front: &str, triad: Triad) -> Result<(), OutOfMemory>
     ensures { OnOk result (string_bytes out.new ≡ string_bytes out.old ++ (front.now ++ triad_words triad)) }
 {
-    let Triad {
-        serial,
-        vendor,
-        originator,
-    } = triad;
-    write!(out, "{front}{serial} {vendor} {originator}")?;
+    write!(
+        out,
+        "{front}{} {} {}",
+        triad.serial, triad.vendor, triad.originator
+    )?;
     Ok(())
 }

@@ -1,8 +1,8 @@
 //! The lines of a scanner's profile.
 
 ghost use Rattle.std.specs.Prelude.{◌≡◌};
-ghost use Rattle.trace_words.specs.Reader.{unread_words, Takes};
-ghost use Rattle.trace_profiles.specs.Slots.{kind_of, multicast_of, trigger_of, key_of_bytes, key_reader, scanner_reader, stated_rate, rate_reader, slot_reader};
+ghost use Rattle.trace_words.specs.Reader.{unread_words, Takes, next_word};
+ghost use Rattle.trace_profiles.specs.Slots.{kind_of, multicast_of, trigger_of, key_of_bytes, key_reader, scanner_reader, stated_rate, slot_reader};
 
 use crate::forms::{Rate, ScannerLine};
 use cip_epath::ElectronicKey;
@@ -16,21 +16,15 @@ use trace_words::{LineFault, Words};
 pub fn read_scanner(words: &mut Words<'_>) -> Result<ScannerLine, LineFault>
     ensures { Takes (scanner_reader (unread_words words.old)) result (unread_words words.new) }
 {
-    let incarnation = words.u8()?;
-    let node = words.node()?;
-    let vendor = words.u16()?;
-    let serial = words.u32()?;
-    let open_timeout = words.u64()?;
-    let retry = words.u64()?;
-    words.end()?;
-    Ok(ScannerLine {
-        incarnation,
-        node,
-        vendor,
-        serial,
-        open_timeout,
-        retry,
-    })
+    let line = ScannerLine {
+        incarnation: words.u8()?,
+        node: words.node()?,
+        vendor: words.u16()?,
+        serial: words.u32()?,
+        open_timeout: words.u64()?,
+        retry: words.u64()?,
+    };
+    words.last(line)
 }
 
 /// What follows `slot`: `TARGET KIND CONFIG CONSUMED PRODUCED OUTLEN INLEN ORPI TRPI MULT p2p|multicast KEY DATA`,
@@ -38,73 +32,68 @@ pub fn read_scanner(words: &mut Words<'_>) -> Result<ScannerLine, LineFault>
 pub fn read_slot(alloc: Global, words: &mut Words<'_>) -> Result<SlotConfig, LineFault>
     ensures { Takes (slot_reader (unread_words words.old)) result (unread_words words.new) }
 {
-    let target = words.node()?;
-    let kind = kind_named(words.word()?).ok_or(LineFault::Bad)?;
-    let config = words.u32_or_none()?;
-    let consumed = words.u32()?;
-    let produced = words.u32()?;
-    let out_len = words.u64()?;
-    let in_len = words.u64()?;
-    let o_t_rpi = words.u32()?;
-    let t_o_rpi = words.u32()?;
-    let mult = words.u8()?;
-    let multicast = is_multicast(words.word()?).ok_or(LineFault::Bad)?;
-    let key = read_key(alloc, words)?;
-    let config_data = words.bytes(alloc)?;
+    let slot = SlotConfig {
+        target: words.node()?,
+        kind: read_kind(words)?,
+        config: words.u32_or_none()?,
+        consumed: words.u32()?,
+        produced: words.u32()?,
+        out_len: words.u64()?,
+        in_len: words.u64()?,
+        o_t_rpi: words.u32()?,
+        t_o_rpi: words.u32()?,
+        mult: words.u8()?,
+        multicast: read_multicast(words)?,
+        key: read_key(alloc, words)?,
+        config_data: words.bytes(alloc)?,
+        trigger: Trigger::Cyclic,
+        inhibit: 0,
+    };
+    if words.is_done() {
+        return Ok(slot);
+    }
     let Rate { trigger, inhibit } = read_rate(words)?;
     Ok(SlotConfig {
-        target,
-        kind,
-        config,
-        consumed,
-        produced,
-        out_len,
-        in_len,
-        o_t_rpi,
-        t_o_rpi,
-        mult,
-        multicast,
-        key,
-        config_data,
         trigger,
         inhibit,
+        ..slot
     })
 }
 
 /// The kind of a connection, by its word.
 #[tactic(auto, unfolding(crate::specs::Slots::kind_of))]
-fn kind_named(word: &str) -> Option<Kind>
-    ensures { result ≡ kind_of word.now }
+fn read_kind(words: &mut Words<'_>) -> Result<Kind, LineFault>
+    ensures { Takes (next_word kind_of (unread_words words.old)) result (unread_words words.new) }
 {
-    match word {
-        "exclusive" => Some(Kind::ExclusiveOwner),
-        "input" => Some(Kind::InputOnly),
-        "listen" => Some(Kind::ListenOnly),
-        _ => None,
+    match words.word()? {
+        "exclusive" => Ok(Kind::ExclusiveOwner),
+        "input" => Ok(Kind::InputOnly),
+        "listen" => Ok(Kind::ListenOnly),
+        _ => Err(LineFault::Bad),
     }
 }
 
 /// Whether a target produces for a multicast group, by its word.
 #[tactic(auto, unfolding(crate::specs::Slots::multicast_of))]
-fn is_multicast(word: &str) -> Option<bool>
-    ensures { result ≡ multicast_of word.now }
+fn read_multicast(words: &mut Words<'_>) -> Result<bool, LineFault>
+    ensures { Takes (next_word multicast_of (unread_words words.old)) result (unread_words words.new) }
 {
-    match word {
-        "p2p" => Some(false),
-        "multicast" => Some(true),
-        _ => None,
+    match words.word()? {
+        "p2p" => Ok(false),
+        "multicast" => Ok(true),
+        _ => Err(LineFault::Bad),
     }
 }
 
 /// The trigger of a target's productions, by its word.
 #[tactic(auto, unfolding(crate::specs::Slots::trigger_of))]
-fn trigger_named(word: &str) -> Option<Trigger>
-    ensures { result ≡ trigger_of word.now }
+fn read_trigger(words: &mut Words<'_>) -> Result<Trigger, LineFault>
+    ensures { Takes (next_word trigger_of (unread_words words.old)) result (unread_words words.new) }
 {
-    match word {
-        "cyclic" => Some(Trigger::Cyclic),
-        "change" => Some(Trigger::ChangeOfState),
-        _ => None,
+    match words.word()? {
+        "cyclic" => Ok(Trigger::Cyclic),
+        "change" => Ok(Trigger::ChangeOfState),
+        _ => Err(LineFault::Bad),
     }
 }
 
@@ -137,24 +126,13 @@ fn key_of_bytes(bytes: &[u8]) -> Option<Option<ElectronicKey>>
     }))
 }
 
-/// The trigger of the target's productions: cyclic, if the line ends here.
+/// The trigger of the target's productions, and its inhibit time, at the end of a line.
 fn read_rate(words: &mut Words<'_>) -> Result<Rate, LineFault>
-    ensures { Takes (rate_reader (unread_words words.old)) result (unread_words words.new) }
-{
-    if words.is_done() {
-        return Ok(Rate {
-            trigger: Trigger::Cyclic,
-            inhibit: 0,
-        });
-    }
-    read_stated_rate(words)
-}
-
-fn read_stated_rate(words: &mut Words<'_>) -> Result<Rate, LineFault>
     ensures { Takes (stated_rate (unread_words words.old)) result (unread_words words.new) }
 {
-    let trigger = trigger_named(words.word()?).ok_or(LineFault::Bad)?;
-    let inhibit = words.u8()?;
-    words.end()?;
-    Ok(Rate { trigger, inhibit })
+    let rate = Rate {
+        trigger: read_trigger(words)?,
+        inhibit: words.u8()?,
+    };
+    words.last(rate)
 }

@@ -34,14 +34,11 @@ fn push_adapter(out: &mut String, profile: &Profile) -> Result<(), OutOfMemory>
 fn push_identity(out: &mut String, identity: Identity) -> Result<(), OutOfMemory>
     ensures { OnOk result (string_bytes out.new ≡ string_bytes out.old ++ (codes " " ++ line_text (identity_words identity))) }
 {
-    let Identity {
-        vendor,
-        device_type,
-        product,
-        major,
-        minor,
-    } = identity;
-    write!(out, " {vendor} {device_type} {product} {major} {minor}\n")?;
+    write!(
+        out,
+        " {} {} {} {} {}\n",
+        identity.vendor, identity.device_type, identity.product, identity.major, identity.minor
+    )?;
     Ok(())
 }
 
@@ -49,23 +46,14 @@ fn push_outputs(out: &mut String, outputs: &[OutputPoint]) -> Result<(), OutOfMe
     ensures { OnOk result (string_bytes out.new ≡ string_bytes out.old ++ flat_map (λ point. line_text (output_words point)) outputs.now) }
 {
     for output in outputs {
-        push_output(out, *output)?;
+        let idle = action_name(output.idle);
+        let fault = action_name(output.fault);
+        write!(
+            out,
+            "output {} {} {idle} {fault}\n",
+            output.instance, output.len
+        )?;
     }
-    Ok(())
-}
-
-fn push_output(out: &mut String, output: OutputPoint) -> Result<(), OutOfMemory>
-    ensures { OnOk result (string_bytes out.new ≡ string_bytes out.old ++ line_text (output_words output)) }
-{
-    let OutputPoint {
-        instance,
-        len,
-        idle,
-        fault,
-    } = output;
-    let idle = action_name(idle);
-    let fault = action_name(fault);
-    write!(out, "output {instance} {len} {idle} {fault}\n")?;
     Ok(())
 }
 
@@ -90,9 +78,7 @@ fn push_inputs(out: &mut String, inputs: &[InputPoint]) -> Result<(), OutOfMemor
 fn push_point(out: &mut String, keyword: &str, point: InputPoint) -> Result<(), OutOfMemory>
     ensures { OnOk result (string_bytes out.new ≡ string_bytes out.old ++ line_text (point_words keyword.now point)) }
 {
-    let InputPoint { instance, len } = point;
-    write!(out, "{keyword} {instance} {len}\n")?;
-    Ok(())
+    Ok(write!(out, "{keyword} {} {}\n", point.instance, point.len)?)
 }
 
 fn push_config(out: &mut String, config: Option<InputPoint>) -> Result<(), OutOfMemory>

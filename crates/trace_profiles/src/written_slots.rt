@@ -58,14 +58,11 @@ fn push_purpose(out: &mut String, slot: &SlotConfig) -> Result<(), OutOfMemory>
 {
     out.push_str("slot ")?;
     push_node(out, slot.target)?;
-    push_kind(out, slot.kind)?;
-    push_instance(out, slot.config)
-}
-
-fn push_kind(out: &mut String, kind: Kind) -> Result<(), OutOfMemory>
-    ensures { OnOk result (string_bytes out.new ≡ string_bytes out.old ++ (codes " " ++ (kind_word kind ++ codes " "))) }
-{
-    Ok(write!(out, " {} ", kind_name(kind))?)
+    write!(out, " {} ", kind_name(slot.kind))?;
+    match slot.config {
+        Some(instance) => Ok(write!(out, "{instance}")?),
+        None => Ok(out.push_str("-")?),
+    }
 }
 
 fn kind_name(kind: Kind) -> &'static str
@@ -75,15 +72,6 @@ fn kind_name(kind: Kind) -> &'static str
         Kind::ExclusiveOwner => "exclusive",
         Kind::InputOnly => "input",
         Kind::ListenOnly => "listen",
-    }
-}
-
-fn push_instance(out: &mut String, instance: Option<u32>) -> Result<(), OutOfMemory>
-    ensures { OnOk result (string_bytes out.new ≡ string_bytes out.old ++ instance_word instance) }
-{
-    match instance {
-        Some(instance) => Ok(write!(out, "{instance}")?),
-        None => push_text(out, "-"),
     }
 }
 
@@ -133,15 +121,9 @@ fn push_slot_end(out: &mut String, slot: &SlotConfig) -> Result<(), OutOfMemory>
 {
     out.push_str(" ")?;
     push_bytes(out, slot.config_data.as_slice())?;
-    push_rate(out, slot.trigger, slot.inhibit)
-}
-
-fn push_rate(out: &mut String, trigger: Trigger, inhibit: u8) -> Result<(), OutOfMemory>
-    ensures { OnOk result (string_bytes out.new ≡ string_bytes out.old ++ (flat_map (λ word. codes " " ++ word) (rate_words trigger inhibit) ++ codes "\n")) }
-{
-    match (trigger, inhibit) {
+    match (slot.trigger, slot.inhibit) {
         (Trigger::Cyclic, 0) => push_text(out, "\n"),
-        (Trigger::Cyclic, _) => Ok(write!(out, " cyclic {inhibit}\n")?),
-        (Trigger::ChangeOfState, _) => Ok(write!(out, " change {inhibit}\n")?),
+        (Trigger::Cyclic, inhibit) => Ok(write!(out, " cyclic {inhibit}\n")?),
+        (Trigger::ChangeOfState, inhibit) => Ok(write!(out, " change {inhibit}\n")?),
     }
 }

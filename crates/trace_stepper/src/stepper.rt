@@ -77,7 +77,7 @@ impl<'a, D: Device> Stepper<'a, D> {
         ensures kind { IfOk result (λ _. same_kind D.ADAPTER (makes_adapter trace.now.config) ≡ true) }
         ensures fault { IfErr result (IsRefused (config_fault trace.now.config) (same_kind D.ADAPTER (makes_adapter trace.now.config))) }
     {
-        if !is_good(&trace.config) {
+        if trace.check().is_err() {
             return Err(StepperFault::Profile);
         }
         if D::ADAPTER != makes_adapter(&trace.config) {
@@ -112,16 +112,6 @@ impl<'a, D: Device> Stepper<'a, D> {
         }
         self.place += 1;
         Ok(Some(outcome))
-    }
-}
-
-/// Whether a device can be made of a configuration.
-fn is_good(config: &Config) -> bool
-    ensures { IsTrue result ↔ (config_fault config.now ≡ None) }
-{
-    match config {
-        Config::Adapter(profile) => profile.check().is_ok(),
-        Config::Scanner(profile) => profile.check().is_ok(),
     }
 }
 

@@ -1,6 +1,6 @@
 //! The part of a trace that was read so far.
 
-ghost use Rattle.std.specs.Prelude.{◌≡◌, ◌==◌, ◌+◌, length, ◌++◌, OnOk, option_to_list};
+ghost use Rattle.std.specs.Prelude.{◌≡◌, ◌==◌, ◌+◌, [], length, ◌++◌, OnOk, option_to_list};
 ghost use Rattle.trace_words.specs.Reader.{Finds};
 ghost use Rattle.cip_tables.specs.declared.table.Config.{Config};
 ghost use Rattle.trace_text.specs.Reading.{builder_with, Leaves};
@@ -133,36 +133,26 @@ fn after_points(
     ensures { Finds (builder_with (TraceBuilder.Points adapter outputs inputs) parsed) result }
 {
     match parsed {
-        TraceLine::Output(output) => {
-            if !inputs.as_slice().is_empty() {
-                return Err(LineFault::Bad);
-            }
-            let outputs = with_item(outputs, output)?;
-            Ok(TraceBuilder::Points {
-                adapter,
-                outputs,
-                inputs,
-            })
-        }
-        TraceLine::Input(input) => {
-            let inputs = with_item(inputs, input)?;
-            Ok(TraceBuilder::Points {
-                adapter,
-                outputs,
-                inputs,
-            })
-        }
+        TraceLine::Output(output) if inputs.as_slice().is_empty() => Ok(TraceBuilder::Points {
+            adapter,
+            outputs: with_item(outputs, output)?,
+            inputs,
+        }),
+        TraceLine::Input(input) => Ok(TraceBuilder::Points {
+            adapter,
+            outputs,
+            inputs: with_item(inputs, input)?,
+        }),
         TraceLine::Config(config) => Ok(TraceBuilder::Configured {
             adapter,
             outputs,
             inputs,
             config,
         }),
-        TraceLine::Heartbeat(heartbeat) => Ok(TraceBuilder::Events {
-            config: Config::Adapter(profile_with(adapter, outputs, inputs, None, heartbeat)),
-            entries: Items::new(alloc),
-            last: None,
-        }),
+        TraceLine::Heartbeat(heartbeat) => {
+            let profile = profile_with(adapter, outputs, inputs, None, heartbeat);
+            Ok(after_profile(alloc, Config::Adapter(profile), None))
+        }
         _ => Err(LineFault::Bad),
     }
 }
@@ -178,17 +168,10 @@ fn after_config(
     ensures { Finds (builder_with (TraceBuilder.Configured adapter outputs inputs config) parsed) result }
 {
     match parsed {
-        TraceLine::Heartbeat(heartbeat) => Ok(TraceBuilder::Events {
-            config: Config::Adapter(profile_with(
-                adapter,
-                outputs,
-                inputs,
-                Some(config),
-                heartbeat,
-            )),
-            entries: Items::new(alloc),
-            last: None,
-        }),
+        TraceLine::Heartbeat(heartbeat) => {
+            let profile = profile_with(adapter, outputs, inputs, Some(config), heartbeat);
+            Ok(after_profile(alloc, Config::Adapter(profile), None))
+        }
         _ => Err(LineFault::Bad),
     }
 }
@@ -206,12 +189,26 @@ fn after_slots(
             scanner,
             slots: with_item(slots, slot)?,
         }),
-        TraceLine::Event(event) => Ok(TraceBuilder::Events {
-            config: Config::Scanner(scanner_with(scanner, slots)),
-            entries: Items::new(alloc),
-            last: Some((event, None)),
-        }),
+        TraceLine::Event(event) => {
+            let config = Config::Scanner(scanner_with(scanner, slots));
+            Ok(after_profile(alloc, config, Some((event, None))))
+        }
         _ => Err(LineFault::Bad),
+    }
+}
+
+/// A whole profile, and the first event if its line was read too.
+fn after_profile(
+    alloc: Global,
+    config: Config,
+    last: Option<(Event, Option<Outcome>)>,
+) -> TraceBuilder
+    ensures { result ≡ TraceBuilder.Events config [] last }
+{
+    TraceBuilder::Events {
+        config,
+        entries: Items::new(alloc),
+        last,
     }
 }
 

@@ -2,7 +2,6 @@
 #![tactic(auto)]
 
 mod builder;
-mod event_lines;
 mod forms;
 mod lines;
 mod trace;

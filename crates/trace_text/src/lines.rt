@@ -1,14 +1,10 @@
 //! The lines of a trace, one by one.
 
 ghost use Rattle.std.specs.Prelude.{◌≡◌, take};
-ghost use Rattle.trace_words.specs.Reader.{unread_words, Takes, Finds, meaning};
+ghost use Rattle.trace_words.specs.Reader.{unread_words, Takes, Finds, meaning, next_word};
 ghost use Rattle.trace_words.specs.Words.{number_of};
-ghost use Rattle.trace_text.specs.Forms.{event_of, is_ascii, line_of, line_meanings, line_reader, numbered};
+ghost use Rattle.trace_text.specs.Forms.{event_of, is_ascii, line_of, mode_of, line_meanings, line_reader, numbered};
 
-use crate::event_lines::{
-    read_cut, read_datagram, read_frame, read_mode, read_read, read_request, read_start, read_stop,
-    read_stream, read_tick, read_write,
-};
 use crate::forms::TraceLine;
 use cip_tables::Event;
 use std::alloc::Global;
@@ -55,29 +51,79 @@ fn is_ascii(line: &[u8]) -> bool
 fn read_words(alloc: Global, words: &mut Words<'_>) -> Result<TraceLine, LineFault>
     ensures { Takes (line_reader (unread_words words.old)) result (unread_words words.new) }
 {
-    // (most lines are events, so their words come first)
+    // (most lines are of these events, so their words come first)
     let word = words.word()?;
     match word {
-        "datagram" => read_datagram(alloc, words).map(TraceLine::Event),
-        "tick" => read_tick(words).map(TraceLine::Event),
-        "request" => read_request(alloc, words).map(TraceLine::Event),
-        "write" => read_write(alloc, words).map(TraceLine::Event),
-        "read" => read_read(words).map(TraceLine::Event),
-        "frame" => read_frame(alloc, words).map(TraceLine::Event),
-        "stream" => read_stream(words).map(TraceLine::Event),
-        "cut" => read_cut(words).map(TraceLine::Event),
-        "mode" => read_mode(words).map(TraceLine::Event),
-        "start" => read_start(words).map(TraceLine::Event),
-        "stop" => read_stop(words).map(TraceLine::Event),
+        "datagram" => {
+            let peer = words.node()?;
+            let bytes = words.bytes(alloc)?;
+            words.last(TraceLine::Event(Event::Datagram { peer, bytes }))
+        }
+        "tick" => {
+            let ms = words.u32()?;
+            words.last(TraceLine::Event(Event::Tick { ms }))
+        }
+        "write" => {
+            let point = words.u32()?;
+            let bytes = words.bytes(alloc)?;
+            words.last(TraceLine::Event(Event::Write { point, bytes }))
+        }
+        "read" => {
+            let point = words.u32()?;
+            words.last(TraceLine::Event(Event::Read { point }))
+        }
+        "mode" => {
+            let run = read_mode(words)?;
+            words.last(TraceLine::Event(Event::Mode { run }))
+        }
+        "start" => {
+            let slot = words.u32()?;
+            words.last(TraceLine::Event(Event::Start { slot }))
+        }
+        "stop" => {
+            let slot = words.u32()?;
+            words.last(TraceLine::Event(Event::Stop { slot }))
+        }
         _ => read_other(alloc, words, word),
     }
 }
 
-/// What follows a word that begins no line of an event.
+/// Whether the application of a scanner runs, by its word.
+#[tactic(auto, unfolding(crate::specs::Forms::mode_of))]
+fn read_mode(words: &mut Words<'_>) -> Result<bool, LineFault>
+    ensures { Takes (next_word mode_of (unread_words words.old)) result (unread_words words.new) }
+{
+    match words.word()? {
+        "run" => Ok(true),
+        "idle" => Ok(false),
+        _ => Err(LineFault::Bad),
+    }
+}
+
+/// What follows the word of a request, of a stream's event or of a profile's line, or the number of an event.
 fn read_other(alloc: Global, words: &mut Words<'_>, word: &str) -> Result<TraceLine, LineFault>
-    ensures { Takes (meaning (take 7 line_meanings) (numbered (number_of 64 word.now)) word.now (unread_words words.old)) result (unread_words words.new) }
+    ensures { Takes (meaning (take 11 line_meanings) (numbered (number_of 64 word.now)) word.now (unread_words words.old)) result (unread_words words.new) }
 {
     match word {
+        "request" => {
+            let peer = words.node()?;
+            let bytes = words.bytes(alloc)?;
+            words.last(TraceLine::Event(Event::Request { peer, bytes }))
+        }
+        "frame" => {
+            let stream = words.u16()?;
+            let bytes = words.bytes(alloc)?;
+            words.last(TraceLine::Event(Event::Frame { stream, bytes }))
+        }
+        "stream" => {
+            let stream = words.u16()?;
+            let peer = words.node()?;
+            words.last(TraceLine::Event(Event::StreamOpened { stream, peer }))
+        }
+        "cut" => {
+            let stream = words.u16()?;
+            words.last(TraceLine::Event(Event::StreamCut { stream }))
+        }
         "adapter" => read_adapter(words).map(TraceLine::Adapter),
         "output" => read_output(words).map(TraceLine::Output),
         "input" => read_point(words).map(TraceLine::Input),

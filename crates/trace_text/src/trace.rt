@@ -25,6 +25,19 @@ pub struct Trace {
     pub events: Items<(Event, Recorded)>,
 }
 
+impl Trace {
+    /// Checks the profile of the device, and answers its first fault. Takes no memory.
+    pub fn check(&self) -> Result<(), ProfileFault>
+        ensures ok { IsOk result ↔ (config_fault self.now.config ≡ None) }
+        ensures fault { IfErr result (λ first. config_fault self.now.config ≡ Some first) }
+    {
+        match &self.config {
+            Config::Adapter(profile) => profile.check(),
+            Config::Scanner(profile) => profile.check(),
+        }
+    }
+}
+
 /// Why a trace is not read.
 #[derive(Clone, Copy, Debug, PartialEq, Eq, Error)]
 pub enum TraceFault {
@@ -131,41 +144,31 @@ fn parsed(alloc: Global, builder: TraceBuilder, number: u64) -> Result<Trace, Tr
     ensures { Answers (parsed number builder) result }
 {
     match builder {
-        TraceBuilder::Slots { scanner, slots } => {
-            judged(
-                Config::Scanner(scanner_with(scanner, slots)),
-                Items::new(alloc),
-            )
-        }
+        TraceBuilder::Slots { scanner, slots } => judged(Trace {
+            config: Config::Scanner(scanner_with(scanner, slots)),
+            events: Items::new(alloc),
+        }),
         TraceBuilder::Events {
             config,
             mut entries,
             last,
         } => {
             add_last(alloc, &mut entries, last)?;
-            judged(config, entries)
+            judged(Trace {
+                config,
+                events: entries,
+            })
         }
         _ => Err(TraceFault::BadLine(number)),
     }
 }
 
 /// A trace, if its profile is valid.
-fn judged(config: Config, events: Items<(Event, Recorded)>) -> Result<Trace, TraceFault>
-    ensures { result ≡ judged_by config events }
+fn judged(trace: Trace) -> Result<Trace, TraceFault>
+    ensures { result ≡ judged_by trace.config trace.events }
 {
-    match check(&config) {
-        Ok(()) => Ok(Trace { config, events }),
+    match trace.check() {
+        Ok(()) => Ok(trace),
         Err(first) => Err(TraceFault::BadProfile(first.number())),
-    }
-}
-
-/// The first fault of a configuration.
-fn check(config: &Config) -> Result<(), ProfileFault>
-    ensures ok { IsOk result ↔ (config_fault config.now ≡ None) }
-    ensures fault { IfErr result (λ first. config_fault config.now ≡ Some first) }
-{
-    match config {
-        Config::Adapter(profile) => profile.check(),
-        Config::Scanner(profile) => profile.check(),
     }
 }

@@ -70,7 +70,7 @@ pub fn push_event(out: &mut String, event: &Event) -> Result<(), OutOfMemory>
         Event::Write { point, bytes } => { push_of_number(out, "write", *point, bytes.as_slice()) }
         Event::Read { point } => push_number(out, "read", *point),
         Event::Tick { ms } => push_number(out, "tick", *ms),
-        Event::Mode { run } => push_mode(out, *run),
+        Event::Mode { run } => Ok(write!(out, "mode {}\n", mode_name(*run))?),
         Event::Start { slot } => push_number(out, "start", *slot),
         Event::Stop { slot } => push_number(out, "stop", *slot),
     }
@@ -81,13 +81,6 @@ fn push_number(out: &mut String, keyword: &str, number: u32) -> Result<(), OutOf
 {
     write!(out, "{keyword} {number}\n")?;
     Ok(())
-}
-
-fn push_mode(out: &mut String, run: bool) -> Result<(), OutOfMemory>
-    ensures { OnOk result (string_bytes out.new ≡ string_bytes out.old ++ line_text (event_words (Event.Mode run))) }
-{
-    let mode = mode_name(run);
-    Ok(write!(out, "mode {mode}\n")?)
 }
 
 fn mode_name(run: bool) -> &'static str

@@ -61,7 +61,7 @@ pub struct Words<'a> {
 
 impl<'a> Words<'a> {
     ghost use Rattle.trace_words.specs.Words.{words_of};
-    ghost use Rattle.trace_words.specs.Reader.{unread_words, TakesWord, Takes, next_word};
+    ghost use Rattle.trace_words.specs.Reader.{unread_words, TakesWord, Takes, next_word, ends};
 
     /// All words of a line.
     pub fn of(line: &'a str) -> Words<'a>
@@ -102,10 +102,16 @@ impl<'a> Words<'a> {
     }
 
     /// The next word as a number of 32 bits, or none.
+    #[tactic(auto, unfolding(crate::specs::Words::instance_of))]
     pub fn u32_or_none(&mut self) -> Result<Option<u32>, LineFault>
         ensures { Takes (next_word instance_of (unread_words self.old)) result (unread_words self.new) }
     {
-        read_instance(self.word()?).ok_or(LineFault::Bad)
+        let word = self.word()?;
+        if is_dash(word) {
+            return Ok(None);
+        }
+        let instance = read_u32(word).ok_or(LineFault::Bad)?;
+        Ok(Some(instance))
     }
 
     /// The next word as a number of 16 bits.
@@ -137,38 +143,76 @@ impl<'a> Words<'a> {
     }
 
     /// The next word as an action for an output.
+    #[tactic(auto, unfolding(crate::specs::Words::action_of))]
     pub fn action(&mut self) -> Result<Action, LineFault>
         ensures { Takes (next_word action_of (unread_words self.old)) result (unread_words self.new) }
     {
-        read_action(self.word()?).ok_or(LineFault::Bad)
+        match self.word()? {
+            "zero" => Ok(Action::Zero),
+            "hold" => Ok(Action::Hold),
+            _ => Err(LineFault::Bad),
+        }
     }
 
-    /// The next word as a connection id.
+    /// The next word as a connection id: eight hexadecimal digits of either case.
+    #[tactic(auto, unfolding(crate::specs::Words::id_of))]
     pub fn id(&mut self, alloc: Global) -> Result<ConnId, LineFault>
         ensures { Takes (next_word id_of (unread_words self.old)) result (unread_words self.new) }
     {
-        read_id(alloc, self.word()?)
+        let bytes = read_digits(alloc, self.word()?)?;
+        let [a, b, c, d] = bytes.as_slice() else {
+            return Err(LineFault::Bad);
+        };
+        Ok(ConnId(u32::from_be_bytes([*a, *b, *c, *d])))
     }
 
-    /// The next word as a general status.
+    /// The next word as a general status: two hexadecimal digits of either case.
+    #[tactic(auto, unfolding(crate::specs::Words::general_of))]
     pub fn general(&mut self, alloc: Global) -> Result<u8, LineFault>
         ensures { Takes (next_word general_of (unread_words self.old)) result (unread_words self.new) }
     {
-        read_general(alloc, self.word()?)
+        let bytes = read_digits(alloc, self.word()?)?;
+        let [general] = bytes.as_slice() else {
+            return Err(LineFault::Bad);
+        };
+        Ok(*general)
     }
 
-    /// The next word as an extended status, or none.
+    /// The next word as an extended status: four hexadecimal digits of either case; `-` for none.
+    #[tactic(auto, unfolding(crate::specs::Words::extended_of))]
     pub fn extended(&mut self, alloc: Global) -> Result<Option<u16>, LineFault>
         ensures { Takes (next_word extended_of (unread_words self.old)) result (unread_words self.new) }
     {
-        read_extended(alloc, self.word()?)
+        let word = self.word()?;
+        if is_dash(word) {
+            return Ok(None);
+        }
+        let bytes = read_digits(alloc, word)?;
+        let [high, low] = bytes.as_slice() else {
+            return Err(LineFault::Bad);
+        };
+        Ok(Some(u16::from_be_bytes([*high, *low])))
     }
 
-    /// The next word as bytes.
+    /// The next word as bytes: hexadecimal digits of either case, two a byte; `-` for no bytes.
+    #[tactic(auto, unfolding(crate::specs::Words::bytes_of))]
     pub fn bytes(&mut self, alloc: Global) -> Result<Items<u8>, LineFault>
         ensures { Takes (next_word bytes_of (unread_words self.old)) result (unread_words self.new) }
     {
-        read_bytes(alloc, self.word()?)
+        let word = self.word()?;
+        if is_dash(word) {
+            return Ok(Items::new(alloc));
+        }
+        read_digits(alloc, word)
+    }
+
+    /// A value at the end of the line.
+    #[inline(always)]
+    pub fn last<T: Drop>(&self, value: T) -> Result<T, LineFault>
+        ensures { Takes (ends value (unread_words self.now)) result (unread_words self.now) }
+    {
+        self.end()?;
+        Ok(value)
     }
 
     /// Whether all words are read.
@@ -207,18 +251,6 @@ fn read_u32(word: &str) -> Option<u32>
     u32::try_from(number).ok()
 }
 
-/// The number of an instance; `-` for none.
-#[tactic(auto, unfolding(crate::specs::Words::instance_of))]
-fn read_instance(word: &str) -> Option<Option<u32>>
-    ensures { result ≡ instance_of word.now }
-{
-    if is_dash(word) {
-        return Some(None);
-    }
-    let instance = read_u32(word)?;
-    Some(Some(instance))
-}
-
 fn read_u16(word: &str) -> Option<u16>
     ensures { result ≡ number_of 16 word.now }
 {
@@ -252,31 +284,6 @@ fn read_node(word: &str) -> Option<Node>
         Ok(address) => Some(Node(address.to_bits())),
         Err(_) => None,
     }
-}
-
-/// An action for an output, as it is printed.
-#[tactic(auto, unfolding(crate::specs::Words::action_of))]
-fn read_action(word: &str) -> Option<Action>
-    ensures { result ≡ action_of word.now }
-{
-    match word {
-        "zero" => Some(Action::Zero),
-        "hold" => Some(Action::Hold),
-        _ => None,
-    }
-}
-
-/// Bytes as hexadecimal digits of either case, two a byte; `-` for no bytes.
-///
-/// The faults: `Bad` if the word is no hexadecimal text, and `OutOfMemory`.
-#[tactic(auto, unfolding(crate::specs::Words::bytes_of))]
-fn read_bytes(alloc: Global, word: &str) -> Result<Items<u8>, LineFault>
-    ensures { Finds (bytes_of word.now) result }
-{
-    if is_dash(word) {
-        return Ok(Items::new(alloc));
-    }
-    read_digits(alloc, word)
 }
 
 /// Whether a word stands for nothing.
@@ -325,45 +332,6 @@ fn digit_value(digit: u8) -> Option<u8>
         b'A'..=b'F' => Some(digit - b'A' + 10),
         _ => None,
     }
-}
-
-/// A connection id as eight hexadecimal digits of either case.
-#[tactic(auto, unfolding(crate::specs::Words::id_of))]
-fn read_id(alloc: Global, word: &str) -> Result<ConnId, LineFault>
-    ensures { Finds (id_of word.now) result }
-{
-    let bytes = read_digits(alloc, word)?;
-    let [a, b, c, d] = bytes.as_slice() else {
-        return Err(LineFault::Bad);
-    };
-    Ok(ConnId(u32::from_be_bytes([*a, *b, *c, *d])))
-}
-
-/// A general status as two hexadecimal digits of either case.
-#[tactic(auto, unfolding(crate::specs::Words::general_of))]
-fn read_general(alloc: Global, word: &str) -> Result<u8, LineFault>
-    ensures { Finds (general_of word.now) result }
-{
-    let bytes = read_digits(alloc, word)?;
-    let [general] = bytes.as_slice() else {
-        return Err(LineFault::Bad);
-    };
-    Ok(*general)
-}
-
-/// An extended status as four hexadecimal digits of either case; `-` for none.
-#[tactic(auto, unfolding(crate::specs::Words::extended_of))]
-fn read_extended(alloc: Global, word: &str) -> Result<Option<u16>, LineFault>
-    ensures { Finds (extended_of word.now) result }
-{
-    if is_dash(word) {
-        return Ok(None);
-    }
-    let bytes = read_digits(alloc, word)?;
-    let [high, low] = bytes.as_slice() else {
-        return Err(LineFault::Bad);
-    };
-    Ok(Some(u16::from_be_bytes([*high, *low])))
 }
 
 /// Addresses separated by commas; `-` for none.
