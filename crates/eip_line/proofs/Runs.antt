@@ -1,5 +1,5 @@
 -- How the parts of a run make the whole.
-use Rattle.std.proofs.Common.{◌≡◌, ℕ, ◌+◌, Bool, true, false, List, [], ◌∷◌, ◌++◌, length, Option, Some, None, Result, Ok, Err, refl, sym, ap, subst, ◌∙◌, inl, inr, append_assoc, arith}
+use Rattle.std.proofs.Common.{◌≡◌, ℕ, ◌+◌, Bool, List, [], ◌∷◌, ◌++◌, length, Option, Some, None, Result, Ok, Err, refl, sym, ap, subst, ◌∙◌, inl, inr, append_assoc, arith}
 use Rattle.std.specs.Prelude.{IfSome, ◌<◌}
 use Rattle.std.specs.Io.KnownBytes.{Appends, Keeps}
 use Rattle.std.proofs.lemmas.List.{append-nil}
@@ -11,9 +11,10 @@ use Rattle.trace_stepper.specs.declared.stepper.StepperFault.TheVariants as step
 use Rattle.trace_stepper.specs.Playing.{IsPlayed, WritesFirst}
 use Rattle.trace_stepper.specs.Stepping.{outcomes_of_trace}
 use Rattle.trace_stepper.specs.Written.{BeginsToWrite, IsTaken}
-use Rattle.eip_line.specs.declared.console.ProgramFault.{ProgramFault}
-use Rattle.eip_line.specs.declared.console.ProgramFault.TheVariants as program
-use Rattle.eip_line.specs.Printed.{longest_trace, Reads, IsStepped, IsTraceRead, IsTextFault, IsFinished, IsStop}
+use Rattle.eip_line.specs.declared.faults.ProgramFault.{ProgramFault}
+use Rattle.eip_line.specs.declared.faults.ProgramFault.TheVariants as program
+use Rattle.eip_line.specs.Faults.{program_fault_of_step}
+use Rattle.eip_line.specs.Printed.{longest_trace, differs_line, Reads, PrintsRun, PrintsDifference, BeginsToPrint, IsStepped, IsTraceRead, IsTextFault}
 
 chained : (old mid new : Option (List ℕ)) (a b : List ℕ) → Appends old mid a → Appends mid new b → Appends old new (a ++ b)
 chained None mid new a b one two = tt
@@ -68,6 +69,9 @@ text_refused input program.OutOfMemory one long = tt
 text_refused input (program.BadLine number) one long = absurd one
 text_refused input (program.BadProfile number) one long = absurd one
 text_refused input program.Write one long = absurd one
+text_refused input (program.Loop fault) one long = absurd one
+text_refused input (program.Line fault) one long = absurd one
+text_refused input (program.Unsettled fault) one long = absurd one
 
 text_apart : (number : ℕ) (front rest : List Outcome) → outcomes_text number (front ++ rest) ≡ outcomes_text number front ++ outcomes_text (number + length front) rest
 text_apart number [] rest = let here : number ≡ number + 0 = omega arith in ap (λ n. outcomes_text n rest) here
@@ -75,25 +79,6 @@ text_apart number (outcome ∷ front) rest =
     let place : number + 1 + length front ≡ number + length (outcome ∷ front) = omega arith in
     ap (λ more. outcome_text number outcome ++ more) (text_apart (number + 1) front rest ∙ ap (λ n. outcomes_text (number + 1) front ++ outcomes_text n rest) place)
     ∙ sym (append_assoc (outcome_text number outcome) (outcomes_text (number + 1) front) _)
-
--- all was played, and the end is written
-pub run_finished : (input old mid new : Option (List ℕ)) (same_kind : Bool) (trace : Trace) (differs : Option ℕ) (result : Result Bool ProgramFault) → Reads input trace → IsPlayed same_kind trace old mid (Ok differs) → IsFinished mid differs new result → IsStepped input old new result
-run_finished input old mid new same_kind trace None (Ok true) read played ended = (trace, (read, kept old mid new _ played.0 ended.1, played.1))
-run_finished input old mid new same_kind trace None (Ok false) read played ended = let no = ended.0 in absurd (cc)
-run_finished input old mid new same_kind trace (Some number) (Ok true) read played ended = let no = ended.0 in absurd (cc)
-run_finished input old mid new same_kind trace (Some number) (Ok false) read played ended = (trace, (number, (read, chained old mid new _ _ played.0 ended.1, played.1)))
-run_finished input old mid new same_kind trace None (Err program.Write) read played ended = (trace, (read, inl (begun_all old new _ (kept old mid new _ played.0 ended))))
-run_finished input old mid new same_kind trace (Some number) (Err program.Write) read played ended = (trace, (read, inr (number, (played.1, begun_behind old mid new _ _ played.0 ended))))
-run_finished input old mid new same_kind trace None (Err program.OutOfMemory) read played ended = absurd ended
-run_finished input old mid new same_kind trace None (Err program.TooLong) read played ended = absurd ended
-run_finished input old mid new same_kind trace None (Err program.Read) read played ended = absurd ended
-run_finished input old mid new same_kind trace None (Err (program.BadLine number)) read played ended = absurd ended
-run_finished input old mid new same_kind trace None (Err (program.BadProfile number)) read played ended = absurd ended
-run_finished input old mid new same_kind trace (Some n) (Err program.OutOfMemory) read played ended = absurd ended
-run_finished input old mid new same_kind trace (Some n) (Err program.TooLong) read played ended = absurd ended
-run_finished input old mid new same_kind trace (Some n) (Err program.Read) read played ended = absurd ended
-run_finished input old mid new same_kind trace (Some n) (Err (program.BadLine number)) read played ended = absurd ended
-run_finished input old mid new same_kind trace (Some n) (Err (program.BadProfile number)) read played ended = absurd ended
 
 nothing : (old mid : Option (List ℕ)) → mid ≡ old → Appends old mid []
 nothing None mid is = tt
@@ -109,29 +94,34 @@ none_reported old mid trace same = ([], (outcomes_of_trace trace, (refl, nothing
 first_begun : (old new : Option (List ℕ)) (trace : Trace) → WritesFirst trace old new → BeginsToWrite old (outcomes_text 1 (outcomes_of_trace trace)) new
 first_begun old new trace (first, (rest, (reported, written))) = (outcomes_text 1 first, (outcomes_text (1 + length first) rest, (ap (outcomes_text 1) reported ∙ text_apart 1 first rest, written)))
 
+-- THE END OF A RUN
+
+-- all was played, and nothing differs
+pub run_same : (input old mid new : Option (List ℕ)) (same_kind : Bool) (trace : Trace) → Reads input trace → IsPlayed same_kind trace old mid (Ok None) → Keeps mid new → PrintsRun input old new
+run_same input old mid new same_kind trace read played same = (trace, (read, kept old mid new _ played.0 (stayed mid new same), played.1))
+
+-- all was played, and the line of the first difference is written
+pub run_differs : (input old mid next new : Option (List ℕ)) (same_kind : Bool) (trace : Trace) (number : ℕ) → Reads input trace → IsPlayed same_kind trace old mid (Ok (Some number)) → Appends mid next (differs_line number) → Keeps next new → PrintsDifference input old new
+run_differs input old mid next new same_kind trace number read played line same = (trace, (number, (read, kept old next new _ (chained old mid next _ _ played.0 line) (stayed next new same), played.1)))
+
+-- a beginning of the line is written
+pub difference_begun : (input old mid new : Option (List ℕ)) (same_kind : Bool) (trace : Trace) (number : ℕ) → Reads input trace → IsPlayed same_kind trace old mid (Ok (Some number)) → BeginsToWrite mid (differs_line number) new → BeginsToPrint input old new
+difference_begun input old mid new same_kind trace number read played begins = (trace, (read, inr (number, (played.1, begun_behind old mid new _ _ played.0 begins))))
+
+-- all is written, and the output could not be flushed
+pub all_begun : (input old mid new : Option (List ℕ)) (same_kind : Bool) (trace : Trace) → Reads input trace → IsPlayed same_kind trace old mid (Ok None) → Keeps mid new → BeginsToPrint input old new
+all_begun input old mid new same_kind trace read played same = (trace, (read, inl (begun_all old new _ (kept old mid new _ played.0 (stayed mid new same)))))
+
+-- the run ended before the last event, and the output could not be flushed
+pub stop_begun : (input old mid new : Option (List ℕ)) (same_kind : Bool) (trace : Trace) (fault : StepperFault) → Reads input trace → IsPlayed same_kind trace old mid (Err fault) → Keeps mid new → BeginsToPrint input old new
+stop_begun input old mid new same_kind trace stepper.OutOfMemory read played same = (trace, (read, inl (first_begun old new trace (first_kept old mid new trace played same))))
+stop_begun input old mid new same_kind trace stepper.Profile read played same = (trace, (read, inl (first_begun old new trace (first_kept old mid new trace (none_reported old mid trace played.1) same))))
+stop_begun input old mid new same_kind trace stepper.WrongKind read played same = (trace, (read, inl (first_begun old new trace (first_kept old mid new trace (none_reported old mid trace played.1) same))))
+stop_begun input old mid new same_kind trace stepper.Write read played same = (trace, (read, inl (begun_kept old mid new _ played same)))
+
 -- the run ended before the last event
-pub run_stopped : (input old mid new : Option (List ℕ)) (same_kind : Bool) (trace : Trace) (fault : StepperFault) (reported : ProgramFault) → Reads input trace → IsPlayed same_kind trace old mid (Err fault) → Keeps mid new → IsStop fault reported → IsStepped input old new (Err reported)
-run_stopped input old mid new same_kind trace stepper.OutOfMemory program.OutOfMemory read played same is = inr (trace, (read, first_kept old mid new trace played same))
-run_stopped input old mid new same_kind trace stepper.Profile program.OutOfMemory read played same is = inr (trace, (read, first_kept old mid new trace (none_reported old mid trace played.1) same))
-run_stopped input old mid new same_kind trace stepper.WrongKind program.OutOfMemory read played same is = inr (trace, (read, first_kept old mid new trace (none_reported old mid trace played.1) same))
-run_stopped input old mid new same_kind trace stepper.OutOfMemory program.Write read played same is = (trace, (read, inl (first_begun old new trace (first_kept old mid new trace played same))))
-run_stopped input old mid new same_kind trace stepper.Profile program.Write read played same is = (trace, (read, inl (first_begun old new trace (first_kept old mid new trace (none_reported old mid trace played.1) same))))
-run_stopped input old mid new same_kind trace stepper.WrongKind program.Write read played same is = (trace, (read, inl (first_begun old new trace (first_kept old mid new trace (none_reported old mid trace played.1) same))))
-run_stopped input old mid new same_kind trace stepper.Write program.Write read played same is = (trace, (read, inl (begun_kept old mid new _ played same)))
-run_stopped input old mid new same_kind trace stepper.Profile program.TooLong read played same is = absurd is
-run_stopped input old mid new same_kind trace stepper.Profile (program.BadLine _) read played same is = absurd is
-run_stopped input old mid new same_kind trace stepper.Profile (program.BadProfile _) read played same is = absurd is
-run_stopped input old mid new same_kind trace stepper.Profile program.Read read played same is = absurd is
-run_stopped input old mid new same_kind trace stepper.WrongKind program.TooLong read played same is = absurd is
-run_stopped input old mid new same_kind trace stepper.WrongKind (program.BadLine _) read played same is = absurd is
-run_stopped input old mid new same_kind trace stepper.WrongKind (program.BadProfile _) read played same is = absurd is
-run_stopped input old mid new same_kind trace stepper.WrongKind program.Read read played same is = absurd is
-run_stopped input old mid new same_kind trace stepper.OutOfMemory program.TooLong read played same is = absurd is
-run_stopped input old mid new same_kind trace stepper.OutOfMemory (program.BadLine _) read played same is = absurd is
-run_stopped input old mid new same_kind trace stepper.OutOfMemory (program.BadProfile _) read played same is = absurd is
-run_stopped input old mid new same_kind trace stepper.OutOfMemory program.Read read played same is = absurd is
-run_stopped input old mid new same_kind trace stepper.Write program.TooLong read played same is = absurd is
-run_stopped input old mid new same_kind trace stepper.Write (program.BadLine _) read played same is = absurd is
-run_stopped input old mid new same_kind trace stepper.Write (program.BadProfile _) read played same is = absurd is
-run_stopped input old mid new same_kind trace stepper.Write program.OutOfMemory read played same is = absurd is
-run_stopped input old mid new same_kind trace stepper.Write program.Read read played same is = absurd is
+pub run_stopped : (input old mid new : Option (List ℕ)) (same_kind : Bool) (trace : Trace) (fault : StepperFault) → Reads input trace → IsPlayed same_kind trace old mid (Err fault) → Keeps mid new → IsStepped input old new (Err (program_fault_of_step fault))
+run_stopped input old mid new same_kind trace stepper.OutOfMemory read played same = inr (trace, (read, first_kept old mid new trace played same))
+run_stopped input old mid new same_kind trace stepper.Profile read played same = inr (trace, (read, first_kept old mid new trace (none_reported old mid trace played.1) same))
+run_stopped input old mid new same_kind trace stepper.WrongKind read played same = inr (trace, (read, first_kept old mid new trace (none_reported old mid trace played.1) same))
+run_stopped input old mid new same_kind trace stepper.Write read played same = stop_begun input old mid new same_kind trace stepper.Write read played same

@@ -1,5 +1,5 @@
 -- The output of a run of the program.
-use Rattle.std.specs.Prelude.{ℕ, ◌≡◌, ◌≤◌, ◌<◌, ◌⊎◌, Bool, true, false, List, [], ◌++◌, length, codes, Option, Some, None, Result, Ok, Err, IfSome}
+use Rattle.std.specs.Prelude.{ℕ, ◌≡◌, ◌≤◌, ◌<◌, ◌⊎◌, Bool, true, false, List, ◌++◌, length, codes, Option, Some, None, Result, Ok, Err, IfSome}
 use Rattle.std.specs.Io.KnownBytes.{Appends}
 use Rattle.trace_text.specs.declared.trace.Trace.{Trace}
 use Rattle.trace_text.specs.declared.trace.TraceFault.TheVariants as trace
@@ -9,11 +9,9 @@ use Rattle.trace_stepper.specs.Compared.{IsJudged}
 use Rattle.trace_stepper.specs.Playing.{WritesFirst}
 use Rattle.trace_stepper.specs.Stepping.{outcomes_of_trace}
 use Rattle.trace_stepper.specs.Written.{BeginsToWrite}
-use Rattle.trace_stepper.specs.declared.stepper.StepperFault.{StepperFault}
-use Rattle.trace_stepper.specs.declared.stepper.StepperFault.TheVariants as stepper
-use Rattle.eip_line.specs.Faults.{numbered_line, fault_line}
-use Rattle.eip_line.specs.declared.console.ProgramFault.{ProgramFault}
-use Rattle.eip_line.specs.declared.console.ProgramFault.TheVariants as program
+use Rattle.eip_line.specs.Faults.{numbered_line}
+use Rattle.eip_line.specs.declared.faults.ProgramFault.{ProgramFault}
+use Rattle.eip_line.specs.declared.faults.ProgramFault.TheVariants as program
 
 -- the most bytes of a trace
 abbrev pub longest_trace : ℕ
@@ -53,11 +51,7 @@ IsStepped input old new (Err (program.BadProfile number)) = IfSome input (λ tex
 IsStepped input old new (Err program.Read) = new ≡ old
 IsStepped input old new (Err program.OutOfMemory) = (new ≡ old) ⊎ PrintsFirst input old new
 IsStepped input old new (Err program.Write) = BeginsToPrint input old new
-
--- A run with status 1: an outcome is not as recorded, and no fault is reported; or the run failed, and the line of the
--- fault is written, as far as the stream took it.
-abbrev pub Fails : Option (List ℕ) → Option (List ℕ) → Option (List ℕ) → Option (List ℕ) → Option (List ℕ) → Type 0
-Fails input old new silent reported = (PrintsDifference input old new × (reported ≡ silent)) ⊎ ((fault : ProgramFault) × (IsStepped input old new (Err fault) × BeginsToWrite silent (fault_line fault) reported))
+IsStepped input old new (Err fault) = ⊥
 
 -- the faults that end the reading of the text
 abbrev pub IsTextFault : ProgramFault → Type 0
@@ -74,21 +68,4 @@ IsTraceRead input (Err (program.BadLine number)) = IfSome input (λ text. trace_
 IsTraceRead input (Err (program.BadProfile number)) = IfSome input (λ text. trace_reading text ≡ Err (trace.BadProfile number))
 IsTraceRead input (Err program.Read) = Unit {0}
 IsTraceRead input (Err program.OutOfMemory) = Unit {0}
-IsTraceRead input (Err program.Write) = ⊥
-
--- The text behind the outcomes: nothing, or the line of the first difference; or the stream took only a beginning of
--- that, or could not be flushed.
-abbrev pub IsFinished : Option (List ℕ) → Option ℕ → Option (List ℕ) → Result Bool ProgramFault → Type 0
-IsFinished old None new (Ok same) = (same ≡ true) × Appends old new []
-IsFinished old (Some number) new (Ok same) = (same ≡ false) × Appends old new (differs_line number)
-IsFinished old None new (Err program.Write) = Appends old new []
-IsFinished old (Some number) new (Err program.Write) = BeginsToWrite old (differs_line number) new
-IsFinished old differs new (Err fault) = ⊥
-
--- why a run that was not played to its end failed: for the stepper's fault, or since the output could not be flushed
-abbrev pub IsStop : StepperFault → ProgramFault → Type 0
-IsStop stopped program.Write = Unit {0}
-IsStop stepper.Profile program.OutOfMemory = Unit {0}
-IsStop stepper.WrongKind program.OutOfMemory = Unit {0}
-IsStop stepper.OutOfMemory program.OutOfMemory = Unit {0}
-IsStop stopped fault = ⊥
+IsTraceRead input (Err fault) = ⊥

@@ -3,8 +3,10 @@
 #![tactic(auto)]
 
 mod console;
+mod faults;
 mod lines;
 mod loops;
+mod output;
 mod running;
 mod usage;
 
@@ -12,5 +14,5 @@ use std::process::ExitCode;
 
 /// Hands the program its command line and its standard streams, and ends with its status.
 fn main(rt: HostRuntime) -> ExitCode {
-    running::run(&rt, &mut rt.stdin(), rt.stdout(), &mut rt.stderr())
+    ExitCode::from(running::run(&rt, &mut rt.stdin(), rt.stdout(), &mut rt.stderr()))
 }

@@ -1,10 +1,14 @@
 //! How the program is used.
 
-ghost use Rattle.trace_stepper.specs.Written.{IsTaken};
+ghost use Rattle.std.specs.Prelude.{◌≡◌};
+ghost use Rattle.trace_stepper.specs.Written.{BeginsToWrite};
 ghost use Rattle.eip_line.specs.Usage.{usage_text};
 
 use std::io::Write;
-use trace_stepper::{NotTaken, write_text};
+use trace_stepper::write_text;
+
+/// The status for a command line that is none of the program's.
+const MISUSED: u8 = 2;
 
 /// What the program does, its commands with their options and ranges, and an example.
 const USAGE: &[u8] = b"\
@@ -23,9 +27,12 @@ example: eip_line step < examples/first_open.trace
 status: 0 done; 1 an outcome is not as recorded, or a fault, which standard error names; 2 this text
 ";
 
-/// Writes how the program is used. Takes no memory.
-pub(crate) fn write_usage<W: Write>(out: &mut W) -> Result<(), NotTaken>
-    ensures { IsTaken (W.contents out.old) usage_text result (W.contents out.new) }
+/// Writes how the program is used, as far as the stream takes it, and answers the status for that. Takes no memory.
+pub(crate) fn misused<E: Write>(err: &mut E) -> u8
+    ensures status { result ≡ 2 }
+    ensures usage { BeginsToWrite (E.contents err.old) usage_text (E.contents err.new) }
 {
-    write_text(out, USAGE)
+    // (a stream that does not take the text changes nothing more)
+    let _ = write_text(err, USAGE);
+    MISUSED
 }

@@ -2,7 +2,7 @@
 
 ghost use Rattle.std.specs.Prelude.{◌≡◌, map, false, Err, IfErr, IfOk, None, Some};
 ghost use Rattle.clap.specs.Words.{app_of, found_of, kind_of, rows_of, rule_of, subcommand_rows_of};
-ghost use Rattle.line_words.specs.Commands.{eip_line_app, line_app, line_of, loop_app, loop_of, met_task, misuse_of, named_task, number_rule, parsed_task};
+ghost use Rattle.line_words.specs.Commands.{eip_line_app, line_app, line_of, loop_app, loop_of, met_task, misuse_of, number_rule, parsed_task};
 
 use crate::task::{LineTask, LoopTask, Misuse, Task};
 use cip_types::limits::{TCP_PORT, UDP_PORT};
@@ -42,22 +42,14 @@ fn misuse_of(error: &clap::Error) -> Misuse
     }
 }
 
-/// The task of the command that was met.
+/// The task of the command that was met, with its options.
 fn task_met(matches: &ArgMatches<'_>) -> Result<Task, Misuse>
     ensures task { IfOk result (λ task. met_task (subcommand_rows_of matches.now) ≡ Some task) }
     ensures usage { IfErr result (λ misuse. (misuse ≡ Misuse.Usage) × (met_task (subcommand_rows_of matches.now) ≡ None)) }
 {
-    match matches.subcommand() {
-        Some((name, given)) => task_at(name, given),
-        None => Err(Misuse::Usage),
-    }
-}
-
-/// The task of a command with its options.
-fn task_at(name: &str, given: &ArgMatches<'_>) -> Result<Task, Misuse>
-    ensures task { IfOk result (λ task. named_task name.now (rows_of (found_of given.now)) ≡ Some task) }
-    ensures usage { IfErr result (λ misuse. (misuse ≡ Misuse.Usage) × (named_task name.now (rows_of (found_of given.now)) ≡ None)) }
-{
+    let Some((name, given)) = matches.subcommand() else {
+        return Err(Misuse::Usage);
+    };
     match name {
         "step" => Ok(Task::Step),
         "loop" => Ok(Task::Loop(loop_task(given))),

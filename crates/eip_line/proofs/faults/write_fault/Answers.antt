@@ -1,4 +1,4 @@
-use Rattle.eip_line.proofs.console.write_fault.Goals as goal
+use Rattle.eip_line.proofs.faults.write_fault.Goals as goal
 
 pub returns-in-BadProfile : goal.returns-in-BadProfile
 returns-in-BadProfile g c = rw c.in-BadProfile.is (rw c.from.ensures at c.write_numbered-in-BadProfile.ensures)

@@ -1,7 +1,7 @@
 use Rattle.std.proofs.Common.{◌≡◌, ◌∙◌, decimal}
 use Rattle.std.proofs.lemmas.Result.{err_from_is_err_and}
 use Rattle.eip_line.proofs.Runs.{begun, begun_within, taken_at_last}
-use Rattle.eip_line.proofs.console.write_numbered.Goals as goal
+use Rattle.eip_line.proofs.output.write_numbered.Goals as goal
 
 pub returns-in_err-write_text : goal.returns-in_err-write_text
 returns-in_err-write_text g c =
