@@ -4,7 +4,7 @@ ghost use Rattle.std.specs.Prelude.{◌≡◌, ◌∷◌, ◌++◌, [], map, IfO
 ghost use Rattle.cip_router.specs.Replies.{view_reply};
 ghost use Rattle.adapter_table.specs.Opening.{opened_reply, opened_address, replaced_notices};
 ghost use Rattle.adapter_table.specs.Ticks.{expired_notice};
-ghost use Rattle.adapter_replies.specs.Routes.{view_reply_header, view_frame_reply, IsWritable, IsWritableFrame, routed_frame, routed_answer, framed_answer, unserved_answer};
+ghost use Rattle.adapter_replies.specs.Routes.{view_reply_header, view_frame_reply, IsWritable, IsWritableFrame, routed_answer, framed_answer, unserved_answer};
 
 use crate::replies::{FrameReply, write_frame_reply};
 use crate::routes::{ReplyHeader, Route};
@@ -34,44 +34,26 @@ pub fn notices_answer(
 }
 
 /// An answer with one frame.
-fn answer_of(alloc: Global, frame: Frame, notices: Vec<Notice>) -> Result<Answer, OutOfMemory>
+fn answer_of(
+    alloc: Global,
+    to: Recipient,
+    bytes: Vec<u8>,
+    notices: Vec<Notice>,
+) -> Result<Answer, OutOfMemory>
     ensures { IfOk result (λ answer. answer
-        ≡ record { frames = frame ∷ []; datagrams = []; verdict = Verdict.Done; notices = notices.items }) }
+        ≡ record { frames = record { to = to; bytes = bytes.items } ∷ []; datagrams = []; verdict = Verdict.Done; notices = notices.items }) }
 {
+    let bytes = Items::from_vec(bytes);
     Ok(Answer {
-        frames: Items::one(alloc, frame)?,
+        frames: Items::one(alloc, Frame { to, bytes })?,
         datagrams: Items::new(alloc),
         verdict: Verdict::Done,
         notices: Items::from_vec(notices),
     })
 }
 
-/// The frame with a reply; over a stream it has the multicast address of a connection that it opened.
-fn routed_frame(
-    alloc: Global,
-    route: Route,
-    reply: &Reply<'_>,
-    address: Option<Node>,
-) -> Result<Frame, OutOfMemory>
-    requires { IsWritable (view_reply reply.now) }
-    ensures { IfOk result (λ frame. frame ≡ routed_frame route (view_reply reply.now) address) }
-{
-    match route {
-        Route::Peer(peer) => Ok(Frame {
-            to: Recipient::Peer(peer),
-            bytes: Items::from_vec(reply.write(alloc)?),
-        }),
-        Route::Stream(number, _, reply_header) => {
-            let reply = FrameReply::Router(*reply, address);
-            Ok(Frame {
-                to: Recipient::Stream(number),
-                bytes: Items::from_vec(write_frame_reply(alloc, reply_header, &reply)?),
-            })
-        }
-    }
-}
-
-/// The answer with a reply on its route. Out of memory is the only fault.
+/// The answer with a reply on its route; over a stream it has the multicast address of a connection that it opened. Out
+/// of memory is the only fault.
 pub fn reply_answer(
     alloc: Global,
     route: Route,
@@ -83,8 +65,15 @@ pub fn reply_answer(
     requires { IsWritable (view_reply reply.now) }
     ensures { IfOk result (λ answer. answer ≡ routed_answer route (view_reply reply.now) address notices.items) }
 {
-    let frame = routed_frame(alloc, route, reply, address)?;
-    answer_of(alloc, frame, notices)
+    match route {
+        Route::Peer(peer) => {
+            answer_of(alloc, Recipient::Peer(peer), reply.write(alloc)?, notices)
+        }
+        Route::Stream(number, _, reply_header) => {
+            let reply = FrameReply::Router(*reply, address);
+            frame_answer(alloc, number, reply_header, &reply, notices)
+        }
+    }
 }
 
 /// The answer with the reply to a frame of a stream. Out of memory is the only fault.
@@ -99,11 +88,8 @@ pub fn frame_answer(
     ensures { IfOk result (λ answer. answer
         ≡ framed_answer number (view_reply_header reply_header) (view_frame_reply reply.now) notices.items) }
 {
-    let frame = Frame {
-        to: Recipient::Stream(number),
-        bytes: Items::from_vec(write_frame_reply(alloc, reply_header, reply)?),
-    };
-    answer_of(alloc, frame, notices)
+    let bytes = write_frame_reply(alloc, reply_header, reply)?;
+    answer_of(alloc, Recipient::Stream(number), bytes, notices)
 }
 
 /// The answer to bytes that are no request. Out of memory is the only fault.

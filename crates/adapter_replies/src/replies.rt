@@ -3,7 +3,7 @@
 ghost use Rattle.std.specs.Prelude.{◌≡◌, ◌≤◌, IfOk, length};
 ghost use Rattle.cip_encap.specs.Message.{message_text, view_header};
 ghost use Rattle.cip_router.specs.Replies.{view_reply};
-ghost use Rattle.cip_router.specs.Frames.{headed_reply, reply_message, router_reply, socket_of};
+ghost use Rattle.cip_router.specs.Frames.{headed_reply, reply_message, router_reply};
 ghost use Rattle.adapter_replies.specs.Routes.{view_reply_header, view_frame_reply, router_numbers, IsWritable, IsWritableFrame};
 
 use crate::routes::ReplyHeader;
@@ -40,16 +40,6 @@ pub enum FrameReply<'a> {
     Router(Reply<'a>, Option<Node>),
     /// A refusal.
     Refused(EncapStatus),
-}
-
-/// The socket address of a multicast address' datagrams.
-fn socket_of(address: Node) -> SocketAddress
-    ensures { result ≡ socket_of address }
-{
-    SocketAddress {
-        port: UDP_PORT,
-        address,
-    }
 }
 
 /// A message that returns the command and the sender context of its request.
@@ -101,7 +91,10 @@ fn write_router(
     ensures { IfOk result (λ v. v.items
         ≡ message_text (reply_message (view_reply_header reply_header) (router_reply (view_reply reply.now) address))) }
 {
-    let socket = address.map(socket_of);
+    let socket = address.map(|address| SocketAddress {
+        port: UDP_PORT,
+        address,
+    });
     let reply_len = reply.len();
     let len = items_len(reply_len, socket);
     let mut out = Vec::with_capacity(alloc, HEADER_LEN + len)?;
