@@ -1,17 +1,19 @@
 //! The system's clock.
 
-use crate::whole_ms::WholeMs;
+use crate::owed_time::{OwedTime, passed_ns};
 use cip_types::Ms;
 use std::rt::Clock as System;
 use std::time::{Duration, Instant};
 use udp_runner::Clock;
 
-/// Whole milliseconds of the system's clock. The remainder is kept for the next answer.
+/// Whole milliseconds of the system's clock, in answers of at most the longest tick. What an answer does not give is
+/// owed, and the next answers give it: a pause of any length reaches the device whole. A reading before the last one
+/// adds no time, and the next reading counts from it.
 #[derive(Drop)]
 pub struct SystemClock<R: System + Drop> {
     rt: R,
     last: Option<Instant>,
-    whole: WholeMs,
+    owed: OwedTime,
 }
 
 impl<R: System + Drop> SystemClock<R> {
@@ -20,33 +22,24 @@ impl<R: System + Drop> SystemClock<R> {
         SystemClock {
             rt,
             last: None,
-            whole: WholeMs::none(),
+            owed: OwedTime::none(),
         }
     }
 
-    /// The time until the next answer is this many milliseconds, if the clock was read and did not go back.
-    fn left(&self, ms: Ms) -> Option<Duration> {
-        let passed = Instant::now(&self.rt)
-            .ok()?
-            .checked_duration_since(self.last?)?;
-        let rest = Duration::from_nanos(u64::from(self.whole.rest_ns()));
-        Some(
-            Duration::from_millis(ms.0)
-                .saturating_sub(rest)
-                .saturating_sub(passed),
-        )
+    /// The time since the last reading: none if the clock went back, or cannot be read.
+    fn since(&self, last: Instant) -> Duration {
+        match Instant::now(&self.rt) {
+            Ok(now) => now.duration_since(last),
+            Err(_) => Duration::ZERO,
+        }
     }
 
-    /// The whole milliseconds since the last answer, if there was one and the system's clock did not go back.
-    fn since(&mut self) -> Option<u64> {
-        let now = Instant::now(&self.rt).ok()?;
-        let Some(last) = self.last else {
+    /// Adds the time since the last reading to what is owed. A clock that cannot be read adds none.
+    fn read(&mut self) {
+        if let Ok(now) = Instant::now(&self.rt) {
+            self.owed.add(passed_ns(self.last, now));
             self.last = Some(now);
-            return None;
-        };
-        let ns = u64::try_from(now.checked_duration_since(last)?.as_nanos()).ok()?;
-        self.last = Some(now);
-        Some(self.whole.add(ns))
+        }
     }
 }
 
@@ -58,10 +51,14 @@ impl<R: System + Drop> Clock for SystemClock<R> {
     ghost coming = { λ clock. [] };
 
     fn passed(&mut self) -> u64 {
-        self.since().unwrap_or(0)
+        self.read();
+        self.owed.give()
     }
 
     fn time_to(&self, ms: Ms) -> Duration {
-        self.left(ms).unwrap_or(Duration::ZERO)
+        match self.last {
+            Some(last) => self.owed.wait(self.since(last), ms.0),
+            None => Duration::ZERO,
+        }
     }
 }

@@ -5,9 +5,9 @@ mod addresses;
 mod calls;
 mod clock;
 mod outcomes;
+mod owed_time;
 mod port;
 mod sockets;
-mod whole_ms;
 
 pub use addresses::{LOOPBACK, loopback, node_of};
 pub use clock::SystemClock;
