@@ -1,2 +1,2 @@
-mod IdentitySamples
+mod InquirySamples
 mod Short

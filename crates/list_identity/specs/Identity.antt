@@ -1,7 +1,4 @@
--- The reply to a ListIdentity request (Volume 2, chapter 2, ListIdentity).
---
--- The request is an encapsulation header alone: command 0063, no data, status 0, options 0. The reply repeats its
--- session handle and its sender context, and has one item:
+-- The identity item of a reply to a ListIdentity request (Volume 2, chapter 2, ListIdentity).
 --
 --   number of items      u16   1
 --   item type            u16   000C
@@ -16,31 +13,10 @@
 --   serial number        u32
 --   product name               a byte for its length, its bytes
 --   state                u8
-use Rattle.std.specs.Prelude.{ℕ, ◌+◌, Bool, ◌&&◌, ◌==◌, if◌then◌else◌, List, [], ◌∷◌, ◌++◌, length, replicate, Option, Some, None, Result, Ok, Err}
+use Rattle.std.specs.Prelude.{ℕ, ◌+◌, List, [], ◌∷◌, ◌++◌, length, replicate}
 use Rattle.std.specs.Int.{w16, w32, to_be_bytes, to_le_bytes}
-use Rattle.std.specs.Option.{option_map}
-use Rattle.cip_encap.specs.Message.{MessageFields, message_text}
-use Rattle.cip_encap.specs.Reading.{message_reading}
-use Rattle.cip_encap.specs.declared.message.EncapFault.{EncapFault}
+use Rattle.cip_encap.specs.declared.packet.SocketAddress.{SocketAddress}
 use Rattle.list_identity.specs.declared.station.StationIdentity.{StationIdentity}
-
-abbrev pub list_identity : ℕ
-list_identity = 0x0063
-
--- the message is a ListIdentity request: it has no data, status or options
-abbrev pub is_request : MessageFields → Bool
-is_request m = m.command == list_identity && (m.status == 0 && (m.options == 0 && length m.payload == 0))
-
-abbrev pub request_if : Bool → MessageFields → Option MessageFields
-request_if is_one m = if is_one then Some m else None
-
-abbrev pub request_of : Result MessageFields EncapFault → Option MessageFields
-request_of (Ok m) = request_if (is_request m) m
-request_of (Err fault) = None
-
--- the ListIdentity request of some bytes, if they are one
-abbrev pub request_in : List ℕ → Option MessageFields
-request_in bytes = request_of (message_reading bytes)
 
 -- the bytes of the item behind its length, but for the name
 abbrev pub fixed_bytes : ℕ
@@ -51,8 +27,8 @@ unfoldable pub item_head : StationIdentity → List ℕ
 item_head s = to_le_bytes w16 1 ++ (to_le_bytes w16 0x000C ++ (to_le_bytes w16 (fixed_bytes + length s.name) ++ to_le_bytes w16 1))
 
 -- the socket address: numbers with the most significant byte first
-unfoldable pub view_socket : StationIdentity → List ℕ
-view_socket s = to_be_bytes w16 2 ++ (to_be_bytes w16 s.socket.port ++ (to_be_bytes w32 s.socket.address.0 ++ replicate 8 0))
+unfoldable pub view_socket : SocketAddress → List ℕ
+view_socket at = to_be_bytes w16 2 ++ (to_be_bytes w16 at.port ++ (to_be_bytes w32 at.address.0 ++ replicate 8 0))
 
 -- vendor, device type and product
 unfoldable pub view_product : StationIdentity → List ℕ
@@ -70,14 +46,6 @@ view_device s = view_product s ++ view_unit s
 unfoldable pub view_name : StationIdentity → List ℕ
 view_name s = length s.name ∷ (s.name ++ s.state ∷ [])
 
--- the one item
-unfoldable pub identity_item : StationIdentity → List ℕ
-identity_item s = item_head s ++ (view_socket s ++ (view_device s ++ view_name s))
-
--- the reply to a request
-abbrev pub reply_message : StationIdentity → MessageFields → MessageFields
-reply_message s request = record { command = list_identity; session = request.session; status = 0; context = request.context; options = 0; payload = identity_item s }
-
--- the bytes that answer some bytes: none, unless these are a ListIdentity request
-abbrev pub answer_to : List ℕ → StationIdentity → Option (List ℕ)
-answer_to bytes s = option_map (λ request. message_text (reply_message s request)) (request_in bytes)
+-- the one item: the address is the one under which who asks reaches the station
+unfoldable pub identity_item : StationIdentity → SocketAddress → List ℕ
+identity_item s at = item_head s ++ (view_socket at ++ (view_device s ++ view_name s))

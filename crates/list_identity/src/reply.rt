@@ -1,175 +1,147 @@
-//! The reply to a ListIdentity request.
+//! The replies to inquiries.
 
-ghost use Rattle.std.specs.Prelude.{◌≡◌, ◌++◌, ◌<◌, ◌+◌, length, IfOk, OnOk, OnErr};
+ghost use Rattle.std.specs.Prelude.{◌≡◌, ◌<◌, ◌+◌, ◌≤◌, length, IfOk, IfSome};
 ghost use Rattle.std.specs.Option.{option_map};
-ghost use Rattle.list_identity.specs.Identity.{answer_to, request_in, identity_item, is_request, item_head, request_if, view_device, view_name, view_product, view_socket, view_unit};
-ghost use Rattle.cip_encap.specs.Message.{view_message};
+ghost use Rattle.list_identity.specs.Inquiries.{inquiry_answer, inquiry_data, identity_answer, longest_reply, reply_message};
+ghost use Rattle.cip_encap.specs.Message.{message_text, view_message};
+ghost use Rattle.cip_router.specs.Frames.{services_text};
 
+use crate::inquiry::{Inquiry, inquiry_in};
+use crate::item::put_identity;
 use crate::station::StationIdentity;
-use cip_encap::{MessageView, read_message, write_message};
+use cip_encap::{MessageView, SocketAddress, write_message};
 use cip_types::OutOfMemory;
-use cip_types::fields::{put_bytes, put_u8, put_u16, put_u32};
 use std::alloc::Global;
 
-/// The command of a ListIdentity request and of its reply.
-const LIST_IDENTITY: u16 = 0x0063;
+/// One service item: its count, type, length, version, flags (TCP, and class 1 over UDP) and name.
+const SERVICES: [u8; 26] = [
+    1, 0, 0, 1, 20, 0, 1, 0, 0x20, 1, b'C', b'o', b'm', b'm', b'u', b'n', b'i', b'c', b'a', b't',
+    b'i', b'o', b'n', b's', 0, 0,
+];
 
-/// The type of the item of an identity.
-const IDENTITY_ITEM: u16 = 0x000C;
+/// No item.
+const NO_ITEMS: [u8; 2] = [0, 0];
 
-/// The version of the encapsulation protocol.
-const PROTOCOL_VERSION: u16 = 1;
-
-/// The family of Internet addresses.
-const INTERNET: u16 = 2;
-
-/// The bytes of an identity item before its name, and behind it.
-const FIXED_BYTES: u16 = 34;
-
-/// The reply to a ListIdentity request. None for every other message: of other bytes than one whole message, of another
-/// command, or with a status, options or data. The only fault is a refused allocation.
+/// The reply to a ListServices, ListIdentity or ListInterfaces request. None for every other message: of other bytes than
+/// one whole message, of another command, or with a status, options or data. The identity has `at` as its socket address:
+/// the TCP port, and the address under which the sender reaches the station. The only fault is a refused allocation.
 ///
-/// Volume 2, chapter 2, ListIdentity.
+/// A request has 24 bytes, and a reply at most 96: what a station sends to a forged sender is at most four times what it
+/// receives.
+///
+/// Volume 2, chapter 2, encapsulation commands.
+pub fn inquiry_reply(
+    alloc: Global,
+    message: &[u8],
+    station: &StationIdentity,
+    at: SocketAddress,
+) -> Result<Option<Vec<u8>>, OutOfMemory>
+    ensures reply { IfOk result (λ reply.
+        option_map (λ v. v.items) reply ≡ inquiry_answer message.now station.now at) }
+    ensures short { IfOk result (λ reply. IfSome reply (λ v. length v.items ≤ longest_reply)) }
+{
+    match inquiry_in(message) {
+        Some((inquiry, request)) => {
+            let reply = reply_to(alloc, inquiry, &request, station, at)?;
+            Ok(Some(reply))
+        }
+        None => Ok(None),
+    }
+}
+
+/// The reply to a ListIdentity request, and none for every other message, as `inquiry_reply` makes it. Over a stream the
+/// device itself answers the other commands.
 pub fn identity_reply(
     alloc: Global,
     message: &[u8],
     station: &StationIdentity,
+    at: SocketAddress,
 ) -> Result<Option<Vec<u8>>, OutOfMemory>
-    ensures { IfOk result (λ reply. option_map (λ v. v.items) reply ≡ answer_to message.now station.now) }
+    ensures { IfOk result (λ reply.
+        option_map (λ v. v.items) reply ≡ identity_answer message.now station.now at) }
 {
-    let Some(request) = request_in(message) else {
-        return Ok(None);
-    };
-    let data = identity_data(alloc, station)?;
+    match inquiry_in(message) {
+        Some((Inquiry::Identity, request)) => {
+            let reply = reply_to(alloc, Inquiry::Identity, &request, station, at)?;
+            Ok(Some(reply))
+        }
+        _ => Ok(None),
+    }
+}
+
+/// The reply to an inquiry.
+fn reply_to(
+    alloc: Global,
+    inquiry: Inquiry,
+    request: &MessageView<'_>,
+    station: &StationIdentity,
+    at: SocketAddress,
+) -> Result<Vec<u8>, OutOfMemory>
+    ensures text { IfOk result (λ v. v.items
+        ≡ message_text (reply_message (view_message request.now) (inquiry_data inquiry station.now at))) }
+    ensures short { IfOk result (λ v. length v.items ≤ longest_reply) }
+{
+    let data = data_of(alloc, inquiry, station, at)?;
+    write_reply(alloc, request, data.as_slice())
+}
+
+/// The reply with these data.
+fn write_reply(
+    alloc: Global,
+    request: &MessageView<'_>,
+    data: &[u8],
+) -> Result<Vec<u8>, OutOfMemory>
+    requires { length «data».now < 73 }
+    ensures text { IfOk result (λ v. v.items
+        ≡ message_text (reply_message (view_message request.now) «data».now)) }
+    ensures short { IfOk result (λ v. length v.items ≤ longest_reply) }
+{
     let reply = MessageView {
-        command: LIST_IDENTITY,
+        command: request.command,
         session: request.session,
         status: 0,
         context: request.context,
         options: 0,
-        data: data.as_slice(),
+        data,
     };
-    Ok(Some(write_message(alloc, &reply)?))
+    write_message(alloc, &reply)
 }
 
-/// The ListIdentity request of these bytes.
-fn request_in(message: &[u8]) -> Option<MessageView<'_>>
-    ensures { option_map view_message result ≡ request_in message.now }
+/// The data of the reply: at most 72 bytes.
+fn data_of(
+    alloc: Global,
+    inquiry: Inquiry,
+    station: &StationIdentity,
+    at: SocketAddress,
+) -> Result<Vec<u8>, OutOfMemory>
+    ensures bytes { IfOk result (λ v. v.items ≡ inquiry_data inquiry station.now at) }
+    ensures few { IfOk result (λ v. length v.items < 73) }
 {
-    let Ok(request) = read_message(message) else {
-        return None;
-    };
-    let is_one = is_request(&request);
-    request_if(request, is_one)
+    match inquiry {
+        Inquiry::Services => services(alloc),
+        Inquiry::Identity => identity(alloc, station, at),
+        Inquiry::Interfaces => Ok(Vec::from_slice(alloc, &NO_ITEMS)?),
+    }
 }
 
-/// The message, if it is a request.
-fn request_if(message: MessageView<'_>, is_one: bool) -> Option<MessageView<'_>>
-    ensures { option_map view_message result ≡ request_if is_one (view_message message.entry) }
+/// The data of the reply to ListServices.
+fn services(alloc: Global) -> Result<Vec<u8>, OutOfMemory>
+    ensures bytes { IfOk result (λ v. v.items ≡ services_text) }
+    ensures few { IfOk result (λ v. length v.items < 73) }
 {
-    if is_one { Some(message) } else { None }
+    Ok(Vec::from_slice(alloc, &SERVICES)?)
 }
 
-/// Whether a message is a ListIdentity request.
-fn is_request(message: &MessageView<'_>) -> bool
-    ensures { result ≡ is_request (view_message message.now) }
-{
-    message.command == LIST_IDENTITY
-        && message.status == 0
-        && message.options == 0
-        && message.data.is_empty()
-}
-
-/// The data of the reply: fewer than 100 bytes.
-fn identity_data(alloc: Global, station: &StationIdentity) -> Result<Vec<u8>, OutOfMemory>
-    ensures item { IfOk result (λ v. v.items ≡ identity_item station.now) }
-    ensures few { IfOk result (λ v. length v.items < 100) }
+/// The data of the reply to ListIdentity.
+fn identity(
+    alloc: Global,
+    station: &StationIdentity,
+    at: SocketAddress,
+) -> Result<Vec<u8>, OutOfMemory>
+    ensures bytes { IfOk result (λ v. v.items ≡ inquiry_data Inquiry.Identity station.now at) }
+    ensures few { IfOk result (λ v. length v.items < 73) }
 {
     let mut data = Vec::new(alloc);
-    put_identity(&mut data, station)?;
+    put_identity(&mut data, station, at)?;
     Ok(data)
-}
-
-/// Appends the one item of the reply.
-#[tactic(auto, using(crate::proofs::Short::identity_item_few), unfolding(crate::specs::Identity::identity_item))]
-fn put_identity(out: &mut Vec<u8>, station: &StationIdentity) -> Result<(), OutOfMemory>
-    ensures ok { OnOk result (out.new.items ≡ out.old.items ++ identity_item station.now) }
-    ensures few { OnOk result (length (identity_item station.now) < 100) }
-{
-    // The prover needs that the name is short.
-    let _name = station.name.as_slice();
-    put_head(out, station)?;
-    put_socket(out, station)?;
-    put_device(out, station)?;
-    put_name(out, station)?;
-    Ok(())
-}
-
-/// Appends the number of items, the item's type and length, and the version of the protocol.
-#[tactic(auto, unfolding(crate::specs::Identity::item_head))]
-fn put_head(out: &mut Vec<u8>, station: &StationIdentity) -> Result<(), OutOfMemory>
-    ensures ok { OnOk result (out.new.items ≡ out.old.items ++ item_head station.now) }
-{
-    let name = station.name.as_slice();
-    put_u16(out, 1)?;
-    put_u16(out, IDENTITY_ITEM)?;
-    put_u16(out, FIXED_BYTES + name.len() as u16)?;
-    put_u16(out, PROTOCOL_VERSION)?;
-    Ok(())
-}
-
-/// Appends the address at which the station listens, its numbers with the most significant byte first.
-#[tactic(auto, unfolding(crate::specs::Identity::view_socket))]
-fn put_socket(out: &mut Vec<u8>, station: &StationIdentity) -> Result<(), OutOfMemory>
-    ensures ok { OnOk result (out.new.items ≡ out.old.items ++ view_socket station.now) }
-{
-    put_bytes(out, &INTERNET.to_be_bytes())?;
-    put_bytes(out, &station.socket.port.to_be_bytes())?;
-    put_bytes(out, &station.socket.address.0.to_be_bytes())?;
-    put_bytes(out, &[0u8; 8])
-}
-
-/// Appends what the Identity object says of the device.
-#[tactic(auto, unfolding(crate::specs::Identity::view_device))]
-fn put_device(out: &mut Vec<u8>, station: &StationIdentity) -> Result<(), OutOfMemory>
-    ensures ok { OnOk result (out.new.items ≡ out.old.items ++ view_device station.now) }
-{
-    put_product(out, station)?;
-    put_unit(out, station)?;
-    Ok(())
-}
-
-/// Appends vendor, device type and product.
-#[tactic(auto, unfolding(crate::specs::Identity::view_product))]
-fn put_product(out: &mut Vec<u8>, station: &StationIdentity) -> Result<(), OutOfMemory>
-    ensures ok { OnOk result (out.new.items ≡ out.old.items ++ view_product station.now) }
-{
-    put_u16(out, station.device.vendor)?;
-    put_u16(out, station.device.device_type)?;
-    put_u16(out, station.device.product)?;
-    Ok(())
-}
-
-/// Appends revision, status word and serial number.
-#[tactic(auto, unfolding(crate::specs::Identity::view_unit))]
-fn put_unit(out: &mut Vec<u8>, station: &StationIdentity) -> Result<(), OutOfMemory>
-    ensures ok { OnOk result (out.new.items ≡ out.old.items ++ view_unit station.now) }
-{
-    put_u8(out, station.device.major)?;
-    put_u8(out, station.device.minor)?;
-    put_u16(out, station.status)?;
-    put_u32(out, station.serial)?;
-    Ok(())
-}
-
-/// Appends the name behind its length, and the state.
-#[tactic(auto, unfolding(crate::specs::Identity::view_name))]
-fn put_name(out: &mut Vec<u8>, station: &StationIdentity) -> Result<(), OutOfMemory>
-    ensures ok { OnOk result (out.new.items ≡ out.old.items ++ view_name station.now) }
-{
-    let name = station.name.as_slice();
-    put_u8(out, name.len() as u8)?;
-    put_bytes(out, name)?;
-    put_u8(out, station.state)?;
-    Ok(())
 }

@@ -1,17 +1,13 @@
 //! What a station says of itself.
 
 use crate::name::ProductName;
-use cip_encap::SocketAddress;
 use cip_types::Identity;
 
-/// What a station says of itself to who lists identities: the Identity object of its device, and the address at which
-/// its encapsulation port listens.
+/// What a station says of itself to who lists identities: the Identity object of its device.
 ///
 /// Volume 1, chapter 5, Identity object. Volume 2, chapter 2, ListIdentity.
 #[derive(Drop)]
 pub struct StationIdentity {
-    /// The TCP port and the IPv4 address of encapsulation messages.
-    pub socket: SocketAddress,
     /// Vendor, device type, product and revision.
     pub device: Identity,
     /// The status word of the Identity object.
