@@ -1,6 +1,6 @@
 //! One name for all that a maker of a device uses: devices and their profiles, events and answers, the runner that
-//! drives a device over a port and a clock, and books of events. Each item is explained in the crate that it comes
-//! from.
+//! drives a device over a port and a clock, ports over memory and over sockets, the rules by which an adapter's streams
+//! end and make room, and books of events. Each item is explained in the crate that it comes from.
 #![tactic(auto)]
 
 pub use adapter_engine::FastAdapter;
@@ -13,7 +13,11 @@ pub use cip_tables::{
 pub use cip_types::{ConnId, Fault, Identity, Items, Mismatch, Ms, Node, OutOfMemory, Triad};
 pub use device_lock::{Book, BookFault, History, LockedDevice, Receipt, Segment};
 pub use plain_engine::{PlainAdapter, PlainScanner};
+pub use port_streams::{DatagramRoute, DatagramRoutes, Destination};
 pub use scanner_engine::FastScanner;
+pub use socket_port::{OpenFault, SocketPort, SystemClock};
+pub use stream_keeper::{KeptStream, Place, StreamKeeper};
 pub use udp_runner::{
-    Clock, Input, MemoryPort, Output, Port, PortFault, RunFault, SentOutput, SteppedClock, drive,
+    Clock, Input, MemoryPort, Observer, Output, Port, PortFault, RunFault, SentOutput,
+    SteppedClock, Unobserved, drive, drive_watched, turn_waiting,
 };

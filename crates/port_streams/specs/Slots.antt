@@ -59,3 +59,8 @@ socket_if false socket = None
 abbrev pub read_at : {S : Type 0} → Option (PortStream S) → Option S
 read_at None = None
 read_at (Some port_stream) = socket_if (takes_bytes port_stream) port_stream.socket
+
+-- the socket of a slot's stream, if there is one
+abbrev pub socket_at : {S : Type 0} → Option (PortStream S) → Option S
+socket_at None = None
+socket_at (Some port_stream) = Some port_stream.socket

@@ -3,7 +3,7 @@
 ghost use Rattle.std.specs.Prelude.{◌≡◌, ◌<◌, replicate, position, slice_set, vec_len, Some, None, IfOk, IfErr, OnOk, OnErr};
 ghost use Rattle.std.specs.Option.{option_map};
 ghost use Rattle.port_streams.specs.StreamInputs.{begun};
-ghost use Rattle.port_streams.specs.Slots.{Receives, SendsOver, ended_at, given_at, is_free, left_at, slot_at, read_at};
+ghost use Rattle.port_streams.specs.Slots.{Receives, SendsOver, ended_at, given_at, is_free, left_at, slot_at, socket_at, read_at};
 
 use crate::port_stream::PortStream;
 use cip_types::limits::MOST_STREAMS;
@@ -64,6 +64,16 @@ impl<S: Drop> PortStreams<S> {
     {
         match self.slots.get(usize::from(number)) {
             Some(Some(port_stream)) if port_stream.takes_bytes() => Some(port_stream.socket()),
+            _ => None,
+        }
+    }
+
+    /// The socket of the stream of this number.
+    pub fn socket(&self, number: u16) -> Option<&S>
+        ensures { option_map (λ lent. lent.now) result ≡ socket_at (slot_at self.now.slots.items number) }
+    {
+        match self.slots.get(usize::from(number)) {
+            Some(Some(port_stream)) => Some(port_stream.socket()),
             _ => None,
         }
     }

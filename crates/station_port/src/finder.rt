@@ -1,33 +1,49 @@
-//! Answers to ListIdentity over UDP.
+//! Answers to inquiries over UDP: ListServices, ListIdentity and ListInterfaces, by which the field's tools find a station.
 
 use crate::bind::made;
 use crate::fault::{StationFault, StationSocket};
 use crate::place::{StationPlace, address_of};
 use crate::ready::FINDER;
+use cip_encap::SocketAddress;
 use cip_types::{Node, OutOfMemory};
-use list_identity::{StationIdentity, identity_reply};
+use libc::net as c;
+use list_identity::{StationIdentity, identity_reply, inquiry_reply};
 use mio::net::UdpSocket;
 use mio::{Interest, Registry};
-use socket_port::received;
+use os::FromRawFd;
+use socket_port::{node_of, received};
 use std::alloc::Global;
 use std::net::{Net, SocketAddr};
+use std::os::fd::OwnedFd;
 use udp_runner::PortFault;
 
-/// The address of all hosts of a network.
+/// Each address of the host.
+const ANY: Node = Node(0);
+
+/// The address of all hosts of the networks of a host.
 const EVERYBODY: Node = Node(0xFFFF_FFFF);
+
+/// So many datagrams of one socket are read in a turn. Those that wait behind them are read in the next one, so that
+/// no flood of them holds the device up.
+const MOST_IN_A_TURN: usize = 8;
 
 /// The sockets on which a station is found, and what it says of itself.
 #[derive(Drop)]
 pub(crate) struct Finder {
     alloc: Global,
     identity: StationIdentity,
+    address: Node,
+    port: u16,
     own: UdpSocket,
-    /// Requests to all hosts, if no other program of the host receives them.
+    /// Inquiries to 255.255.255.255, if no other socket of the host receives them.
     everybody: Option<UdpSocket>,
+    /// Inquiries to the broadcast address of the station's network, if no other socket of the host receives them.
+    network: Option<UdpSocket>,
 }
 
 impl Finder {
-    /// Sockets at a station's address and its TCP port's number.
+    /// Sockets at a station's address and its TCP port's number. A socket at 0.0.0.0 receives broadcasts too, and the
+    /// other sockets are not bound beside it.
     pub(crate) fn new<R: Net>(
         alloc: Global,
         rt: &R,
@@ -36,61 +52,125 @@ impl Finder {
     ) -> Result<Finder, StationFault> {
         let at = address_of(place.address, place.tcp);
         let own = made(StationSocket::Identity, UdpSocket::bind(rt, at))?;
+        let network = Node(place.address.0 | !place.mask);
         Ok(Finder {
             alloc,
             identity,
+            address: place.address,
+            port: place.tcp,
             own,
             everybody: UdpSocket::bind(rt, address_of(EVERYBODY, place.tcp)).ok(),
+            network: UdpSocket::bind(rt, address_of(network, place.tcp)).ok(),
         })
     }
 
     /// Has a wait report its sockets.
     pub(crate) fn register(&mut self, registry: &Registry) -> Result<(), StationFault> {
-        made(
-            StationSocket::Wait,
-            registry.register(&mut self.own, FINDER, Interest::READABLE),
-        )?;
+        watch(registry, &mut self.own)?;
         if let Some(everybody) = &mut self.everybody {
-            made(
-                StationSocket::Wait,
-                registry.register(everybody, FINDER, Interest::READABLE),
-            )?;
+            watch(registry, everybody)?;
+        }
+        if let Some(network) = &mut self.network {
+            watch(registry, network)?;
         }
         Ok(())
     }
 
-    /// The reply to a message, if it is a ListIdentity request.
-    pub(crate) fn reply(&self, message: &[u8]) -> Result<Option<Vec<u8>>, OutOfMemory> {
-        identity_reply(self.alloc, message, &self.identity)
+    /// The reply to a message of a stream, if it is a ListIdentity request. The device answers the other inquiries. The
+    /// address is the stream's own, if it is known.
+    pub(crate) fn reply(
+        &self,
+        message: &[u8],
+        own: Option<SocketAddr>,
+    ) -> Result<Option<Vec<u8>>, OutOfMemory> {
+        let at = self.place_at(own);
+        identity_reply(self.alloc, message, &self.identity, at)
     }
 
-    /// Answers a request that waits. Whether there was a datagram.
+    /// Answers inquiries that wait, a bounded number of them. Whether more may wait.
     pub(crate) fn answer(&self, buffer: &mut [u8]) -> Result<bool, PortFault> {
-        if let Some((count, from)) = received(self.own.recv_from(buffer))? {
-            return self.answer_to(buffer, count, from);
+        let mut more = self.answer_some(&self.own, buffer)?;
+        if let Some(everybody) = &self.everybody {
+            more |= self.answer_some(everybody, buffer)?;
         }
-        let Some(everybody) = &self.everybody else {
-            return Ok(false);
-        };
-        match received(everybody.recv_from(buffer))? {
-            Some((count, from)) => self.answer_to(buffer, count, from),
-            None => Ok(false),
+        if let Some(network) = &self.network {
+            more |= self.answer_some(network, buffer)?;
         }
+        Ok(more)
     }
 
-    /// Answers the datagram at the front of a buffer, if it is a request.
-    fn answer_to(&self, buffer: &[u8], count: usize, from: SocketAddr) -> Result<bool, PortFault> {
+    /// Answers inquiries that wait at one socket, a bounded number of them. Whether more may wait.
+    fn answer_some(&self, socket: &UdpSocket, buffer: &mut [u8]) -> Result<bool, PortFault> {
+        for _ in 0..MOST_IN_A_TURN {
+            let Some((count, from)) = received(socket.recv_from(buffer))? else {
+                return Ok(false);
+            };
+            self.answer_to(buffer, count, from)?;
+        }
+        Ok(true)
+    }
+
+    /// Answers the datagram at the front of a buffer, if it is an inquiry.
+    fn answer_to(&self, buffer: &[u8], count: usize, from: SocketAddr) -> Result<(), PortFault> {
         let Some(datagram) = buffer.get(..count) else {
-            return Ok(true);
+            return Ok(());
         };
-        match self.reply(datagram) {
+        let at = self.place_for(from);
+        match inquiry_reply(self.alloc, datagram, &self.identity, at) {
             Ok(Some(reply)) => {
                 // (a reply that the socket does not take is lost, as it may be on the network)
                 let _ = self.own.send_to(reply.as_slice(), from);
-                Ok(true)
+                Ok(())
             }
-            Ok(None) => Ok(true),
+            Ok(None) => Ok(()),
             Err(OutOfMemory) => Err(PortFault::Memory),
         }
     }
+
+    /// Where a sender of a datagram reaches the station.
+    fn place_for(&self, sender: SocketAddr) -> SocketAddress {
+        if self.address == ANY {
+            self.place_at(own_address(sender))
+        } else {
+            self.place_at(None)
+        }
+    }
+
+    /// The station's place, at its address; or, if that is each address of the host, at this one.
+    fn place_at(&self, own: Option<SocketAddr>) -> SocketAddress {
+        let other = match own {
+            Some(own) => node_of(own),
+            None => None,
+        };
+        SocketAddress {
+            port: self.port,
+            address: if self.address == ANY {
+                other.unwrap_or(ANY)
+            } else {
+                self.address
+            },
+        }
+    }
+}
+
+/// Has a wait report a socket.
+fn watch(registry: &Registry, socket: &mut UdpSocket) -> Result<(), StationFault> {
+    made(
+        StationSocket::Wait,
+        registry.register(socket, FINDER, Interest::READABLE),
+    )
+}
+
+/// The address of this host from which a datagram to this address leaves: a socket that is connected to it has it.
+/// Nothing is sent.
+fn own_address(to: SocketAddr) -> Option<SocketAddr> {
+    let kind = c::SOCK_DGRAM | c::SOCK_NONBLOCK | c::SOCK_CLOEXEC;
+    let fd = unsafe { c::socket(c::AF_INET, kind, 0) };
+    if fd < 0 {
+        return None;
+    }
+    // The socket is closed as it is dropped.
+    let socket = UdpSocket::from(unsafe { OwnedFd::from_raw_fd(fd) });
+    socket.connect(to).ok()?;
+    socket.local_addr().ok()
 }

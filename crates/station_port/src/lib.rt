@@ -1,16 +1,23 @@
 //! A port at a real address: an adapter's, whose streams its peers open, or a scanner's, which opens a stream to each of
-//! its targets and opens it again after a cut. It waits until a socket has something, and answers ListIdentity in front
-//! of the device.
+//! its targets and opens it again after a cut. It ends streams that stay silent, makes room for new ones, and gives up
+//! those that do not do their work. It waits until a socket has something, and answers ListIdentity in front of the
+//! device.
 #![tactic(auto)]
 
 mod bind;
+mod causes;
 mod dial;
 mod fault;
 mod finder;
+mod kept_streams;
+mod nop;
 mod place;
 mod ready;
+mod reports;
+mod sessions;
 mod sockets;
 mod station;
+mod stream_options;
 mod targets;
 
 pub use fault::{SocketCause, StationFault, StationSocket};

@@ -1,4 +1,4 @@
-//! Where a station is, and where it sends.
+//! Where a station is, where it sends, and when it ends a silent stream.
 
 ghost use Rattle.std.specs.Prelude.{◌≡◌, false};
 
@@ -6,12 +6,21 @@ use cip_types::Node;
 use cip_types::limits::{TCP_PORT, UDP_PORT};
 use std::net::{IpAddr, Ipv4Addr, SocketAddr};
 
+/// The encapsulation inactivity time-out, in seconds.
+///
+/// Volume 2, chapter 5, TCP/IP Interface object.
+const INACTIVITY_S: u16 = 120;
+/// The mask of a network of one address.
+const NO_NETWORK: u32 = 0xFFFF_FFFF;
+
 /// Where a station is, and where it sends.
 #[derive(Clone, Copy)]
 pub struct StationPlace {
     /// The IPv4 address of its sockets. 0.0.0.0 is each address of the host.
     pub address: Node,
-    /// The TCP port of encapsulation messages, which is the UDP port of ListIdentity too.
+    /// The mask of its network, whose broadcast address finds it. 255.255.255.255: no network has it.
+    pub mask: u32,
+    /// The TCP port of encapsulation messages, which is the UDP port of inquiries too.
     pub tcp: u16,
     /// The UDP port of its class 1 datagrams.
     pub udp: u16,
@@ -19,19 +28,23 @@ pub struct StationPlace {
     pub peer_udp: u16,
     /// Whether a datagram of a multicast connection is sent once, to the group's address, and not to each consumer.
     pub multicast: bool,
+    /// An adapter ends a stream over which no whole message came for so many seconds; 0: none.
+    pub inactivity_s: u16,
 }
 
 impl StationPlace {
-    /// A station at this address and the standard's ports, which sends a copy to each consumer.
+    /// A station at this address, with the standard's ports and its time-out, which sends a copy to each consumer.
     pub fn at(address: Node) -> StationPlace
-        ensures { result ≡ record { address = address; tcp = 44818; udp = 2222; peer_udp = 2222; multicast = false } }
+        ensures { result ≡ record { address = address; mask = 4294967295; tcp = 44818; udp = 2222; peer_udp = 2222; multicast = false; inactivity_s = 120 } }
     {
         StationPlace {
             address,
+            mask: NO_NETWORK,
             tcp: TCP_PORT,
             udp: UDP_PORT,
             peer_udp: UDP_PORT,
             multicast: false,
+            inactivity_s: INACTIVITY_S,
         }
     }
 }

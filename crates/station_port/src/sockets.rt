@@ -3,18 +3,21 @@
 use crate::bind::made;
 use crate::fault::{StationFault, StationSocket};
 use crate::finder::Finder;
+use crate::kept_streams::{KeptStreams, Welcome};
+use crate::nop::NopTimer;
 use crate::place::address_of;
 use crate::ready::{DATAGRAMS, LISTENER, Ready, STREAMS};
+use crate::sessions::{SessionAnswer, session_answer};
 use crate::targets::Targets;
 use cip_types::limits::MOST_STREAMS;
 use cip_types::{Items, Node, OutOfMemory};
+use kept_port::EndCause;
 use mio::net::{TcpListener, TcpStream, UdpSocket};
 use mio::{Interest, Registry};
-use port_streams::{PollOrder, PortStreams};
-use socket_port::{ReadOutcome, accepted, node_of, read_outcome, received};
+use port_streams::PollOrder;
+use socket_port::{ReadOutcome, accepted, node_of, received};
 use std::alloc::Global;
-use std::io::Read;
-use std::net::SocketAddr;
+use std::net::{Net, SocketAddr};
 use udp_runner::{Input, Output, PortFault};
 
 /// The numbers of streams are below this one.
@@ -23,6 +26,13 @@ const STREAM_NUMBERS: u16 = MOST_STREAMS as u16;
 /// A UDP datagram has fewer bytes. A read of a stream takes at most as many.
 const BUFFER_BYTES: usize = 65_536;
 
+/// A connection that was accepted, and is no stream yet.
+#[derive(Drop)]
+struct Newcomer {
+    peer: Node,
+    socket: TcpStream,
+}
+
 /// The sockets of a station.
 #[derive(Drop)]
 pub(crate) struct StationSockets {
@@ -30,11 +40,14 @@ pub(crate) struct StationSockets {
     listener: Option<TcpListener>,
     udp: UdpSocket,
     finder: Option<Finder>,
-    streams: PortStreams<TcpStream>,
-    pub(crate) targets: Targets,
+    /// A connection that waits until a stream has ended.
+    newcomer: Option<Newcomer>,
+    pub(crate) streams: KeptStreams,
+    targets: Targets,
     peer_udp: u16,
     buffer: Vec<u8>,
     order: PollOrder,
+    nop: NopTimer,
     pub(crate) ready: Ready,
 }
 
@@ -45,6 +58,7 @@ impl StationSockets {
         listener: Option<TcpListener>,
         udp: UdpSocket,
         finder: Option<Finder>,
+        streams: KeptStreams,
         targets: Targets,
         peer_udp: u16,
     ) -> Result<StationSockets, OutOfMemory> {
@@ -53,11 +67,13 @@ impl StationSockets {
             listener,
             udp,
             finder,
-            streams: PortStreams::new(alloc)?,
+            newcomer: None,
+            streams,
             targets,
             peer_udp,
             buffer: vec![in alloc; 0; BUFFER_BYTES]?,
             order: PollOrder::begin(),
+            nop: NopTimer::begin(),
             ready: Ready::all(),
         })
     }
@@ -82,6 +98,47 @@ impl StationSockets {
     /// Whether this poll is one in sixteen, which asks every socket.
     pub(crate) fn asks_all(&mut self) -> bool {
         self.order.asks_streams_first()
+    }
+
+    /// Opens the streams that are due, ends those that are overdue (silent ones, and those without a session in time), and
+    /// sends NOP if it is due. A stream that does not take it has ended.
+    pub(crate) fn advance<R: Net>(&mut self, rt: &R, registry: &Registry, now_ms: u64) {
+        self.targets
+            .advance(rt, registry, &mut self.streams, now_ms);
+        if self.streams.end_silent(now_ms) {
+            self.ready.streams = true;
+        }
+        if let Some(stream) = self.targets.unregistered(now_ms) {
+            self.abort(stream, EndCause::NoSession);
+        }
+        if self.nop.is_due(now_ms) {
+            self.targets.send_nop(&mut self.streams);
+            self.ready.streams = true;
+        }
+    }
+
+    /// The milliseconds until a stream is to be opened or ended, at most so many.
+    pub(crate) fn wait(&self, now_ms: u64, most_ms: u64) -> u64 {
+        let links_ms = self.targets.wait(now_ms, most_ms);
+        self.streams.wait(now_ms, links_ms)
+    }
+
+    /// Breaks a stream at once. Its end is its last input.
+    fn abort(&mut self, stream: u16, cause: EndCause) {
+        self.streams.abort(stream, cause);
+        self.ready.streams = true;
+    }
+
+    /// Ends the stream to a target with all that waits in it, and opens a new one later.
+    pub(crate) fn renew(&mut self, target: Node, now_ms: u64) {
+        if let Some(stream) = self.targets.renew(target, now_ms) {
+            self.abort(stream, EndCause::Renewed);
+        }
+    }
+
+    /// A connection with a target is established.
+    pub(crate) fn succeed(&mut self, target: Node) {
+        self.targets.succeed(target);
     }
 
     /// The input that is there now. A poll that asks all asks the streams before the datagrams, and each socket.
@@ -122,7 +179,7 @@ impl StationSockets {
     /// Accepts a connection, adds the streams that have opened, and answers a ListIdentity request.
     fn serve(&mut self, registry: &Registry, now_ms: u64) -> Result<(), PortFault> {
         if self.ready.listener {
-            self.ready.listener = self.accept(registry)?;
+            self.ready.listener = self.accept(registry, now_ms)?;
         }
         if self.ready.openings {
             self.ready.openings = false;
@@ -137,8 +194,13 @@ impl StationSockets {
         Ok(())
     }
 
-    /// Accepts the connection that waits. Whether there was one. An extra connection is closed without reading it.
-    fn accept(&mut self, registry: &Registry) -> Result<bool, PortFault> {
+    /// Accepts the connection that waits: first the one that was accepted before. Whether there was one. A connection
+    /// for which there is no place is closed without reading it.
+    fn accept(&mut self, registry: &Registry, now_ms: u64) -> Result<bool, PortFault> {
+        if let Some(newcomer) = self.newcomer.take() {
+            self.welcome(newcomer.peer, newcomer.socket, now_ms);
+            return Ok(true);
+        }
         let Some(listener) = &self.listener else {
             return Ok(false);
         };
@@ -150,11 +212,18 @@ impl StationSockets {
         };
         let watched = registry.register(&mut socket, STREAMS, Interest::READABLE);
         if watched.is_ok() && socket.set_nodelay(true).is_ok() {
-            // (the socket of an extra connection is returned, and closed as it is dropped)
-            let _ = self.streams.accept(peer, socket);
-            self.ready.streams = true;
+            self.welcome(peer, socket, now_ms);
         }
         Ok(true)
+    }
+
+    /// Adds a stream that a peer opened, or has it wait for the end of another one.
+    fn welcome(&mut self, peer: Node, socket: TcpStream, now_ms: u64) {
+        self.ready.streams = true;
+        match self.streams.welcome(peer, socket, now_ms) {
+            Welcome::Done => {}
+            Welcome::Waits(socket) => self.newcomer = Some(Newcomer { peer, socket }),
+        }
     }
 
     /// The datagram that is there now.
@@ -192,7 +261,7 @@ impl StationSockets {
         for place in 0..STREAM_NUMBERS {
             let number = self.order.stream_at(place);
             found |= self.read(number)?;
-            if let Some(input) = self.streams.next(number) {
+            if let Some(input) = self.streams.next(number, now_ms) {
                 self.order.serve(number);
                 return self.take(input, now_ms);
             }
@@ -203,10 +272,10 @@ impl StationSockets {
 
     /// Reads the bytes of one stream that are there now. Whether there were any.
     fn read(&mut self, number: u16) -> Result<bool, PortFault> {
-        match read(&self.streams, number, &mut self.buffer) {
+        match self.streams.read(number, &mut self.buffer) {
             ReadOutcome::Nothing => Ok(false),
             ReadOutcome::End => {
-                self.streams.end(number);
+                self.streams.end(number, EndCause::Cut);
                 Ok(true)
             }
             ReadOutcome::Bytes(count) => self.receive(number, count),
@@ -224,14 +293,15 @@ impl StationSockets {
         }
     }
 
-    /// An input of a stream on its way to the device. A ListIdentity request is answered here; after a cut the stream to
-    /// its target is opened again later.
+    /// An input of a stream on its way to the device. A ListIdentity request is answered here; the reply of a target that
+    /// registers a session, or refuses it, is noted; after a cut the stream to its target is opened again later.
     fn take(&mut self, input: Input, now_ms: u64) -> Result<Option<Input>, PortFault> {
         match &input {
             Input::Frame { stream, bytes } => {
                 if self.finds(*stream, bytes.as_slice())? {
                     return Ok(None);
                 }
+                self.note_session(*stream, bytes.as_slice(), now_ms);
             }
             Input::Cut { stream } => self.targets.lose(*stream, now_ms),
             _ => {}
@@ -239,12 +309,26 @@ impl StationSockets {
         Ok(Some(input))
     }
 
+    /// Notes what the message of a target says of its session: a stream whose session is refused ends.
+    fn note_session(&mut self, stream: u16, message: &[u8], now_ms: u64) {
+        match session_answer(message) {
+            SessionAnswer::Registered => self.targets.register(stream),
+            SessionAnswer::Refused => {
+                if self.targets.refuse(stream, now_ms) {
+                    self.streams.end(stream, EndCause::SessionRefused);
+                    self.ready.streams = true;
+                }
+            }
+            SessionAnswer::None => {}
+        }
+    }
+
     /// Answers a message over its stream if it is a ListIdentity request. Whether it is.
     fn finds(&mut self, stream: u16, message: &[u8]) -> Result<bool, PortFault> {
         let Some(finder) = &self.finder else {
             return Ok(false);
         };
-        match finder.reply(message) {
+        match finder.reply(message, self.streams.own_address(stream)) {
             Ok(Some(reply)) => {
                 self.streams.send(stream, reply.as_slice());
                 Ok(true)
@@ -273,13 +357,5 @@ impl StationSockets {
     /// Sends a datagram to a node or a group.
     fn send_datagram(&self, node: Node, bytes: &[u8]) {
         let _ = self.udp.send_to(bytes, address_of(node, self.peer_udp));
-    }
-}
-
-/// Reads the bytes that a stream has received, if it is to be read.
-fn read(streams: &PortStreams<TcpStream>, number: u16, buffer: &mut [u8]) -> ReadOutcome {
-    match streams.to_read(number) {
-        Some(mut socket) => read_outcome(socket.read(buffer)),
-        None => ReadOutcome::Nothing,
     }
 }

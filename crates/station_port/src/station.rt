@@ -5,10 +5,13 @@ ghost use Rattle.std.specs.Prelude.{◌≡◌, IfOk};
 use crate::bind::{datagrams, listen, made};
 use crate::fault::{StationFault, StationSocket};
 use crate::finder::Finder;
+use crate::kept_streams::KeptStreams;
 use crate::place::{StationPlace, address_of};
 use crate::ready::WAKER;
 use crate::sockets::StationSockets;
 use crate::targets::Targets;
+use cip_types::Node;
+use kept_port::{KeptPort, PortReport};
 use list_identity::StationIdentity;
 use mio::{Events, Poll, Waker};
 use port_streams::Destination;
@@ -22,11 +25,16 @@ use udp_runner::{Input, Output, Port, PortFault};
 /// A wait reports at most so many sockets at once; others are reported by the next one.
 const MOST_EVENTS: usize = 64;
 
+/// The nanoseconds of a millisecond.
+const NANOSECONDS: u64 = 1_000_000;
+
 /// A port at a real address.
 #[derive(Drop)]
 pub struct StationPort<R: System + Drop> {
     rt: R,
-    start: Instant,
+    /// The last reading of the system's clock, and the nanoseconds that have passed at this port.
+    last: Instant,
+    passed_ns: u64,
     poll: Poll,
     events: Events,
     sockets: StationSockets,
@@ -47,31 +55,43 @@ impl<R: System + Net + Drop> StationPort<R> {
         let listener = listen(&rt, address_of(place.address, place.tcp))?;
         let udp = datagrams(&rt, address_of(place.address, place.udp))?;
         let finder = Finder::new(alloc, &rt, place, identity)?;
-        let targets = Targets::new(alloc, place.address, &[])?;
+        let streams = KeptStreams::new(alloc, place.inactivity_s)?;
+        let targets = Targets::new(alloc, place.address, &[], 0)?;
         let sockets = StationSockets::new(
             alloc,
             Some(listener),
             udp,
             Some(finder),
+            streams,
             targets,
             place.peer_udp,
         )?;
         StationPort::begin(alloc, rt, sockets, place.multicast)
     }
 
-    /// A scanner's port: it opens a stream to each of these targets, and opens it again a second after a cut or a
-    /// refusal, without end.
+    /// A scanner's port: it opens a stream to each of these targets, and opens it again after a cut, a refusal, or if no
+    /// session is registered on it within so many milliseconds, without end.
     pub fn scanner(
         alloc: Global,
         rt: R,
         place: &StationPlace,
         targets: &[Destination],
+        open_ms: u64,
     ) -> Result<Self, StationFault>
         ensures { IfOk result (λ port. port.failures ≡ 0) }
     {
         let udp = datagrams(&rt, address_of(place.address, place.udp))?;
-        let targets = Targets::new(alloc, place.address, targets)?;
-        let sockets = StationSockets::new(alloc, None, udp, None, targets, place.peer_udp)?;
+        let streams = KeptStreams::new(alloc, 0)?;
+        let targets = Targets::new(alloc, place.address, targets, open_ms)?;
+        let sockets = StationSockets::new(
+            alloc,
+            None,
+            udp,
+            None,
+            streams,
+            targets,
+            place.peer_udp,
+        )?;
         StationPort::begin(alloc, rt, sockets, place.multicast)
     }
 
@@ -84,14 +104,15 @@ impl<R: System + Net + Drop> StationPort<R> {
     ) -> Result<Self, StationFault>
         ensures { IfOk result (λ port. port.failures ≡ 0) }
     {
-        let start = made(StationSocket::Wait, Instant::now(&rt))?;
+        let last = made(StationSocket::Wait, Instant::now(&rt))?;
         let poll = made(StationSocket::Wait, Poll::new(&rt))?;
         let events = Events::with_capacity(alloc, MOST_EVENTS)?;
         let mut sockets = sockets;
         sockets.register(poll.registry())?;
         Ok(StationPort {
             rt,
-            start,
+            last,
+            passed_ns: 0,
             poll,
             events,
             sockets,
@@ -110,9 +131,7 @@ impl<R: System + Net + Drop> StationPort<R> {
         ensures { self.new.failures ≡ self.old.failures }
     {
         let now_ms = self.now_ms();
-        self.sockets
-            .targets
-            .advance(&self.rt, self.poll.registry(), now_ms);
+        self.sockets.advance(&self.rt, self.poll.registry(), now_ms);
         let all = self.sockets.asks_all();
         if all || !self.sockets.ready.any() {
             self.look(Duration::ZERO);
@@ -122,15 +141,17 @@ impl<R: System + Net + Drop> StationPort<R> {
 }
 
 impl<R: System + Drop> StationPort<R> {
-    /// The milliseconds since the port was made.
-    fn now_ms(&self) -> u64 {
-        self.since_start().unwrap_or(0)
-    }
-
-    /// The same, if the system's clock can be read.
-    fn since_start(&self) -> Option<u64> {
-        let now = Instant::now(&self.rt).ok()?;
-        u64::try_from(now.checked_duration_since(self.start)?.as_millis()).ok()
+    /// The milliseconds that have passed at the port. A system's clock that goes back adds none, and the next reading counts
+    /// from it.
+    fn now_ms(&mut self) -> u64
+        ensures { self.new.failures ≡ self.old.failures }
+    {
+        if let Ok(now) = Instant::now(&self.rt) {
+            let ns = u64::try_from(now.duration_since(self.last).as_nanos()).unwrap_or(0);
+            self.passed_ns = self.passed_ns.saturating_add(ns);
+            self.last = now;
+        }
+        self.passed_ns / NANOSECONDS
     }
 
     /// Waits until a socket is reported, at most so long, and marks what is reported. Whether something was.
@@ -169,15 +190,15 @@ impl<R: System + Drop> StationPort<R> {
         }
     }
 
-    /// The end of a wait of this length, or of a shorter one if a stream is to be opened before.
-    fn end_of(&self, most: Duration) -> Option<Instant> {
+    /// The end of a wait of this length, or of a shorter one if a stream is to be opened or ended before.
+    fn end_of(&mut self, most: Duration) -> Option<Instant>
+        ensures { self.new.failures ≡ self.old.failures }
+    {
         let now = Instant::now(&self.rt).ok()?;
         let most_ms = u64::try_from(most.as_millis()).ok()?;
-        let links = self
-            .sockets
-            .targets
-            .wait(self.now_ms(), most_ms.saturating_add(1));
-        now.checked_add(most.min(Duration::from_millis(links)))
+        let now_ms = self.now_ms();
+        let streams_ms = self.sockets.wait(now_ms, most_ms.saturating_add(1));
+        now.checked_add(most.min(Duration::from_millis(streams_ms)))
     }
 }
 
@@ -219,5 +240,24 @@ impl<R: System + Net + Drop> Port for StationPort<R> {
         let now_ms = self.now_ms();
         self.sockets.send(output, now_ms);
         Ok(())
+    }
+}
+
+impl<R: System + Net + Drop> KeptPort for StationPort<R> {
+    fn next_report(&mut self) -> Option<PortReport> {
+        self.sockets.streams.next_report()
+    }
+
+    fn keep(&mut self, peers: &[Node]) {
+        self.sockets.streams.keep(peers);
+    }
+
+    fn renew(&mut self, target: Node) {
+        let now_ms = self.now_ms();
+        self.sockets.renew(target, now_ms);
+    }
+
+    fn succeed(&mut self, target: Node) {
+        self.sockets.succeed(target);
     }
 }

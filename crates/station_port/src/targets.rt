@@ -1,16 +1,25 @@
 //! The targets of a scanner, and the streams that are being opened to them.
 
+ghost use Rattle.std.specs.Prelude.{◌≡◌};
+ghost use Rattle.station_port.specs.Causes.{is_refusal};
+
 use crate::dial::dial;
+use crate::kept_streams::KeptStreams;
+use crate::nop::NOP;
 use crate::ready::{OPENINGS, STREAMS};
+use cip_types::limits::MOST_STREAMS;
 use cip_types::{Node, OutOfMemory};
+use kept_port::{PortReport, RefusalCause};
 use mio::net::TcpStream;
 use mio::{Interest, Registry};
-use port_streams::{Destination, PortStreams};
+use port_streams::Destination;
 use std::alloc::Global;
+use std::io::ErrorKind;
 use std::net::Net;
-use target_links::TargetLinks;
+use target_links::{LinkState, TargetLinks};
 
-/// The targets of a scanner, the links to them, and the streams that are being opened.
+/// The targets of a scanner, the links to them, the streams that are being opened, and why the last ones did not open,
+/// as it was reported.
 #[derive(Drop)]
 pub(crate) struct Targets {
     /// The address from which the streams are opened.
@@ -18,14 +27,17 @@ pub(crate) struct Targets {
     targets: Vec<Destination>,
     links: TargetLinks,
     opening: Vec<Option<TcpStream>>,
+    reported: Vec<Option<RefusalCause>>,
 }
 
 impl Targets {
-    /// These targets, whose streams come from this address: each stream is to be opened at once.
+    /// These targets, whose streams come from this address: each stream is to be opened at once, and is given up if no
+    /// session is registered on it within so many milliseconds.
     pub(crate) fn new(
         alloc: Global,
         from: Node,
         targets: &[Destination],
+        session_ms: u64,
     ) -> Result<Targets, OutOfMemory> {
         let mut opening = Vec::with_capacity(alloc, targets.len())?;
         for _ in targets {
@@ -34,35 +46,49 @@ impl Targets {
         Ok(Targets {
             from,
             targets: Vec::from_slice(alloc, targets)?,
-            links: TargetLinks::new(alloc, targets.len())?,
+            links: TargetLinks::new(alloc, targets.len(), session_ms)?,
             opening,
+            reported: vec![in alloc; None; targets.len()]?,
         })
     }
 
-    /// Begins to open each stream that is due, and gives up each one that is late.
-    pub(crate) fn advance<R: Net>(&mut self, rt: &R, registry: &Registry, now_ms: u64) {
+    /// Begins to open each stream that is due, and gives up each one that did not open in time.
+    pub(crate) fn advance<R: Net>(
+        &mut self,
+        rt: &R,
+        registry: &Registry,
+        streams: &mut KeptStreams,
+        now_ms: u64,
+    ) {
         for _ in 0..self.targets.len() {
             let Some(target) = self.links.due(now_ms) else {
                 break;
             };
-            self.begin(rt, registry, target, now_ms);
+            self.begin(rt, registry, streams, target, now_ms);
         }
         for _ in 0..self.targets.len() {
             let Some(target) = self.links.late(now_ms) else {
                 break;
             };
-            self.close(target, now_ms);
+            self.give_up(streams, target, now_ms);
         }
     }
 
     /// Begins to open the stream to a target. One that cannot even begin is tried again later.
-    fn begin<R: Net>(&mut self, rt: &R, registry: &Registry, target: usize, now_ms: u64) {
+    fn begin<R: Net>(
+        &mut self,
+        rt: &R,
+        registry: &Registry,
+        streams: &mut KeptStreams,
+        target: usize,
+        now_ms: u64,
+    ) {
         match self.connect(rt, registry, target) {
             Some(socket) => {
                 self.put(target, Some(socket));
                 self.links.begin(target, now_ms);
             }
-            None => self.close(target, now_ms),
+            None => self.give_up(streams, target, now_ms),
         }
     }
 
@@ -76,10 +102,47 @@ impl Targets {
         Some(socket)
     }
 
-    /// Closes the stream that is being opened to a target, if there is one. It is tried again later.
-    fn close(&mut self, target: usize, now_ms: u64) {
+    /// The target did not answer: its stream is tried again later.
+    fn give_up(&mut self, streams: &mut KeptStreams, target: usize, now_ms: u64) {
         self.put(target, None);
-        self.links.close(target, now_ms);
+        self.links.give_up(target, now_ms);
+        let retry_ms = self.retry_ms(target, now_ms);
+        self.report(streams, target, RefusalCause::Unanswered { retry_ms });
+    }
+
+    /// The target refused its stream, which is tried again later.
+    fn fail(&mut self, streams: &mut KeptStreams, target: usize, now_ms: u64) {
+        self.put(target, None);
+        self.links.fail(target, now_ms);
+        let retry_ms = self.retry_ms(target, now_ms);
+        self.report(streams, target, RefusalCause::Refused { retry_ms });
+    }
+
+    /// The milliseconds until the stream to a target is tried again.
+    fn retry_ms(&self, target: usize, now_ms: u64) -> u64 {
+        match self.links.link(target).state {
+            LinkState::Down { retry_ms } => retry_ms.saturating_sub(now_ms),
+            _ => 0,
+        }
+    }
+
+    /// Reports that the stream to a target did not open, and why, unless the last report of it was the same.
+    fn report(&mut self, streams: &mut KeptStreams, target: usize, cause: RefusalCause) {
+        let Some(peer) = self.node_of(target) else {
+            return;
+        };
+        if self.put_reported(target, Some(cause)) {
+            streams.report(PortReport::NotOpened { peer, cause });
+        }
+    }
+
+    /// Puts what was reported of a target. Whether it was something else before.
+    fn put_reported(&mut self, target: usize, cause: Option<RefusalCause>) -> bool {
+        if target >= self.reported.len() || self.reported[target] == cause {
+            return false;
+        }
+        self.reported[target] = cause;
+        true
     }
 
     /// Takes the stream that is being opened to a target, if there is one.
@@ -101,7 +164,7 @@ impl Targets {
     pub(crate) fn settle(
         &mut self,
         registry: &Registry,
-        streams: &mut PortStreams<TcpStream>,
+        streams: &mut KeptStreams,
         now_ms: u64,
     ) -> bool {
         let mut added = false;
@@ -115,7 +178,7 @@ impl Targets {
     fn settle_one(
         &mut self,
         registry: &Registry,
-        streams: &mut PortStreams<TcpStream>,
+        streams: &mut KeptStreams,
         target: usize,
         now_ms: u64,
     ) -> bool {
@@ -131,7 +194,11 @@ impl Targets {
                 false
             }
             Opening::Refused => {
-                self.close(target, now_ms);
+                self.fail(streams, target, now_ms);
+                false
+            }
+            Opening::Unanswered => {
+                self.give_up(streams, target, now_ms);
                 false
             }
             Opening::Open => self.add(registry, streams, target, peer, socket, now_ms),
@@ -150,7 +217,7 @@ impl Targets {
     fn add(
         &mut self,
         registry: &Registry,
-        streams: &mut PortStreams<TcpStream>,
+        streams: &mut KeptStreams,
         target: usize,
         peer: Node,
         mut socket: TcpStream,
@@ -158,25 +225,89 @@ impl Targets {
     ) -> bool {
         let watched = registry.reregister(&mut socket, STREAMS, Interest::READABLE);
         if watched.is_err() || socket.set_nodelay(true).is_err() {
-            self.close(target, now_ms);
+            self.give_up(streams, target, now_ms);
             return false;
         }
-        match streams.accept(peer, socket) {
-            Ok(number) => {
-                self.links.open(target, number);
-                true
-            }
-            Err(_extra) => {
-                self.close(target, now_ms);
-                false
-            }
-        }
+        let Some(number) = streams.add(peer, socket, now_ms) else {
+            self.give_up(streams, target, now_ms);
+            return false;
+        };
+        self.links.open(target, number, now_ms);
+        self.put_reported(target, None);
+        true
     }
 
     /// The stream of this number was cut or closed: its target's is opened again later.
     pub(crate) fn lose(&mut self, stream: u16, now_ms: u64) {
         if let Some(target) = self.links.target_of(stream) {
-            self.links.close(target, now_ms);
+            self.links.lose(target, now_ms);
+        }
+    }
+
+    /// A session is registered on the stream of this number.
+    pub(crate) fn register(&mut self, stream: u16) {
+        if let Some(target) = self.links.target_of(stream) {
+            self.links.register(target);
+        }
+    }
+
+    /// The session of the stream of this number is refused: its target's is opened again later. Whether there was no
+    /// session on it.
+    pub(crate) fn refuse(&mut self, stream: u16, now_ms: u64) -> bool {
+        let Some(target) = self.links.target_of(stream) else {
+            return false;
+        };
+        let LinkState::Registering { .. } = self.links.link(target).state else {
+            return false;
+        };
+        self.links.fail(target, now_ms);
+        true
+    }
+
+    /// The first stream that has no session in time: its target's is opened again later.
+    pub(crate) fn unregistered(&mut self, now_ms: u64) -> Option<u16> {
+        let target = self.links.unregistered(now_ms)?;
+        self.drop_stream(target, now_ms)
+    }
+
+    /// The open stream to the target at this address, if there is one: it is opened again later.
+    pub(crate) fn renew(&mut self, node: Node, now_ms: u64) -> Option<u16> {
+        let target = self.target_at(node)?;
+        self.drop_stream(target, now_ms)
+    }
+
+    /// A connection with the target at this address is established.
+    pub(crate) fn succeed(&mut self, node: Node) {
+        if let Some(target) = self.target_at(node) {
+            self.links.succeed(target);
+        }
+    }
+
+    /// The target at this address.
+    fn target_at(&self, node: Node) -> Option<usize> {
+        self.targets.iter().position(|to| to.node == node)
+    }
+
+    /// The open stream to a target, if there is one: it failed, and is opened again later.
+    fn drop_stream(&mut self, target: usize, now_ms: u64) -> Option<u16> {
+        let stream = match self.links.link(target).state {
+            LinkState::Registering {
+                stream,
+                until_ms: _,
+            } => stream,
+            LinkState::Open { stream } => stream,
+            _ => return None,
+        };
+        self.links.fail(target, now_ms);
+        Some(stream)
+    }
+
+    /// Sends NOP over the stream to each target, so that no target takes it for silent.
+    pub(crate) fn send_nop(&self, streams: &mut KeptStreams) {
+        for stream in 0..MOST_STREAMS as u16 {
+            if self.links.target_of(stream).is_some() {
+                streams.send(stream, &NOP);
+            }
         }
     }
 
@@ -190,8 +321,10 @@ impl Targets {
 enum Opening {
     /// It is still being opened.
     Goes,
-    /// It was refused.
+    /// Its target refused it.
     Refused,
+    /// Its target did not answer.
+    Unanswered,
     /// It is open.
     Open,
 }
@@ -200,10 +333,21 @@ enum Opening {
 fn opened(socket: &TcpStream) -> Opening {
     match socket.take_error() {
         Ok(None) => {}
-        _ => return Opening::Refused,
+        Ok(Some(error)) if is_refusal(error.kind()) => return Opening::Refused,
+        _ => return Opening::Unanswered,
     }
     match socket.peer_addr() {
         Ok(_) => Opening::Open,
         Err(_) => Opening::Goes,
     }
+}
+
+/// Whether a stream that has this error was refused by its target.
+fn is_refusal(kind: ErrorKind) -> bool
+    ensures { result ≡ is_refusal kind }
+{
+    matches!(
+        kind,
+        ErrorKind::ConnectionRefused | ErrorKind::ConnectionReset | ErrorKind::ConnectionAborted
+    )
 }

@@ -4,4 +4,4 @@
 
 mod links;
 
-pub use links::{TargetLink, TargetLinks};
+pub use links::{LinkState, TargetLink, TargetLinks};

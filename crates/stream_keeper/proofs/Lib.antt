@@ -1,0 +1,2 @@
+mod MakingRoom
+mod Samples
