@@ -1,6 +1,7 @@
 -- A record with one entry more.
 use Rattle.std.proofs.Common.{append_assoc, ◌≡◌, ◌≢◌, ℕ, ◌+◌, ◌-◌, ◌^◌, min, List, [], ◌∷◌, ◌++◌, length, Option, Some, None, Ok, Err, refl, sym, ap, subst, ◌∙◌, arith}
 use Rattle.std.specs.Prelude.{IfSome}
+use Rattle.std.specs.Io.KnownBytes.{Appends}
 use Rattle.std.proofs.lemmas.List.{append-nil, length-append}
 use Rattle.cip_events.specs.declared.event.Event.{Event}
 use Rattle.cip_events.specs.declared.event.StepFault.TheVariants as fault
@@ -8,30 +9,36 @@ use Rattle.cip_events.specs.Outcomes.{Outcome}
 use Rattle.cip_tables.specs.declared.table.Config.{Config}
 use Rattle.trace_text.specs.Reading.{Entry}
 use Rattle.trace_text.specs.Written.{config_lines, entries_text, event_words, recorded_text, trace_text}
+use Rattle.trace_outcomes.specs.Written.{outcome_text}
 use Rattle.trace_words.specs.Words.{line_text}
-use Rattle.station_record.specs.Records.{AppendsWithin, IsRecordedAs, IsTraceOf, Notes, Records, entries_of, entry_text}
+use Rattle.station_record.specs.Records.{GoesOn, IsRecordedAs, IsTraceOf, Records, entries_of, entry_text}
+use Rattle.station_record.specs.Shortened.{recorded_event}
 use Rattle.station_record.specs.declared.recorder.Recorder.{Recorder}
 
+-- an event and its outcome as they are written
+abbrev line_and : ℕ → Event → Outcome → List ℕ
+line_and number event outcome = line_text (event_words event) ++ outcome_text number outcome
+
 -- entries, and one more
-entries_and : (number : ℕ) (entries : List Entry) (event : Event) (outcome : Outcome) → entries_text number (entries ++ (event, Some outcome) ∷ []) ≡ entries_text number entries ++ entry_text (number + length entries) event outcome
+entries_and : (number : ℕ) (entries : List Entry) (event : Event) (outcome : Outcome) → entries_text number (entries ++ (event, Some outcome) ∷ []) ≡ entries_text number entries ++ line_and (number + length entries) event outcome
 entries_and number [] event outcome =
     let here : number ≡ number + 0 = omega arith in
-    ap (λ text. line_text (event_words event) ++ text) (append-nil _) ∙ ap (λ n. entry_text n event outcome) here
+    ap (λ text. line_text (event_words event) ++ text) (append-nil _) ∙ ap (λ n. line_and n event outcome) here
 entries_and number (entry ∷ entries) event outcome =
     let place : number + 1 + length entries ≡ number + length (entry ∷ entries) = omega arith in
     let line : List ℕ = line_text (event_words entry.0) in
     let lines : List ℕ = recorded_text number entry.1 in
-    ap (λ rest. line ++ (lines ++ rest)) (entries_and (number + 1) entries event outcome ∙ ap (λ n. entries_text (number + 1) entries ++ entry_text n event outcome) place)
+    ap (λ rest. line ++ (lines ++ rest)) (entries_and (number + 1) entries event outcome ∙ ap (λ n. entries_text (number + 1) entries ++ line_and n event outcome) place)
     ∙ ap (λ rest. line ++ rest) (sym (append_assoc lines (entries_text (number + 1) entries) _))
     ∙ sym (append_assoc line (lines ++ entries_text (number + 1) entries) _)
 
 -- the text of a trace with one entry more
-grows : (config : Config) (entries : List Entry) (event : Event) (outcome : Outcome) → trace_text (record { config = config; events = entries ++ (event, Some outcome) ∷ [] }) ≡ trace_text (record { config = config; events = entries }) ++ entry_text (length entries + 1) event outcome
+grows : (config : Config) (entries : List Entry) (event : Event) (outcome : Outcome) → trace_text (record { config = config; events = entries ++ (event, Some outcome) ∷ [] }) ≡ trace_text (record { config = config; events = entries }) ++ line_and (length entries + 1) event outcome
 unfolding trace_text
 grows config entries event outcome =
     let number : 1 + length entries ≡ length entries + 1 = omega arith in
-    ap (λ text. config_lines config ++ text) (entries_and 1 entries event outcome ∙ ap (λ n. entries_text 1 entries ++ entry_text n event outcome) number)
-    ∙ sym (append_assoc (config_lines config) (entries_text 1 entries) (entry_text (length entries + 1) event outcome))
+    ap (λ text. config_lines config ++ text) (entries_and 1 entries event outcome ∙ ap (λ n. entries_text 1 entries ++ line_and n event outcome) number)
+    ∙ sym (append_assoc (config_lines config) (entries_text 1 entries) (line_and (length entries + 1) event outcome))
 
 -- the text of a trace without entries
 begins : (config : Config) → trace_text (record { config = config; events = [] }) ≡ config_lines config
@@ -39,38 +46,35 @@ unfolding trace_text
 begins config = append-nil (config_lines config)
 
 -- a record that begins
-pub begun : {W : Type 0} (contents : W → Option (List ℕ)) (old new : W) (recorder : Recorder W) (config : Config) (text : List ℕ) → contents old ≡ Some [] → text ≡ config_lines config → AppendsWithin (contents old) 16777216 text (contents new) recorder.left → recorder.out ≡ Some new → recorder.count ≡ 0 → Records contents recorder config []
-begun {W} contents old new recorder config text empty is more opened count = record {
+pub begun : {W : Type 0} (contents : W → Option (List ℕ)) (old new : W) (recorder : Recorder W) (head : List ℕ) (config : Config) (text : List ℕ) → contents old ≡ Some [] → text ≡ head ++ config_lines config → Appends (contents old) (contents new) text → recorder.out ≡ Some new → recorder.count ≡ 0 → Records contents recorder head config []
+begun {W} contents old new recorder head config text empty is more opened count = record {
   counts = count;
-  text = subst (λ out. IfSome out (λ w. IsTraceOf (contents w) recorder.left config [])) (sym opened) (first (contents new) (subst (λ known. AppendsWithin known 16777216 text (contents new) recorder.left) empty more));
+  text = subst (λ out. IfSome out (λ w. IsTraceOf (contents w) head config [])) (sym opened) (first (contents new) (subst (λ known. Appends known (contents new) text) empty more));
 }
   where
-    first : (known : Option (List ℕ)) → AppendsWithin (Some []) 16777216 text known recorder.left → IsTraceOf known recorder.left config []
-    first None given = absurd given.0
-    first (Some bytes) given =
-        let whole : bytes ≡ text = given.0 in
-        let long : length bytes ≡ length text = ap length whole in
-        (whole ∙ is ∙ sym (begins config), omega (arith, long, given.1))
+    first : (known : Option (List ℕ)) → Appends (Some []) known text → IsTraceOf known head config []
+    first None given = absurd given
+    first (Some bytes) given = given ∙ is ∙ ap (λ lines. head ++ lines) (sym (begins config))
 
--- the known bytes of a trace, with the text of one entry more
-appended : (old new : Option (List ℕ)) (left now : ℕ) (config : Config) (entries : List Entry) (event : Event) (outcome : Outcome) → IsTraceOf old left config entries → AppendsWithin old left (entry_text (length entries + 1) event outcome) new now → IsTraceOf new now config (entries ++ (event, Some outcome) ∷ [])
-appended None new left now config entries event outcome had more = absurd had
-appended (Some xs) None left now config entries event outcome had more = absurd more.0
-appended (Some xs) (Some ys) left now config entries event outcome had more =
-    let text : List ℕ = entry_text (length entries + 1) event outcome in
-    let long : length ys ≡ length xs + length text = ap length more.0 ∙ length-append xs text in
-    (more.0 ∙ ap (λ front. front ++ text) had.0 ∙ sym (grows config entries event outcome), omega (arith, long, had.1, more.1))
+-- the known bytes of a record, with the text of one entry more
+appended : (old new : Option (List ℕ)) (head : List ℕ) (config : Config) (entries : List Entry) (event : Event) (outcome : Outcome) → IsTraceOf old head config entries → Appends old new (line_and (length entries + 1) event outcome) → IsTraceOf new head config (entries ++ (event, Some outcome) ∷ [])
+appended None new head config entries event outcome had more = absurd had
+appended (Some xs) None head config entries event outcome had more = absurd more
+appended (Some xs) (Some ys) head config entries event outcome had more =
+    let text : List ℕ = line_and (length entries + 1) event outcome in
+    let before : List ℕ = trace_text (record { config = config; events = entries }) in
+    more ∙ ap (λ front. front ++ text) had ∙ append_assoc head before text ∙ ap (λ rest. head ++ rest) (sym (grows config entries event outcome))
 
 -- the same of a record that may be closed
-pub recorded : {W : Type 0} (contents : W → Option (List ℕ)) (old new : Option W) (left now number : ℕ) (config : Config) (entries : List Entry) (event : Event) (outcome : Outcome) → number ≡ length entries + 1 → IfSome old (λ out. IsTraceOf (contents out) left config entries) → IsRecordedAs contents old left new now (entry_text number event outcome) → IfSome new (λ out. IsTraceOf (contents out) now config (entries ++ (event, Some outcome) ∷ []))
-recorded contents None None left now number config entries event outcome count had more = tt
-recorded contents None (Some new) left now number config entries event outcome count had more = absurd (cc)
-recorded contents (Some old) None left now number config entries event outcome count had more = tt
-recorded contents (Some old) (Some new) left now number config entries event outcome count had more =
-    appended (contents old) (contents new) left now config entries event outcome had (subst (λ n. AppendsWithin (contents old) left (entry_text n event outcome) (contents new) now) count more)
+pub recorded : {W : Type 0} (contents : W → Option (List ℕ)) (old new : Option W) (number : ℕ) (head : List ℕ) (config : Config) (entries : List Entry) (event : Event) (outcome : Outcome) → number ≡ length entries + 1 → IfSome old (λ out. IsTraceOf (contents out) head config entries) → IsRecordedAs contents old new (entry_text number event outcome) → IfSome new (λ out. IsTraceOf (contents out) head config (entries ++ (recorded_event event outcome, Some outcome) ∷ []))
+recorded contents None None number head config entries event outcome count had more = tt
+recorded contents None (Some new) number head config entries event outcome count had more = absurd (cc)
+recorded contents (Some old) None number head config entries event outcome count had more = tt
+recorded contents (Some old) (Some new) number head config entries event outcome count had more =
+    appended (contents old) (contents new) head config entries (recorded_event event outcome) outcome had (subst (λ n. Appends (contents old) (contents new) (entry_text n event outcome)) count more)
 
 -- the entry of an event that found memory
-entry_is : (event : Event) (outcome : Outcome) → outcome ≢ Err fault.OutOfMemory → entries_of event outcome ≡ (event, Some outcome) ∷ []
+entry_is : (event : Event) (outcome : Outcome) → outcome ≢ Err fault.OutOfMemory → entries_of event outcome ≡ (recorded_event event outcome, Some outcome) ∷ []
 entry_is event (Ok answer) other = refl
 entry_is event (Err fault.OutOfMemory) other = absurd (other refl)
 entry_is event (Err fault.TickTooLong) other = refl
@@ -81,18 +85,18 @@ entry_is event (Err fault.NoSuchSlot) other = refl
 entry_is event (Err fault.NotAllowedNow) other = refl
 
 -- an event that found no memory changes nothing
-pub notes_nothing : {W : Type 0} (contents : W → Option (List ℕ)) (recorder : Recorder W) (event : Event) (outcome : Outcome) → outcome ≡ Err fault.OutOfMemory → Notes contents recorder event outcome recorder
-notes_nothing contents recorder event outcome is config entries few had =
+pub notes_nothing : {W : Type 0} (contents : W → Option (List ℕ)) (recorder : Recorder W) (event : Event) (outcome : Outcome) → outcome ≡ Err fault.OutOfMemory → GoesOn contents recorder event outcome recorder
+notes_nothing contents recorder event outcome is head config entries few had =
     let same : entries ++ entries_of event outcome ≡ entries = ap (λ o. entries ++ entries_of event o) is ∙ append-nil entries in
-    subst (Records contents recorder config) (sym same) had
+    subst (Records contents recorder head config) (sym same) had
 
 -- each other event is an entry more
-pub notes_entry : {W : Type 0} (contents : W → Option (List ℕ)) (old new : Recorder W) (event : Event) (outcome : Outcome) (number : ℕ) → outcome ≢ Err fault.OutOfMemory → number ≡ min (old.count + 1) (2 ^ 64 - 1) → new.count ≡ number → IsRecordedAs contents old.out old.left new.out new.left (entry_text number event outcome) → Notes contents old event outcome new
-notes_entry contents old new event outcome number other rises count more config entries few had =
+pub notes_entry : {W : Type 0} (contents : W → Option (List ℕ)) (old new : Recorder W) (event : Event) (outcome : Outcome) (number : ℕ) → outcome ≢ Err fault.OutOfMemory → number ≡ min (old.count + 1) (2 ^ 64 - 1) → new.count ≡ number → IsRecordedAs contents old.out new.out (entry_text number event outcome) → GoesOn contents old event outcome new
+notes_entry contents old new event outcome number other rises count more head config entries few had =
     let next : number ≡ length entries + 1 = grind (arith, rises, had.counts, few) in
-    let longer : length (entries ++ (event, Some outcome) ∷ []) ≡ length entries + 1 = length-append entries _ in
-    subst (λ last. Records contents new config (entries ++ last)) (sym (entry_is event outcome other))
+    let longer : length (entries ++ (recorded_event event outcome, Some outcome) ∷ []) ≡ length entries + 1 = length-append entries _ in
+    subst (λ last. Records contents new head config (entries ++ last)) (sym (entry_is event outcome other))
     (record {
       counts = count ∙ next ∙ sym longer;
-      text = recorded contents old.out new.out old.left new.left number config entries event outcome next had.text more;
+      text = recorded contents old.out new.out number head config entries event outcome next had.text more;
     })

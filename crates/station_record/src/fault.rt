@@ -1,24 +1,38 @@
 //! Why a record ends.
 
+ghost use Rattle.std.specs.Prelude.{◌≡◌};
+
 use cip_types::OutOfMemory;
+use std::alloc::AllocError;
 use thiserror::Error;
 
 /// Why a record ends. The device goes on without it.
 #[derive(Clone, Copy, Debug, PartialEq, Eq, Error)]
 pub enum RecordFault {
-    /// The text of the next event would make the record longer than a trace may be. The record has whole events.
-    #[error("the record is full")]
-    Full,
-    /// The writer did not take all of a text. The record may end with a part of an event.
-    #[error("the record cannot be written")]
-    Write,
+    /// The sink did not take all of a text: it has no room, or it failed.
+    #[error("the record cannot take more")]
+    Refused,
     /// An allocation was refused. The record has whole events.
     #[error("no memory for the record")]
     OutOfMemory,
 }
 
 impl From<OutOfMemory> for RecordFault {
+    ghost use Rattle.station_record.specs.declared.fault.RecordFault.TheVariants as fault;
+
+    ghost from_gives = { λ _ f. f ≡ fault.OutOfMemory };
+
     fn from(_refused: OutOfMemory) -> RecordFault {
+        RecordFault::OutOfMemory
+    }
+}
+
+impl From<AllocError> for RecordFault {
+    ghost use Rattle.station_record.specs.declared.fault.RecordFault.TheVariants as fault;
+
+    ghost from_gives = { λ _ f. f ≡ fault.OutOfMemory };
+
+    fn from(_refused: AllocError) -> RecordFault {
         RecordFault::OutOfMemory
     }
 }

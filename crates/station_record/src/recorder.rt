@@ -1,57 +1,71 @@
 //! A recorder, which writes the events of a device and their outcomes.
 
-ghost use Rattle.std.specs.Prelude.{◌≡◌, ◌↔◌, ◌+◌, ◌∷◌, ◌++◌, [], List, Some, None, Err, IsTrue, IfOk, OnOk, IsSome, string_bytes};
+ghost use Rattle.std.specs.Prelude.{◌≡◌, ◌≢◌, ◌↔◌, ◌++◌, [], Some, None, Err, IsTrue, IfOk, OnOk, IsSome, string_bytes};
 ghost use Rattle.std.specs.Io.KnownBytes.{Appends};
-ghost use Rattle.station_record.specs.Records.{AppendsWithin, IsRecordedAs, Notes, Records, entry_text};
+ghost use Rattle.station_record.specs.Records.{Accepts, AcceptsText, IsRecordedAs, Notes, Records, entry_text};
+ghost use Rattle.trace_text.specs.Written.{config_lines};
 
 use crate::fault::RecordFault;
+use crate::shortened::{push_recorded_event, repeats};
+use crate::sink::RecordSink;
 use cip_tables::{Config, Event, Outcome, StepFault};
-use cip_types::limits::LONGEST_TRACE;
+use cip_types::OutOfMemory;
 use std::alloc::Global;
-use std::io::{self, Write};
-use trace_text::{push_config, push_event, push_outcome};
+use trace_text::{push_config, push_outcome};
 
 /// Counts the events of a device, and writes each with its outcome behind those before.
 ///
-/// The bytes that are written are the text of a trace at all times: the lines of the profile, then for each event its
-/// line and the lines of its outcome. Each event is handed to the writer in one piece, so that a station that is killed
-/// leaves whole events. A record that has ended is closed, and never begins again; the count goes on.
+/// The bytes that are written are a head and the text of a trace at all times: the lines of the profile, then for each
+/// event its line and the lines of its outcome. Each event is handed to the sink in one piece, so that a station that is
+/// killed leaves whole events. A record has no limit of its own. It ends where the sink refuses a text or no memory is
+/// left for one, and for no other cause; a record that has ended is closed, and never begins again; the count goes on.
+///
+/// A datagram that no connection can take has the verdict `unknown` or `malformed`. It is recorded without its data, or
+/// without any bytes if it is malformed: the line then has at most 66 bytes.
 #[derive(Drop)]
 pub struct Recorder<W> {
+    alloc: Global,
     out: Option<W>,
     count: u64,
-    left: usize,
     text: String,
 }
 
-impl<W: Write + Drop> Recorder<W> {
+impl<W: RecordSink + Drop> Recorder<W> {
     /// Records nothing, and counts from 1. Takes no memory.
     pub fn idle(alloc: Global) -> Recorder<W>
         ensures closed { result.out ≡ None }
         ensures count { result.count ≡ 0 }
     {
         Recorder {
+            alloc,
             out: None,
             count: 0,
-            left: 0,
             text: String::new(alloc),
         }
     }
 
-    /// Begins a record with the lines of a profile.
+    /// Begins a record with a head and the lines of a profile. The head has lines that begin with `#`, each with its LF.
     ///
-    /// The faults: `Full` if they are longer than a trace may be, `Write`, `OutOfMemory`.
-    pub fn begin(alloc: Global, config: &Config, out: W) -> Result<Recorder<W>, RecordFault>
-        ensures { IfOk result (λ recorder. W.contents out ≡ Some [] → Records W.contents recorder config.now []) }
+    /// The faults: `Refused` if the sink refuses this text, and `OutOfMemory`.
+    pub fn begin(
+        alloc: Global,
+        config: &Config,
+        head: &str,
+        out: W,
+    ) -> Result<Recorder<W>, RecordFault>
+        ensures begun { IfOk result (λ recorder. W.contents out ≡ Some [] → Records W.contents recorder head.now config.now []) }
+        ensures opened { IfOk result (λ recorder. IsSome recorder.out) }
+        ensures refused { W.accepts out (head.now ++ config_lines config.now) → result ≢ Err RecordFault.Refused }
     {
         let mut out = out;
         let mut text = String::new(alloc);
+        text.push_str(head)?;
         push_config(&mut text, config)?;
-        let left = hand_over(&text, &mut out, LONGEST_TRACE)?;
+        hand_over(&mut out, &text)?;
         Ok(Recorder {
+            alloc,
             out: Some(out),
             count: 0,
-            left,
             text,
         })
     }
@@ -69,7 +83,10 @@ impl<W: Write + Drop> Recorder<W> {
     pub fn note(&mut self, event: &Event, outcome: &Outcome) -> Option<RecordFault>
         ensures noted { Notes W.contents self.old event.now outcome.now self.new }
         ensures open { result ≡ None → IsSome self.old.out → IsSome self.new.out }
+        ensures refused { Accepts W.accepts self.old event.now outcome.now → result ≢ Some RecordFault.Refused }
     {
+        // (a law: the event as it is recorded has the same outcome)
+        repeats(event);
         if is_out_of_memory(outcome) {
             return None;
         }
@@ -80,18 +97,18 @@ impl<W: Write + Drop> Recorder<W> {
     /// Records an event with its outcome under the number of the last one, if the record is open. Answers why the record
     /// ended.
     fn record(&mut self, event: &Event, outcome: &Outcome) -> Option<RecordFault>
-        ensures recorded { IsRecordedAs W.contents self.old.out self.old.left self.new.out self.new.left
+        ensures recorded { IsRecordedAs W.contents self.old.out self.new.out
             (entry_text self.old.count event.now outcome.now) }
         ensures open { result ≡ None → IsSome self.old.out → IsSome self.new.out }
+        ensures refused { AcceptsText W.accepts self.old.out (entry_text self.old.count event.now outcome.now) → result ≢ Some RecordFault.Refused }
         ensures counted { self.new.count ≡ self.old.count }
     {
         let Some(mut out) = self.out.take() else {
             return None;
         };
         let count = self.count;
-        match append(&mut self.text, &mut out, self.left, count, event, outcome) {
-            Ok(left) => {
-                self.left = left;
+        match append(self.alloc, &mut self.text, &mut out, count, event, outcome) {
+            Ok(()) => {
                 self.out = Some(out);
                 None
             }
@@ -100,45 +117,49 @@ impl<W: Write + Drop> Recorder<W> {
     }
 }
 
-/// Writes an event of this number with its outcome. Answers how many more bytes the record may have.
-fn append<W: Write>(
+/// Hands an event of this number with its outcome to a sink, in one text.
+fn append<W: RecordSink>(
+    alloc: Global,
     text: &mut String,
     out: &mut W,
-    left: usize,
     number: u64,
     event: &Event,
     outcome: &Outcome,
-) -> Result<usize, RecordFault>
-    ensures { IfOk result (λ now. AppendsWithin (W.contents out.old) left (entry_text number event.now outcome.now) (W.contents out.new) now) }
+) -> Result<(), RecordFault>
+    ensures appends { OnOk result (Appends (W.contents out.old) (W.contents out.new) (entry_text number event.now outcome.now)) }
+    ensures refused { W.accepts out.old (entry_text number event.now outcome.now) → result ≢ Err RecordFault.Refused }
 {
     text.clear();
-    push_event(text, event)?;
-    push_outcome(text, number, outcome)?;
-    hand_over(text, out, left)
+    push_entry(alloc, text, number, event, outcome)?;
+    hand_over(out, text)
 }
 
-/// Writes a text and hands it on, if the record may have as many bytes more. Answers how many more bytes it may then
-/// have.
+/// Appends an event of this number with its outcome.
+fn push_entry(
+    alloc: Global,
+    text: &mut String,
+    number: u64,
+    event: &Event,
+    outcome: &Outcome,
+) -> Result<(), OutOfMemory>
+    ensures { OnOk result (string_bytes text.new ≡ string_bytes text.old ++ entry_text number event.now outcome.now) }
+{
+    push_recorded_event(alloc, text, event, outcome)?;
+    push_outcome(text, number, outcome)
+}
+
+/// Hands a text to a sink.
 ///
-/// The faults: `Full`, and nothing is written; `Write`.
-fn hand_over<W: Write>(text: &String, out: &mut W, left: usize) -> Result<usize, RecordFault>
-    ensures { IfOk result (λ now. AppendsWithin (W.contents out.old) left (string_bytes text.now) (W.contents out.new) now) }
+/// The fault: `Refused`, if the sink does not take all of it.
+fn hand_over<W: RecordSink>(out: &mut W, text: &String) -> Result<(), RecordFault>
+    ensures appends { OnOk result (Appends (W.contents out.old) (W.contents out.new) (string_bytes text.now)) }
+    ensures refused { W.accepts out.old (string_bytes text.now) → result ≢ Err RecordFault.Refused }
 {
-    let Some(now) = left.checked_sub(text.len()) else {
-        return Err(RecordFault::Full);
-    };
-    match write_whole(out, text.as_bytes()) {
-        Ok(()) => Ok(now),
-        Err(_) => Err(RecordFault::Write),
+    if out.take_text(text.as_bytes()) {
+        Ok(())
+    } else {
+        Err(RecordFault::Refused)
     }
-}
-
-/// Writes a text and hands it on.
-fn write_whole<W: Write>(out: &mut W, text: &[u8]) -> io::Result<()>
-    ensures { OnOk result (Appends (W.contents out.old) (W.contents out.new) text.now) }
-{
-    out.write_all(text)?;
-    out.flush()
 }
 
 /// Whether an allocation was refused.

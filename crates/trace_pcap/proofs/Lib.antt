@@ -1,3 +1,4 @@
 pub mod Following
 pub mod Pieces
+mod ClockSamples
 mod Samples

@@ -1,13 +1,12 @@
 -- Samples of the definitions: bytes from outside this code.
 use Rattle.std.proofs.Common.{◌≡◌, ◌+◌, ◌-◌, [], ◌∷◌, refl}
 use Rattle.std.specs.Prelude.{codes}
-use Rattle.cip_types.specs.declared.names.Node.{Node}
 use Rattle.trace_pcap.specs.declared.ends.Ends.{Ends}
 use Rattle.trace_pcap.specs.declared.headers.Control.{Control}
 use Rattle.trace_pcap.specs.Checksum.{word_sum, checksum_of}
 use Rattle.trace_pcap.specs.Ends.{datagram_ends}
 use Rattle.trace_pcap.specs.Headers.{ipv4_header, udp_header, tcp_header, pseudo_header}
-use Rattle.trace_pcap.specs.Packets.{ipv4_checksum, udp_checksum, transport_checksum, record_header, packet_record, udp_record, tcp_record}
+use Rattle.trace_pcap.specs.Packets.{ipv4_checksum, udp_checksum, transport_checksum, record_header, packet_record, tcp_record}
 
 -- the words of RFC 1071, section 3: their one's complement sum is DDF2
 rfc_1071 : checksum_of (word_sum (0x00 ∷ 0x01 ∷ 0xF2 ∷ 0x03 ∷ 0xF4 ∷ 0xF5 ∷ 0xF6 ∷ 0xF7 ∷ [])) ≡ 0xFFFF - 0xDDF2

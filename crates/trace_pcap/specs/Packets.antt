@@ -9,7 +9,7 @@
 --   accuracy 0               4
 --   longest packet           4
 --   link type 101, raw IP    4
-use Rattle.std.specs.Prelude.{ℕ, ◌+◌, ◌*◌, ◌/◌, ◌%◌, ◌==◌, nat_lt, if◌then◌else◌, List, [], ◌∷◌, ◌++◌, length, take}
+use Rattle.std.specs.Prelude.{ℕ, ◌+◌, ◌*◌, ◌/◌, ◌%◌, ◌==◌, nat_lt, if◌then◌else◌, List, ◌++◌, length, take}
 use Rattle.std.specs.Int.{w16, w32, to_le_bytes}
 use Rattle.trace_pcap.specs.declared.ends.Ends.{Ends}
 use Rattle.trace_pcap.specs.declared.headers.Control.{Control}

@@ -1,5 +1,5 @@
 -- A trace as a capture file.
-use Rattle.std.specs.Prelude.{ℕ, ◌+◌, ◌%◌, ◌^◌, if◌then◌else◌, Bool, true, false, List, [], ◌∷◌, ◌++◌, Option, Some, None, Result, Ok, Err}
+use Rattle.std.specs.Prelude.{ℕ, ◌+◌, ◌%◌, ◌^◌, if◌then◌else◌, Bool, true, false, List, [], ◌∷◌, ◌++◌, Option, Some, None, Ok, Err}
 use Rattle.cip_events.specs.declared.event.Event.{Event}
 use Rattle.cip_events.specs.declared.event.Event.TheVariants.{Tick}
 use Rattle.cip_events.specs.Outcomes.{Outcome}
@@ -46,6 +46,6 @@ entries_records side time number streams (entry ∷ entries) =
     entry_records moment entry.0 entry.1 streams
     ++ entries_records side moment.time (number + 1) (entry_streams moment entry.0 entry.1 streams) entries
 
--- the file of a trace
-unfoldable pub pcap_text : Trace → List ℕ
-pcap_text trace = file_header ++ entries_records (side_of trace.config) 0 0 [] trace.events
+-- the file of a trace that begins at this time, in milliseconds since 1970
+unfoldable pub pcap_text : ℕ → Trace → List ℕ
+pcap_text start trace = file_header ++ entries_records (side_of trace.config) start 0 [] trace.events

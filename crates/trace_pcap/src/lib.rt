@@ -8,6 +8,8 @@ mod ends;
 mod headers;
 mod packets;
 mod traffic;
+mod wall_clock;
 mod written;
 
+pub use wall_clock::recorded_from;
 pub use written::write_pcap;

@@ -16,33 +16,34 @@ use trace_text::Trace;
 /// The bytes of a capture file with the packets of a trace: a classic pcap file of raw IPv4 packets, in the order of
 /// the trace. OutOfMemory is the only fault.
 ///
-/// The clock begins at 0, and each `tick` moves it on. A stream is a TCP connection with the end that does not open
+/// The clock begins at the given milliseconds since 1970 (0 if the time is not known), and each `tick` moves it on. A stream is a TCP connection with the end that does not open
 /// it at port 44818, a datagram a UDP datagram from port 2222 to port 2222. What is answered is shown where the
 /// outcome is recorded. An event with a recorded fault shows nothing, and a request without a stream shows nothing.
 ///
 /// RFC 791, 768 and 9293 for IPv4, UDP and TCP.
 #[tactic(auto, unfolding(crate::specs::Written::pcap_text))]
-pub fn write_pcap(alloc: Global, trace: &Trace) -> Result<Vec<u8>, OutOfMemory>
-    ensures { IfOk result (λ file. file.items ≡ pcap_text trace.now) }
+pub fn write_pcap(alloc: Global, trace: &Trace, start_ms: u64) -> Result<Vec<u8>, OutOfMemory>
+    ensures { IfOk result (λ file. file.items ≡ pcap_text start_ms trace.now) }
 {
     let mut out = Vec::new(alloc);
     push_file_header(&mut out)?;
     let side = side_of(&trace.config);
-    push_entries(alloc, &mut out, side, trace.events.as_slice())?;
+    push_entries(alloc, &mut out, side, start_ms, trace.events.as_slice())?;
     Ok(out)
 }
 
-/// Appends the packets of events, from time 0 on, and with no stream open.
+/// Appends the packets of events, from this time on, and with no stream open.
 fn push_entries(
     alloc: Global,
     out: &mut Vec<u8>,
     side: Side,
+    start_ms: u64,
     entries: &[(Event, Recorded)],
 ) -> Result<(), OutOfMemory>
-    ensures { OnOk result (out.new.items ≡ out.old.items ++ entries_records side 0 0 [] entries.now) }
+    ensures { OnOk result (out.new.items ≡ out.old.items ++ entries_records side start_ms 0 [] entries.now) }
 {
     let mut streams = Vec::new(alloc);
-    let mut time = 0;
+    let mut time = start_ms;
     for (index, entry) in entries.iter().enumerate() {
         time = time_after(time, &entry.0, &entry.1);
         let number = index as u64;

@@ -6,4 +6,4 @@ use Rattle.trace_pcap.proofs.written.push_entries.Given as goal
 abbrev pub invariant-loop-index : goal.invariant-loop-index
 invariant-loop-index l =
     l.out.items ++ entries_records l.side l.time l.index l.streams.items (drop l.index l.entries)
-    ≡ l.fn.out.items ++ entries_records l.side 0 0 [] l.entries
+    ≡ l.fn.out.items ++ entries_records l.side l.fn.start_ms 0 [] l.entries

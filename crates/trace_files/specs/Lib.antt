@@ -1,0 +1,4 @@
+pub mod Entries
+pub mod Lines
+pub mod Playing
+pub mod Profile
