@@ -1,30 +1,65 @@
 //! Why a text is no trace, in words.
 
-ghost use Rattle.std.specs.Prelude.{◌≡◌, ◌<◌, length, position, IfSome};
-ghost use Rattle.trace_text.specs.Reading.{is_line_feed};
-
+use crate::adapter_defects::adapter_reason;
+use crate::defect_words::push_defect;
+use crate::defects::{Defect, LineName, Place, ProfileReason};
 use crate::lexical::Character;
+use crate::profile_draft::{line_number, profile_of};
+use crate::scanner_defects::scanner_reason;
 use crate::shapes::{BadWord, LineReason, WordReason, reason_of};
+use crate::text_lines::{LineAt, line_at};
 use cip_events::ProfileFault;
+use cip_tables::Config;
 use cip_types::OutOfMemory;
 use std::alloc::Global;
+use std::str;
 use trace_text::TraceFault;
-use trace_words::push_text;
+use trace_words::{Words, push_text};
+
+/// A number of more digits is not printed again.
+const LONGEST_DIGITS: usize = 40;
 
 /// Why a text is not read as a trace, for the fault that its reader answered. OutOfMemory is the only fault.
 pub fn explain_fault(alloc: Global, text: &[u8], fault: TraceFault) -> Result<String, OutOfMemory> {
     let mut out = String::new(alloc);
     match fault {
         TraceFault::BadLine(number) => push_bad_line(alloc, &mut out, text, number)?,
-        TraceFault::BadProfile(number) => push_bad_profile(&mut out, number)?,
+        TraceFault::BadProfile(number) => push_bad_profile(alloc, &mut out, text, number)?,
         TraceFault::OutOfMemory => push_text(&mut out, "no memory")?,
     }
     push_text(&mut out, "\n")?;
     Ok(out)
 }
 
-/// The fault of a profile by its number.
-fn push_bad_profile(out: &mut String, number: u8) -> Result<(), OutOfMemory> {
+/// The first defect of the profile at the front of a text. None if the text has no profile, or a valid one. OutOfMemory
+/// is the only fault.
+pub fn profile_reason(alloc: Global, text: &[u8]) -> Result<Option<ProfileReason>, OutOfMemory> {
+    match profile_of(alloc, text)? {
+        Some(Config::Adapter(profile)) => adapter_reason(alloc, &profile),
+        Some(Config::Scanner(profile)) => Ok(scanner_reason(&profile)),
+        None => Ok(None),
+    }
+}
+
+/// The fault of a profile: its number, and the first line that has it, with the word, the values and what is allowed.
+fn push_bad_profile(
+    alloc: Global,
+    out: &mut String,
+    text: &[u8],
+    number: u8,
+) -> Result<(), OutOfMemory> {
+    write!(out, "bad profile {number}: ")?;
+    match profile_reason(alloc, text)? {
+        Some(reason) if reason.defect.fault().number() == number => {
+            push_place(out, text, reason.place)?;
+            push_defect(out, reason.defect, earlier_line(text, reason.defect))
+        }
+        _ => push_fault(out, number),
+    }
+}
+
+/// The words of a fault of a profile, by its number.
+fn push_fault(out: &mut String, number: u8) -> Result<(), OutOfMemory> {
     let fault = match number {
         1 => ProfileFault::Incarnation,
         2 => ProfileFault::Address,
@@ -34,7 +69,28 @@ fn push_bad_profile(out: &mut String, number: u8) -> Result<(), OutOfMemory> {
         6 => ProfileFault::Timing,
         _ => ProfileFault::Identity,
     };
-    Ok(write!(out, "bad profile {number}: {fault}")?)
+    Ok(write!(out, "{fault}")?)
+}
+
+/// The line and the word of a place. A defect of a whole line has the number of its first word, and no word is named.
+fn push_place(out: &mut String, text: &[u8], place: Place) -> Result<(), OutOfMemory> {
+    if let Some(line) = line_number(text, place.line, place.index) {
+        write!(out, "line {line}: ")?;
+    }
+    if place.word > 1 {
+        let word = place.word;
+        write!(out, "word {word}: ")?;
+    }
+    Ok(())
+}
+
+/// The line of the earlier place that a defect names.
+fn earlier_line(text: &[u8], defect: Defect) -> Option<u64> {
+    match defect {
+        Defect::SameInstance(_, other) => line_number(text, other.line, other.index),
+        Defect::SameGroup { other, .. } => line_number(text, LineName::Slot, other),
+        _ => None,
+    }
 }
 
 fn push_bad_line(
@@ -45,64 +101,17 @@ fn push_bad_line(
 ) -> Result<(), OutOfMemory> {
     write!(out, "bad line {number}: ")?;
     match line_at(text, number) {
-        Place::Line(line) => push_reason(out, reason_of(alloc, line)?),
-        Place::Unended => push_text(out, "the last line does not end with LF"),
-        Place::Behind => push_text(out, "the text ends before the profile does"),
+        LineAt::Line(line) => push_reason(out, line, reason_of(alloc, line)?),
+        LineAt::Unended => push_text(out, "the last line does not end with LF"),
+        LineAt::Behind => push_text(out, "the text ends before the profile does"),
     }
 }
 
-/// What is at a line's number.
-enum Place<'a> {
-    /// A line, without its LF.
-    Line(&'a [u8]),
-    /// Bytes that no LF ends.
-    Unended,
-    /// Nothing: the text ends before.
-    Behind,
-}
-
-/// What is at the line of a number, from 1.
-fn line_at(text: &[u8], number: u64) -> Place<'_> {
-    let mut rest = text;
-    let mut left = number;
-    while let Some((line, after)) = first_line(rest) {
-        if left <= 1 {
-            return Place::Line(line);
-        }
-        left -= 1;
-        rest = after;
-    }
-    if rest.is_empty() {
-        Place::Behind
-    } else {
-        Place::Unended
-    }
-}
-
-/// The first line, without the LF that ends it, and the text behind that. None if no LF is left.
-fn first_line(text: &[u8]) -> Option<(&[u8], &[u8])>
-    ensures { IfSome result (λ got. length got.1.now < length text.now) }
-{
-    let end = line_len(text)?;
-    let (line, after) = text.split_at(end);
-    match after {
-        [_, rest @ ..] => Some((line, rest)),
-        [] => None,
-    }
-}
-
-/// The number of bytes before the first LF.
-fn line_len(text: &[u8]) -> Option<usize>
-    ensures { result ≡ position is_line_feed text.now }
-{
-    text.iter().position(|byte| *byte == b'\n')
-}
-
-fn push_reason(out: &mut String, reason: LineReason) -> Result<(), OutOfMemory> {
+fn push_reason(out: &mut String, line: &[u8], reason: LineReason) -> Result<(), OutOfMemory> {
     match reason {
         LineReason::Character(character) => push_character(out, character),
         LineReason::UnknownWord => push_text(out, "its first word begins no line of a trace"),
-        LineReason::Word(bad) => push_word(out, bad),
+        LineReason::Word(bad) => push_word(out, line, bad),
         LineReason::Missing(number) => Ok(write!(out, "word {number} is missing")?),
         LineReason::Extra => push_text(out, "words follow its last one"),
         LineReason::UnknownOutcome => {
@@ -131,17 +140,41 @@ fn push_character(out: &mut String, character: Character) -> Result<(), OutOfMem
     }
 }
 
-fn push_word(out: &mut String, bad: BadWord) -> Result<(), OutOfMemory> {
+fn push_word(out: &mut String, line: &[u8], bad: BadWord) -> Result<(), OutOfMemory> {
     let number = bad.number;
     let words = match bad.reason {
         WordReason::NotDecimal => "is no decimal number",
         WordReason::LeadingZero => "has a zero at its front",
-        WordReason::TooLarge => "is a number that is too large",
+        WordReason::TooLarge(_) => "is a number that is too large",
         WordReason::NotAddress => "is no address of four numbers below 256",
         WordReason::NotHex => "has a character that is no hexadecimal digit",
         WordReason::OddDigits => "has an odd number of hexadecimal digits",
         WordReason::NotEightBytes => "is a key that has not eight bytes",
         WordReason::OtherName => "is none of the names that are allowed there",
     };
-    Ok(write!(out, "word {number} {words}")?)
+    write!(out, "word {number} {words}")?;
+    match bad.reason {
+        WordReason::TooLarge(most) => push_excess(out, word_at(line, number), most),
+        _ => Ok(()),
+    }
+}
+
+/// A word that is above the largest number of its place.
+fn push_excess(out: &mut String, word: &str, most: u64) -> Result<(), OutOfMemory> {
+    if word.len() > LONGEST_DIGITS {
+        return Ok(write!(out, ": it is above {most}")?);
+    }
+    Ok(write!(out, ": {word} is above {most}")?)
+}
+
+/// The word of this number, from 1, in a line. Empty if there is none.
+fn word_at(line: &[u8], number: usize) -> &str {
+    let Ok(text) = str::from_utf8(line) else {
+        return "";
+    };
+    let mut words = Words::of(text);
+    for _ in 1..number {
+        let _before = words.word();
+    }
+    words.word().unwrap_or("")
 }

@@ -17,8 +17,8 @@ pub enum WordReason {
     NotDecimal,
     /// A number with a needless zero at its front.
     LeadingZero,
-    /// A number that is greater than its kind allows.
-    TooLarge,
+    /// A number that is greater than its kind allows: above this one.
+    TooLarge(u64),
     /// Not four numbers below 256 with dots between them, or not such addresses with commas between them.
     NotAddress,
     /// Not hexadecimal digits alone, and not a dash.
@@ -264,11 +264,15 @@ fn word_reason(
     word: &str,
 ) -> Result<Option<WordReason>, OutOfMemory> {
     match kind {
-        WordKind::U8 => Ok(number_reason(word, Words::of(word).u8().is_ok())),
-        WordKind::U16 => Ok(number_reason(word, Words::of(word).u16().is_ok())),
-        WordKind::U32 => Ok(number_reason(word, Words::of(word).u32().is_ok())),
-        WordKind::U64 => Ok(number_reason(word, Words::of(word).u64().is_ok())),
-        WordKind::Instance => Ok(number_reason(word, Words::of(word).u32_or_none().is_ok())),
+        WordKind::U8 => Ok(number_reason(word, Words::of(word).u8().is_ok(), u8::MAX as u64)),
+        WordKind::U16 => Ok(number_reason(word, Words::of(word).u16().is_ok(), u16::MAX as u64)),
+        WordKind::U32 => Ok(number_reason(word, Words::of(word).u32().is_ok(), u32::MAX as u64)),
+        WordKind::U64 => Ok(number_reason(word, Words::of(word).u64().is_ok(), u64::MAX)),
+        WordKind::Instance => Ok(number_reason(
+            word,
+            Words::of(word).u32_or_none().is_ok(),
+            u32::MAX as u64,
+        )),
         WordKind::Address => Ok(name_reason(
             Words::of(word).node().is_ok(),
             WordReason::NotAddress,
@@ -296,8 +300,8 @@ fn is_name(kind: WordKind, word: &str) -> bool {
     }
 }
 
-/// Why a word is no number of its kind, if it is none.
-fn number_reason(word: &str, reads: bool) -> Option<WordReason> {
+/// Why a word is no number of its kind, the largest of which is this one, if it is none.
+fn number_reason(word: &str, reads: bool, most: u64) -> Option<WordReason> {
     if reads {
         return None;
     }
@@ -307,7 +311,7 @@ fn number_reason(word: &str, reads: bool) -> Option<WordReason> {
     }
     match digits {
         [b'0', ..] => Some(WordReason::LeadingZero),
-        _ => Some(WordReason::TooLarge),
+        _ => Some(WordReason::TooLarge(most)),
     }
 }
 
