@@ -4,3 +4,4 @@ pub mod Lined
 pub mod Looped
 pub mod Tasks
 pub mod Usage
+pub mod Versioned

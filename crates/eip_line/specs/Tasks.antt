@@ -7,21 +7,24 @@ use Rattle.eip_line.specs.Faults.{fault_line}
 use Rattle.eip_line.specs.Lined.{IsLined, SettlesLine}
 use Rattle.eip_line.specs.Looped.{IsLooped, turns_line}
 use Rattle.eip_line.specs.Printed.{IsStepped, PrintsRun}
+use Rattle.eip_line.specs.Versioned.{IsVersioned, version_line}
 use Rattle.eip_line.specs.declared.faults.ProgramFault.{ProgramFault}
 use Rattle.line_words.specs.declared.task.Task.{Task}
 use Rattle.line_words.specs.declared.task.Task.TheVariants as task
 
--- all that a task has to print is printed: all outcomes of a trace, the turns of a loop, or that a line settles
+-- all that a task has to print is printed: all outcomes of a trace, the turns of a loop, that a line settles, or the version
 abbrev pub Prints : Task → Option (List ℕ) → Option (List ℕ) → Option (List ℕ) → Type 0
 Prints task.Step input old new = PrintsRun input old new
 Prints (task.Loop given) input old new = Appends old new (turns_line given.turns)
 Prints (task.Line given) input old new = SettlesLine given.scanners old new
+Prints task.Version input old new = Appends old new version_line
 
 -- The output when a task ends so; false if an outcome of a trace is not as recorded.
 abbrev pub IsPerformed : Task → Option (List ℕ) → Option (List ℕ) → Option (List ℕ) → Result Bool ProgramFault → Type 0
 IsPerformed task.Step input old new ended = IsStepped input old new ended
 IsPerformed (task.Loop given) input old new ended = IsLooped given.turns old ended new
 IsPerformed (task.Line given) input old new ended = IsLined given.scanners old ended new
+IsPerformed task.Version input old new ended = IsVersioned old ended new
 
 -- What is reported of a task that ended so with status 1: nothing if an outcome is not as recorded; else the line of the
 -- fault, as far as the stream took it.

@@ -11,7 +11,7 @@ ghost use Rattle.eip_line.specs.Usage.{usage_text};
 use crate::faults::{FAILED, ProgramFault, failed};
 use crate::lines::print_settled;
 use crate::loops::print_turns;
-use crate::output::{flush, write_numbered};
+use crate::output::{flush, print_version, write_numbered};
 use crate::usage::misused;
 use adapter_engine::FastAdapter;
 use cip_tables::Config;
@@ -32,6 +32,7 @@ use trace_text::{Trace, read_trace};
 ///
 /// - 0: the task is done. `step`: all outcomes are printed, and each is as recorded. `loop`: all turns are done, and
 ///   their number is printed. `line`: all devices have ended, and what they did settles into one schedule.
+///   `--version`: the program's name and version are printed.
 /// - 1: an outcome is not as recorded, and the last line names the first such event; or the run failed, and one line on
 ///   `err` says why, as far as the stream took it.
 /// - 2: the command line is none of the program's, and not `step` alone. Nothing is printed, and `err` gets the usage
@@ -96,6 +97,7 @@ where
         Task::Step => step(rt.alloc(), reader, out),
         Task::Loop(task) => print_turns(rt, task, out),
         Task::Line(task) => print_settled(rt, task, out),
+        Task::Version => print_version(out),
     }
 }
 

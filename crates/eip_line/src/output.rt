@@ -3,10 +3,13 @@
 ghost use Rattle.std.specs.Prelude.{◌++◌, codes, decimal};
 ghost use Rattle.std.specs.Io.KnownBytes.{Keeps};
 ghost use Rattle.trace_stepper.specs.Written.{IsTaken};
+ghost use Rattle.eip_line.specs.Versioned.{IsVersioned, version_line};
 
+use crate::faults::ProgramFault;
 use itoa::Buffer;
 use std::io::Write;
 use trace_stepper::{NotTaken, write_text};
+use version::VERSION;
 
 /// Writes a line of a word and a number. Takes no memory.
 pub(crate) fn write_numbered<W: Write>(
@@ -27,4 +30,22 @@ pub(crate) fn flush<O: Write>(out: &mut O) -> Result<(), NotTaken>
     ensures { Keeps (O.contents out.old) (O.contents out.new) }
 {
     out.flush().map_err(|_| NotTaken)
+}
+
+/// Writes the line of the program's name and version. Takes no memory.
+fn write_version<W: Write>(out: &mut W) -> Result<(), NotTaken>
+    ensures { IsTaken (W.contents out.old) version_line result (W.contents out.new) }
+{
+    write_text(out, b"eip_line ")?;
+    write_text(out, VERSION.as_bytes())?;
+    write_text(out, b"\n")
+}
+
+/// Prints the program's name and version.
+pub(crate) fn print_version<O: Write>(out: &mut O) -> Result<bool, ProgramFault>
+    ensures { IsVersioned (O.contents out.old) result (O.contents out.new) }
+{
+    write_version(out)?;
+    flush(out)?;
+    Ok(true)
 }

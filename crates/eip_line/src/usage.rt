@@ -23,6 +23,8 @@ usage: eip_line step < TRACE
            runs an adapter and scanners in threads, and prints settled if what they did is one schedule
            --scanners N  the scanners, 1 to 8 (2 if it is left out)
            --ticks N     the milliseconds that pass at each device, 1 to 10000 (100 if it is left out)
+       eip_line --version
+           prints the version
 example: eip_line step < examples/first_open.trace
 status: 0 done; 1 an outcome is not as recorded, or a fault, which standard error names; 2 this text
 ";

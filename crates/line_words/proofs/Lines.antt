@@ -48,26 +48,34 @@ pub named_requests : (words : List (List ℕ)) (read : Task) → is_named words 
 named_requests words task.Step h = alone_is words _ h
 named_requests words (task.Loop given) h = second_is words _ h
 named_requests words (task.Line given) h = second_is words _ h
+named_requests words task.Version h = alone_is words _ h
 
 abbrev chosen : List (List ℕ) → Option Task → Option Task
 chosen words read = option_and_then (λ r. if is_named words r then Some r else None) read
 
+abbrev unless_version : List (List ℕ) → Option Task → Option Task
+unless_version words read = cond (is_alone words (codes "--version")) (Some task.Version) (chosen words read)
+
 pub step_is : (words : List (List ℕ)) → is_alone words (codes "step") ≡ true → task_of words ≡ Some task.Step
 unfolding task_of
-step_is words h = ap (λ b. cond b (Some task.Step) (chosen words (parsed_task words))) h
+step_is words h = ap (λ b. cond b (Some task.Step) (unless_version words (parsed_task words))) h
 
-otherwise : (words : List (List ℕ)) (read : Option Task) → is_alone words (codes "step") ≡ false → parsed_task words ≡ read → task_of words ≡ chosen words read
+pub version_is : (words : List (List ℕ)) → is_alone words (codes "step") ≡ false → is_alone words (codes "--version") ≡ true → task_of words ≡ Some task.Version
 unfolding task_of
-otherwise words read h is = ap (λ b. cond b (Some task.Step) (chosen words (parsed_task words))) h ∙ ap (chosen words) is
+version_is words h v = ap (λ b. cond b (Some task.Step) (unless_version words (parsed_task words))) h ∙ ap (λ b. cond b (Some task.Version) (chosen words (parsed_task words))) v
 
-pub read_is : (words : List (List ℕ)) (read : Task) → is_alone words (codes "step") ≡ false → parsed_task words ≡ Some read → is_named words read ≡ true → task_of words ≡ Some read
-read_is words read h is named = otherwise words (Some read) h is ∙ ap (λ b. cond b (Some read) None) named
+otherwise : (words : List (List ℕ)) (read : Option Task) → is_alone words (codes "step") ≡ false → is_alone words (codes "--version") ≡ false → parsed_task words ≡ read → task_of words ≡ chosen words read
+unfolding task_of
+otherwise words read h v is = ap (λ b. cond b (Some task.Step) (unless_version words (parsed_task words))) h ∙ ap (λ b. cond b (Some task.Version) (chosen words (parsed_task words))) v ∙ ap (chosen words) is
 
-pub other_is : (words : List (List ℕ)) (read : Task) → is_alone words (codes "step") ≡ false → parsed_task words ≡ Some read → is_named words read ≡ false → task_of words ≡ None
-other_is words read h is named = otherwise words (Some read) h is ∙ ap (λ b. cond b (Some read) None) named
+pub read_is : (words : List (List ℕ)) (read : Task) → is_alone words (codes "step") ≡ false → is_alone words (codes "--version") ≡ false → parsed_task words ≡ Some read → is_named words read ≡ true → task_of words ≡ Some read
+read_is words read h v is named = otherwise words (Some read) h v is ∙ ap (λ b. cond b (Some read) None) named
 
-pub none_is : (words : List (List ℕ)) → is_alone words (codes "step") ≡ false → parsed_task words ≡ None → task_of words ≡ None
-none_is words h is = otherwise words None h is
+pub other_is : (words : List (List ℕ)) (read : Task) → is_alone words (codes "step") ≡ false → is_alone words (codes "--version") ≡ false → parsed_task words ≡ Some read → is_named words read ≡ false → task_of words ≡ None
+other_is words read h v is named = otherwise words (Some read) h v is ∙ ap (λ b. cond b (Some read) None) named
+
+pub none_is : (words : List (List ℕ)) → is_alone words (codes "step") ≡ false → is_alone words (codes "--version") ≡ false → parsed_task words ≡ None → task_of words ≡ None
+none_is words h v is = otherwise words None h v is
 
 -- THE COMMAND'S NAME
 

@@ -83,6 +83,14 @@ one_step : of_words (codes "step" ∷ []) ≡ Some task.Step
 unfolding clap_on_literals task_of parsed_task named_task
 one_step = refl
 
+version : of_words (codes "--version" ∷ []) ≡ Some task.Version
+unfolding clap_on_literals task_of parsed_task named_task
+version = refl
+
+version_with_more : of_words (codes "--version" ∷ codes "x" ∷ []) ≡ None
+unfolding clap_on_literals task_of parsed_task named_task
+version_with_more = refl
+
 step_with_more : of_words (codes "step" ∷ codes "x" ∷ []) ≡ None
 unfolding clap_on_literals task_of parsed_task named_task
 step_with_more = refl

@@ -10,11 +10,13 @@ use Rattle.line_words.specs.declared.task.Task.TheVariants as task
 abbrev pub IsAlone : List (List ℕ) → List ℕ → Type 0
 IsAlone words word = (length words ≡ 2) × (slice_get words 1 ≡ Some word)
 
--- the word behind the program's name is the command's; no word follows the one for a step
+-- the word behind the program's name is the command's; no word follows the one for a step or for the
+-- version
 abbrev pub Requests : List (List ℕ) → Task → Type 0
 Requests words task.Step = IsAlone words (codes "step")
 Requests words (task.Loop given) = slice_get words 1 ≡ Some (codes "loop")
 Requests words (task.Line given) = slice_get words 1 ≡ Some (codes "line")
+Requests words task.Version = IsAlone words (codes "--version")
 
 -- the same, as tests
 abbrev pub is_second : List (List ℕ) → List ℕ → Bool
@@ -27,9 +29,11 @@ abbrev pub is_named : List (List ℕ) → Task → Bool
 is_named words task.Step = is_alone words (codes "step")
 is_named words (task.Loop given) = is_second words (codes "loop")
 is_named words (task.Line given) = is_second words (codes "line")
+is_named words task.Version = is_alone words (codes "--version")
 
 -- the task that the words request, the first of which is the program's own name
 unfoldable pub task_of : List (List ℕ) → Option Task
 task_of words =
     if is_alone words (codes "step") then Some task.Step
-    else option_and_then (λ read. if is_named words read then Some read else None) (parsed_task words)
+    else (if is_alone words (codes "--version") then Some task.Version
+    else option_and_then (λ read. if is_named words read then Some read else None) (parsed_task words))

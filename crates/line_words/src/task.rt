@@ -17,6 +17,8 @@ pub enum Task {
     Loop(LoopTask),
     /// Runs an adapter and scanners, each in a thread of its own, and settles what they did.
     Line(LineTask),
+    /// Prints the program's version.
+    Version,
 }
 
 /// The ports of an adapter and a scanner, and the number of turns of each.
@@ -59,18 +61,22 @@ impl From<AllocError> for Misuse {
 }
 
 /// The task that the words request. The first word is the program's own name, and the next one the command's. The word
-/// `step` is taken alone, and never refused.
+/// `step` is taken alone, and never refused; so is `--version`.
 ///
 /// `Usage` comes exactly where the words request no task and memory was not refused; `OutOfMemory` only where it was.
-#[tactic(auto, using(crate::proofs::Lines::step_is, crate::proofs::Lines::alone_is, crate::proofs::Lines::alone_of, crate::proofs::Lines::named_requests, crate::proofs::Lines::read_is, crate::proofs::Lines::other_is, crate::proofs::Lines::none_is))]
+#[tactic(auto, using(crate::proofs::Lines::step_is, crate::proofs::Lines::version_is, crate::proofs::Lines::alone_is, crate::proofs::Lines::alone_of, crate::proofs::Lines::named_requests, crate::proofs::Lines::read_is, crate::proofs::Lines::other_is, crate::proofs::Lines::none_is))]
 pub fn read_task<S: AsStr>(alloc: Global, words: &[S]) -> Result<Task, Misuse>
     ensures requests { IfOk result (Requests (map S.text words.now)) }
     ensures step { IsAlone (map S.text words.now) (codes "step") → result ≡ Ok Task.Step }
+    ensures version { IsAlone (map S.text words.now) (codes "--version") → result ≡ Ok Task.Version }
     ensures task { IfOk result (λ task. task_of (map S.text words.now) ≡ Some task) }
     ensures usage { result ≡ Err Misuse.Usage → task_of (map S.text words.now) ≡ None }
 {
     if is_alone(words, "step") {
         return Ok(Task::Step);
+    }
+    if is_alone(words, "--version") {
+        return Ok(Task::Version);
     }
     match parse(alloc, words) {
         Ok(task) if is_named(words, task) => Ok(task),
@@ -104,5 +110,6 @@ fn is_named<S: AsStr>(words: &[S], task: Task) -> bool
         Task::Step => is_alone(words, "step"),
         Task::Loop(_) => is_second(words, "loop"),
         Task::Line(_) => is_second(words, "line"),
+        Task::Version => is_alone(words, "--version"),
     }
 }
