@@ -1,22 +1,46 @@
 -- The status of the program after a failure.
-use Rattle.std.specs.Prelude.{ℕ}
+use Rattle.std.specs.Prelude.{ℕ, Bool, true, false}
 use Rattle.station_port.specs.declared.fault.SocketCause.TheVariants as cause
 use Rattle.station_words.specs.declared.options.Misuse.TheVariants as misuse
+use Rattle.eip_station.specs.declared.traces.TracesFault.{TracesFault}
+use Rattle.eip_station.specs.declared.traces.TracesFault.TheVariants as traces
 use Rattle.eip_station.specs.declared.failure.Failure.{Failure}
 use Rattle.eip_station.specs.declared.failure.Failure.TheVariants as failure
 
--- 1 after an early end, 2 after a wrong word, 3 after a bad profile, 4 after an address that is none, 5 where a socket
--- cannot be made, 6 where the record cannot be written, 7 where there is no memory
+-- where files are no trace, or are not played to their end
+abbrev pub traces_status : TracesFault → ℕ
+traces_status (traces.Unread place) = 3
+traces_status (traces.Trace fault) = 3
+traces_status traces.NoTrace = 3
+traces_status traces.Differs = 1
+traces_status traces.Write = 1
+traces_status traces.OutOfMemory = 7
+
+-- 1 after an early end or where the output takes nothing, 2 after a wrong word, 3 after a bad profile or state, 4 after an
+-- address that is none, 5 where a socket cannot be made, 6 where the record or the state cannot be written, 7 where there is
+-- no memory
 abbrev pub status_of : Failure → ℕ
 status_of (failure.Early end) = 1
+status_of failure.Output = 1
+status_of (failure.Traces fault) = traces_status fault
 status_of (failure.Words (misuse.BadAddress left)) = 4
 status_of (failure.Words other) = 2
 status_of failure.Unread = 3
 status_of (failure.Profile fault) = 3
 status_of failure.Events = 3
 status_of failure.WrongKind = 3
-status_of failure.NoTrace = 3
+status_of failure.State = 3
 status_of (failure.Socket socket cause.NoAddress) = 4
 status_of (failure.Socket socket _) = 5
 status_of failure.Record = 6
+status_of failure.RecordEnd = 6
+status_of failure.NoState = 6
 status_of failure.OutOfMemory = 7
+
+-- the failures of which a line has told already
+abbrev pub is_reported : Failure → Bool
+is_reported (failure.Profile fault) = true
+is_reported failure.State = true
+is_reported failure.NoState = true
+is_reported failure.RecordEnd = true
+is_reported other = false

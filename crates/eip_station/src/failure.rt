@@ -1,8 +1,9 @@
 //! Why the program fails: the line on standard error, and the status.
 
 ghost use Rattle.std.specs.Prelude.{◌≡◌};
-ghost use Rattle.eip_station.specs.Failures.{status_of};
+ghost use Rattle.eip_station.specs.Failures.{is_reported, status_of, traces_status};
 
+use crate::traces::TracesFault;
 use cip_tables::NewFault;
 use cip_types::OutOfMemory;
 use station::EarlyEnd;
@@ -34,12 +35,24 @@ pub enum Failure {
     /// A socket cannot be made.
     #[error("the {0} {1}")]
     Socket(StationSocket, SocketCause),
-    /// The file is no trace.
-    #[error("is no trace")]
-    NoTrace,
-    /// The record cannot be made or written.
+    /// Files are not played, written as a capture file or explained to their end.
+    #[error(transparent)]
+    Traces(TracesFault),
+    /// The file of the state cannot be read, or holds no state.
+    #[error("holds no state of a station: --state FILE names another file, --incarnation N needs none")]
+    State,
+    /// The file of the state cannot be written.
+    #[error("cannot be written: --state FILE names another file, --incarnation N needs none")]
+    NoState,
+    /// The record cannot be made.
     #[error("cannot be written")]
     Record,
+    /// The record has ended before its station.
+    #[error("the record cannot take more and has ended")]
+    RecordEnd,
+    /// The standard output does not take a text.
+    #[error("standard output cannot be written")]
+    Output,
     /// An allocation was refused.
     #[error("no memory")]
     OutOfMemory,
@@ -54,17 +67,35 @@ pub fn status_of(failure: Failure) -> u8
 {
     match failure {
         Failure::Early(_) => 1,
+        Failure::Output => 1,
+        Failure::Traces(fault) => traces_status(fault),
         Failure::Words(Misuse::BadAddress(_)) => 4,
         Failure::Words(_) => 2,
         Failure::Unread => 3,
         Failure::Profile(_) => 3,
         Failure::Events => 3,
         Failure::WrongKind => 3,
-        Failure::NoTrace => 3,
+        Failure::State => 3,
         Failure::Socket(_, SocketCause::NoAddress) => 4,
         Failure::Socket(_, _) => 5,
         Failure::Record => 6,
+        Failure::RecordEnd => 6,
+        Failure::NoState => 6,
         Failure::OutOfMemory => 7,
+    }
+}
+
+/// The status of the program where files are no trace, or are not played to their end.
+fn traces_status(fault: TracesFault) -> u8
+    ensures { result ≡ traces_status fault }
+{
+    match fault {
+        TracesFault::Unread(_) => 3,
+        TracesFault::Trace(_) => 3,
+        TracesFault::NoTrace => 3,
+        TracesFault::Differs => 1,
+        TracesFault::Write => 1,
+        TracesFault::OutOfMemory => 7,
     }
 }
 
@@ -100,8 +131,14 @@ impl From<RecordFault> for Failure {
     fn from(fault: RecordFault) -> Failure {
         match fault {
             RecordFault::OutOfMemory => Failure::OutOfMemory,
-            RecordFault::Full | RecordFault::Write => Failure::Record,
+            RecordFault::Refused => Failure::Record,
         }
+    }
+}
+
+impl From<TracesFault> for Failure {
+    fn from(fault: TracesFault) -> Failure {
+        Failure::Traces(fault)
     }
 }
 
@@ -132,22 +169,32 @@ impl<T: Drop> From<AllocFailed<T>> for Failure {
     }
 }
 
+/// Whether a line has told the failure already.
+pub fn is_reported(failure: Failure) -> bool
+    ensures { result ≡ is_reported failure }
+{
+    matches!(
+        failure,
+        Failure::Profile(_) | Failure::State | Failure::NoState | Failure::RecordEnd
+    )
+}
+
 /// The words before a failure: the wrong word of the command line, or the file.
 pub fn subject_of(words: &[String], failure: Failure) -> &str {
     match failure {
         Failure::Words(misuse) => wrong_word(words, misuse),
-        Failure::Unread
-        | Failure::Profile(_)
-        | Failure::Events
-        | Failure::WrongKind
-        | Failure::NoTrace => {
+        Failure::Unread | Failure::Events | Failure::WrongKind => {
             match words.get(2) {
                 Some(word) => word.as_str(),
                 None => "",
             }
         }
+        Failure::Traces(TracesFault::Unread(place)) => match words.get(place.saturating_add(2)) {
+            Some(word) => word.as_str(),
+            None => "",
+        },
         Failure::Record => "the record",
-        Failure::Socket(_, _) | Failure::OutOfMemory | Failure::Early(_) => "",
+        _ => "",
     }
 }
 

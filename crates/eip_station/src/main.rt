@@ -1,32 +1,58 @@
 //! The station program: an adapter or a scanner at a real address, whose run can be recorded and replayed.
 #![tactic(auto)]
 
+mod draining;
 mod failure;
-mod files;
+mod identity;
 mod inbox;
+mod moment;
 mod opening;
+mod outlets;
+mod profiles;
 mod program;
+mod record_file;
+mod record_queue;
+mod rim;
+mod states;
+mod stationing;
+mod threads;
+mod traces;
 mod usage;
 
 use failure::{Failure, status_of};
-use inbox::SharedInput;
+use rim::Rim;
 use std::process::ExitCode;
 use std::thread;
+use threads::begin_output;
 
-/// Performs what the command line requests, and ends with its status. A thread of its own reads the calls for a station; it
-/// is not joined, and ends with the program.
+/// Performs what the command line requests, and ends with its status. A station has threads of their own for its input, its
+/// outputs and its record; they are not joined, and end with the program.
 fn main(rt: HostRuntime) -> ExitCode {
     let no_memory = ExitCode::from(status_of(Failure::OutOfMemory));
-    let Ok(input) = SharedInput::new(rt.alloc()) else {
+    let Ok(rim) = Rim::new(rt.alloc()) else {
         return no_memory;
     };
-    if program::takes_calls(&rt) {
-        let Ok(theirs) = input.share() else {
+    let needs = program::needs_of(&rt);
+    if needs.station
+        && !(begin_output(rt, &rim.out, rt.stdout()) && begin_output(rt, &rim.err, rt.stderr()))
+    {
+        return no_memory;
+    }
+    if needs.record {
+        let Ok(record) = rim.record.share() else {
             return no_memory;
         };
-        if thread::spawn(&rt, move || theirs.fill(&rt)).is_err() {
+        if thread::spawn(&rt, move || record.write_files(&rt)).is_err() {
             return no_memory;
         }
     }
-    program::run(rt, input, rt.stdout(), rt.stderr())
+    if needs.input {
+        let Ok(input) = rim.input.share() else {
+            return no_memory;
+        };
+        if thread::spawn(&rt, move || input.fill(&rt)).is_err() {
+            return no_memory;
+        }
+    }
+    program::run(rt, rim, rt.stdout(), rt.stderr())
 }

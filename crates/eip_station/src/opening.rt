@@ -1,10 +1,9 @@
 //! The ports of stations.
 
 use crate::failure::Failure;
-use cip_encap::SocketAddress;
-use cip_tables::{Profile, ScannerProfile};
+use cip_tables::ScannerProfile;
 use cip_types::Node;
-use list_identity::{ProductName, StationIdentity};
+use list_identity::StationIdentity;
 use port_streams::Destination;
 use station_port::{StationPlace, StationPort};
 use station_words::Options;
@@ -12,22 +11,16 @@ use std::alloc::Global;
 use std::net::Net;
 use std::rt::Clock;
 
-/// The product name of an adapter.
-const NAME: &[u8] = b"Rattle adapter";
-
-/// The state of an Identity object whose device is operational.
-///
-/// Volume 1, chapter 5, Identity object.
-const OPERATIONAL: u8 = 3;
-
-/// Where a station is: at the address of its options, or of its profile.
-pub fn place_of(options: &Options, node: Node) -> StationPlace {
+/// Where a station is: at the address of its options, or of its profile, in the network of this mask.
+pub fn place_of(options: &Options, node: Node, mask: u32) -> StationPlace {
     StationPlace {
         address: options.address.unwrap_or(node),
+        mask,
         tcp: options.tcp,
         udp: options.udp,
         peer_udp: options.peer_udp,
         multicast: options.multicast,
+        inactivity_s: options.inactivity_s,
     }
 }
 
@@ -51,27 +44,12 @@ pub fn targets_of(
 pub fn adapter_port<R>(
     rt: R,
     place: &StationPlace,
-    profile: &Profile,
+    identity: StationIdentity,
 ) -> Result<StationPort<R>, Failure>
 where
     R: AllocGlobal + Net + Clock + Copy + Drop,
 {
-    let alloc = rt.alloc();
-    let Ok(name) = ProductName::new(alloc, NAME) else {
-        return Err(Failure::OutOfMemory);
-    };
-    let identity = StationIdentity {
-        socket: SocketAddress {
-            port: place.tcp,
-            address: place.address,
-        },
-        device: profile.identity,
-        status: 0,
-        serial: place.address.0,
-        name,
-        state: OPERATIONAL,
-    };
-    Ok(StationPort::adapter(alloc, rt, place, identity)?)
+    Ok(StationPort::adapter(rt.alloc(), rt, place, identity)?)
 }
 
 /// The port of a scanner, which opens a stream to each target of its slots.
@@ -85,5 +63,6 @@ where
 {
     let alloc = rt.alloc();
     let targets = targets_of(alloc, profile, place.tcp)?;
-    Ok(StationPort::scanner(alloc, rt, place, targets.as_slice())?)
+    let open_ms = profile.open_timeout;
+    Ok(StationPort::scanner(alloc, rt, place, targets.as_slice(), open_ms)?)
 }

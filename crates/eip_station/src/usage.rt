@@ -6,12 +6,14 @@ usage: eip_station adapter PROFILE [options]
            serves the profile: answers its peers, takes outputs and sends inputs
        eip_station scanner PROFILE [options]
            opens a connection for each slot of the profile, sends its output and gathers its input
-       eip_station pcap TRACE
+       eip_station replay TRACE ..
+           plays the files as one trace, and prints what eip_line step prints
+       eip_station pcap TRACE ..
            writes the frames and datagrams of a trace as a capture file for tshark to standard output
-       eip_station explain TRACE
-           explains a trace in words, or why the file is none
-       eip_station --help
-           prints this text
+       eip_station explain TRACE ..
+           explains a trace in words, or why the files are none
+       eip_station --help | --version
+           prints this text, or the version
 PROFILE is a file with the profile's lines of a trace (docs/PROFILE.md, section 14).
 options:
   --address A    the IPv4 address of the sockets (the profile's if it is left out)
@@ -19,12 +21,21 @@ options:
   --udp PORT     the station's UDP port (2222 if it is left out)
   --peer-udp PORT  the UDP port of its peers (2222 if it is left out)
   --seconds N    the station ends after N seconds
-  --record FILE  writes all that the device takes and answers; eip_line step < FILE replays it
+  --record FILE  writes all that the device takes and answers, and begins FILE.2, FILE.3 .. as a file is full;
+                 eip_station replay FILE FILE.2 .. replays it
+  --state FILE   counts the starts there, so that no id of an earlier start is used again (PROFILE.state if it is left out)
+  --incarnation N  the incarnation of this start, 1 to 255, in place of counting
+  --inactivity S an adapter's stream over which no message comes for S seconds ends (120 if it is left out, 0: none)
+  --serial N     the serial number (the one that was drawn once and stands in the state file if it is left out)
+  --name TEXT    the product name, at most 32 bytes (the profile's file name if it is left out)
   --multicast    a datagram of a multicast connection is sent once, to the address of its group
+  --no-input     does not read the standard input, and runs on without it
+  --quiet        says only faults on standard error, not what streams do
 The station runs until its standard input ends, and at most N seconds. Each line of the input is a call:
   write POINT HEX, read POINT, mode run, mode idle, start SLOT, stop SLOT
 It prints the outcome of each call and of each event with a notice, in the lines of a trace, and for each output or
 image that has changed N at MS output POINT HEX or N at MS image SLOT HEX: the number of the last event, and the time.
-status: 0 done; 1 the station ended before its time; 2 a wrong word; 3 a bad profile or trace; 4 an address that is none;
-        5 a socket cannot be made, as for a port in use; 6 the record cannot be written; 7 no memory
+It waits for no reader: lines that nobody reads are lost, and a line says how many.
+status: 0 done; 1 the station ended before its time; 2 a wrong word; 3 a bad profile, trace or state; 4 an address that is none;
+        5 a socket cannot be made, as for a port in use; 6 the record or the state cannot be written; 7 no memory
 ";

@@ -1,1 +1,3 @@
+mod Appended
 mod Noting
+mod Turning

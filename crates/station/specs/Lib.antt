@@ -1,6 +1,10 @@
 pub mod Faults
 pub mod Calls
 pub mod Lines
+pub mod Peers
 pub mod Points
+pub mod Reports
+pub mod Slots
 pub mod Times
 pub mod Recorded
+pub mod Turned

@@ -14,9 +14,6 @@ pub enum EarlyEnd {
     /// The port failed again and again.
     #[error("the network port failed")]
     Port,
-    /// The output could not be written.
-    #[error("standard output cannot be written")]
-    Write,
     /// An allocation was refused.
     #[error("no memory")]
     OutOfMemory,

@@ -26,6 +26,16 @@ pub trait CallLines {
     fn next_line(&mut self) -> Result<NextLine, OutOfMemory>;
 }
 
+/// A source without lines that never ends.
+#[derive(Clone, Copy)]
+pub struct NoLines;
+
+impl CallLines for NoLines {
+    fn next_line(&mut self) -> Result<NextLine, OutOfMemory> {
+        Ok(NextLine::Nothing)
+    }
+}
+
 /// Bytes of an input that were not taken yet, and whether the input has ended.
 #[derive(Drop)]
 pub struct CallBuffer {

@@ -7,9 +7,11 @@ ghost use Rattle.station.specs.Times.{is_over, pause_ms};
 use crate::fault::EarlyEnd;
 use crate::lines::{CallLines, NextLine};
 use crate::serving::Station;
+use crate::sink::LineSink;
 use cip_tables::Device;
-use std::io::Write;
-use udp_runner::{Clock, Port};
+use kept_port::KeptPort;
+use station_record::RecordSink;
+use udp_runner::Clock;
 
 /// A station looks for lines of its application at least so often, in milliseconds. A source that wakes the port is looked
 /// at earlier.
@@ -35,12 +37,12 @@ pub fn run_station<P, C, D, W, O, E, L>(
     ending: Ending,
 ) -> Result<(), EarlyEnd>
 where
-    P: Port,
+    P: KeptPort,
     C: Clock,
     D: Device,
-    W: Write + Drop,
-    O: Write,
-    E: Write,
+    W: RecordSink + Drop,
+    O: LineSink,
+    E: LineSink,
     L: CallLines,
     ensures { Recorded W.contents station.old.witness.recorder station.new.witness.recorder
         (D.table station.old.device) (D.table station.new.device) }
@@ -57,12 +59,12 @@ fn serve_all<P, C, D, W, O, E, L>(
     ending: Ending,
 ) -> Result<(), EarlyEnd>
 where
-    P: Port,
+    P: KeptPort,
     C: Clock,
     D: Device,
-    W: Write + Drop,
-    O: Write,
-    E: Write,
+    W: RecordSink + Drop,
+    O: LineSink,
+    E: LineSink,
     L: CallLines,
     ensures { Recorded W.contents station.old.witness.recorder station.new.witness.recorder
         (D.table station.old.device) (D.table station.new.device) }
@@ -78,12 +80,12 @@ fn serve_on<P, C, D, W, O, E, L>(
     end_ms: Option<u64>,
 ) -> Result<(), EarlyEnd>
 where
-    P: Port,
+    P: KeptPort,
     C: Clock,
     D: Device,
-    W: Write + Drop,
-    O: Write,
-    E: Write,
+    W: RecordSink + Drop,
+    O: LineSink,
+    E: LineSink,
     L: CallLines,
     ensures { Recorded W.contents station.old.witness.recorder station.new.witness.recorder
         (D.table station.old.device) (D.table station.new.device) }
@@ -104,12 +106,12 @@ fn serve<P, C, D, W, O, E, L>(
     end_ms: Option<u64>,
 ) -> Result<bool, EarlyEnd>
 where
-    P: Port,
+    P: KeptPort,
     C: Clock,
     D: Device,
-    W: Write + Drop,
-    O: Write,
-    E: Write,
+    W: RecordSink + Drop,
+    O: LineSink,
+    E: LineSink,
     L: CallLines,
     ensures { Recorded W.contents station.old.witness.recorder station.new.witness.recorder
         (D.table station.old.device) (D.table station.new.device) }
@@ -118,7 +120,10 @@ where
         return Ok(false);
     }
     match lines.next_line()? {
-        NextLine::End => Ok(false),
+        NextLine::End => {
+            station.report_input_end();
+            Ok(false)
+        }
         NextLine::Nothing => wait(station, end_ms),
         NextLine::Line(line) => perform(station, line.as_slice()),
     }
@@ -130,12 +135,12 @@ fn wait<P, C, D, W, O, E>(
     end_ms: Option<u64>,
 ) -> Result<bool, EarlyEnd>
 where
-    P: Port,
+    P: KeptPort,
     C: Clock,
     D: Device,
-    W: Write + Drop,
-    O: Write,
-    E: Write,
+    W: RecordSink + Drop,
+    O: LineSink,
+    E: LineSink,
     ensures { Recorded W.contents station.old.witness.recorder station.new.witness.recorder
         (D.table station.old.device) (D.table station.new.device) }
 {
@@ -149,12 +154,12 @@ fn perform<P, C, D, W, O, E>(
     line: &[u8],
 ) -> Result<bool, EarlyEnd>
 where
-    P: Port,
+    P: KeptPort,
     C: Clock,
     D: Device,
-    W: Write + Drop,
-    O: Write,
-    E: Write,
+    W: RecordSink + Drop,
+    O: LineSink,
+    E: LineSink,
     ensures { Recorded W.contents station.old.witness.recorder station.new.witness.recorder
         (D.table station.old.device) (D.table station.new.device) }
 {
@@ -169,12 +174,12 @@ fn close<P, C, D, W, O, E>(
     slots: u32,
 ) -> Result<(), EarlyEnd>
 where
-    P: Port,
+    P: KeptPort,
     C: Clock,
     D: Device,
-    W: Write + Drop,
-    O: Write,
-    E: Write,
+    W: RecordSink + Drop,
+    O: LineSink,
+    E: LineSink,
     ensures { Recorded W.contents station.old.witness.recorder station.new.witness.recorder
         (D.table station.old.device) (D.table station.new.device) }
 {
@@ -186,12 +191,12 @@ where
 /// Waits until no slot is being closed, for a bounded time.
 fn wait_closed<P, C, D, W, O, E>(station: &mut Station<P, C, D, W, O, E>) -> Result<(), EarlyEnd>
 where
-    P: Port,
+    P: KeptPort,
     C: Clock,
     D: Device,
-    W: Write + Drop,
-    O: Write,
-    E: Write,
+    W: RecordSink + Drop,
+    O: LineSink,
+    E: LineSink,
     ensures { Recorded W.contents station.old.witness.recorder station.new.witness.recorder
         (D.table station.old.device) (D.table station.new.device) }
 {

@@ -1,24 +1,40 @@
 //! A device at a port with a clock.
 
-ghost use Rattle.std.specs.Prelude.{◌≡◌, IfOk};
+ghost use Rattle.std.specs.Prelude.{◌≡◌, true, IfOk};
 ghost use Rattle.station.specs.Recorded.{Recorded};
+ghost use Rattle.station.specs.Turned.{Turned};
 
 use crate::calls::read_call;
 use crate::fault::{EarlyEnd, end_after};
 use crate::points::Points;
+use crate::reports::{push_report, push_starved};
+use crate::sink::LineSink;
+use crate::slots::SlotDuty;
 use crate::witness::Witness;
 use cip_encap::{MessageView, command, write_message};
 use cip_tables::{Answer, Config, Device, Event, Outcome, StepFault};
 use cip_types::limits::MOST_STREAMS;
-use cip_types::{Ms, OutOfMemory};
-use station_record::RecordFault;
+use cip_types::{Ms, Node, OutOfMemory};
+use kept_port::KeptPort;
+use station_record::{RecordFault, RecordSink};
 use std::alloc::Global;
-use std::io::Write;
 use trace_text::LineFault;
-use udp_runner::{Clock, Observer, Output, Port, RunFault, send_answer, turn_waiting};
+use udp_runner::{Clock, Observer, Output, RunFault, send_answer, turn_waiting};
 
 /// After so many turns in a row that failed at the port a station ends.
 const MOST_FAILURES: u32 = 1_000;
+
+/// At most so many reports of the port are told behind one turn.
+const MOST_REPORTS: u32 = 64;
+
+/// What a station says beside its outcomes.
+#[derive(Clone, Copy, PartialEq, Eq)]
+pub struct Voice {
+    /// Whether it says nothing of its port's streams, and not why it ends with its input.
+    pub quiet: bool,
+    /// The seconds for which an adapter's stream may be silent.
+    pub silent_s: u16,
+}
 
 /// A device at a port with a clock, with a witness of its steps.
 #[derive(Drop)]
@@ -29,12 +45,21 @@ pub struct Station<P, C, D, W, O, E> {
     device: D,
     witness: Witness<W, O, E>,
     points: Points,
+    peers: Vec<Node>,
     text: String,
+    voice: Voice,
     failures: u32,
     lines: u64,
 }
 
-impl<P: Port, C: Clock, D: Device, W: Write + Drop, O: Write, E: Write> Station<P, C, D, W, O, E> {
+impl<P: KeptPort, C: Clock, D: Device, W: RecordSink + Drop, O: LineSink, E: LineSink> Station<
+    P,
+    C,
+    D,
+    W,
+    O,
+    E,
+> {
     /// A device of this configuration at a port. The fault: an allocation was refused.
     pub fn new(
         alloc: Global,
@@ -43,6 +68,7 @@ impl<P: Port, C: Clock, D: Device, W: Write + Drop, O: Write, E: Write> Station<
         clock: C,
         device: D,
         witness: Witness<W, O, E>,
+        voice: Voice,
     ) -> Result<Self, OutOfMemory>
     where
         P: Drop,
@@ -60,7 +86,9 @@ impl<P: Port, C: Clock, D: Device, W: Write + Drop, O: Write, E: Write> Station<
             device,
             witness,
             points: Points::of(alloc, config)?,
+            peers: Vec::new(alloc),
             text: String::new(alloc),
+            voice,
             failures: 0,
             lines: 0,
         })
@@ -78,17 +106,168 @@ impl<P: Port, C: Clock, D: Device, W: Write + Drop, O: Write, E: Write> Station<
 
     /// Makes a turn that waits at most so many milliseconds, and prints what has changed.
     pub fn turn(&mut self, most_ms: u64) -> Result<(), EarlyEnd>
-        ensures { Recorded W.contents self.old.witness.recorder self.new.witness.recorder
+        ensures recorded { Recorded W.contents self.old.witness.recorder self.new.witness.recorder
+            (D.table self.old.device) (D.table self.new.device) }
+        ensures turned { Turned P.is_scripted C.is_scripted (C.coming self.old.clock) (C.coming self.new.clock)
+            (P.tape self.old.port) (P.tape self.new.port) (P.failed self.old.port) (P.failed self.new.port)
             (D.table self.old.device) (D.table self.new.device) }
     {
         self.wait_and_step(most_ms)?;
+        self.inform_port()?;
         self.show()
     }
 
+    /// Tells the port what happened to connections, and says what the port reports.
+    fn inform_port(&mut self) -> Result<(), EarlyEnd>
+        ensures recorder { self.new.witness.recorder ≡ self.old.witness.recorder }
+        ensures device { self.new.device ≡ self.old.device }
+        ensures clock { self.new.clock ≡ self.old.clock }
+        ensures kept { P.is_scripted ≡ true → P.tape self.new.port ≡ P.tape self.old.port }
+        ensures worked { P.failed self.new.port ≡ P.failed self.old.port }
+    {
+        self.pass_peers()?;
+        self.pass_duties();
+        self.report_starved()?;
+        self.report_streams()
+    }
+
+    /// Tells an adapter's port which peers have connections, if they have changed.
+    fn pass_peers(&mut self) -> Result<(), EarlyEnd>
+        ensures recorder { self.new.witness.recorder ≡ self.old.witness.recorder }
+        ensures device { self.new.device ≡ self.old.device }
+        ensures clock { self.new.clock ≡ self.old.clock }
+        ensures kept { P.is_scripted ≡ true → P.tape self.new.port ≡ P.tape self.old.port }
+        ensures worked { P.failed self.new.port ≡ P.failed self.old.port }
+    {
+        self.peers.clear();
+        if self.witness.push_peers(&mut self.peers)? {
+            self.port.keep(self.peers.as_slice());
+        }
+        Ok(())
+    }
+
+    /// Tells a scanner's port of which targets the streams are to be renewed, and with which a connection is established.
+    fn pass_duties(&mut self)
+        ensures recorder { self.new.witness.recorder ≡ self.old.witness.recorder }
+        ensures device { self.new.device ≡ self.old.device }
+        ensures clock { self.new.clock ≡ self.old.clock }
+        ensures kept { P.is_scripted ≡ true → P.tape self.new.port ≡ P.tape self.old.port }
+        ensures worked { P.failed self.new.port ≡ P.failed self.old.port }
+    {
+        self.peers.clear();
+        for _ in 0..u64::MAX {
+            let Some(duty) = self.witness.next_duty() else {
+                return;
+            };
+            self.pass_duty(duty);
+        }
+    }
+
+    /// Tells a scanner's port of the target of one slot.
+    fn pass_duty(&mut self, duty: SlotDuty)
+        ensures recorder { self.new.witness.recorder ≡ self.old.witness.recorder }
+        ensures device { self.new.device ≡ self.old.device }
+        ensures clock { self.new.clock ≡ self.old.clock }
+        ensures kept { P.is_scripted ≡ true → P.tape self.new.port ≡ P.tape self.old.port }
+        ensures worked { P.failed self.new.port ≡ P.failed self.old.port }
+    {
+        match duty {
+            SlotDuty::Renew(slot) => self.renew(slot),
+            SlotDuty::Succeed(slot) => self.succeed(slot),
+        }
+    }
+
+    /// Tells the port that a connection with the target of a slot is established.
+    fn succeed(&mut self, slot: u32)
+        ensures recorder { self.new.witness.recorder ≡ self.old.witness.recorder }
+        ensures device { self.new.device ≡ self.old.device }
+        ensures clock { self.new.clock ≡ self.old.clock }
+        ensures kept { P.is_scripted ≡ true → P.tape self.new.port ≡ P.tape self.old.port }
+        ensures worked { P.failed self.new.port ≡ P.failed self.old.port }
+    {
+        if let Some(target) = self.witness.target(slot) {
+            self.port.succeed(target);
+        }
+    }
+
+    /// Has the stream to the target of a slot renewed, once behind a turn.
+    fn renew(&mut self, slot: u32)
+        ensures recorder { self.new.witness.recorder ≡ self.old.witness.recorder }
+        ensures device { self.new.device ≡ self.old.device }
+        ensures clock { self.new.clock ≡ self.old.clock }
+        ensures kept { P.is_scripted ≡ true → P.tape self.new.port ≡ P.tape self.old.port }
+        ensures worked { P.failed self.new.port ≡ P.failed self.old.port }
+    {
+        let Some(target) = self.witness.target(slot) else {
+            return;
+        };
+        if self.peers.iter().any(|other| *other == target) {
+            return;
+        }
+        // (if there is no memory to note it, the stream may be renewed twice)
+        let _ = self.peers.push(target);
+        self.port.renew(target);
+    }
+
+    /// Reports each slot whose data never came.
+    fn report_starved(&mut self) -> Result<(), EarlyEnd>
+        ensures recorder { self.new.witness.recorder ≡ self.old.witness.recorder }
+        ensures device { self.new.device ≡ self.old.device }
+        ensures clock { self.new.clock ≡ self.old.clock }
+        ensures kept { P.is_scripted ≡ true → P.tape self.new.port ≡ P.tape self.old.port }
+        ensures worked { P.failed self.new.port ≡ P.failed self.old.port }
+    {
+        for _ in 0..u64::MAX {
+            let Some(starved) = self.witness.next_starved() else {
+                return Ok(());
+            };
+            self.text.clear();
+            push_starved(&mut self.text, &starved)?;
+            self.witness.report(self.text.as_bytes());
+        }
+        Ok(())
+    }
+
+    /// Says what the port reports of its streams.
+    fn report_streams(&mut self) -> Result<(), EarlyEnd>
+        ensures recorder { self.new.witness.recorder ≡ self.old.witness.recorder }
+        ensures device { self.new.device ≡ self.old.device }
+        ensures clock { self.new.clock ≡ self.old.clock }
+        ensures kept { P.is_scripted ≡ true → P.tape self.new.port ≡ P.tape self.old.port }
+        ensures worked { P.failed self.new.port ≡ P.failed self.old.port }
+    {
+        for _ in 0..MOST_REPORTS {
+            let Some(report) = self.port.next_report() else {
+                return Ok(());
+            };
+            if !self.voice.quiet {
+                self.text.clear();
+                push_report(&mut self.text, &report, self.voice.silent_s)?;
+                self.witness.report(self.text.as_bytes());
+            }
+        }
+        Ok(())
+    }
+
+    /// Reports that the input has ended.
+    pub fn report_input_end(&mut self)
+        ensures recorder { self.new.witness.recorder ≡ self.old.witness.recorder }
+        ensures device { self.new.device ≡ self.old.device }
+    {
+        if !self.voice.quiet {
+            self.witness.report(
+                b"eip_station: standard input has ended, and so does the station (--no-input: runs on without it)\n",
+            );
+        }
+    }
+
     /// Makes a turn that waits at most so many milliseconds.
-    #[tactic(auto, using(crate::proofs::Noting::at_rest))]
+    #[tactic(auto, using(crate::proofs::Noting::at_rest, crate::proofs::Turning::not_turned))]
     fn wait_and_step(&mut self, most_ms: u64) -> Result<(), EarlyEnd>
-        ensures { Recorded W.contents self.old.witness.recorder self.new.witness.recorder
+        ensures recorded { Recorded W.contents self.old.witness.recorder self.new.witness.recorder
+            (D.table self.old.device) (D.table self.new.device) }
+        ensures turned { Turned P.is_scripted C.is_scripted (C.coming self.old.clock) (C.coming self.new.clock)
+            (P.tape self.old.port) (P.tape self.new.port) (P.failed self.old.port) (P.failed self.new.port)
             (D.table self.old.device) (D.table self.new.device) }
     {
         // (`turn_waiting` requires that the count of failures can rise)
@@ -109,6 +288,9 @@ impl<P: Port, C: Clock, D: Device, W: Write + Drop, O: Write, E: Write> Station<
     fn weather(&mut self, made: Result<u64, RunFault>) -> Result<(), EarlyEnd>
         ensures recorder { self.new.witness.recorder ≡ self.old.witness.recorder }
         ensures device { self.new.device ≡ self.old.device }
+        ensures clock { self.new.clock ≡ self.old.clock }
+        ensures kept { P.is_scripted ≡ true → P.tape self.new.port ≡ P.tape self.old.port }
+        ensures worked { P.failed self.new.port ≡ P.failed self.old.port }
     {
         let Err(fault) = made else {
             self.failures = 0;
@@ -251,6 +433,9 @@ impl<P: Port, C: Clock, D: Device, W: Write + Drop, O: Write, E: Write> Station<
     fn fail(&mut self) -> Result<(), EarlyEnd>
         ensures recorder { self.new.witness.recorder ≡ self.old.witness.recorder }
         ensures device { self.new.device ≡ self.old.device }
+        ensures clock { self.new.clock ≡ self.old.clock }
+        ensures kept { P.is_scripted ≡ true → P.tape self.new.port ≡ P.tape self.old.port }
+        ensures worked { P.failed self.new.port ≡ P.failed self.old.port }
     {
         if self.failures >= MOST_FAILURES {
             return Err(EarlyEnd::Port);
@@ -259,10 +444,13 @@ impl<P: Port, C: Clock, D: Device, W: Write + Drop, O: Write, E: Write> Station<
         Ok(())
     }
 
-    /// Prints the points that have changed. Fails if an outcome or a change could not be printed.
+    /// Prints the points that have changed. The fault: there was no memory for an outcome or a change.
     fn show(&mut self) -> Result<(), EarlyEnd>
         ensures recorder { self.new.witness.recorder ≡ self.old.witness.recorder }
         ensures device { self.new.device ≡ self.old.device }
+        ensures clock { self.new.clock ≡ self.old.clock }
+        ensures kept { P.is_scripted ≡ true → P.tape self.new.port ≡ P.tape self.old.port }
+        ensures worked { P.failed self.new.port ≡ P.failed self.old.port }
     {
         self.witness.check()?;
         self.text.clear();
@@ -270,7 +458,8 @@ impl<P: Port, C: Clock, D: Device, W: Write + Drop, O: Write, E: Write> Station<
         let ms = self.witness.now_ms();
         self.points
             .push_changes(self.alloc, &mut self.text, &self.device, number, ms)?;
-        self.witness.print(self.text.as_bytes())
+        self.witness.print(self.text.as_bytes());
+        Ok(())
     }
 
     /// Reports that a line of the input is no call.
@@ -282,7 +471,7 @@ impl<P: Port, C: Clock, D: Device, W: Write + Drop, O: Write, E: Write> Station<
         let number = self.lines;
         if write!(
             &mut self.text,
-            "eip_station: line {number} of standard input is no call of an application\n"
+            "eip_station: line {number} of standard input is no call: write POINT HEX, read POINT, mode run, mode idle, start SLOT, stop SLOT\n"
         )
         .is_err()
         {

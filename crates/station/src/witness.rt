@@ -1,50 +1,62 @@
-//! The witness of a station's steps: it records them, and prints what happens.
+//! The witness of a station's steps: it records them, says what happens, and notes what its port is to be told.
 
-ghost use Rattle.std.specs.Prelude.{◌≡◌};
+ghost use Rattle.std.specs.Prelude.{◌≡◌, IfOk};
 
 use crate::calls::has_news;
 use crate::fault::EarlyEnd;
+use crate::peers::Peers;
 use crate::sessions::Sessions;
-use cip_events::{Event, Outcome};
-use station_record::{RecordFault, Recorder};
+use crate::sink::LineSink;
+use crate::slots::{SlotDuty, Slots, Starved};
+use cip_events::{Answer, Event, Outcome};
+use cip_tables::Config;
+use cip_types::{Node, OutOfMemory};
+use station_record::{RecordFault, RecordSink, Recorder};
 use std::alloc::Global;
-use std::io::Write;
 use trace_text::push_outcome;
 use udp_runner::Observer;
 
-/// Records the steps of a device, prints outcomes on `out`, and reports faults on `err`.
+/// Records the steps of a device, says outcomes on `out` and faults on `err`, and notes what a port is to be told.
 #[derive(Drop)]
 pub struct Witness<W, O, E> {
     alloc: Global,
     recorder: Recorder<W>,
     out: O,
     err: E,
-    text: String,
     now_ms: u64,
     sessions: Sessions,
+    peers: Peers,
+    slots: Slots,
     fault: Option<EarlyEnd>,
-    /// Whether `out` did not take a text: then nothing more is printed.
-    is_mute: bool,
     record_fault: Option<RecordFault>,
 }
 
-impl<W: Write + Drop, O: Write, E: Write> Witness<W, O, E> {
-    /// A witness that has seen nothing.
-    pub fn new(alloc: Global, recorder: Recorder<W>, out: O, err: E) -> Self
-        ensures { result.recorder ≡ recorder }
+impl<W: RecordSink + Drop, O: LineSink, E: LineSink> Witness<W, O, E> {
+    /// A witness that has seen nothing of a device of this configuration. The fault: an allocation was refused.
+    pub fn new(
+        alloc: Global,
+        config: &Config,
+        recorder: Recorder<W>,
+        out: O,
+        err: E,
+    ) -> Result<Self, OutOfMemory>
+    where
+        O: Drop,
+        E: Drop,
+        ensures { IfOk result (λ witness. witness.recorder ≡ recorder) }
     {
-        Witness {
+        Ok(Witness {
             alloc,
             recorder,
             out,
             err,
-            text: String::new(alloc),
             now_ms: 0,
             sessions: Sessions::none(),
+            peers: Peers::none(alloc),
+            slots: Slots::of(alloc, config)?,
             fault: None,
-            is_mute: false,
             record_fault: None,
-        }
+        })
     }
 
     /// The milliseconds of all ticks.
@@ -67,7 +79,33 @@ impl<W: Write + Drop, O: Write, E: Write> Witness<W, O, E> {
         &self.sessions
     }
 
-    /// Fails once if an outcome could not be printed.
+    /// Appends the peers that have connections, if they may have changed since the last time. Whether they may have.
+    pub fn push_peers(&mut self, peers: &mut Vec<Node>) -> Result<bool, OutOfMemory>
+        ensures kept { self.new.recorder ≡ self.old.recorder }
+    {
+        self.peers.push_changed(peers)
+    }
+
+    /// Takes the next thing that the port is to be told of a slot's target.
+    pub fn next_duty(&mut self) -> Option<SlotDuty>
+        ensures kept { self.new.recorder ≡ self.old.recorder }
+    {
+        self.slots.next_duty()
+    }
+
+    /// Takes the next slot whose data never came.
+    pub fn next_starved(&mut self) -> Option<Starved>
+        ensures kept { self.new.recorder ≡ self.old.recorder }
+    {
+        self.slots.next_starved()
+    }
+
+    /// The target of a slot.
+    pub fn target(&self, slot: u32) -> Option<Node> {
+        self.slots.target(slot)
+    }
+
+    /// Fails once if there was no memory for what was seen.
     pub fn check(&mut self) -> Result<(), EarlyEnd>
         ensures kept { self.new.recorder ≡ self.old.recorder }
     {
@@ -77,47 +115,56 @@ impl<W: Write + Drop, O: Write, E: Write> Witness<W, O, E> {
         }
     }
 
-    /// Prints a text. After a failure nothing more is printed.
-    pub fn print(&mut self, text: &[u8]) -> Result<(), EarlyEnd>
+    /// Says a text on `out`.
+    pub fn print(&mut self, text: &[u8])
         ensures kept { self.new.recorder ≡ self.old.recorder }
     {
-        if self.is_mute || text.is_empty() {
-            return Ok(());
+        if !text.is_empty() {
+            self.out.line(text);
         }
-        if self.out.write_all(text).is_err() || self.out.flush().is_err() {
-            self.is_mute = true;
-            return Err(EarlyEnd::Write);
-        }
-        Ok(())
     }
 
-    /// Reports a line on `err`, as far as the stream takes it.
-    pub fn report(&mut self, line: &[u8])
+    /// Reports a text on `err`.
+    pub fn report(&mut self, text: &[u8])
         ensures kept { self.new.recorder ≡ self.old.recorder }
     {
-        let _ = self.err.write_all(line);
+        self.err.line(text);
     }
 
     /// Prints the outcome of the last event.
-    fn print_outcome(&mut self, outcome: &Outcome) -> Result<(), EarlyEnd>
+    fn print_outcome(&mut self, outcome: &Outcome) -> Result<(), OutOfMemory>
         ensures kept { self.new.recorder ≡ self.old.recorder }
     {
         let mut text = String::new(self.alloc);
         push_outcome(&mut text, self.recorder.count(), outcome)?;
-        self.print(text.as_bytes())
+        self.print(text.as_bytes());
+        Ok(())
     }
 
     /// Notes what the device has done.
-    fn see(&mut self, event: &Event, outcome: &Outcome)
+    fn see(&mut self, event: &Event, outcome: &Outcome) -> Result<(), OutOfMemory>
         ensures kept { self.new.recorder ≡ self.old.recorder }
     {
         self.sessions.see_event(event);
-        if let Ok(answer) = outcome {
-            self.sessions.see_notices(answer.notices.as_slice());
-            if let Event::Tick { ms } = event {
+        if let Event::Tick { ms } = event {
+            if outcome.is_ok() {
                 self.now_ms = self.now_ms.saturating_add(u64::from(*ms));
             }
         }
+        match outcome {
+            Ok(answer) => self.see_answer(event, answer),
+            Err(_) => Ok(()),
+        }
+    }
+
+    /// Notes what an answer says of connections and slots.
+    fn see_answer(&mut self, event: &Event, answer: &Answer) -> Result<(), OutOfMemory>
+        ensures kept { self.new.recorder ≡ self.old.recorder }
+    {
+        let notices = answer.notices.as_slice();
+        self.sessions.see_notices(notices);
+        self.peers.see(event, notices)?;
+        self.slots.see(event, answer)
     }
 
     /// Reports what has happened: why the record has ended, if it has, and the outcome, if it is printed.
@@ -127,34 +174,24 @@ impl<W: Write + Drop, O: Write, E: Write> Witness<W, O, E> {
         if let Some(fault) = ended {
             self.report_end(fault);
         }
-        self.see(event, outcome);
-        if has_news(event, outcome) {
-            if let Err(fault) = self.print_outcome(outcome) {
-                self.fault = Some(fault);
-            }
+        if self.see(event, outcome).is_err() {
+            self.fault = Some(EarlyEnd::OutOfMemory);
+        }
+        if has_news(event, outcome) && self.print_outcome(outcome).is_err() {
+            self.fault = Some(EarlyEnd::OutOfMemory);
         }
     }
 
-    /// Reports why the record has ended.
+    /// Reports that the record has ended.
     fn report_end(&mut self, fault: RecordFault)
         ensures kept { self.new.recorder ≡ self.old.recorder }
     {
         self.record_fault = Some(fault);
-        match fault {
-            RecordFault::Full => self.report(
-                b"eip_station: the record is full and has ended: a trace has at most 16777216 bytes\n",
-            ),
-            RecordFault::Write => self.report(
-                b"eip_station: the record cannot be written and has ended\n",
-            ),
-            RecordFault::OutOfMemory => self.report(
-                b"eip_station: no memory for the record, which has ended\n",
-            ),
-        }
+        self.report(b"eip_station: the record cannot take more and has ended\n");
     }
 }
 
-impl<W: Write + Drop, O: Write, E: Write> Observer for Witness<W, O, E> {
+impl<W: RecordSink + Drop, O: LineSink, E: LineSink> Observer for Witness<W, O, E> {
     ghost use Rattle.station_record.specs.Records.{Notes};
 
     ghost notes = { λ old event outcome new. Notes W.contents old.recorder event outcome new.recorder };

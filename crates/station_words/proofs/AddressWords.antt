@@ -1,14 +1,13 @@
 -- Addresses as words.
 use Rattle.std.proofs.Common.{◌≡◌, ℕ, List, [], ◌∷◌, ◌++◌, length, Option, Some, None, refl, sym, ap, subst, ◌∙◌, arith, eqb, false, cond}
-use Rattle.std.specs.Prelude.{option_and_then, option_map}
+use Rattle.std.specs.Prelude.{option_and_then}
 use Rattle.std.specs.Int.{w32, from_be_bytes}
 use Rattle.std.specs.Net.Grammar.{IsDotted, IsIpv4Text}
 use Rattle.std.specs.Net.Reader.{read_ipv4}
 use Rattle.std.specs.declared.net.ipv4_addr.Ipv4Addr.{Ipv4Addr}
 use Rattle.std.proofs.lemmas.Bool.Decides.{nat_tests}
-use Rattle.std.proofs.lemmas.List.{append-nil, append_assoc}
+use Rattle.std.proofs.lemmas.List.{append-nil}
 use Rattle.std.proofs.NetLemmas.Ipv4.{read_ipv4_complete, read_ipv4_sound}
-use Rattle.cip_types.specs.declared.names.Node.{Node}
 use Rattle.trace_words.specs.Words.{node_of, address_bytes_only}
 
 pub node_found : (word octets : List ℕ) (bits : ℕ) → IsDotted word octets → bits ≡ from_be_bytes w32 octets → Some (record { 0 = bits }) ≡ node_of word

@@ -1,32 +1,30 @@
 -- The options of words, one option after another. The words are seen as their texts.
 use Rattle.std.proofs.lemmas.List.{length-map}
-use Rattle.std.proofs.Common.{suc, map, ◌+◌, arith, ◌≡◌, ℕ, List, [], ◌∷◌, length, Option, Some, None, Result, Ok, Err, true, refl, sym, ap, ◌∙◌}
-use Rattle.station_words.specs.Options.{and_then, chosen, options_after, option_of, with_value}
+use Rattle.std.proofs.Common.{map, ◌+◌, arith, ◌≡◌, ℕ, List, [], ◌∷◌, length, Some, None, Result, Ok, Err, sym, ap, ◌∙◌}
+use Rattle.station_words.specs.Options.{and_then, chosen, options_after, option_of, with_flag, with_value}
 use Rattle.station_words.specs.declared.options.Options.{Options}
 use Rattle.station_words.specs.declared.options.Setting.{Setting}
+use Rattle.station_words.specs.declared.options.Flag.{Flag}
 use Rattle.station_words.specs.declared.options.OptionName.TheVariants as name
 use Rattle.station_words.specs.declared.options.Misuse.{Misuse}
 use Rattle.station_words.specs.declared.options.Misuse.TheVariants as misuse
-
-abbrev with_flag : Options → Options
-with_flag options = record options { multicast = true }
 
 abbrev after_value : Options → List ℕ → List (List ℕ) → Setting → Result Options Misuse
 after_value options value rest named = and_then (λ next. options_after next rest) (with_value options named value (length (value ∷ rest)))
 
 -- a word that names no option
 unknown : (options : Options) (first : List ℕ) (rest : List (List ℕ)) → option_of first ≡ None → options_after options (first ∷ rest) ≡ Err (misuse.NoSuchOption (length (first ∷ rest)))
-unknown options first [] is = ap (λ o. chosen (Err (misuse.NoSuchOption 1)) (Ok (with_flag options)) (λ _. Err (misuse.NoValue 1)) o) is
-unknown options first (value ∷ rest) is = ap (λ o. chosen (Err (misuse.NoSuchOption (length (first ∷ value ∷ rest)))) (options_after (with_flag options) (value ∷ rest)) (after_value options value rest) o) is
+unknown options first [] is = ap (λ o. chosen (Err (misuse.NoSuchOption 1)) (λ given. Ok (with_flag options given)) (λ _. Err (misuse.NoValue 1)) o) is
+unknown options first (value ∷ rest) is = ap (λ o. chosen (Err (misuse.NoSuchOption (length (first ∷ value ∷ rest)))) (λ given. options_after (with_flag options given) (value ∷ rest)) (after_value options value rest) o) is
 
--- the option without a value
-flag : (options : Options) (first : List ℕ) (rest : List (List ℕ)) → option_of first ≡ Some name.Multicast → options_after options (first ∷ rest) ≡ options_after (with_flag options) rest
-flag options first [] is = ap (λ o. chosen (Err (misuse.NoSuchOption 1)) (Ok (with_flag options)) (λ _. Err (misuse.NoValue 1)) o) is
-flag options first (value ∷ rest) is = ap (λ o. chosen (Err (misuse.NoSuchOption (length (first ∷ value ∷ rest)))) (options_after (with_flag options) (value ∷ rest)) (after_value options value rest) o) is
+-- an option without a value
+flag : (options : Options) (given : Flag) (first : List ℕ) (rest : List (List ℕ)) → option_of first ≡ Some (name.Alone given) → options_after options (first ∷ rest) ≡ options_after (with_flag options given) rest
+flag options given first [] is = ap (λ o. chosen (Err (misuse.NoSuchOption 1)) (λ given. Ok (with_flag options given)) (λ _. Err (misuse.NoValue 1)) o) is
+flag options given first (value ∷ rest) is = ap (λ o. chosen (Err (misuse.NoSuchOption (length (first ∷ value ∷ rest)))) (λ given. options_after (with_flag options given) (value ∷ rest)) (after_value options value rest) o) is
 
 -- an option with its value
 valued : (options : Options) (first value : List ℕ) (rest : List (List ℕ)) (named : Setting) → option_of first ≡ Some (name.Valued named) → options_after options (first ∷ value ∷ rest) ≡ after_value options value rest named
-valued options first value rest named is = ap (λ o. chosen (Err (misuse.NoSuchOption (length (first ∷ value ∷ rest)))) (options_after (with_flag options) (value ∷ rest)) (after_value options value rest) o) is
+valued options first value rest named is = ap (λ o. chosen (Err (misuse.NoSuchOption (length (first ∷ value ∷ rest)))) (λ given. options_after (with_flag options given) (value ∷ rest)) (after_value options value rest) o) is
 
 pub unknown_left : {X : Type 0} (text : X → List ℕ) (options : Options) (first : List ℕ) (after : List X) (left : ℕ) → left ≡ length after + 1 → None ≡ option_of first → options_after options (first ∷ map text after) ≡ Err (misuse.NoSuchOption left)
 unknown_left text options first after left count is =
@@ -34,12 +32,12 @@ unknown_left text options first after left count is =
     let long : length (first ∷ map text after) ≡ left = omega (arith, count, same) in
     unknown options first (map text after) (sym is) ∙ ap (λ n. Err (misuse.NoSuchOption n)) long
 
-pub flagged : {X : Type 0} (text : X → List ℕ) (options next : Options) (first : List ℕ) (after : List X) → Some name.Multicast ≡ option_of first → next ≡ record options { multicast = true } → options_after options (first ∷ map text after) ≡ options_after next (map text after)
-flagged text options next first after is given = flag options first (map text after) (sym is) ∙ ap (λ o. options_after o (map text after)) (sym given)
+pub flagged : {X : Type 0} (text : X → List ℕ) (options next : Options) (given : Flag) (first : List ℕ) (after : List X) → Some (name.Alone given) ≡ option_of first → next ≡ with_flag options given → options_after options (first ∷ map text after) ≡ options_after next (map text after)
+flagged text options next given first after is made = flag options given first (map text after) (sym is) ∙ ap (λ o. options_after o (map text after)) (sym made)
 
 pub lone_left : {X : Type 0} (text : X → List ℕ) (options : Options) (first : List ℕ) (named : Setting) (after : List X) (left : ℕ) → length after ≡ 0 → left ≡ length after + 1 → Some (name.Valued named) ≡ option_of first → options_after options (first ∷ map text after) ≡ Err (misuse.NoValue left)
 lone_left text options first named [] left none count is =
-    ap (λ o. chosen (Err (misuse.NoSuchOption 1)) (Ok (with_flag options)) (λ _. Err (misuse.NoValue 1)) o) (sym is)
+    ap (λ o. chosen (Err (misuse.NoSuchOption 1)) (λ given. Ok (with_flag options given)) (λ _. Err (misuse.NoValue 1)) o) (sym is)
     ∙ ap (λ n. Err (misuse.NoValue n)) (sym count)
 lone_left text options first named (value ∷ rest) left none count is = absurd (omega (arith, none))
 

@@ -15,10 +15,12 @@ abbrev pub command_meanings : Meanings (Option Command)
 command_meanings =
     (codes "adapter", Some command.Adapter)
     ∷ (codes "scanner", Some command.Scanner)
+    ∷ (codes "replay", Some command.Replay)
     ∷ (codes "pcap", Some command.Pcap)
     ∷ (codes "explain", Some command.Explain)
     ∷ (codes "--help", Some command.Help)
     ∷ (codes "-h", Some command.Help)
+    ∷ (codes "--version", Some command.Version)
     ∷ []
 
 unfoldable pub command_of : List ℕ → Option Command
@@ -34,19 +36,20 @@ abbrev pub station_of : Bool → List (List ℕ) → Result Task Misuse
 station_of scanner [] = Err misuse.NoFile
 station_of scanner (file ∷ rest) = station_with scanner (options_after usual rest)
 
--- a task whose one word is the name of its file
-abbrev pub alone : Task → List (List ℕ) → Result Task Misuse
-alone only [] = Err misuse.NoFile
-alone only (file ∷ []) = Ok only
-alone only (file ∷ more ∷ rest) = Err (misuse.NoSuchOption (length (more ∷ rest)))
+-- a task whose words are the names of its files
+abbrev pub of_files : Task → List (List ℕ) → Result Task Misuse
+of_files given [] = Err misuse.NoFile
+of_files given (file ∷ files) = Ok given
 
 -- the task of a command with the words behind it
 abbrev pub task_with : Command → List (List ℕ) → Result Task Misuse
 task_with command.Help words = Ok task.Help
+task_with command.Version words = Ok task.Version
 task_with command.Adapter words = station_of false words
 task_with command.Scanner words = station_of true words
-task_with command.Pcap words = alone task.Pcap words
-task_with command.Explain words = alone task.Explain words
+task_with command.Replay words = of_files task.Replay words
+task_with command.Pcap words = of_files task.Pcap words
+task_with command.Explain words = of_files task.Explain words
 
 -- the task of a command, if the word names one
 abbrev pub task_named : Option Command → ℕ → List (List ℕ) → Result Task Misuse

@@ -5,5 +5,5 @@ mod numbers;
 mod options;
 mod task;
 
-pub use options::{Misuse, OptionName, Options, Setting};
+pub use options::{Flag, Misuse, OptionName, Options, Setting};
 pub use task::{Command, StationTask, Task, read_task};

@@ -1,13 +1,21 @@
 //! The options of a station.
 
 ghost use Rattle.std.specs.Prelude.{◌≡◌, ◌≤◌, ◌+◌, ◌∷◌, Err, true, length, map, IfOk, IfErr};
-ghost use Rattle.station_words.specs.Options.{option_of, options_after, usual, with_port, with_value};
+ghost use Rattle.station_words.specs.Options.{option_of, options_after, usual, with_file, with_flag, with_name, with_number, with_port, with_value};
 
-use crate::numbers::{address_of, port_of, seconds_of};
+use crate::numbers::{address_of, inactivity_of, incarnation_of, port_of, seconds_of, serial_of};
 use cip_types::Node;
 use cip_types::limits::{TCP_PORT, UDP_PORT};
 use std::convert::AsStr;
 use thiserror::Error;
+
+/// The seconds for which an adapter's stream may be silent, if no option says it.
+///
+/// Volume 2, chapter 5, encapsulation inactivity timeout of the TCP/IP Interface object.
+const USUAL_INACTIVITY_S: u16 = 120;
+
+/// The longest name of a station, in bytes.
+const LONGEST_NAME: usize = 32;
 
 /// The options of a station, with the usual values of those that are left out.
 #[derive(Clone, Copy, PartialEq, Eq)]
@@ -24,8 +32,22 @@ pub struct Options {
     pub seconds: Option<u32>,
     /// The number of words from the record's file on.
     pub record_left: Option<usize>,
+    /// The number of words from the file of the station's state on.
+    pub state_left: Option<usize>,
+    /// The incarnation of this start.
+    pub incarnation: Option<u8>,
+    /// The seconds for which an adapter's stream may be silent; 0: without end.
+    pub inactivity_s: u16,
+    /// The station's serial number.
+    pub serial: Option<u32>,
+    /// The number of words from the station's name on.
+    pub name_left: Option<usize>,
     /// Whether T->O datagrams go once to the address of their group.
     pub multicast: bool,
+    /// Whether the standard input is not read.
+    pub no_input: bool,
+    /// Whether only faults are reported.
+    pub quiet: bool,
 }
 
 /// The name of an option that has a value.
@@ -37,13 +59,26 @@ pub enum Setting {
     PeerUdp,
     Seconds,
     Record,
+    State,
+    Incarnation,
+    Inactivity,
+    Serial,
+    Name,
+}
+
+/// The name of an option that has no value.
+#[derive(Clone, Copy, PartialEq, Eq)]
+pub enum Flag {
+    Multicast,
+    NoInput,
+    Quiet,
 }
 
 /// The name of an option.
 #[derive(Clone, Copy, PartialEq, Eq)]
 pub enum OptionName {
-    /// The option that has no value.
-    Multicast,
+    /// An option without a value.
+    Alone(Flag),
     /// An option with a value, which is the next word.
     Valued(Setting),
 }
@@ -85,7 +120,14 @@ fn usual() -> Options
         peer_udp: UDP_PORT,
         seconds: None,
         record_left: None,
+        state_left: None,
+        incarnation: None,
+        inactivity_s: USUAL_INACTIVITY_S,
+        serial: None,
+        name_left: None,
         multicast: false,
+        no_input: false,
+        quiet: false,
     }
 }
 
@@ -101,7 +143,14 @@ fn option_of(word: &str) -> Option<OptionName>
         "--peer-udp" => Some(OptionName::Valued(Setting::PeerUdp)),
         "--seconds" => Some(OptionName::Valued(Setting::Seconds)),
         "--record" => Some(OptionName::Valued(Setting::Record)),
-        "--multicast" => Some(OptionName::Multicast),
+        "--state" => Some(OptionName::Valued(Setting::State)),
+        "--incarnation" => Some(OptionName::Valued(Setting::Incarnation)),
+        "--inactivity" => Some(OptionName::Valued(Setting::Inactivity)),
+        "--serial" => Some(OptionName::Valued(Setting::Serial)),
+        "--name" => Some(OptionName::Valued(Setting::Name)),
+        "--multicast" => Some(OptionName::Alone(Flag::Multicast)),
+        "--no-input" => Some(OptionName::Alone(Flag::NoInput)),
+        "--quiet" => Some(OptionName::Alone(Flag::Quiet)),
         _ => None,
     }
 }
@@ -138,7 +187,7 @@ fn with_option<'a, S: AsStr>(
 {
     match option_of(name) {
         None => Err(Misuse::NoSuchOption(left)),
-        Some(OptionName::Multicast) => Ok((with_flag(options), after)),
+        Some(OptionName::Alone(flag)) => Ok((with_flag(options, flag), after)),
         Some(OptionName::Valued(setting)) => {
             let Some((value, behind)) = after.split_first() else {
                 return Err(Misuse::NoValue(left));
@@ -151,13 +200,23 @@ fn with_option<'a, S: AsStr>(
     }
 }
 
-/// The options with the one that has no value.
-fn with_flag(options: Options) -> Options
-    ensures { result ≡ record options { multicast = true } }
+/// The options with one that has no value.
+fn with_flag(options: Options, flag: Flag) -> Options
+    ensures { result ≡ with_flag options flag }
 {
-    Options {
-        multicast: true,
-        ..options
+    match flag {
+        Flag::Multicast => Options {
+            multicast: true,
+            ..options
+        },
+        Flag::NoInput => Options {
+            no_input: true,
+            ..options
+        },
+        Flag::Quiet => Options {
+            quiet: true,
+            ..options
+        },
     }
 }
 
@@ -178,21 +237,73 @@ fn with_value(
             }),
             None => Err(Misuse::BadAddress(left)),
         },
-        Setting::Seconds => match seconds_of(word) {
-            Some(seconds) => Ok(Options {
-                seconds: Some(seconds),
-                ..options
-            }),
-            None => Err(Misuse::BadValue(left)),
-        },
-        Setting::Record => Ok(Options {
-            record_left: Some(left),
-            ..options
-        }),
+        Setting::Record | Setting::State => Ok(with_file(options, setting, left)),
+        Setting::Name => with_name(options, word, left),
         Setting::Tcp | Setting::Udp | Setting::PeerUdp => match port_of(word) {
             Some(port) => Ok(with_port(options, setting, port)),
             None => Err(Misuse::BadValue(left)),
         },
+        Setting::Seconds | Setting::Incarnation | Setting::Inactivity | Setting::Serial => {
+            match with_number(options, setting, word) {
+                Some(options) => Ok(options),
+                None => Err(Misuse::BadValue(left)),
+            }
+        }
+    }
+}
+
+/// The options with the file of one of them, from which on so many words are left.
+fn with_file(options: Options, setting: Setting, left: usize) -> Options
+    ensures { result ≡ with_file options setting left }
+{
+    match setting {
+        Setting::Record => Options {
+            record_left: Some(left),
+            ..options
+        },
+        Setting::State => Options {
+            state_left: Some(left),
+            ..options
+        },
+        _ => options,
+    }
+}
+
+/// The options with a name, from which on so many words are left: it has 1 to 32 bytes.
+fn with_name(options: Options, word: &str, left: usize) -> Result<Options, Misuse>
+    ensures { result ≡ with_name options word.now left }
+{
+    if word.is_empty() || word.len() > LONGEST_NAME {
+        return Err(Misuse::BadValue(left));
+    }
+    Ok(Options {
+        name_left: Some(left),
+        ..options
+    })
+}
+
+/// The options with a number for one of them, which is not a port; None if the word is no such number.
+fn with_number(options: Options, setting: Setting, word: &str) -> Option<Options>
+    ensures { result ≡ with_number options setting word.now }
+{
+    match setting {
+        Setting::Seconds => Some(Options {
+            seconds: Some(seconds_of(word)?),
+            ..options
+        }),
+        Setting::Incarnation => Some(Options {
+            incarnation: Some(incarnation_of(word)?),
+            ..options
+        }),
+        Setting::Inactivity => Some(Options {
+            inactivity_s: inactivity_of(word)?,
+            ..options
+        }),
+        Setting::Serial => Some(Options {
+            serial: Some(serial_of(word)?),
+            ..options
+        }),
+        _ => None,
     }
 }
 

@@ -1,7 +1,7 @@
 //! The task that a command line requests.
 
 ghost use Rattle.std.specs.Prelude.{◌≡◌, map};
-ghost use Rattle.station_words.specs.Tasks.{alone, command_of, station_of, task_of, task_with};
+ghost use Rattle.station_words.specs.Tasks.{command_of, of_files, station_of, task_of, task_with};
 
 use crate::options::{Misuse, Options, read_options};
 use std::convert::AsStr;
@@ -13,12 +13,16 @@ pub enum Command {
     Adapter,
     /// Keeps the connections of a profile open.
     Scanner,
+    /// Plays a trace.
+    Replay,
     /// Writes a trace as a capture file.
     Pcap,
     /// Explains a trace in words.
     Explain,
     /// Prints how the program is used.
     Help,
+    /// Prints which version of the program it is.
+    Version,
 }
 
 /// A station: whether it is a scanner, and its options. Its profile is the third word.
@@ -35,9 +39,13 @@ pub enum Task {
     Help,
     /// Runs a station.
     Station(StationTask),
-    /// Writes the trace, whose file is the third word, as a capture file.
+    /// Prints which version of the program it is.
+    Version,
+    /// Plays the trace of the files from the third word on.
+    Replay,
+    /// Writes the trace of the files from the third word on as a capture file.
     Pcap,
-    /// Tells the trace, whose file is the third word, in words.
+    /// Tells the trace of the files from the third word on in words.
     Explain,
 }
 
@@ -49,19 +57,21 @@ fn command_of(word: &str) -> Option<Command>
     match word {
         "adapter" => Some(Command::Adapter),
         "scanner" => Some(Command::Scanner),
+        "replay" => Some(Command::Replay),
         "pcap" => Some(Command::Pcap),
         "explain" => Some(Command::Explain),
         "--help" => Some(Command::Help),
         "-h" => Some(Command::Help),
+        "--version" => Some(Command::Version),
         _ => None,
     }
 }
 
 /// The task that the words request. The first word is the program's own name, the second the command, the third the name
-/// of a file, and options follow.
+/// of a file. Options follow the profile of a station, and more files may follow that of a trace.
 ///
 /// The faults, in order: `NoCommand`, `NoSuchCommand`, `NoFile`, and those of the options at the first word that is
-/// wrong. The words behind `--help` are not read.
+/// wrong. The words behind `--help` and `--version` are not read.
 pub fn read_task<S: AsStr>(words: &[S]) -> Result<Task, Misuse>
     ensures { result ≡ task_of (map S.text words.now) }
 {
@@ -84,9 +94,11 @@ fn task_with<S: AsStr>(command: Command, words: &[S]) -> Result<Task, Misuse>
     match command {
         Command::Adapter => station_of(false, words),
         Command::Scanner => station_of(true, words),
-        Command::Pcap => alone(Task::Pcap, words),
-        Command::Explain => alone(Task::Explain, words),
+        Command::Replay => of_files(Task::Replay, words),
+        Command::Pcap => of_files(Task::Pcap, words),
+        Command::Explain => of_files(Task::Explain, words),
         Command::Help => Ok(Task::Help),
+        Command::Version => Ok(Task::Version),
     }
 }
 
@@ -103,15 +115,12 @@ fn station_of<S: AsStr>(scanner: bool, words: &[S]) -> Result<Task, Misuse>
     }
 }
 
-/// A task whose one word is the name of its file.
-fn alone<S: AsStr>(task: Task, words: &[S]) -> Result<Task, Misuse>
-    ensures { result ≡ alone task (map S.text words.now) }
+/// A task whose words are the names of its files, of which there is one or more.
+fn of_files<S: AsStr>(task: Task, words: &[S]) -> Result<Task, Misuse>
+    ensures { result ≡ of_files task (map S.text words.now) }
 {
-    let Some((_file, rest)) = words.split_first() else {
+    if words.is_empty() {
         return Err(Misuse::NoFile);
-    };
-    match rest.split_first() {
-        None => Ok(task),
-        Some(_) => Err(Misuse::NoSuchOption(rest.len())),
     }
+    Ok(task)
 }

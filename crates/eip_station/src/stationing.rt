@@ -1,0 +1,284 @@
+//! A station from its words to its end.
+
+use crate::draining::{drain_lines, drain_record, report_line};
+use crate::failure::Failure;
+use crate::identity::{identity_of, name_of, stem_of};
+use crate::moment::push_moment;
+use crate::opening::{adapter_port, place_of, scanner_port};
+use crate::profiles::{incarnation_of, profile_of, with_incarnation};
+use crate::program::line_of;
+use crate::record_file::place_of_record;
+use crate::record_queue::Entries;
+use crate::rim::Rim;
+use crate::states::begin_in_file;
+use adapter_engine::FastAdapter;
+use cip_tables::{Config, Device};
+use kept_port::KeptPort;
+use scanner_engine::FastScanner;
+use socket_port::SystemClock;
+use station::{Ending, NoLines, Station, Voice, Witness, run_station};
+use station_port::{StationPlace, StationPort};
+use station_record::Recorder;
+use station_state::StationState;
+use station_words::{Options, StationTask};
+use std::alloc::Global;
+use std::fs::File;
+use std::net::Net;
+use std::random::RandomSource;
+use std::rt::{Clock, Files};
+use std::sync::Wait;
+use version::VERSION;
+
+/// The mask of a network of one address.
+const NO_NETWORK: u32 = 0xFFFF_FFFF;
+
+/// The words of a station, its options, and what it shares with its threads.
+#[derive(Clone, Copy)]
+struct Setting<'a, R> {
+    rt: R,
+    words: &'a [String],
+    options: &'a Options,
+    rim: &'a Rim,
+}
+
+/// Runs a station to its end, and reports its failure.
+pub fn run_task<R>(rt: R, words: &[String], task: StationTask, rim: &Rim) -> Result<(), Failure>
+where
+    R: AllocGlobal + Files<File = File> + Clock + Net + RandomSource + Wait + Copy + Drop,
+{
+    let setting = Setting {
+        rt,
+        words,
+        options: &task.options,
+        rim,
+    };
+    let ran = begin(&setting, task.scanner);
+    let done = with_record(&setting, ran);
+    if let Err(failure) = done {
+        match line_of(rt.alloc(), words, failure) {
+            Ok(line) => report_line(rt, rim, line.as_bytes()),
+            Err(_) => report_line(rt, rim, b"eip_station: no memory\n"),
+        }
+    }
+    drain_lines(&rt, rim);
+    done
+}
+
+/// The outcome of a station with that of its record: if the record was not written whole, this is told here.
+fn with_record<R>(setting: &Setting<'_, R>, ran: Result<(), Failure>) -> Result<(), Failure>
+where
+    R: Clock + Wait + Copy + Drop,
+{
+    if setting.options.record_left.is_none() {
+        return ran;
+    }
+    let whole = drain_record(&setting.rt, setting.rim);
+    ran?;
+    if whole {
+        return Ok(());
+    }
+    report_line(
+        setting.rt,
+        setting.rim,
+        b"eip_station: the record cannot take more and has ended\n",
+    );
+    Err(Failure::RecordEnd)
+}
+
+/// Reads the profile, begins the state, and runs the station.
+fn begin<R>(setting: &Setting<'_, R>, scanner: bool) -> Result<(), Failure>
+where
+    R: AllocGlobal + Files<File = File> + Clock + Net + RandomSource + Wait + Copy + Drop,
+{
+    let config = profile_of(setting.rt, setting.rim, file_of(setting.words), scanner)?;
+    let state = state_of(setting, incarnation_of(&config))?;
+    let config = with_incarnation(config, state.incarnation);
+    open(setting, config, state)
+}
+
+/// The state of this start.
+fn state_of<R>(setting: &Setting<'_, R>, own: u8) -> Result<StationState, Failure>
+where
+    R: AllocGlobal + Files<File = File> + RandomSource + Wait + Copy + Drop,
+{
+    let options = setting.options;
+    if let (Some(incarnation), None) = (options.incarnation, options.state_left) {
+        return Ok(StationState {
+            incarnation,
+            serial: 0,
+        });
+    }
+    let alloc = setting.rt.alloc();
+    let path = match options.state_left {
+        Some(left) => format!(in alloc; "{}", word_left(setting.words, left))?,
+        None => format!(in alloc; "{}.state", file_of(setting.words))?,
+    };
+    match begin_in_file(&setting.rt, path.as_str(), options.incarnation, own) {
+        Ok(state) => Ok(state),
+        Err(failure) => {
+            if matches!(failure, Failure::State | Failure::NoState) {
+                let line = format!(in alloc; "eip_station: {path} {failure}\n")?;
+                report_line(setting.rt, setting.rim, line.as_bytes());
+            }
+            Err(failure)
+        }
+    }
+}
+
+/// Opens the port of a station, begins its record, and runs it.
+fn open<R>(setting: &Setting<'_, R>, config: Config, state: StationState) -> Result<(), Failure>
+where
+    R: AllocGlobal + Files<File = File> + Clock + Net + Wait + Copy + Drop,
+{
+    let options = setting.options;
+    let alloc = setting.rt.alloc();
+    match &config {
+        Config::Adapter(profile) => {
+            let place = place_of(options, profile.node, profile.mask);
+            let serial = options.serial.unwrap_or(state.serial);
+            let identity = identity_of(alloc, profile.identity, serial, station_name(setting))?;
+            let port = adapter_port(setting.rt, &place, identity)?;
+            let start = start_line(setting, "adapter", &place, state.incarnation)?;
+            serve::<FastAdapter, _>(setting, &config, port, start.as_str(), 0)
+        }
+        Config::Scanner(profile) => {
+            // (a scanner is not found by inquiries)
+            let place = place_of(options, profile.node, NO_NETWORK);
+            let port = scanner_port(setting.rt, &place, profile)?;
+            let slots = u32::try_from(profile.slots.as_slice().len()).unwrap_or(0);
+            let start = start_line(setting, "scanner", &place, state.incarnation)?;
+            serve::<FastScanner, _>(setting, &config, port, start.as_str(), slots)
+        }
+    }
+}
+
+/// The name of a station: that of its options, or that of its profile's file.
+fn station_name<'a, R>(setting: &Setting<'a, R>) -> &'a str {
+    match setting.options.name_left {
+        Some(left) => word_left(setting.words, left),
+        None => stem_of(file_of(setting.words)),
+    }
+}
+
+/// The line that says which station has started.
+fn start_line<R>(
+    setting: &Setting<'_, R>,
+    kind: &str,
+    place: &StationPlace,
+    incarnation: u8,
+) -> Result<String, Failure>
+where
+    R: AllocGlobal + Copy + Drop,
+{
+    let alloc = setting.rt.alloc();
+    let profile = name_of(file_of(setting.words));
+    let mut line = format!(in alloc; "eip_station: {kind} {profile} at ")?;
+    trace_words::push_node(&mut line, place.address)?;
+    let (tcp, udp) = (place.tcp, place.udp);
+    write!(line, ", TCP {tcp}, UDP {udp}, incarnation {incarnation}, ")?;
+    match setting.options.record_left {
+        Some(left) => {
+            let record = word_left(setting.words, left);
+            write!(line, "record {record}\n")?;
+        }
+        None => line.push_str("no record\n")?,
+    }
+    Ok(line)
+}
+
+/// Runs a device at a port until its time is over or the standard input ends.
+fn serve<D, R>(
+    setting: &Setting<'_, R>,
+    config: &Config,
+    port: StationPort<R>,
+    start: &str,
+    slots: u32,
+) -> Result<(), Failure>
+where
+    D: Device + Drop,
+    R: AllocGlobal + Files<File = File> + Clock + Net + Wait + Copy + Drop,
+{
+    let rt = setting.rt;
+    let alloc = rt.alloc();
+    let waker = port.waker()?;
+    let recorder = recorder_of(setting, config)?;
+    if !setting.options.quiet {
+        report_line(rt, setting.rim, start.as_bytes());
+    }
+    let (out, err) = (setting.rim.out.sink(rt)?, setting.rim.err.sink(rt)?);
+    let witness = Witness::new(alloc, config, recorder, out, err)?;
+    let device = D::new(alloc, config.copy(alloc)?)?;
+    let clock = SystemClock::new(rt);
+    let voice = Voice {
+        quiet: setting.options.quiet,
+        silent_s: setting.options.inactivity_s,
+    };
+    let mut station = Station::new(alloc, config, port, clock, device, witness, voice)?;
+    let ending = ending_of(setting.options, slots);
+    let ended = if setting.options.no_input {
+        run_station(&mut station, &mut NoLines, ending)
+    } else {
+        let mut lines = setting.rim.input.share()?.lines(rt, waker);
+        run_station(&mut station, &mut lines, ending)
+    };
+    ended?;
+    match station.record_fault() {
+        Some(_) => Err(Failure::RecordEnd),
+        None => Ok(()),
+    }
+}
+
+/// When a station of so many slots ends.
+fn ending_of(options: &Options, slots: u32) -> Ending {
+    Ending {
+        slots,
+        ms: options.seconds.map(|seconds| u64::from(seconds) * 1_000),
+    }
+}
+
+/// The recorder of a station, over a new file if one is named.
+fn recorder_of<R>(
+    setting: &Setting<'_, R>,
+    config: &Config,
+) -> Result<Recorder<Entries<R>>, Failure>
+where
+    R: AllocGlobal + Files<File = File> + Clock + Wait + Copy + Drop,
+{
+    let rt = setting.rt;
+    let alloc = rt.alloc();
+    let Some(left) = setting.options.record_left else {
+        return Ok(Recorder::idle(alloc));
+    };
+    let path = format!(in alloc; "{}", word_left(setting.words, left))?;
+    let Ok(place) = place_of_record(&rt, alloc, path) else {
+        return Err(Failure::Record);
+    };
+    let entries = setting.rim.record.entries(rt, place)?;
+    let head = head_of(&rt)?;
+    Ok(Recorder::begin(alloc, config, head.as_str(), entries)?)
+}
+
+/// The first line of a record: when it begins, and which program writes it.
+fn head_of<R: AllocGlobal + Clock>(rt: &R) -> Result<String, Failure> {
+    let ms = match rt.since_1970() {
+        Ok(time) => u64::try_from(time.as_millis()).unwrap_or(0),
+        Err(_) => 0,
+    };
+    let mut head = format!(in rt.alloc(); "# recorded from ")?;
+    push_moment(&mut head, ms)?;
+    write!(head, " by eip_station {VERSION}\n")?;
+    Ok(head)
+}
+
+/// The file that the words name.
+fn file_of(words: &[String]) -> &str {
+    word_left(words, words.len().saturating_sub(2))
+}
+
+/// The word from which on so many words are left.
+fn word_left(words: &[String], left: usize) -> &str {
+    match words.get(words.len().saturating_sub(left)) {
+        Some(word) => word.as_str(),
+        None => "",
+    }
+}

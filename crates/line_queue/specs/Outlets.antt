@@ -1,0 +1,83 @@
+-- The lines of an output, of which those that do not fit are counted.
+use Rattle.std.specs.Prelude.{ℕ, ◌≡◌, ◌+◌, ◌==◌, ◌&&◌, if◌then◌else◌, Bool, true, false, List, [], ◌∷◌, ◌++◌, codes, decimal, Option, Some, None}
+use Rattle.line_queue.specs.Queues.{Queue, empty_queue, has_room, is_empty, up_to_end, with_pushed, without_first}
+use Rattle.line_queue.specs.declared.outlet.NoticeForm.{NoticeForm}
+use Rattle.line_queue.specs.declared.outlet.NoticeForm.TheVariants.{Comment, Report}
+use Rattle.line_queue.specs.declared.outlet.Offer.{Offer}
+use Rattle.line_queue.specs.declared.outlet.Offer.TheVariants as offer
+
+-- the texts on their way, and the number of lines that were lost behind them
+pub record Outlet : Type 0 where
+  pub form : NoticeForm
+  pub queue : Queue
+  pub lost : ℕ
+
+abbrev pub new_outlet : NoticeForm → ℕ → ℕ → Outlet
+new_outlet form most_bytes most_pieces = record { form = form; queue = empty_queue most_bytes most_pieces; lost = 0 }
+
+-- nothing is on its way, and no line is lost that was not told
+abbrev pub is_idle : Outlet → Bool
+is_idle outlet = is_empty outlet.queue && (outlet.lost == 0)
+
+-- the number of lines of a text, from a number on
+abbrev pub lines_on : ℕ → List ℕ → ℕ
+lines_on count [] = count
+lines_on count (byte ∷ bytes) = lines_on (if byte == 10 then up_to_end (count + 1) else count) bytes
+
+abbrev pub lines_of : List ℕ → ℕ
+lines_of text = lines_on 0 text
+
+-- THE NOTICE
+
+abbrev pub notice_front : NoticeForm → List ℕ
+notice_front Comment = codes "# "
+notice_front Report = codes "eip_station: "
+
+-- how many lines are lost
+abbrev pub notice_text : NoticeForm → ℕ → List ℕ
+notice_text form lost = notice_front form ++ (decimal lost ++ codes " lines are lost here: nobody read them\n")
+
+-- no lines are lost, so there is no notice
+abbrev pub notice_of : NoticeForm → ℕ → List ℕ
+notice_of form lost = if lost == 0 then [] else notice_text form lost
+
+-- OFFERING
+
+-- a text that is offered, behind the notice of the lines that were lost before it
+abbrev pub offered_text : Outlet → List ℕ → List ℕ
+offered_text outlet text = notice_of outlet.form outlet.lost ++ text
+
+-- it is taken whole
+abbrev pub with_text : Outlet → List ℕ → Outlet
+with_text outlet text = record outlet { queue = with_pushed outlet.queue (offered_text outlet text); lost = 0 }
+
+-- its lines are lost
+abbrev pub with_lost : Outlet → List ℕ → Outlet
+with_lost outlet text = record outlet { lost = up_to_end (outlet.lost + lines_of text) }
+
+-- What became of a text that was offered: it is taken only if it fits with its notice, and for want of room it is lost only
+-- if it does not.
+abbrev pub Dealt : Outlet → List ℕ → Offer → Outlet → Type 0
+Dealt old text offer.Taken new = (has_room old.queue (offered_text old text) ≡ true) × (new ≡ with_text old text)
+Dealt old text offer.Full new = (has_room old.queue (offered_text old text) ≡ false) × (new ≡ with_lost old text)
+Dealt old text offer.OutOfMemory new = new ≡ with_lost old text
+
+-- TAKING
+
+-- the oldest text, or else the notice
+abbrev pub notice_only : NoticeForm → ℕ → Option (List ℕ)
+notice_only form lost = if lost == 0 then None else Some (notice_text form lost)
+
+abbrev pub taken_of : NoticeForm → ℕ → List (List ℕ) → Option (List ℕ)
+taken_of form lost [] = notice_only form lost
+taken_of form lost (piece ∷ pieces) = Some piece
+
+abbrev pub taken_text : Outlet → Option (List ℕ)
+taken_text outlet = taken_of outlet.form outlet.lost outlet.queue.pieces
+
+abbrev pub after_of : Outlet → List (List ℕ) → Outlet
+after_of outlet [] = record outlet { lost = 0 }
+after_of outlet (piece ∷ pieces) = record outlet { queue = without_first outlet.queue }
+
+abbrev pub outlet_after : Outlet → Outlet
+outlet_after outlet = after_of outlet outlet.queue.pieces

@@ -1,0 +1,23 @@
+-- Texts that are appended one behind another.
+use Rattle.std.proofs.Common.{◌≡◌, ℕ, List, ◌++◌, ap, ◌∙◌}
+use Rattle.std.proofs.lemmas.List.{append_assoc}
+
+-- two texts
+pub two : (old one new a b : List ℕ) → one ≡ old ++ a → new ≡ one ++ b → new ≡ old ++ (a ++ b)
+two old one new a b first second = second ∙ ap (λ t. t ++ b) first ∙ append_assoc old a b
+
+-- three texts
+pub three : (old one mid new a b c : List ℕ) → one ≡ old ++ a → mid ≡ one ++ b → new ≡ mid ++ c → new ≡ old ++ (a ++ (b ++ c))
+three old one mid new a b c first second third = two old one new a (b ++ c) first (two one mid new b c second third)
+
+-- four texts
+pub four : (old one mid late new a b c d : List ℕ) → one ≡ old ++ a → mid ≡ one ++ b → late ≡ mid ++ c → new ≡ late ++ d → new ≡ old ++ (a ++ (b ++ (c ++ d)))
+four old one mid late new a b c d first second third fourth = two old one new a (b ++ (c ++ d)) first (three one mid late new b c d second third fourth)
+
+-- a text of three parts, and another
+pub behind : (old one new a b c d : List ℕ) → one ≡ old ++ (a ++ (b ++ c)) → new ≡ one ++ d → new ≡ old ++ (a ++ (b ++ (c ++ d)))
+behind old one new a b c d first second = second ∙ ap (λ t. t ++ d) first ∙ append_assoc old (a ++ (b ++ c)) d ∙ ap (λ t. old ++ t) (append_assoc a (b ++ c) d ∙ ap (λ t. a ++ t) (append_assoc b c d))
+
+-- a text of three parts, and two others
+pub behind_two : (old one mid new a b c d e : List ℕ) → one ≡ old ++ (a ++ (b ++ c)) → mid ≡ one ++ d → new ≡ mid ++ e → new ≡ old ++ (a ++ (b ++ (c ++ (d ++ e))))
+behind_two old one mid new a b c d e first second third = behind old one new a b c (d ++ e) first (two one mid new d e second third)

@@ -1,0 +1,3 @@
+mod NumberTexts
+mod ReadBack
+mod Samples
