@@ -10,10 +10,24 @@
 #include <string.h>
 #include <sys/types.h>
 
-static const char *const faults[] = {"",           "OutOfMemory", "TickTooLong", "ClockEnd",
-                                     "NoSuchPoint", "WrongLength", "NoSuchSlot",  "NotAllowedNow"};
-static const char *const deliveries[] = {"applied", "idle",    "heartbeat",  "duplicate",
-                                         "old",     "unknown", "wrong-size", "malformed"};
+/* The words of a trace, each at the place of its enumerator. */
+static const char *const faults[] = {
+    [EIP_REFUSED_NO_MEMORY] = "OutOfMemory", [EIP_TICK_TOO_LONG] = "TickTooLong",    [EIP_CLOCK_END] = "ClockEnd",
+    [EIP_NO_SUCH_POINT] = "NoSuchPoint",     [EIP_WRONG_LENGTH] = "WrongLength",     [EIP_NO_SUCH_SLOT] = "NoSuchSlot",
+    [EIP_NOT_ALLOWED_NOW] = "NotAllowedNow",
+};
+static const char *const deliveries[] = {
+    [EIP_APPLIED] = "applied",       [EIP_IDLE] = "idle",             [EIP_HEARTBEAT] = "heartbeat",
+    [EIP_DUPLICATE] = "duplicate",   [EIP_OLD] = "old",               [EIP_UNKNOWN_ID] = "unknown",
+    [EIP_WRONG_SIZE] = "wrong-size", [EIP_MALFORMED] = "malformed",
+};
+static const char *const verdicts[] = {
+    [EIP_ITEM_DONE] = "done", [EIP_ITEM_BAD_FRAME] = "bad-frame", [EIP_ITEM_IGNORED] = "ignored",
+};
+static const char *const notices[] = {
+    [EIP_ITEM_OPENED] = "opened",   [EIP_ITEM_CLOSED] = "closed",     [EIP_ITEM_EXPIRED] = "expired",
+    [EIP_ITEM_DROPPED] = "dropped", [EIP_ITEM_REPLACED] = "replaced",
+};
 
 static eip_device device;
 static unsigned long number;
@@ -53,10 +67,9 @@ static void print_refusal(const eip_item *item)
 
 static void print_notice(const eip_item *item)
 {
-    static const char *const words[] = {"opened", "closed", "expired", "dropped", "replaced"};
     printf("%lu note ", number);
-    if (item->kind <= EIP_ITEM_REPLACED)
-        printf("%s %u %u %u", words[item->kind - EIP_ITEM_OPENED], item->a, item->b, item->c);
+    if (item->kind < sizeof notices / sizeof *notices)
+        printf("%s %u %u %u", notices[item->kind], item->a, item->b, item->c);
     switch (item->kind) {
     case EIP_ITEM_OPENED: printf(" %08x\n", item->d); break;
     case EIP_ITEM_STREAM_CLOSED: printf("stream-closed %u\n", item->a); break;
@@ -90,13 +103,12 @@ static void print_consumers(size_t *at)
 
 static void print_item(const eip_item *item, size_t *at)
 {
-    static const char *const verdicts[] = {"", "done", "bad-frame", "ignored"};
     if (item->kind >= EIP_ITEM_OPENED) {
         print_notice(item);
         return;
     }
     printf("%lu ", number);
-    if (item->kind < EIP_ITEM_VALUE) {
+    if (item->kind < sizeof verdicts / sizeof *verdicts) {
         puts(verdicts[item->kind]);
         return;
     }
@@ -124,7 +136,7 @@ static void print_item(const eip_item *item, size_t *at)
 /* Asks for the kept answer with the room that it needs. */
 static uint32_t asked_again(uint32_t status)
 {
-    if (status != EIP_NO_ROOM)
+    if (status != EIP_KEPT_NO_ROOM)
         return status;
     room = size;
     answer = (uint8_t *)realloc(answer, room);
@@ -138,7 +150,7 @@ static void print_answer(uint32_t status)
     eip_item item;
     size_t at = 0;
     status = asked_again(status);
-    if (status >= EIP_NO_ROOM)
+    if (status >= EIP_KEPT_NO_ROOM)
         stop("a status that no event has");
     if (status != EIP_DONE) {
         printf("%lu fault %s\n", number, faults[status]);
@@ -153,7 +165,7 @@ static void print_answer(uint32_t status)
 static void print_value(uint32_t point)
 {
     uint32_t status = eip_read(&device, point, answer, room, &size);
-    if (status == EIP_NO_ROOM) {
+    if (status == EIP_KEPT_NO_ROOM) {
         answer = (uint8_t *)realloc(answer, room = size);
         status = eip_read(&device, point, answer, room, &size);
     }
@@ -295,7 +307,7 @@ int main(int count, char **words)
     if (count > 1)
         first_room = strtoul(words[1], NULL, 10);
     text = profile(&line, &room_of_line);
-    status = text ? eip_new(&device, text, strlen(text), &wrong) : EIP_OUT_OF_MEMORY;
+    status = text ? eip_new(&device, text, strlen(text), &wrong) : EIP_REFUSED_NO_MEMORY;
     free(text);
     if (status == EIP_DONE) {
         if (!feof(stdin))
@@ -303,7 +315,7 @@ int main(int count, char **words)
                 event(line);
             while (getline(&line, &room_of_line, stdin) > 0);
         eip_free(&device);
-    } else if (status == EIP_OUT_OF_MEMORY)
+    } else if (status == EIP_REFUSED_NO_MEMORY)
         fputs("no memory\n", stderr);
     else
         fprintf(stderr, status == EIP_BAD_LINE ? "bad line %lu\n" : "bad profile %lu\n", (unsigned long)wrong);

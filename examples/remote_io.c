@@ -1,11 +1,16 @@
-/* A remote I/O on real sockets: 4 bytes of outputs, which stand at its inputs again. One thread, one poll(2).
+/* A remote I/O on real sockets: 4 bytes of outputs, which stand at its inputs again. One thread and one poll(2), and nothing
+ * else waits: no peer, reader or disk stops the device.
  *
- * remote_io ADDRESS [TCP UDP]: its own IPv4 address, and ports other than 44818 and 2222. */
+ * remote_io ADDRESS [TCP UDP [STATE]]: its own IPv4 address, ports other than 44818 and 2222, and the file that counts its
+ * starts, remote_io.state if it is left out. */
 #define _POSIX_C_SOURCE 200809L
 #include "eip.h"
 
 #include <arpa/inet.h>
+#include <errno.h>
+#include <fcntl.h>
 #include <poll.h>
+#include <stdarg.h>
 #include <stdio.h>
 #include <stdlib.h>
 #include <string.h>
@@ -13,18 +18,65 @@
 #include <time.h>
 #include <unistd.h>
 
-enum { STREAMS = 8, LISTENER = STREAMS, UDP, SOCKETS, OUTPUT = 150, INPUT = 100, HEADER = 24, LONGEST = 65535 + HEADER };
+enum { STREAMS = 8, LISTENER = STREAMS, UDP, INQUIRIES, BROADCASTS, SOCKETS, OUTPUT = 150, INPUT = 100, HEADER = 24 };
+enum { REGISTER_SESSION = 0x65, SILENCE_MS = 120000, LONGEST_TICK_MS = 60000 };
 
 static eip_device device;
 static struct pollfd sockets[SOCKETS];
-/* The bytes of each stream that are no whole message yet. */
 static struct stream {
-    size_t size;
-    uint8_t bytes[LONGEST];
+    bool session, stuck; /* whether it has a session; whether it did not take its bytes */
+    uint64_t heard;      /* when its last whole message came */
+    size_t size;         /* of the message that is not whole yet */
+    uint8_t bytes[HEADER + 65535];
 } streams[STREAMS];
 static uint8_t answer[1 << 17];
 static size_t size;
 static uint16_t udp_port = 2222;
+static uint64_t now; /* the moment that the device has reached, in ms */
+static uint64_t last; /* the last reading of the clock, in ms */
+/* The vendor number is nobody's: a maker gets its own from ODVA (odva.org), and gives each device its own serial number. */
+static eip_identity identity = {.serial = 1, .port = 44818, .vendor = 0, .device_type = 12, .product = 7, .major = 2,
+                                .minor = 3, .state = 3, .name = "Remote I/O example"};
+
+/* Writes a line on standard error, unless that would wait for its reader. */
+static void say(const char *text, ...)
+{
+    struct pollfd err = {STDERR_FILENO, POLLOUT, 0};
+    va_list words;
+    va_start(words, text);
+    if (poll(&err, 1, 0) == 1 && err.revents == POLLOUT)
+        vfprintf(stderr, text, words);
+    va_end(words);
+}
+
+static void fail(const char *what)
+{
+    perror(what);
+    exit(1);
+}
+
+/* Counts the starts in a file, and answers the new count: 1 to 255, and 1 again. So the ids of two lives in a row differ, and
+ * nothing of the last one is taken for this one. The count is on the disk before the first socket opens. */
+static unsigned counted(const char *name)
+{
+    char fresh[4096];
+    unsigned count = 0;
+    FILE *file = fopen(name, "r");
+    if (!file && errno != ENOENT)
+        fail(name);
+    if (file && (fscanf(file, "incarnation %u", &count) != 1 || count < 1 || count > 255))
+        errno = EINVAL, fail(name);
+    if (file)
+        fclose(file);
+    count = count % 255 + 1;
+    snprintf(fresh, sizeof fresh, "%s.new", name);
+    file = fopen(fresh, "w");
+    /* (the second fsync is for the new name) */
+    if (!file || fprintf(file, "incarnation %u\n", count) < 0 || fflush(file) || fsync(fileno(file)) ||
+        rename(fresh, name) || fsync(fileno(file)) || fclose(file))
+        fail(fresh);
+    return count;
+}
 
 static struct sockaddr_in address(uint32_t node, uint16_t port)
 {
@@ -35,15 +87,18 @@ static struct sockaddr_in address(uint32_t node, uint16_t port)
     return to;
 }
 
+/* A socket of which no call waits, or -1. */
 static int bound(int type, uint32_t node, uint16_t port)
 {
     struct sockaddr_in at = address(node, port);
     int fd = socket(AF_INET, type, 0), on = 1;
-    if (fd < 0 || setsockopt(fd, SOL_SOCKET, SO_REUSEADDR, &on, sizeof on) || bind(fd, (struct sockaddr *)&at, sizeof at))
-        perror("bind"), exit(1);
-    if (type == SOCK_STREAM && listen(fd, STREAMS))
-        perror("listen"), exit(1);
-    return fd;
+    if (fd >= 0 && !fcntl(fd, F_SETFL, O_NONBLOCK) &&
+        (type == SOCK_DGRAM || !setsockopt(fd, SOL_SOCKET, SO_REUSEADDR, &on, sizeof on)) &&
+        !bind(fd, (struct sockaddr *)&at, sizeof at) && (type == SOCK_DGRAM || !listen(fd, STREAMS)))
+        return fd;
+    if (fd >= 0)
+        close(fd);
+    return -1;
 }
 
 static void hang_up(uint32_t number)
@@ -52,35 +107,77 @@ static void hang_up(uint32_t number)
         return;
     close(sockets[number].fd);
     sockets[number].fd = -1;
-    streams[number].size = 0;
 }
 
-/* Sends what an answer says. A peer that does not take its bytes is as one that went away. */
+/* Sends a frame. A peer that does not take it whole now is as one that went away: `end_streams` ends its stream. */
+static void send_frame(const eip_item *item)
+{
+    struct stream *to = &streams[item->a];
+    if (send(sockets[item->a].fd, item->bytes, item->size, MSG_NOSIGNAL | MSG_DONTWAIT) != (ssize_t)item->size)
+        to->stuck = true;
+    else if (item->bytes[0] == REGISTER_SESSION && !eip_number(item->bytes + 8))
+        to->session = true;
+}
+
+/* Sends what an answer says. */
 static void carry_out(void)
 {
     eip_item item;
     size_t at = 0;
     while (eip_next(answer, size, &at, &item)) {
-        if (item.kind == EIP_ITEM_FRAME && send(sockets[item.a].fd, item.bytes, item.size, MSG_NOSIGNAL) < 0)
-            perror("send");
+        if (item.kind == EIP_ITEM_FRAME)
+            send_frame(&item);
         if (item.kind == EIP_ITEM_DATAGRAM) {
             struct sockaddr_in to = address(item.a, udp_port);
-            sendto(sockets[UDP].fd, item.bytes, item.size, 0, (struct sockaddr *)&to, sizeof to);
+            sendto(sockets[UDP].fd, item.bytes, item.size, MSG_DONTWAIT, (struct sockaddr *)&to, sizeof to);
         }
         if (item.kind == EIP_ITEM_STREAM_CLOSED)
             hang_up(item.a);
         if (item.kind == EIP_ITEM_OPENED || item.kind == EIP_ITEM_EXPIRED)
-            fprintf(stderr, "%s %u\n", item.kind == EIP_ITEM_OPENED ? "opened" : "expired", item.a);
+            say("%s %u\n", item.kind == EIP_ITEM_OPENED ? "opened" : "expired", item.a);
     }
 }
 
-/* What every event ends with. The room is larger than any answer of this profile. */
-static void done(uint32_t status)
+/* What every event ends with. The room is larger than any answer of this profile. Whether the event happened. */
+static bool done(uint32_t status)
 {
-    if (status == EIP_DONE)
+    uint32_t told = status == EIP_KEPT_NO_MEMORY ? eip_answer(&device, answer, sizeof answer, &size) : status;
+    if (told == EIP_DONE)
         carry_out();
     else
-        fprintf(stderr, "status %u\n", status);
+        say("status %u\n", told);
+    return status == EIP_DONE || status == EIP_KEPT_NO_MEMORY;
+}
+
+/* A stream ends. The connections that were opened over it live on, until their own time-out. */
+static void cut(uint16_t number)
+{
+    hang_up(number);
+    done(eip_cut(&device, number, answer, sizeof answer, &size));
+}
+
+/* Ends each stream that did not take its bytes, and each over which no whole message came for two minutes. */
+static void end_streams(void)
+{
+    uint16_t i;
+    for (i = 0; i < STREAMS; i++)
+        if (sockets[i].fd >= 0 && (streams[i].stuck || now - streams[i].heard >= SILENCE_MS))
+            cut(i);
+}
+
+/* The place of a new stream. If all are taken, the stream that was silent longest without a session makes room. */
+static uint16_t place(void)
+{
+    uint16_t i, silent = STREAMS;
+    for (i = 0; i < STREAMS; i++) {
+        if (sockets[i].fd < 0)
+            return i;
+        if (!streams[i].session && (silent == STREAMS || streams[i].heard < streams[silent].heard))
+            silent = i;
+    }
+    if (silent < STREAMS)
+        cut(silent);
+    return silent;
 }
 
 static void accept_stream(void)
@@ -88,52 +185,43 @@ static void accept_stream(void)
     struct sockaddr_in peer;
     socklen_t len = sizeof peer;
     int fd = accept(sockets[LISTENER].fd, (struct sockaddr *)&peer, &len);
-    uint16_t number = 0;
-    while (number < STREAMS && sockets[number].fd >= 0)
-        number++;
-    if (fd >= 0 && number == STREAMS)
+    uint16_t number = fd < 0 ? STREAMS : place();
+    if (number < STREAMS) {
+        sockets[number].fd = fd;
+        streams[number].session = streams[number].stuck = false;
+        streams[number].heard = now;
+        streams[number].size = 0;
+        if (!done(eip_stream(&device, number, ntohl(peer.sin_addr.s_addr), answer, sizeof answer, &size)))
+            hang_up(number);
+    } else if (fd >= 0)
         close(fd);
-    if (fd < 0 || number == STREAMS)
-        return;
-    sockets[number].fd = fd;
-    done(eip_stream(&device, number, ntohl(peer.sin_addr.s_addr), answer, sizeof answer, &size));
 }
 
-/* The size of the first message of a stream, or 0 if it is not whole. */
-static size_t message(const struct stream *from)
+/* The size of a stream's message, of which its header is known. */
+static size_t whole(const struct stream *from)
 {
-    size_t whole = HEADER + (size_t)(from->bytes[2] | from->bytes[3] << 8);
-    return from->size >= HEADER && from->size >= whole ? whole : 0;
+    return HEADER + (size_t)(from->bytes[2] | from->bytes[3] << 8);
 }
 
+/* Reads one message of a stream at most, so that all have their turn. */
 static void read_stream(uint16_t number)
 {
     struct stream *from = &streams[number];
-    ssize_t got = recv(sockets[number].fd, from->bytes + from->size, sizeof from->bytes - from->size, 0);
-    size_t len;
+    size_t wanted = from->size < HEADER ? HEADER : whole(from);
+    ssize_t got = recv(sockets[number].fd, from->bytes + from->size, wanted - from->size, MSG_DONTWAIT);
+    if (got < 0 && (errno == EAGAIN || errno == EWOULDBLOCK || errno == EINTR))
+        return;
     if (got <= 0) {
-        hang_up(number);
-        done(eip_cut(&device, number, answer, sizeof answer, &size));
+        cut(number);
         return;
     }
     from->size += (size_t)got;
-    while ((len = message(from))) {
-        uint32_t status = eip_frame(&device, number, from->bytes, len, answer, sizeof answer, &size);
-        from->size -= len;
-        memmove(from->bytes, from->bytes + len, from->size);
-        done(status);
-        if (sockets[number].fd < 0)
-            return;
-    }
-}
-
-/* The outputs stand at the inputs. */
-static void copy_outputs(void)
-{
-    uint8_t value[4];
-    size_t len = 0;
-    if (eip_read(&device, OUTPUT, value, sizeof value, &len) == EIP_DONE)
-        done(eip_write(&device, INPUT, value, len, answer, sizeof answer, &size));
+    if (from->size < HEADER || from->size < whole(from))
+        return;
+    wanted = from->size;
+    from->size = 0;
+    from->heard = now;
+    done(eip_frame(&device, number, from->bytes, wanted, answer, sizeof answer, &size));
 }
 
 static void read_datagram(void)
@@ -141,59 +229,114 @@ static void read_datagram(void)
     static uint8_t bytes[1500];
     struct sockaddr_in peer;
     socklen_t len = sizeof peer;
-    ssize_t got = recvfrom(sockets[UDP].fd, bytes, sizeof bytes, 0, (struct sockaddr *)&peer, &len);
+    ssize_t got = recvfrom(sockets[UDP].fd, bytes, sizeof bytes, MSG_DONTWAIT, (struct sockaddr *)&peer, &len);
     enum eip_delivery delivery;
-    if (got < 0)
-        return;
-    if (eip_datagram(&device, ntohl(peer.sin_addr.s_addr), bytes, (size_t)got, &delivery) == EIP_DONE
-        && delivery <= EIP_IDLE)
-        copy_outputs();
+    if (got >= 0)
+        eip_datagram(&device, ntohl(peer.sin_addr.s_addr), bytes, (size_t)got, &delivery);
+}
+
+/* Tells who looks for devices what this one is. */
+static void answer_inquiry(int fd)
+{
+    uint8_t bytes[1500], reply[EIP_INQUIRY_ROOM];
+    struct sockaddr_in peer;
+    socklen_t len = sizeof peer;
+    size_t told = 0;
+    ssize_t got = recvfrom(fd, bytes, sizeof bytes, MSG_DONTWAIT, (struct sockaddr *)&peer, &len);
+    if (got >= 0 && eip_inquiry(&identity, bytes, (size_t)got, reply, sizeof reply, &told) == EIP_DONE)
+        sendto(sockets[INQUIRIES].fd, reply, told, MSG_DONTWAIT, (struct sockaddr *)&peer, len);
+}
+
+/* The outputs stand at the inputs. */
+static void copy_outputs(void)
+{
+    static uint8_t shown[4];
+    uint8_t value[4];
+    size_t len = 0;
+    if (eip_read(&device, OUTPUT, value, sizeof value, &len) == EIP_DONE && memcmp(value, shown, sizeof value) &&
+        done(eip_write(&device, INPUT, value, len, answer, sizeof answer, &size)))
+        memcpy(shown, value, sizeof value);
 }
 
 static uint64_t now_ms(void)
 {
-    struct timespec now;
-    clock_gettime(CLOCK_MONOTONIC, &now);
-    return (uint64_t)now.tv_sec * 1000 + (uint64_t)now.tv_nsec / 1000000;
+    struct timespec time;
+    clock_gettime(CLOCK_MONOTONIC, &time);
+    return (uint64_t)time.tv_sec * 1000 + (uint64_t)time.tv_nsec / 1000000;
 }
 
-/* Time passes at the device as it passes here: answers the moment that it has reached. */
-static uint64_t pass(uint64_t told)
+/* Time passes at the device as it passes here, a pause of any length too. A clock that goes back costs that step alone. */
+static void pass(void)
 {
-    uint64_t ms = now_ms() - told;
-    ms = ms < 60000 ? ms : 60000;
-    done(eip_tick(&device, (uint32_t)ms, answer, sizeof answer, &size));
-    return told + ms;
+    uint64_t reading = now_ms();
+    if (reading < last)
+        last = reading;
+    while (last < reading) {
+        uint64_t ms = reading - last < LONGEST_TICK_MS ? reading - last : LONGEST_TICK_MS;
+        if (!done(eip_tick(&device, (uint32_t)ms, answer, sizeof answer, &size)))
+            return;
+        now += ms;
+        last += ms;
+    }
+}
+
+/* For how many milliseconds nothing is to be done. */
+static int idle_ms(void)
+{
+    uint32_t ms = 0;
+    uint16_t i;
+    eip_next_wake(&device, &ms);
+    for (i = 0; i < STREAMS; i++)
+        if (sockets[i].fd >= 0 && streams[i].heard + SILENCE_MS - now < ms)
+            ms = (uint32_t)(streams[i].heard + SILENCE_MS - now);
+    return (int)ms;
+}
+
+static void turn(void)
+{
+    uint16_t i;
+    pass();
+    if (sockets[UDP].revents)
+        read_datagram();
+    for (i = 0; i < STREAMS; i++)
+        if (sockets[i].fd >= 0 && sockets[i].revents)
+            read_stream(i);
+    for (i = INQUIRIES; i <= BROADCASTS; i++)
+        if (sockets[i].revents)
+            answer_inquiry(sockets[i].fd);
+    end_streams();
+    if (sockets[LISTENER].revents)
+        accept_stream();
+    copy_outputs();
 }
 
 int main(int count, char **words)
 {
     static const char points[] = "output 150 4 zero zero\ninput 100 4\nconfig 151 0\nheartbeat 152 153\n";
     char profile[256];
-    uint64_t wrong = 0, told = now_ms();
-    uint32_t node = count > 1 ? ntohl(inet_addr(words[1])) : INADDR_LOOPBACK, wait = 0;
+    uint64_t wrong = 0;
+    uint32_t node = count > 1 ? ntohl(inet_addr(words[1])) : INADDR_LOOPBACK, status;
+    unsigned incarnation = counted(count > 4 ? words[4] : "remote_io.state");
     uint16_t i;
-    int len = snprintf(profile, sizeof profile, "adapter 16 %u.%u.%u.%u 255.255.255.0 1 12 7 2 3\n%s", node >> 24,
-                       node >> 16 & 255, node >> 8 & 255, node & 255, points);
-    uint32_t status = eip_new(&device, profile, (size_t)len, &wrong);
+    int len = snprintf(profile, sizeof profile, "adapter %u %u.%u.%u.%u 255.255.255.0 0 12 7 2 3\n%s", incarnation,
+                       node >> 24, node >> 16 & 255, node >> 8 & 255, node & 255, points);
+    status = eip_new(&device, profile, (size_t)len, &wrong);
     if (status != EIP_DONE)
         return fprintf(stderr, "no device: status %u, number %lu\n", status, (unsigned long)wrong), 1;
+    now = last = now_ms();
+    identity.address = node;
+    identity.port = count > 3 ? (uint16_t)atoi(words[2]) : identity.port;
+    udp_port = count > 3 ? (uint16_t)atoi(words[3]) : udp_port;
     for (i = 0; i < SOCKETS; i++)
         sockets[i].fd = -1, sockets[i].events = POLLIN;
-    udp_port = count > 3 ? (uint16_t)atoi(words[3]) : udp_port;
+    sockets[LISTENER].fd = bound(SOCK_STREAM, node, identity.port);
     sockets[UDP].fd = bound(SOCK_DGRAM, node, udp_port);
-    sockets[LISTENER].fd = bound(SOCK_STREAM, node, count > 2 ? (uint16_t)atoi(words[2]) : 44818);
-    while (poll(sockets, SOCKETS, (int)wait) >= 0) {
-        told = pass(told);
-        if (sockets[UDP].revents)
-            read_datagram();
-        for (i = 0; i < STREAMS; i++)
-            if (sockets[i].fd >= 0 && sockets[i].revents)
-                read_stream(i);
-        if (sockets[LISTENER].revents)
-            accept_stream();
-        /* Until then no tick is needed. */
-        eip_next_wake(&device, &wait);
-    }
-    return perror("poll"), 1;
+    sockets[INQUIRIES].fd = bound(SOCK_DGRAM, node, identity.port);
+    if (sockets[LISTENER].fd < 0 || sockets[UDP].fd < 0 || sockets[INQUIRIES].fd < 0)
+        fail("a socket");
+    /* (another program may have this one) */
+    sockets[BROADCASTS].fd = bound(SOCK_DGRAM, INADDR_BROADCAST, identity.port);
+    while (poll(sockets, SOCKETS, idle_ms()) >= 0 || errno == EINTR)
+        turn();
+    fail("poll");
 }

@@ -1,3 +1,4 @@
-# A scanner at 127.0.0.20 that owns the output 150 of the device at 127.0.0.10 and gathers its input 100, every 10 ms.
-scanner 32 127.0.0.20 4660 305419896 2000 3000
+# A scanner at 127.0.0.20 that owns the output 150 of the device at 127.0.0.10 and gathers its input 100, every 10 ms. Its
+# vendor number is 0, which is nobody's: a maker gets its own from ODVA (odva.org).
+scanner 32 127.0.0.20 0 305419896 2000 3000
 slot 127.0.0.10 exclusive 151 150 100 4 4 10000 10000 2 p2p - -

@@ -5,8 +5,8 @@
  * whose every step is proved; it ends, and it never touches memory beyond the ranges that it is given.
  *
  * What a caller keeps:
- *   - A handle comes from eip_new. One thread at a time uses it, it is freed once, and never used after that. A pointer
- *     that eip_new did not write cannot be recognized.
+ *   - A handle is {NULL} until eip_new has made a device of it: `eip_device device = {0};`. One thread at a time uses it,
+ *     it is freed once, and never used after that. A pointer that eip_new did not write cannot be recognized.
  *   - Two threads may use two handles at once: there is no global state. A handle that moves from one thread to another
  *     moves under a lock of the caller's, or as the other thread starts; the proofs speak of one thread.
  *   - A range (bytes, len) or (out, room) lies in readable or writable memory of the caller for the time of the call, and
@@ -27,7 +27,7 @@
 extern "C" {
 #endif
 
-/* A device. The pointer is NULL before eip_new and after eip_free. */
+/* A device. The pointer is NULL before eip_new, which refuses any other, and after eip_free. */
 typedef struct eip_device {
     void *at;
 } eip_device;
@@ -38,24 +38,29 @@ enum eip_status {
     /* The call was performed, and its bytes are written. */
     EIP_DONE = 0,
     /* Refused: the device and the answer that it keeps are unchanged, and nothing is written. */
-    EIP_OUT_OF_MEMORY = 1,   /* an allocation was refused */
-    EIP_TICK_TOO_LONG = 2,   /* a tick of more than 60,000 ms */
-    EIP_CLOCK_END = 3,       /* the clock would pass its end, 2^48 ms */
-    EIP_NO_SUCH_POINT = 4,   /* no point of this number can be read or written */
-    EIP_WRONG_LENGTH = 5,    /* the number of bytes is not the point's */
-    EIP_NO_SUCH_SLOT = 6,    /* no slot has this number */
-    EIP_NOT_ALLOWED_NOW = 7, /* the event does not fit this kind of device, or its present state */
-    /* The event was performed, and its answer is kept for eip_answer. Nothing is written at out. */
-    EIP_NO_ROOM = 8,         /* *size is the room that the answer needs */
-    EIP_NO_MEMORY = 9,       /* an allocation for the bytes of the answer was refused */
+    EIP_REFUSED_NO_MEMORY = 1, /* an allocation was refused */
+    EIP_TICK_TOO_LONG = 2,     /* a tick of more than 60,000 ms */
+    EIP_CLOCK_END = 3,         /* the clock would pass its end, 2^48 ms */
+    EIP_NO_SUCH_POINT = 4,     /* no point of this number can be read or written */
+    EIP_WRONG_LENGTH = 5,      /* the number of bytes is not the point's */
+    EIP_NO_SUCH_SLOT = 6,      /* no slot has this number */
+    EIP_NOT_ALLOWED_NOW = 7,   /* the event does not fit this kind of device, or its present state */
+    /* Performed, and what it answers is kept: an event's answer for eip_answer, a value and the reply to an inquiry for
+       another call. Nothing is written at out. */
+    EIP_KEPT_NO_ROOM = 8,      /* *size is the room that the bytes need */
+    EIP_KEPT_NO_MEMORY = 9,    /* an allocation for the bytes of the answer was refused */
     /* eip_answer: the device keeps no answer. */
     EIP_NO_ANSWER = 10,
     /* eip_new: there is no device. */
-    EIP_BAD_LINE = 11,       /* *number is that of the first bad line, from 1 */
-    EIP_BAD_PROFILE = 12,    /* no line is bad, and *number is that of the first fault of the profile: 1 incarnation,
-                                2 address, 3 points, 4 the same instance twice, 5 length, 6 timing, 7 identity */
+    EIP_BAD_LINE = 11,         /* *number is that of the first bad line, from 1 */
+    EIP_BAD_PROFILE = 12,      /* no line is bad, and *number is that of the first fault of the profile: 1 incarnation,
+                                  2 address, 3 points, 4 the same instance twice, 5 length, 6 timing, 7 identity */
+    /* eip_inquiry */
+    EIP_NO_INQUIRY = 13,       /* the message is no inquiry: nothing is to be sent, and *size is 0 */
+    EIP_LONG_NAME = 14,        /* the name has more than 32 bytes: nothing is written */
     /* Answered by this header, before the call: nothing has happened. */
-    EIP_NULL = 20            /* a pointer is NULL, or the device was freed */
+    EIP_NULL = 20,             /* a pointer is NULL, or the device was freed */
+    EIP_IN_USE = 21            /* eip_new: the handle has a device, which lives on. Free it first */
 };
 
 /* The deliveries of a datagram. Up to EIP_DUPLICATE it is accepted. */
@@ -70,6 +75,20 @@ enum eip_delivery {
     EIP_MALFORMED = 7    /* its bytes are no datagram */
 };
 
+/* What a device says of itself to who looks for devices: its Identity object, and where it is reached. Vendor, device
+ * type, product and revision are those of its profile. A maker gets its vendor number from ODVA (odva.org), which keeps the
+ * list of them; 0 is nobody's. */
+typedef struct eip_identity {
+    uint32_t address;    /* the IPv4 address under which who asks reaches the device */
+    uint32_t serial;     /* the serial number, which no other device of the vendor has */
+    uint16_t port;       /* the TCP port of encapsulation messages: 44818 */
+    uint16_t vendor, device_type, product;
+    uint16_t status;     /* the status word of the Identity object: 0 */
+    uint8_t major, minor;
+    uint8_t state;       /* the state of the Identity object: 3 is operational */
+    const char *name;    /* at most 32 bytes, and a byte 0 behind them */
+} eip_identity;
+
 /* THE LIBRARY: what the proofs speak of. The inline functions below test pointers for NULL and call these. */
 
 uint32_t eip_c_new(const uint8_t *profile, size_t len, eip_device *place, uint64_t *number);
@@ -82,6 +101,8 @@ uint32_t eip_c_frame(eip_device *device, uint16_t stream, const uint8_t *bytes, 
                      size_t *size);
 uint32_t eip_c_cut(eip_device *device, uint16_t stream, uint8_t *out, size_t room, size_t *size);
 uint32_t eip_c_datagram(eip_device *device, uint32_t peer, const uint8_t *bytes, size_t len);
+uint32_t eip_c_inquiry(const eip_identity *identity, const uint8_t *name, size_t name_len, const uint8_t *message,
+                       size_t len, uint8_t *out, size_t room, size_t *size);
 uint32_t eip_c_write(eip_device *device, uint32_t point, const uint8_t *bytes, size_t len, uint8_t *out, size_t room,
                      size_t *size);
 uint32_t eip_c_read(eip_device *device, uint32_t point, uint8_t *out, size_t room, size_t *size);
@@ -116,12 +137,15 @@ static inline bool eip_is_null(const eip_device *device, const void *bytes, size
 
 /* Makes a device from the lines of its profile, as they stand at the head of a trace: `adapter ..` or `scanner ..`. The
  * text ends with a line feed. Lines of events are read, and not performed.
- * Answers EIP_DONE, EIP_BAD_LINE or EIP_BAD_PROFILE with *number, EIP_OUT_OF_MEMORY or EIP_NULL.
+ * The incarnation, its first number, is another one at each start of a program: ids of two lives are never the same.
+ * Answers EIP_DONE, EIP_BAD_LINE or EIP_BAD_PROFILE with *number, EIP_REFUSED_NO_MEMORY, EIP_IN_USE or EIP_NULL.
  * With any other status than EIP_DONE, *device is left as it was. */
 static inline uint32_t eip_new(eip_device *device, const char *profile, size_t len, uint64_t *number)
 {
     if (!device || (!profile && len) || !number)
         return EIP_NULL;
+    if (device->at)
+        return EIP_IN_USE;
     return eip_c_new(eip_bytes(profile), len, device, number);
 }
 
@@ -137,11 +161,11 @@ static inline void eip_free(eip_device *device)
 /* EVENTS
  *
  * Each performs one event. Its answer is kept until the next event that is not refused, and written at out: EIP_DONE, and
- * *size is its size. If it needs more room than there is, nothing is written: EIP_NO_ROOM, *size is the room that it
- * needs, the event is performed all the same, and eip_answer writes its answer. EIP_NO_MEMORY is the same for an
+ * *size is its size. If it needs more room than there is, nothing is written: EIP_KEPT_NO_ROOM, *size is the room that it
+ * needs, the event is performed all the same, and eip_answer writes its answer. EIP_KEPT_NO_MEMORY is the same for an
  * allocation that was refused. Each other status leaves the device as it was, and *size too. */
 
-/* Writes the answer that is kept, again: EIP_DONE, EIP_NO_ROOM, EIP_NO_MEMORY, EIP_NO_ANSWER or EIP_NULL. */
+/* Writes the answer that is kept, again: EIP_DONE, EIP_KEPT_NO_ROOM, EIP_KEPT_NO_MEMORY, EIP_NO_ANSWER or EIP_NULL. */
 static inline uint32_t eip_answer(eip_device *device, uint8_t *out, size_t room, size_t *size)
 {
     EIP_CALL(out, room, eip_c_answer(device, out, room, size));
@@ -193,7 +217,7 @@ static inline uint32_t eip_write(eip_device *device, uint32_t point, const uint8
     EIP_CALL(bytes, len, eip_c_write(device, point, eip_bytes(bytes), len, out, room, size));
 }
 
-/* Writes the value of an adapter's point, or of the image of a scanner's slot, at out as it is: EIP_DONE; EIP_NO_ROOM
+/* Writes the value of an adapter's point, or of the image of a scanner's slot, at out as it is: EIP_DONE; EIP_KEPT_NO_ROOM
  * with *size; EIP_NO_SUCH_POINT or EIP_NO_SUCH_SLOT; EIP_NULL. Takes no memory, and changes nothing. */
 static inline uint32_t eip_read(eip_device *device, uint32_t point, uint8_t *out, size_t room, size_t *size)
 {
@@ -234,6 +258,29 @@ static inline uint32_t eip_start(eip_device *device, uint32_t slot, uint8_t *out
 static inline uint32_t eip_stop(eip_device *device, uint32_t slot, uint8_t *out, size_t room, size_t *size)
 {
     EIP_CALL(out, room, eip_c_stop(device, slot, out, room, size));
+}
+
+/* INQUIRIES
+ *
+ * The field's tools find devices by messages over UDP at the encapsulation port, 44818, many of them broadcast. */
+
+/* No reply to an inquiry is longer. */
+#define EIP_INQUIRY_ROOM 96
+
+/* Writes the reply to a datagram that came at the encapsulation port, if it is ListServices, ListIdentity or
+ * ListInterfaces, at out as it is, to be sent to the datagram's sender: EIP_DONE; EIP_NO_INQUIRY with *size 0;
+ * EIP_KEPT_NO_ROOM with *size; EIP_LONG_NAME, EIP_REFUSED_NO_MEMORY or EIP_NULL. It needs no device. */
+static inline uint32_t eip_inquiry(const eip_identity *identity, const uint8_t *message, size_t len, uint8_t *out,
+                                   size_t room, size_t *size)
+{
+    uint8_t none = 0;
+    size_t name_len = 0;
+    if (!identity || !identity->name || (!message && len) || (!out && room) || !size)
+        return EIP_NULL;
+    while (name_len <= 32 && identity->name[name_len])
+        name_len++;
+    return eip_c_inquiry(identity, eip_bytes(identity->name), name_len, eip_bytes(message), len, out ? out : &none, room,
+                         size);
 }
 
 /* ANSWERS
@@ -287,13 +334,15 @@ static inline uint32_t eip_number(const uint8_t *bytes)
     return bytes[0] | (uint32_t)bytes[1] << 8 | (uint32_t)bytes[2] << 16 | (uint32_t)bytes[3] << 24;
 }
 
-/* Reads the item at *at of an answer, and moves *at behind it. False at the end. Begin with *at = 0. */
+/* Reads the item at *at of an answer, and moves *at behind it. False at the end, and where a pointer is NULL. Begin with
+ * *at = 0. */
 static inline bool eip_next(const uint8_t *answer, size_t size, size_t *at, eip_item *item)
 {
-    const uint8_t *head = answer + *at;
+    const uint8_t *head;
     uint64_t len;
-    if (*at > size || size - *at < EIP_ITEM_HEAD)
+    if (!answer || !at || !item || *at > size || size - *at < EIP_ITEM_HEAD)
         return false;
+    head = answer + *at;
     len = eip_number(head + 20) | (uint64_t)eip_number(head + 24) << 32;
     if (len > size - *at - EIP_ITEM_HEAD)
         return false;

@@ -1,5 +1,5 @@
 -- What a call leaves at the device behind a handle, and in the memory of its caller.
-use Rattle.std.specs.Prelude.{◌≡◌, ℕ, ◌<◌, List, ◌++◌, length, drop, Option, Some, None, option_map, Result, Ok, Err}
+use Rattle.std.specs.Prelude.{◌≡◌, ℕ, List, Option, Some, None, option_map, Result, Ok, Err}
 use Rattle.cip_events.specs.declared.event.Answer.{Answer}
 use Rattle.cip_events.specs.declared.event.Event.{Event}
 use Rattle.cip_events.specs.declared.event.StepFault.{StepFault}
@@ -20,7 +20,8 @@ use Rattle.eip_c.specs.declared.station.Station.{Station}
 use Rattle.eip_c.specs.declared.station.Station.TheVariants as station
 use Rattle.eip_c.specs.declared.holder.Holder.{Holder}
 use Rattle.eip_c.specs.declared.status.Status.{Status}
-use Rattle.eip_c.specs.declared.status.Status.TheVariants.{Done, Fault, NoRoom, NoMemory, NoAnswer, BadLine, BadProfile}
+use Rattle.eip_c.specs.declared.status.Status.TheVariants.{Done, Fault, NoMemory, NoAnswer, BadLine, BadProfile}
+use Rattle.eip_c.specs.Memory.{Memory, Writes}
 use Rattle.eip_c.specs.Statuses.{status_of}
 
 -- DEVICES
@@ -36,18 +37,6 @@ State = DeviceTable × Option Answer
 
 abbrev pub state : Holder → State
 state holder = (table_of holder.station, holder.answer)
-
--- MEMORY OF THE CALLER
-
--- the room for bytes, and the number of bytes
-abbrev pub Memory : Type 0
-Memory = List ℕ × ℕ
-
--- Bytes are written at the front of the room, and counted. They are counted alone where the room is too small for them.
-abbrev pub Writes : List ℕ → Status → Memory → Memory → Type 0
-Writes bytes Done old new = (new.0 ≡ bytes ++ drop (length bytes) old.0) × (new.1 ≡ length bytes)
-Writes bytes NoRoom old new = (length old.0 < length bytes) × (new.0 ≡ old.0) × (new.1 ≡ length bytes)
-Writes bytes status old new = ⊥
 
 -- The answer that is kept is written. Nothing is written where an allocation is refused, or no answer is kept.
 abbrev pub Reports : Option Answer → Status → Memory → Memory → Type 0

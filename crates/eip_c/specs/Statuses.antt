@@ -2,7 +2,7 @@
 use Rattle.std.specs.Prelude.{ℕ, ◌==◌, if◌then◌else◌}
 use Rattle.cip_events.specs.declared.event.StepFault.TheVariants as fault
 use Rattle.eip_c.specs.declared.status.Status.{Status}
-use Rattle.eip_c.specs.declared.status.Status.TheVariants.{Done, Fault, NoRoom, NoMemory, NoAnswer, BadLine, BadProfile, Unknown}
+use Rattle.eip_c.specs.declared.status.Status.TheVariants.{Done, Fault, NoRoom, NoMemory, NoAnswer, BadLine, BadProfile, NoInquiry, LongName, Unknown}
 
 -- the status of a number
 abbrev pub status_of : ℕ → Status
@@ -20,4 +20,6 @@ status_of n =
     else if n == 10 then NoAnswer
     else if n == 11 then BadLine
     else if n == 12 then BadProfile
+    else if n == 13 then NoInquiry
+    else if n == 14 then LongName
     else Unknown

@@ -13,10 +13,12 @@ ghost use Rattle.cip_tables.specs.Wakes.{IsQuietFor};
 ghost use Rattle.trace_text.specs.Reading.{trace_reading};
 ghost use Rattle.flat_answers.specs.Flat.{delivery_number, delivery_of};
 ghost use Rattle.eip_c.specs.Statuses.{status_of};
+ghost use Rattle.eip_c.specs.Inquiries.{Inquires};
 ghost use Rattle.eip_c.specs.Calls.{table_of, state, node, Answers, Reports, Reads, Opens, HasOpened};
 
 mod held;
 mod holder;
+mod inquiry;
 mod opening;
 mod room;
 mod station;
@@ -26,6 +28,7 @@ use cip_events::Event;
 use cip_types::{Items, Node};
 use flat_answers::delivery_number;
 use held::{HandlePlace, Held};
+use inquiry::{IdentityNumbers, report_inquiry};
 use opening::opened;
 use room::report;
 use status::{DONE, OUT_OF_MEMORY};
@@ -173,6 +176,27 @@ pub extern "C" fn eip_c_datagram(device: &mut Held, peer: u32, bytes: &[u8]) -> 
     let delivery = holder.station.deliver(Node(peer), bytes);
     device.place.put(holder);
     delivery_number(delivery)
+}
+
+// INQUIRIES
+
+/// Writes the reply to an inquiry by which tools find devices: ListServices, ListIdentity or ListInterfaces. It needs no
+/// device.
+///
+/// The statuses: `Done`; `NoRoom` with the size; `NoInquiry` with size 0; `LongName`; out of memory.
+#[unsafe(no_mangle)]
+pub extern "C" fn eip_c_inquiry(
+    alloc: Global,
+    identity: &IdentityNumbers,
+    name: &[u8],
+    message: &[u8],
+    out: &mut [u8],
+    size: &mut usize,
+) -> u32
+    ensures { Inquires message.now identity.now name.now
+        (status_of result) (out.old, size.old) (out.new, size.new) }
+{
+    report_inquiry(alloc, message, identity, name, out, size)
 }
 
 // POINTS AND TIME

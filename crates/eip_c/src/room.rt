@@ -1,7 +1,8 @@
 //! Bytes in the memory of a caller.
 
 ghost use Rattle.std.specs.Prelude.{◌≡◌, ◌≤◌, ◌++◌, length, drop, Some};
-ghost use Rattle.eip_c.specs.Calls.{Writes, Reports};
+ghost use Rattle.eip_c.specs.Calls.{Reports};
+ghost use Rattle.eip_c.specs.Memory.{Writes};
 ghost use Rattle.eip_c.specs.Statuses.{status_of};
 
 use crate::status::{DONE, NO_ANSWER, NO_MEMORY, NO_ROOM};

@@ -23,6 +23,10 @@ pub enum Status {
     BadLine,
     /// The profile has a fault.
     BadProfile,
+    /// The message is no inquiry.
+    NoInquiry,
+    /// The name has more than 32 bytes.
+    LongName,
     /// No call answers this: the status of every other number.
     Unknown,
 }
@@ -47,6 +51,12 @@ pub const BAD_LINE: u32 = 11;
 
 /// `BadProfile`.
 pub const BAD_PROFILE: u32 = 12;
+
+/// `NoInquiry`.
+pub const NO_INQUIRY: u32 = 13;
+
+/// `LongName`.
+pub const LONG_NAME: u32 = 14;
 
 /// The number of a fault.
 pub fn fault_number(fault: StepFault) -> u32
