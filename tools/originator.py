@@ -273,7 +273,7 @@ def run(args):
     expect("what follows UnRegisterSession", session.tcp.recv(1), b"")
 
 
-def main():
+def arguments(words=None):
     parser = argparse.ArgumentParser(description=__doc__, formatter_class=argparse.RawDescriptionHelpFormatter)
     parser.add_argument("target")
     parser.add_argument("--own", required=True)
@@ -284,10 +284,15 @@ def main():
     parser.add_argument("--patience", type=float, default=10.0, help="seconds for a reply")
     parser.add_argument("--list", action="store_true")
     parser.add_argument("--no-multicast", action="store_true")
+    return parser.parse_args(words)
+
+
+def main():
     try:
-        run(parser.parse_args())
+        run(arguments())
     except (Difference, OSError, struct.error, KeyError, ValueError) as error:
         sys.exit(f"originator: {type(error).__name__}: {error}")
 
 
-main()
+if __name__ == "__main__":
+    main()

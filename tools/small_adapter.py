@@ -197,7 +197,7 @@ def points_of(path):
     return points
 
 
-def main():
+def arguments(words=None):
     parser = argparse.ArgumentParser(description=__doc__, formatter_class=argparse.RawDescriptionHelpFormatter)
     parser.add_argument("--own", required=True)
     for name, default in [("tcp", 44818), ("udp", 2222), ("peer-udp", 2222), ("output", 150), ("out-len", 4), ("input", 100),
@@ -205,7 +205,11 @@ def main():
         parser.add_argument(f"--{name}", type=int, default=default)
     parser.add_argument("--seconds", type=float, default=5.0)
     parser.add_argument("--echo", action="store_true")
-    args = parser.parse_args()
+    return parser.parse_args(words)
+
+
+def main():
+    args = arguments()
     try:
         adapter, end = Adapter(args), time.monotonic() + args.seconds
         while time.monotonic() < end:
@@ -217,4 +221,5 @@ def main():
         sys.exit(f"small_adapter: {type(error).__name__}: {error}")
 
 
-main()
+if __name__ == "__main__":
+    main()

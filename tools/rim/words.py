@@ -1,0 +1,116 @@
+"""What a station says of itself, and of what it is given."""
+
+import re, subprocess, time
+from bad_profiles import BAD_PROFILES, BAD_PROFILE_LINES
+from rim.host import Station, holds, listens, need, run, sure, wait
+from rim.peers import INPUT_ONLY, POINT_TO_POINT, Originator, Silent, Target
+
+CALLS = ["write POINT HEX", "read POINT", "mode run", "mode idle", "start SLOT", "stop SLOT"]
+MUTE = "scanner 32 {owner} 1 101 1000 1000\nslot {adapter} input - 152 100 0 4 10000 10000 2 multicast - -\n"
+FED = "slot {adapter} input - 152 100 0 4 10000 10000 2 p2p - -\n"
+
+
+def run_input(bench):
+    """The standard input of a service."""
+    profile = bench.file("adapter.profile")
+    station = Station(bench, "adapter", "adapter", profile, log="no_input", stdin=subprocess.DEVNULL)
+    status = station.status(5)
+    said = [line for line in station.said() if "standard input has ended" in line]
+    sure(status == 0 and len(said) == 1 and "--no-input" in said[0], f"a station whose input has ended says why it ends: {said}")
+    station = Station(bench, "adapter", "adapter", profile, "--no-input", "--seconds", "3", log="service", stdin=subprocess.DEVNULL)
+    wait(lambda: listens(bench.network, "adapter", bench.address["adapter"]), "it listens", 3)
+    Originator(bench).open(INPUT_ONLY, POINT_TO_POINT).close()
+    sure(station.is_running(), "--no-input: an adapter without an input serves")
+    sure(station.status(8) == 0, "--no-input --seconds 3: it ends with status 0")
+    bench.clear()
+
+
+def line_of(station, pattern, seconds=6):
+    """Waits for a line of a station's standard error, and prints it."""
+    form = re.compile(pattern)
+    wait(lambda: any(form.fullmatch(line) for line in station.said()), lambda: f"{station.name} says {pattern}, and not {station.said()}", seconds)
+    holds("says: " + next(line for line in station.said() if form.fullmatch(line)))
+
+
+def run_lines(bench):
+    """What an adapter and a scanner say on standard error."""
+    adapter, peer = re.escape(bench.address["adapter"]), re.escape(bench.address["peer"])
+    trace = bench.file("said.trace")
+    station = bench.adapter("--record", trace, log="said")
+    name = re.escape(bench.file("adapter.profile"))
+    line_of(station, rf"eip_station: adapter ({name}|adapter\.profile) at {adapter}, TCP 44818, UDP 2222, incarnation \d+, record {re.escape(trace)}")
+    first = Originator(bench)
+    first.open(INPUT_ONLY, POINT_TO_POINT).close()
+    line_of(station, rf"eip_station: stream \d+ of {peer} is open")
+    first.close()
+    line_of(station, rf"eip_station: stream \d+ of {peer} ended: its peer cut it")
+    crowd = [Silent(bench, own) for own in bench.network.extra[:17]]
+    line_of(station, r"eip_station: stream \d+ of [0-9.]+ ended: a new one took its place"
+                     r"|eip_station: a connection of [0-9.]+ is refused: 16 streams are open")
+    need(len(crowd) == 17, "17 addresses came")
+    count = len(station.said())
+    station.call("reed 100")
+    wait(lambda: len(station.said()) > count, "a line that is no call is reported")
+    time.sleep(0.2)
+    lines = station.said()[count:]
+    sure(len(lines) == 1 and all(call in lines[0] for call in CALLS), f"a line that is no call gets the list of calls: {lines}")
+    need(station.end() == 0, "it ends with status 0")
+
+
+def run_scanner_lines(bench):
+    peer = re.escape(bench.address["peer"])
+    station = bench.scanner("owner", profile="single", log="nobody")
+    line_of(station, rf"eip_station: {peer} (refuses a stream|does not answer); the next try is in \d+ s")
+    need(station.end() == 0, "it ends with status 0")
+    bench.clear()
+    moods = Target(bench, lambda kind, before, _: "refuse" if kind[0] == 0x65 and before == 0 else "serve")
+    station = bench.scanner("owner", profile="single", log="refused")
+    line_of(station, rf"eip_station: stream \d+ of {peer} ended: its session was refused")
+    wait(station.is_established, "the scanner is established")
+    moods.stop()
+    line_of(station, rf"eip_station: stream \d+ of {peer} ended: its peer cut it")
+    station.end()
+    bench.clear()
+
+
+def run_mute_slots(bench):
+    """A slot whose multicast data never come, alone and beside one of the same target whose data come."""
+    bench.write("alone.profile", MUTE)
+    bench.write("beside.profile", (MUTE + FED).replace("{owner}", "{reader}"))
+    adapter = bench.adapter("--multicast", log="mute_adapter")
+    alone, beside = bench.scanner("owner", profile="alone"), bench.scanner("reader", profile="beside")
+    for station in alone, beside:
+        line_of(station, r"eip_station: slot 0: no multicast datagram .*239\.192\.\d+\.\d+.*ip address add .*autojoin.*", 20)
+    sure(beside.states(1) == [2, 3], "the other slot of the target is established meanwhile, and stays so")
+    need(alone.end() == 0 == beside.end() == adapter.end(), "all end with status 0")
+    bench.clear()
+
+
+def run_quiet(bench):
+    station = bench.adapter("--quiet", log="quiet")
+    first = Originator(bench)
+    first.open(INPUT_ONLY, POINT_TO_POINT).close()
+    first.close()
+    station.call("no call")
+    time.sleep(0.3)
+    need(station.end() == 0, "it ends with status 0")
+    said = station.said()
+    sure(len(said) == 1 and "is no call" in said[0], f"--quiet: a start and streams print nothing, a wrong call does: {said}")
+    bench.clear()
+
+
+def run_profiles(bench):
+    """A bad profile is refused in the words that `explain` has for it."""
+    started = 0
+    for text, wanted in BAD_PROFILES + BAD_PROFILE_LINES:
+        path = bench.write_exactly("bad.profile", text)
+        told = run(bench.program, "explain", path)
+        said = (told.stdout + told.stderr).decode()
+        need(wanted in said.splitlines(), f"explain says {said!r}, and not {wanted!r}")
+        if any(line.split()[:1] in (["start"], ["read"]) for line in text.splitlines()):
+            continue  # a trace, and no profile
+        done = run(*bench.network.at("adapter"), bench.program, "scanner" if "scanner" in text else "adapter", path, stdin=subprocess.DEVNULL)
+        said = (done.returncode, done.stdout.decode(), done.stderr.decode())
+        need(said == (3, "", f"eip_station: {path}: {wanted}\n"), f"a station of a bad profile: {said}, and not {wanted!r}")
+        started += 1
+    sure(started >= 30, f"{started} bad profiles and {len(BAD_PROFILES + BAD_PROFILE_LINES)} texts get their sentence, one line and status 3")
