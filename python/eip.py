@@ -1,0 +1,739 @@
+"""An EtherNet/IP class 1 adapter or scanner for programs in Python.
+
+A device has no socket, clock or thread in it. You give it one event at a time: bytes that a peer sent, time that passed,
+what the application writes. It answers what is to be sent. The same events give the same answers, always.
+
+    with Device(PROFILE) as device:
+        device.stream(0, "192.168.1.20")
+        answer = device.frame(0, register_session)
+        for frame in answer.frames:
+            ...
+
+The devices are those of include/eip.h, in a shared library that tools/python_library builds. This module needs the
+standard library alone, and Python 3.9 or later. docs/PYTHON.md introduces it, docs/PROFILE.md has the rules of a device.
+"""
+
+from __future__ import annotations
+
+import ctypes
+import enum
+import functools
+import ipaddress
+import os
+import pathlib
+import struct
+import threading
+import weakref
+from dataclasses import dataclass
+from typing import Any, Callable, Optional, TypeVar, Union
+
+Address = Union[str, int]
+"""An IPv4 address: "192.168.1.10", or 0xC0A8010A. Answers have the first form."""
+
+SomeDevice = TypeVar("SomeDevice", bound="Device")
+
+# NUMBERS
+
+
+class Status(enum.IntEnum):
+    """The outcome of a call, by its number in include/eip.h."""
+
+    DONE = 0
+    REFUSED_NO_MEMORY = 1
+    """An allocation was refused, and nothing changed."""
+    TICK_TOO_LONG = 2
+    """A tick of more than 60,000 ms."""
+    CLOCK_END = 3
+    """The clock would pass its end, 2^48 ms."""
+    NO_SUCH_POINT = 4
+    """No point of this number can be read or written."""
+    WRONG_LENGTH = 5
+    """The number of bytes is not the point's."""
+    NO_SUCH_SLOT = 6
+    NOT_ALLOWED_NOW = 7
+    """The event does not fit this kind of device, or its present state."""
+    KEPT_NO_ROOM = 8
+    """The answer needs more room. This module asks again, so you never see it."""
+    KEPT_NO_MEMORY = 9
+    """The event was performed, and an allocation for the bytes of its answer was refused."""
+    NO_ANSWER = 10
+    """The device keeps no answer."""
+    BAD_LINE = 11
+    BAD_PROFILE = 12
+    NO_INQUIRY = 13
+    """The message is no inquiry, and nothing is to be sent."""
+    LONG_NAME = 14
+    """The name has more than 32 bytes."""
+    NULL = 20
+    """The device is closed."""
+
+
+# (looked up at every event, so they are plain numbers)
+_DONE, _NO_ROOM = int(Status.DONE), int(Status.KEPT_NO_ROOM)
+
+
+class Delivery(enum.IntEnum):
+    """What a device did with a datagram (docs/PROFILE.md, section 10). Up to DUPLICATE it is accepted."""
+
+    APPLIED = 0
+    """Its run-mode data is applied to the output."""
+    IDLE = 1
+    """It is in idle mode, and the output takes its idle action."""
+    HEARTBEAT = 2
+    """Its connection has no O->T data."""
+    DUPLICATE = 3
+    """Its sequence count repeats that of the last accepted one."""
+    OLD = 4
+    """Its sequence number is not newer than the last accepted one."""
+    UNKNOWN_ID = 5
+    """No established connection of the peer has its connection id."""
+    WRONG_SIZE = 6
+    """Its size is not the connection's."""
+    MALFORMED = 7
+    """Its bytes are no datagram."""
+
+    @property
+    def is_accepted(self) -> bool:
+        """Whether the datagram feeds the watchdog of its connection."""
+        return self <= Delivery.DUPLICATE
+
+
+class Verdict(enum.IntEnum):
+    """What a device says of an event."""
+
+    DONE = 1
+    BAD_FRAME = 2
+    """Too few bytes to be answered, or a wrong length where there is no reply."""
+    IGNORED = 3
+    """A message that the scanner does not expect."""
+
+
+class NoticeKind(enum.IntEnum):
+    """What a notice reports."""
+
+    OPENED = 48
+    CLOSED = 49
+    EXPIRED = 50
+    DROPPED = 51
+    """A listen-only connection that nothing supports any more."""
+    REPLACED = 52
+    """A timed-out connection whose place was needed."""
+    STREAM_CLOSED = 53
+    """The stream is to be closed, after its frames."""
+    SLOT = 54
+    """A slot has another state."""
+    NO_IDS = 55
+    """A slot needs an id, and none is left."""
+    REFUSED_ENCAP = 64
+    """The reply has an encapsulation status."""
+    UNREADABLE = 65
+    """No readable reply."""
+    REFUSED = 66
+    """The target refused."""
+    OTHER_TRIAD = 67
+    """A reply for another connection."""
+    OTHER_ID = 68
+    """Another T->O id than was requested, or one in use."""
+    OTHER_API = 69
+    """An actual packet interval out of range."""
+    MISMATCH = 70
+    """A status that another field of the reply contradicts."""
+
+
+class SlotState(enum.IntEnum):
+    """The state of a scanner's slot (docs/PROFILE.md, rule 16.1)."""
+
+    IDLE = 0
+    OPENING = 2
+    ESTABLISHED = 3
+    TIMED_OUT = 4
+    CLOSING = 6
+
+
+class ProfileFault(enum.IntEnum):
+    """What is wrong with a profile whose lines all read (docs/PROFILE.md, sections 3 and 15)."""
+
+    INCARNATION = 1
+    ADDRESS = 2
+    POINTS = 3
+    SAME_INSTANCE = 4
+    LENGTH = 5
+    TIMING = 6
+    IDENTITY = 7
+
+
+# ERRORS
+
+
+class EipError(Exception):
+    """A call that gave no answer, with the status that says why."""
+
+    def __init__(self, status: Status, text: str) -> None:
+        super().__init__(text)
+        self.status = status
+
+
+class Refused(EipError):
+    """The device refused the event, and is unchanged. Making one: there is no device."""
+
+    def __init__(self, status: Status) -> None:
+        super().__init__(status, status.name)
+
+
+class AnswerKept(EipError):
+    """The event was performed, but memory for its answer was refused. The device keeps it: call `Device.answer`."""
+
+    def __init__(self) -> None:
+        super().__init__(Status.KEPT_NO_MEMORY, "the answer is kept")
+
+
+class NoAnswer(EipError):
+    """The device keeps no answer yet."""
+
+    def __init__(self) -> None:
+        super().__init__(Status.NO_ANSWER, "no answer is kept")
+
+
+class BadLine(EipError):
+    """A line of the profile does not read."""
+
+    def __init__(self, line: int) -> None:
+        super().__init__(Status.BAD_LINE, f"bad line {line}")
+        self.line = line
+        """The number of the first such line, from 1."""
+
+
+class BadProfile(EipError):
+    """Every line reads, and the profile has a fault."""
+
+    def __init__(self, fault: ProfileFault) -> None:
+        super().__init__(Status.BAD_PROFILE, f"bad profile {int(fault)}: {fault.name}")
+        self.fault = fault
+
+
+class DeviceClosed(EipError):
+    """The device was closed before the call."""
+
+    def __init__(self) -> None:
+        super().__init__(Status.NULL, "the device is closed")
+
+
+class LibraryMissing(Exception):
+    """There is no shared library, or it is another one."""
+
+
+# ANSWERS
+
+
+@dataclass(frozen=True)
+class Frame:
+    """Bytes to send over a stream."""
+
+    stream: int
+    data: bytes
+
+
+@dataclass(frozen=True)
+class Reply:
+    """The reply to the request of a node."""
+
+    node: str
+    data: bytes
+
+
+@dataclass(frozen=True)
+class Datagram:
+    """A datagram to send."""
+
+    address: str
+    """Where it is sent. This may be a multicast address."""
+    nodes: tuple[str, ...]
+    """The nodes that consume it. A network without groups sends a copy to each."""
+    data: bytes
+
+
+@dataclass(frozen=True)
+class ConnectionNotice:
+    """What became of a connection: OPENED, CLOSED, EXPIRED, DROPPED or REPLACED."""
+
+    kind: NoticeKind
+    serial: int
+    vendor: int
+    originator: int
+    """The serial number of the originator."""
+    o_t_id: Optional[int] = None
+    """The O->T connection id of OPENED."""
+
+
+@dataclass(frozen=True)
+class StreamNotice:
+    """STREAM_CLOSED: close this stream after its frames."""
+
+    kind: NoticeKind
+    stream: int
+
+
+@dataclass(frozen=True)
+class SlotNotice:
+    """SLOT: a slot is now in this state. NO_IDS: it needs an id, and none is left."""
+
+    kind: NoticeKind
+    slot: int
+    state: Optional[SlotState] = None
+    """The state of SLOT."""
+
+
+@dataclass(frozen=True)
+class RefusalNotice:
+    """A reply did not open the connection of a slot: REFUSED_ENCAP to MISMATCH."""
+
+    kind: NoticeKind
+    slot: int
+    status: Optional[int] = None
+    """The encapsulation status of REFUSED_ENCAP, the general status of REFUSED and MISMATCH."""
+    extended: Optional[int] = None
+    """The extended status of REFUSED and MISMATCH, if the reply has one."""
+
+
+Notice = Union[ConnectionNotice, StreamNotice, SlotNotice, RefusalNotice]
+
+
+@dataclass(frozen=True)
+class Answer:
+    """What a device answers to an event: its verdict, what is to be sent, and what changed."""
+
+    verdict: Verdict
+    frames: tuple[Frame, ...] = ()
+    replies: tuple[Reply, ...] = ()
+    datagrams: tuple[Datagram, ...] = ()
+    notices: tuple[Notice, ...] = ()
+
+    @property
+    def is_plain(self) -> bool:
+        """Whether it has a verdict alone."""
+        return not (self.frames or self.replies or self.datagrams or self.notices)
+
+
+@dataclass(frozen=True)
+class TimedAnswer:
+    """An answer of a tick, with the time of the device behind it."""
+
+    at_ms: int
+    answer: Answer
+
+
+_HEAD = struct.Struct("<IIIIIQ")
+_FRAME, _REPLY, _DATAGRAM, _CONSUMER = 16, 17, 32, 33
+_VERDICTS = {int(verdict): verdict for verdict in Verdict}
+_NOTICES = {int(kind): kind for kind in NoticeKind}
+_DELIVERIES = tuple(Delivery)
+_HEAD_SIZE = _HEAD.size
+_PLAIN = Answer(Verdict.DONE)
+
+
+def _notice(kind: NoticeKind, a: int, b: int, c: int, d: int) -> Notice:
+    """A notice of the four numbers of its item."""
+    if kind <= NoticeKind.REPLACED:
+        return ConnectionNotice(kind, a, b, c, d if kind == NoticeKind.OPENED else None)
+    if kind == NoticeKind.STREAM_CLOSED:
+        return StreamNotice(kind, a)
+    if kind == NoticeKind.SLOT:
+        return SlotNotice(kind, a, SlotState(b))
+    if kind == NoticeKind.NO_IDS:
+        return SlotNotice(kind, a)
+    if kind == NoticeKind.REFUSED_ENCAP:
+        return RefusalNotice(kind, a, b)
+    if kind in (NoticeKind.REFUSED, NoticeKind.MISMATCH):
+        return RefusalNotice(kind, a, b, d if c else None)
+    return RefusalNotice(kind, a)
+
+
+def read_answer(raw: bytes) -> Answer:
+    """Reads the bytes of an answer: the items that include/eip.h describes."""
+    verdict = Verdict.DONE
+    frames: list[Frame] = []
+    replies: list[Reply] = []
+    datagrams: list[tuple[str, list[str], bytes]] = []
+    notices: list[Notice] = []
+    at = 0
+    while at < len(raw):
+        kind, a, b, c, d, size = _HEAD.unpack_from(raw, at)
+        at += _HEAD_SIZE
+        data = raw[at : at + size]
+        at += size
+        if kind == _DATAGRAM:
+            datagrams.append((node_text(a), [], data))
+        elif kind == _CONSUMER:
+            datagrams[-1][1].append(node_text(a))
+        elif kind == _FRAME:
+            frames.append(Frame(a, data))
+        elif kind == _REPLY:
+            replies.append(Reply(node_text(a), data))
+        elif kind in _VERDICTS:
+            verdict = _VERDICTS[kind]
+        else:
+            notices.append(_notice(_NOTICES[kind], a, b, c, d))
+    sent = tuple(Datagram(address, tuple(nodes), data) for address, nodes, data in datagrams)
+    return Answer(verdict, tuple(frames), tuple(replies), sent, tuple(notices))
+
+
+# ADDRESSES
+
+
+@functools.lru_cache(maxsize=4096)
+def node_text(node: int) -> str:
+    """The address of a number: 0xC0A8010A is "192.168.1.10"."""
+    return str(ipaddress.IPv4Address(node))
+
+
+@functools.lru_cache(maxsize=4096)
+def node_number(node: Address) -> int:
+    """The number of an address: "192.168.1.10" is 0xC0A8010A."""
+    return int(ipaddress.IPv4Address(node))
+
+
+# THE LIBRARY
+
+
+class _Handle(ctypes.Structure):
+    """eip_device: one pointer."""
+
+    _fields_ = [("at", ctypes.c_void_p)]
+
+
+class _Identity(ctypes.Structure):
+    """eip_identity."""
+
+    _fields_ = [
+        ("address", ctypes.c_uint32), ("serial", ctypes.c_uint32), ("port", ctypes.c_uint16), ("vendor", ctypes.c_uint16),
+        ("device_type", ctypes.c_uint16), ("product", ctypes.c_uint16), ("status", ctypes.c_uint16),
+        ("major", ctypes.c_uint8), ("minor", ctypes.c_uint8), ("state", ctypes.c_uint8), ("name", ctypes.c_char_p),
+    ]  # fmt: skip
+
+
+_AT = ctypes.POINTER(_Handle)
+_SIZE = ctypes.POINTER(ctypes.c_size_t)
+_BYTES = [ctypes.c_char_p, ctypes.c_size_t]
+_OUT = [ctypes.c_char_p, ctypes.c_size_t, _SIZE]
+_U16, _U32 = ctypes.c_uint16, ctypes.c_uint32
+_FUNCTIONS: dict[str, list[Any]] = {
+    "new": [*_BYTES, _AT, ctypes.POINTER(ctypes.c_uint64)],
+    "answer": [_AT, *_OUT],
+    "request": [_AT, _U32, *_BYTES, *_OUT],
+    "stream": [_AT, _U16, _U32, *_OUT],
+    "frame": [_AT, _U16, *_BYTES, *_OUT],
+    "cut": [_AT, _U16, *_OUT],
+    "datagram": [_AT, _U32, *_BYTES],
+    "write": [_AT, _U32, *_BYTES, *_OUT],
+    "read": [_AT, _U32, *_OUT],
+    "tick": [_AT, _U32, *_OUT],
+    "next_wake": [_AT],
+    "mode": [_AT, ctypes.c_bool, *_OUT],
+    "start": [_AT, _U32, *_OUT],
+    "stop": [_AT, _U32, *_OUT],
+    "inquiry": [ctypes.POINTER(_Identity), *_BYTES, *_BYTES, *_OUT],
+}
+
+
+def library_path() -> pathlib.Path:
+    """Where the shared library is: the file that EIP_LIBRARY names, or out/libeip.so of this repository."""
+    named = os.environ.get("EIP_LIBRARY")
+    return pathlib.Path(named) if named else pathlib.Path(__file__).resolve().parent.parent / "out" / "libeip.so"
+
+
+@functools.lru_cache(maxsize=None)
+def _library() -> ctypes.CDLL:
+    """The shared library, which is loaded once."""
+    path = library_path()
+    try:
+        loaded = ctypes.CDLL(str(path))
+        for name, types in _FUNCTIONS.items():
+            function = getattr(loaded, f"eip_c_{name}")
+            function.argtypes = types
+            function.restype = ctypes.c_uint32
+        loaded.eip_c_free.argtypes = [_Handle]
+        loaded.eip_c_free.restype = None
+    except (OSError, AttributeError) as fault:
+        raise LibraryMissing(f"{path}: {fault}: run tools/python_library, or set EIP_LIBRARY") from fault
+    return loaded
+
+
+def _number(value: int, most: int, what: str) -> int:
+    """A number that its C type can hold. ctypes would cut off what is too much."""
+    if not 0 <= value <= most:
+        raise ValueError(f"{what} {value} is not within 0 to {most}")
+    return value
+
+
+# DEVICES
+
+
+class Device:
+    """An adapter or a scanner.
+
+    Its profile has the lines that begin a trace (docs/PROFILE.md, section 14). Each line ends with a line feed. Lines of
+    events may follow; they are read, and not performed.
+
+    Each event is one call. It answers an `Answer`, or raises `Refused` and changes nothing. Reads and datagrams answer
+    a value of their own.
+
+    A device is closed by `close`, at the end of a `with`, or when nothing refers to it any more. Threads may share a
+    device: it performs one call at a time.
+    """
+
+    def __init__(self, profile: Union[str, bytes], room: int = 4096) -> None:
+        """Makes a device from a profile. Raises BadLine, BadProfile or Refused.
+
+        `room` is how many bytes an answer may have before the device has to be asked twice for it.
+        """
+        text = profile.encode() if isinstance(profile, str) else bytes(profile)
+        self._calls: Any = _library()
+        self._lock = threading.Lock()
+        self._handle = _Handle()
+        self._at = ctypes.byref(self._handle)
+        self._size = ctypes.c_size_t()
+        self._count = ctypes.byref(self._size)
+        self._room = ctypes.create_string_buffer(max(room, 1))
+        self._length = room
+        self._now_ms = 0
+        number = ctypes.c_uint64()
+        status = self._calls.eip_c_new(text, len(text), self._at, ctypes.byref(number))
+        if status == Status.BAD_LINE:
+            raise BadLine(number.value)
+        if status == Status.BAD_PROFILE:
+            raise BadProfile(ProfileFault(number.value))
+        if status != Status.DONE:
+            raise Refused(Status(status))
+        self._finalizer = weakref.finalize(self, self._calls.eip_c_free, self._handle)
+        # (at the end of the program a thread may still be within a call)
+        self._finalizer.atexit = False
+        self._is_open = True
+        first = next(line.split() for line in text.split(b"\n") if line and not line.startswith(b"#"))
+        self.is_scanner: bool = first[0] == b"scanner"
+        self.node: str = first[2].decode()
+        """The device's own address, as its profile has it."""
+
+    @classmethod
+    def from_file(cls: type[SomeDevice], path: Union[str, os.PathLike[str]]) -> SomeDevice:
+        """Makes a device from the profile in a file."""
+        return cls(pathlib.Path(path).read_text(encoding="utf-8"))
+
+    # Closing
+
+    def close(self) -> None:
+        """Frees the device. Each later event raises DeviceClosed. Closing again does nothing."""
+        with self._lock:
+            self._is_open = False
+            self._finalizer()
+
+    @property
+    def is_closed(self) -> bool:
+        """Whether the device is closed."""
+        return not self._is_open
+
+    def __enter__(self) -> Device:
+        return self
+
+    def __exit__(self, *_fault: object) -> None:
+        self.close()
+
+    def __reduce__(self) -> Any:
+        raise TypeError("a device is not copied: make another one, and give it the same events")
+
+    def __repr__(self) -> str:
+        kind = "scanner" if self.is_scanner else "adapter"
+        return f"<{kind} {self.node} at {self._now_ms} ms{', closed' if self.is_closed else ''}>"
+
+    # Messages
+
+    def request(self, peer: Address, data: bytes) -> Answer:
+        """A peer sends a request to the message router. Its reply is in `replies`. A scanner refuses it."""
+        return self._event(self._calls.eip_c_request, node_number(peer), data, len(data))
+
+    def stream(self, stream: int, peer: Address) -> Answer:
+        """A peer opens a stream (TCP), to which you give a number. Refused if that is in use, or 16 are open."""
+        return self._event(self._calls.eip_c_stream, _number(stream, 0xFFFF, "stream"), node_number(peer))
+
+    def frame(self, stream: int, data: bytes) -> Answer:
+        """A stream brings one encapsulation message: its header of 24 bytes, and as many as the header says."""
+        return self._event(self._calls.eip_c_frame, _number(stream, 0xFFFF, "stream"), data, len(data))
+
+    def cut(self, stream: int) -> Answer:
+        """A stream breaks, or its peer closes it."""
+        return self._event(self._calls.eip_c_cut, _number(stream, 0xFFFF, "stream"))
+
+    def datagram(self, peer: Address, data: bytes) -> Delivery:
+        """A peer sends a class 1 datagram (UDP). The answer that is kept stays."""
+        node = node_number(peer)
+        with self._lock:
+            if not self._is_open:
+                raise DeviceClosed
+            return _DELIVERIES[self._calls.eip_c_datagram(self._at, node, data, len(data))]
+
+    # Points
+
+    def write(self, point: int, data: bytes) -> Answer:
+        """The application sets the value of an adapter's input, or of the output of a scanner's slot."""
+        return self._event(self._calls.eip_c_write, _number(point, 0xFFFFFFFF, "point"), data, len(data))
+
+    def read(self, point: int) -> bytes:
+        """The value of an adapter's point, or of the image of a scanner's slot. Changes nothing."""
+        _number(point, 0xFFFFFFFF, "point")
+        with self._lock:
+            if not self._is_open:
+                raise DeviceClosed
+            room, length = self._room, self._length
+            status = self._calls.eip_c_read(self._at, point, room, length, self._count)
+            if status == Status.KEPT_NO_ROOM:
+                length = self._size.value
+                room = ctypes.create_string_buffer(length)
+                status = self._calls.eip_c_read(self._at, point, room, length, self._count)
+            if status != Status.DONE:
+                raise Refused(Status(status))
+            return ctypes.string_at(room, self._size.value)
+
+    # The application of a scanner
+
+    def mode(self, run: bool) -> Answer:
+        """The application of a scanner starts to run, or becomes idle."""
+        return self._event(self._calls.eip_c_mode, run)
+
+    def start(self, slot: int) -> Answer:
+        """A scanner opens the connection of a slot, and keeps it open."""
+        return self._event(self._calls.eip_c_start, _number(slot, 0xFFFFFFFF, "slot"))
+
+    def stop(self, slot: int) -> Answer:
+        """A scanner closes the connection of a slot."""
+        return self._event(self._calls.eip_c_stop, _number(slot, 0xFFFFFFFF, "slot"))
+
+    # Time
+
+    @property
+    def now_ms(self) -> int:
+        """How many milliseconds have passed at the device: the sum of its ticks."""
+        return self._now_ms
+
+    def tick(self, ms: int) -> Answer:
+        """Milliseconds pass, at most 60,000. Watchdogs expire and cyclic data are sent in a tick, and at no other time."""
+        return self._event(self._calls.eip_c_tick, _number(ms, 0xFFFFFFFF, "milliseconds"), passed_ms=ms)
+
+    def next_wake(self) -> int:
+        """For how many milliseconds the device needs no tick, at most 60,000.
+
+        A tick of fewer answers a plain DONE and moves the clock alone. An event may shorten the time, so ask again after it.
+        """
+        with self._lock:
+            if not self._is_open:
+                raise DeviceClosed
+            wake: int = self._calls.eip_c_next_wake(self._at)
+            return wake
+
+    def run_until(self, end_ms: int) -> list[TimedAnswer]:
+        """Time passes until `now_ms` is `end_ms`, in ticks that end where the device needs one.
+
+        Gives the answers that are more than a plain DONE, in order. A time that has passed already gives none.
+        """
+        answers: list[TimedAnswer] = []
+        least = 0
+        while self._now_ms < end_ms:
+            answer = self.tick(min(max(self.next_wake(), least), end_ms - self._now_ms))
+            # (a tick of nothing that answers nothing is not made again)
+            least = 1 if answer.is_plain else 0
+            if not answer.is_plain:
+                answers.append(TimedAnswer(self._now_ms, answer))
+        return answers
+
+    # Answers
+
+    def answer(self) -> Answer:
+        """The answer that the device keeps, again: that of the last event that was not refused.
+
+        Datagrams and reads keep none. Raises NoAnswer before the first event.
+        """
+        return self._event(self._calls.eip_c_answer)
+
+    def _event(self, call: Callable[..., int], *words: Union[int, bytes], passed_ms: int = 0) -> Answer:
+        """Performs one call that writes an answer, and reads it. Time has passed if the call was not refused."""
+        with self._lock:
+            if not self._is_open:
+                raise DeviceClosed
+            room = self._room
+            status = call(self._at, *words, room, self._length, self._count)
+            if status == _NO_ROOM:
+                status, room = self._requested_again(self._size.value)
+            if status == _DONE:
+                self._now_ms += passed_ms
+                size = self._size.value
+                # (one item that begins with the byte of Verdict.DONE: nearly every tick answers that)
+                if size == _HEAD_SIZE and room[0] == b"\1":
+                    return _PLAIN
+                return read_answer(ctypes.string_at(room, size))
+            if status == Status.KEPT_NO_MEMORY:
+                self._now_ms += passed_ms
+                raise AnswerKept
+        if status == Status.NO_ANSWER:
+            raise NoAnswer
+        raise Refused(Status(status))
+
+    def _requested_again(self, size: int) -> tuple[int, Any]:
+        """The status of the answer that is kept, and the bytes of it in room enough. The lock is held."""
+        try:
+            room = ctypes.create_string_buffer(size)
+        except MemoryError:
+            return Status.KEPT_NO_MEMORY, None
+        return self._calls.eip_c_answer(self._at, room, size, self._count), room
+
+
+# INQUIRIES
+
+
+@dataclass(frozen=True)
+class Identity:
+    """What a device says of itself to tools that look for devices (docs/PROFILE.md, section 25).
+
+    Vendor, device type, product and revision are those of its profile.
+    """
+
+    address: str
+    """The address under which the device is reached."""
+    serial: int
+    """The serial number, which no other device of the vendor has."""
+    name: str
+    """At most 32 bytes."""
+    vendor: int = 0
+    """A maker gets its number from ODVA; 0 is nobody's."""
+    device_type: int = 0
+    product: int = 0
+    major: int = 1
+    minor: int = 1
+    port: int = 44818
+    status: int = 0
+    state: int = 3
+    """3 is operational."""
+
+
+_MOST = {
+    "serial": 0xFFFFFFFF, "port": 0xFFFF, "vendor": 0xFFFF, "device_type": 0xFFFF, "product": 0xFFFF, "status": 0xFFFF,
+    "major": 0xFF, "minor": 0xFF, "state": 0xFF,
+}  # fmt: skip
+
+
+def inquiry(identity: Identity, message: bytes) -> Optional[bytes]:
+    """The reply to a datagram that came at the encapsulation port: ListServices, ListIdentity or ListInterfaces.
+
+    None if the datagram is none of these. It needs no device.
+    """
+    name = identity.name.encode()
+    numbers = _Identity(address=node_number(identity.address), name=name)
+    for field, most in _MOST.items():
+        setattr(numbers, field, _number(getattr(identity, field), most, field))
+    size = ctypes.c_size_t()
+    room = ctypes.create_string_buffer(96)  # no reply is longer
+    status = _library().eip_c_inquiry(
+        ctypes.byref(numbers), name, len(name), message, len(message), room, len(room), ctypes.byref(size)
+    )
+    if status == Status.NO_INQUIRY:
+        return None
+    if status != Status.DONE:
+        raise Refused(Status(status))
+    return ctypes.string_at(room, size.value)

@@ -1,0 +1,377 @@
+"""A simulated network in virtual time: devices that are joined by streams and datagrams, with faults drawn by a seed.
+
+    with Plant(seed=7, faults=Faults(lost=0.01, delay_ms=(0, 15))) as plant:
+        scanner = plant.add(Device(SCANNER))
+        island = plant.add(Device(ADAPTER))
+        plant.connect(scanner, island)
+        scanner.mode(True)
+        scanner.start(0)
+        plant.run_until(1000)
+
+Datagrams may be lost, repeated, delayed and so reordered. Streams keep their order and lose nothing until they are cut. The
+same seed gives the same run. Nothing waits: a minute of the plant takes about half a second.
+"""
+
+from __future__ import annotations
+
+import collections
+import heapq
+import itertools
+import random
+from dataclasses import dataclass, field
+from typing import Any, Callable, Optional
+
+from eip import Answer, Datagram, Delivery, Device, Notice, Refused, StreamNotice
+
+
+@dataclass(frozen=True)
+class Faults:
+    """What a network does to what is sent over it."""
+
+    lost: float = 0.0
+    """Which part of the datagrams is lost: 0.01 is one in a hundred."""
+    repeated: float = 0.0
+    """Which part of the others arrives twice."""
+    delay_ms: tuple[int, int] = (0, 0)
+    """The least and the greatest delay. Each copy of a datagram and each message of a stream draws its own."""
+
+
+class Member:
+    """A device in a plant. Its calls are those of `Device`, at the present time of the plant."""
+
+    def __init__(self, plant: Plant, device: Device, name: str) -> None:
+        self.plant, self.device, self.name = plant, device, name
+        self.node = device.node
+        self.is_plugged = True
+        self.deliveries: collections.Counter[Delivery] = collections.Counter()
+        """How often a datagram had each delivery here."""
+        self.notices: list[tuple[int, Notice]] = []
+        """Every notice of the device, with the time of the plant."""
+        self._began_ms = plant.now_ms
+        self._wake_ms = -1
+        self._streams: dict[int, _Stream] = {}
+
+    def __repr__(self) -> str:
+        return f"<{self.name}>"
+
+    def write(self, point: int, data: bytes) -> Answer:
+        """The application sets the value of a point."""
+        return self._perform(lambda: self.device.write(point, data))
+
+    def read(self, point: int) -> bytes:
+        """The value of a point, or of the image of a slot."""
+        return self.device.read(point)
+
+    def mode(self, run: bool) -> Answer:
+        """The application of a scanner starts to run, or becomes idle."""
+        return self._perform(lambda: self.device.mode(run))
+
+    def start(self, slot: int) -> Answer:
+        """A scanner opens the connection of a slot, and keeps it open."""
+        return self._perform(lambda: self.device.start(slot))
+
+    def stop(self, slot: int) -> Answer:
+        """A scanner closes the connection of a slot."""
+        return self._perform(lambda: self.device.stop(slot))
+
+    def datagram(self, peer: str, data: bytes) -> Delivery:
+        """A datagram arrives now, in the name of any peer: one of a test's own, or one that was sent before."""
+        self._catch_up()
+        delivery = self.device.datagram(peer, data)
+        self.deliveries[delivery] += 1
+        self._plan_wake()
+        return delivery
+
+    def frame(self, peer: Member, data: bytes) -> Answer:
+        """A message arrives now over a stream of a peer, whoever wrote it."""
+        number = next((number for number, stream in self._streams.items() if peer in stream.ends), None)
+        if number is None:
+            raise ValueError(f"no stream of {peer} is open at {self}")
+        return self._perform(lambda: self.device.frame(number, data))
+
+    def restart(self, device: Device) -> None:
+        """The power fails and comes back: another device begins at this address, and all streams break."""
+        if device.node != self.node:
+            raise ValueError(f"{device.node} is not the address of {self}")
+        for stream in list(self.plant.streams):
+            if self in stream.ends:
+                stream.cut()
+        self.device.close()
+        self.device = device
+        self._began_ms = self.plant.now_ms
+        self._plan_wake()
+
+    def unplug(self) -> None:
+        """Pulls the cable: datagrams from and to this device are lost, and its streams wait."""
+        self.is_plugged = False
+
+    def plug(self) -> None:
+        """Puts the cable back: what waits in the streams arrives."""
+        self.is_plugged = True
+        for stream in list(self.plant.streams):
+            if self in stream.ends:
+                stream.go_on()
+
+    def _perform(self, call: Callable[[], Answer]) -> Answer:
+        """One event at the present time, whose answer is sent."""
+        self._catch_up()
+        answer = call()
+        self._send(answer)
+        self._plan_wake()
+        return answer
+
+    def _catch_up(self) -> None:
+        """Gives the device the time that passed."""
+        late = self.plant.now_ms - self._began_ms - self.device.now_ms
+        if late:
+            self._send(self.device.tick(late))
+
+    def _plan_wake(self, least: int = 0) -> None:
+        """Plans the next tick that the device needs."""
+        wake = self.device.next_wake()
+        wake_ms = self.plant.now_ms + (wake if wake > least else least)
+        if wake_ms != self._wake_ms:
+            self._wake_ms = wake_ms
+            self.plant.at(wake_ms, self._wake, wake_ms)
+
+    def _wake(self, planned_ms: int) -> None:
+        """A tick that the device needs. Another event may have planned a later one."""
+        if self._wake_ms != planned_ms:
+            return
+        self._wake_ms = -1
+        late = self.plant.now_ms - self._began_ms - self.device.now_ms
+        answer = self.device.tick(late)
+        self._send(answer)
+        self._plan_wake(1 if answer.is_plain and not late else 0)
+
+    def _send(self, answer: Answer) -> None:
+        """Sends the frames of an answer, then its datagrams, and then ends the streams that the device closed."""
+        if answer.is_plain:
+            return
+        for frame in answer.frames:
+            stream = self._streams.get(frame.stream)
+            if stream:
+                stream.send(self, frame.data)
+        for datagram in answer.datagrams:
+            self.plant.send(self, datagram)
+        for notice in answer.notices:
+            self.notices.append((self.plant.now_ms, notice))
+            if isinstance(notice, StreamNotice):
+                stream = self._streams.pop(notice.stream, None)
+                if stream:
+                    stream.closed_by(self)
+
+
+@dataclass
+class _End:
+    """An end of a stream."""
+
+    member: Member
+    number: Optional[int] = None
+    """The number of the stream at this device, once it opened and until it ends."""
+    waiting: collections.deque[Optional[bytes]] = field(default_factory=collections.deque)
+    """What is on the way to this end: frames, and None for the mark that the stream opens or has ended."""
+    held: int = 0
+    """How many of these would have arrived, but a cable is pulled."""
+
+
+class _Stream:
+    """A stream between two members. The first one opens it, and opens it again when it has ended."""
+
+    def __init__(self, plant: Plant, ends: tuple[Member, Member], again_ms: Optional[int]) -> None:
+        self.plant, self.ends, self.again_ms = plant, ends, again_ms
+        self._ends = (_End(ends[0]), _End(ends[1]))
+        self.is_over = False
+        self._open()
+
+    def _open(self) -> None:
+        """Each end receives the mark that the stream opens."""
+        self.is_over = False
+        for end in self._ends:
+            self._put(end, None)
+
+    def _put(self, end: _End, item: Optional[bytes]) -> None:
+        """Sends something to an end. The items of one end arrive in their order, whatever their delays are."""
+        end.waiting.append(item)
+        self.plant.at(self.plant.now_ms + self.plant.delay(), self._take, end)
+
+    def _take(self, end: _End) -> None:
+        """The first item that waits for an end arrives."""
+        if not all(member.is_plugged for member in self.ends):
+            end.held += 1
+        elif end.waiting:
+            item = end.waiting.popleft()
+            if item is not None:
+                self._frame(end, item)
+            elif end.number is None:
+                self._opened(end)
+            else:
+                self._ended(end)
+                self._plan_again()
+
+    def _frame(self, end: _End, frame: bytes) -> None:
+        number = end.number
+        if number is not None:
+            end.member._perform(lambda: end.member.device.frame(number, frame))
+
+    def _opened(self, end: _End) -> None:
+        """The stream opens at an end, with the least free number of its device.
+
+        The second end may refuse it, and then the first one is cut. One that its first end refuses is a fault of the test.
+        """
+        member, other = end.member, self._other(end)
+        number = next(it for it in itertools.count() if it not in member._streams)
+        end.number = number
+        member._streams[number] = self
+        try:
+            member._perform(lambda: member.device.stream(number, other.member.node))
+        except Refused:
+            if end is self._ends[0]:
+                raise
+            del member._streams[number]
+            self.closed_by(member)
+
+    def _ended(self, end: _End) -> None:
+        """The stream ends at an end, if it had opened there."""
+        number, end.number = end.number, None
+        if number is not None:
+            del end.member._streams[number]
+            end.member._perform(lambda: end.member.device.cut(number))
+
+    def _other(self, end: _End) -> _End:
+        return self._ends[1] if end is self._ends[0] else self._ends[0]
+
+    def _has_ended(self) -> bool:
+        """Whether both ends are without it, and nothing is on the way."""
+        return self.is_over and all(end.number is None and not end.waiting for end in self._ends)
+
+    def _plan_again(self) -> None:
+        """Opens the stream anew, once it has ended."""
+        if self._has_ended() and self.again_ms is not None:
+            self.plant.at(self.plant.now_ms + self.again_ms, self._open)
+
+    def send(self, sender: Member, frame: bytes) -> None:
+        """A device sends a frame. What is sent over a stream that has ended is lost."""
+        if not self.is_over:
+            self._put(self._ends[1] if sender is self.ends[0] else self._ends[0], frame)
+
+    def closed_by(self, member: Member) -> None:
+        """A device closed the stream: the other end is cut, behind the frames that were sent."""
+        end = self._ends[0] if member is self.ends[0] else self._ends[1]
+        other = self._other(end)
+        end.number = None
+        end.waiting.clear()
+        if not self.is_over:
+            self.is_over = True
+            self._put(other, None)
+        self._plan_again()
+
+    def cut(self) -> None:
+        """The stream breaks: what is on the way is lost, and both devices see the end now."""
+        if self._has_ended():
+            return
+        self.is_over = True
+        for end in self._ends:
+            end.waiting.clear()
+            end.held = 0
+        for end in self._ends:
+            self._ended(end)
+        self._plan_again()
+
+    def go_on(self) -> None:
+        """A cable is back: what was held arrives."""
+        for end in self._ends:
+            held, end.held = end.held, 0
+            for _ in range(held):
+                self.plant.at(self.plant.now_ms + self.plant.delay(), self._take, end)
+
+
+class Plant:
+    """Devices on one network, with one clock."""
+
+    def __init__(self, seed: int = 0, faults: Faults = Faults()) -> None:
+        self.now_ms = 0
+        self.faults = faults
+        """May be exchanged at any time."""
+        self.members: dict[str, Member] = {}
+        """The devices by their addresses."""
+        self.streams: list[_Stream] = []
+        self.watch: Optional[Callable[[Member, Datagram], None]] = None
+        """Is called with each datagram that a device sends, and its sender, before the network loses it or not."""
+        self._random = random.Random(seed).random
+        self._planned: list[tuple[int, int, Callable[..., object], tuple[Any, ...]]] = []
+        self._order = itertools.count()
+
+    def add(self, device: Device, name: str = "") -> Member:
+        """Puts a device on the network, at the address that its profile has. The plant closes it."""
+        if device.node in self.members:
+            raise ValueError(f"two devices have the address {device.node}")
+        member = Member(self, device, name or device.node)
+        self.members[device.node] = member
+        return member
+
+    def connect(self, first: Member, second: Member, again_ms: Optional[int] = 1000) -> None:
+        """Opens a stream between two devices. It is opened again so long after it ended, or with None it is not."""
+        self.streams.append(_Stream(self, (first, second), again_ms))
+
+    def cut(self, first: Member, second: Member) -> None:
+        """Breaks each stream between two devices."""
+        for stream in self.streams:
+            if set(stream.ends) == {first, second}:
+                stream.cut()
+
+    def at(self, ms: int, action: Callable[..., object], *words: Any) -> None:
+        """Plans an action of a test at a time. Those of one time happen in the order in which they were planned."""
+        heapq.heappush(self._planned, (ms if ms > self.now_ms else self.now_ms, next(self._order), action, words))
+
+    def every(self, ms: int, action: Callable[[], object]) -> None:
+        """Plans an action at each multiple of a time, from the next one on."""
+        next_ms = self.now_ms - self.now_ms % ms + ms
+
+        def again() -> None:
+            action()
+            self.every(ms, action)
+
+        self.at(next_ms, again)
+
+    def run_until(self, end_ms: int) -> None:
+        """Time passes until then, with all that is planned and sent. Every device has this time afterwards."""
+        planned = self._planned
+        while planned and planned[0][0] <= end_ms:
+            self.now_ms, _, action, words = heapq.heappop(planned)
+            action(*words)
+        self.now_ms = max(self.now_ms, end_ms)
+        for member in self.members.values():
+            member._catch_up()
+
+    def delay(self) -> int:
+        """Draws the delay of one message."""
+        least, most = self.faults.delay_ms
+        return least + int(self._random() * (most - least + 1))
+
+    def send(self, sender: Member, datagram: Datagram) -> None:
+        """The network takes a datagram of a device: each node that consumes it receives a copy, two or none."""
+        if self.watch:
+            self.watch(sender, datagram)
+        for node in datagram.nodes:
+            member = self.members.get(node)
+            if member is None or not sender.is_plugged or self._random() < self.faults.lost:
+                continue
+            copies = 2 if self._random() < self.faults.repeated else 1
+            for _ in range(copies):
+                self.at(self.now_ms + self.delay(), self._arrive, member, sender.node, datagram.data)
+
+    def _arrive(self, member: Member, peer: str, data: bytes) -> None:
+        if member.is_plugged:
+            member.datagram(peer, data)
+
+    def close(self) -> None:
+        """Closes every device."""
+        for member in self.members.values():
+            member.device.close()
+
+    def __enter__(self) -> Plant:
+        return self
+
+    def __exit__(self, *_fault: object) -> None:
+        self.close()

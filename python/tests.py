@@ -1,0 +1,422 @@
+#!/usr/bin/env python3
+"""Tests of python/eip.py, python/plant.py and docs/PYTHON.md. What is expected comes from docs/PROFILE.md, and by hand."""
+
+import contextlib
+import copy
+import inspect
+import io
+import os
+import pathlib
+import re
+import threading
+import types
+import typing
+import unittest
+
+import eip
+import plant
+import trace_lines
+from eip import (
+    Answer, AnswerKept, BadLine, BadProfile, ConnectionNotice, Datagram, Delivery, Device, DeviceClosed, Frame,
+    Identity, NoAnswer, NoticeKind, ProfileFault, RefusalNotice, Refused, Reply, SlotNotice, SlotState, Status,
+    StreamNotice, Verdict, inquiry, node_number, node_text, read_answer,
+)
+from plant import Faults, Plant
+from trace_lines import RecordedDevice, outcome_lines
+
+TOP = pathlib.Path(__file__).resolve().parent.parent
+ADAPTER = """\
+adapter 16 192.168.1.10 255.255.255.0 1 12 7 2 3
+output 150 4 zero zero
+input 100 4
+config 151 0
+heartbeat 152 153
+"""
+SCANNER = """\
+scanner 32 192.168.1.20 4660 305419896 2000 3000
+slot 192.168.1.10 exclusive 151 150 100 4 4 10000 10000 2 p2p - -
+"""
+OWNER = "192.168.1.20"
+# examples/first_open.trace: an owner opens at 10 ms both ways, sends 11223344, and receives the input
+OPEN = bytes.fromhex("5402200624010a0e0000000001000020010034127856341202000000102700000a481027000006480104200424972c962c64")
+OPEN_REPLY = bytes.fromhex("d40000000100001001000020010034127856341210270000102700000000")
+RUN_DATA = bytes.fromhex("0200028008000100001001000000b1000a0001000100000011223344")
+INPUT_DATA = bytes.fromhex("0200028008000100002001000000b1000600010000000000")
+REGISTER = bytes.fromhex("65000400000000000000000000000000000000000000000001000000")
+REGISTERED = bytes.fromhex("65000400010000000000000000000000000000000000000001000000")
+UNREGISTER = bytes.fromhex("660000000100000000000000000000000000000000000000")
+
+
+class Devices(unittest.TestCase):
+    def opened(self, **how):
+        device = Device(ADAPTER, **how)
+        self.addCleanup(device.close)
+        answer = device.request(OWNER, OPEN)
+        opened = ConnectionNotice(NoticeKind.OPENED, 1, 4660, 305419896, 0x10000001)
+        self.assertEqual(answer, Answer(Verdict.DONE, replies=(Reply(OWNER, OPEN_REPLY),), notices=(opened,)))
+        return device
+
+    def refused(self, status, call, *words):
+        with self.assertRaises(Refused) as caught:
+            call(*words)
+        self.assertEqual(caught.exception.status, status)
+
+    def test_profiles_that_are_none(self):
+        for text, line in ("", 1), (ADAPTER[:-1], 5), (ADAPTER.replace("input", "in"), 3), (ADAPTER + "tick x\n", 6):
+            with self.assertRaises(BadLine) as caught:
+                Device(text)
+            self.assertEqual(caught.exception.line, line)
+        for old, new, fault in [
+            ("adapter 16", "adapter 0", ProfileFault.INCARNATION),
+            ("input 100 4\n", "", ProfileFault.POINTS),
+            ("input 100", "input 150", ProfileFault.SAME_INSTANCE),
+            ("input 100 4", "input 100 1401", ProfileFault.LENGTH),
+        ]:
+            with self.assertRaises(BadProfile) as caught:
+                Device(ADAPTER.replace(old, new))
+            self.assertEqual(caught.exception.fault, fault)
+
+    def test_an_owner_opens_and_exchanges_data(self):
+        device = self.opened()
+        self.assertEqual(device.datagram(OWNER, RUN_DATA), Delivery.APPLIED)
+        self.assertEqual(device.read(150), bytes.fromhex("11223344"))
+        self.assertEqual(device.tick(1), Answer(Verdict.DONE, datagrams=(Datagram(OWNER, (OWNER,), INPUT_DATA),)))
+        self.assertEqual(device.datagram(OWNER, RUN_DATA), Delivery.OLD)
+        self.assertEqual(device.datagram("192.168.1.21", RUN_DATA), Delivery.UNKNOWN_ID)
+        self.assertEqual(device.datagram(OWNER, b""), Delivery.MALFORMED)
+        self.assertTrue(Delivery.DUPLICATE.is_accepted)
+        self.assertFalse(Delivery.OLD.is_accepted)
+
+    def test_a_session_begins_and_ends(self):
+        device = self.opened()
+        self.assertTrue(device.stream(0, OWNER).is_plain)
+        self.assertEqual(device.frame(0, REGISTER).frames, (Frame(0, REGISTERED),))
+        self.assertEqual(device.frame(0, b"").verdict, Verdict.BAD_FRAME)
+        self.assertEqual(device.frame(0, UNREGISTER).notices, (StreamNotice(NoticeKind.STREAM_CLOSED, 0),))
+        self.refused(Status.NOT_ALLOWED_NOW, device.cut, 0)
+
+    def test_refused_events_change_nothing(self):
+        device = self.opened()
+        kept = device.answer()
+        self.refused(Status.TICK_TOO_LONG, device.tick, 60_001)
+        self.refused(Status.NO_SUCH_POINT, device.write, 150, bytes(4))
+        self.refused(Status.WRONG_LENGTH, device.write, 100, bytes(3))
+        self.refused(Status.NO_SUCH_POINT, device.read, 7)
+        self.refused(Status.NOT_ALLOWED_NOW, device.start, 0)
+        self.refused(Status.NOT_ALLOWED_NOW, device.frame, 0, REGISTER)
+        self.assertEqual(device.now_ms, 0)
+        self.assertEqual(device.answer(), kept)
+        with Device(SCANNER) as scanner:
+            self.refused(Status.NO_SUCH_SLOT, scanner.start, 1)
+            self.refused(Status.NOT_ALLOWED_NOW, scanner.request, OWNER, OPEN)
+
+    def test_a_scanner_opens_its_slot(self):
+        with Device(SCANNER) as scanner:
+            self.assertTrue(scanner.is_scanner)
+            self.assertTrue(scanner.start(0).is_plain)
+            self.assertEqual(scanner.stream(7, "192.168.1.10").frames, (Frame(7, REGISTER),))
+            answer = scanner.frame(7, REGISTERED)
+            self.assertEqual(answer.notices, (SlotNotice(NoticeKind.SLOT, 0, SlotState.OPENING),))
+            self.assertEqual(scanner.frame(7, REGISTERED).verdict, Verdict.IGNORED)
+            # (the slot waits for the reply to its Forward_Open for the open time-out of the profile)
+            (late,) = scanner.run_until(2_000)
+            self.assertEqual(late.at_ms, 2_000)
+            self.assertEqual(late.answer.notices, (SlotNotice(NoticeKind.SLOT, 0, SlotState.IDLE),))
+
+    def test_time_passes_in_the_ticks_that_a_device_needs(self):
+        device = self.opened()
+        self.assertEqual([it.at_ms for it in device.run_until(25)], [0, 10, 20])
+        self.assertEqual((device.now_ms, device.next_wake()), (25, 5))
+        # The first deadline is 10 s after the opening, and nothing is sent in the tick of an expiry.
+        answers = device.run_until(10_000)
+        self.assertEqual([it.at_ms for it in answers], [*range(30, 10_001, 10)])
+        expired = ConnectionNotice(NoticeKind.EXPIRED, 1, 4660, 305419896)
+        self.assertEqual(answers[-1].answer, Answer(Verdict.DONE, notices=(expired,)))
+        self.assertEqual(device.run_until(200_000), [])
+        self.assertEqual(device.run_until(0), [])
+        self.assertEqual(device.now_ms, 200_000)
+
+    def test_an_answer_is_asked_for_until_there_is_room(self):
+        device = self.opened(room=0)
+        self.assertEqual(device.read(100), bytes(4))
+        self.assertEqual(device.tick(0).datagrams[0].data, INPUT_DATA)
+        self.assertEqual(device.answer().datagrams[0].data, INPUT_DATA)
+
+    def test_answers_are_kept(self):
+        with Device(ADAPTER) as device:
+            self.assertRaises(NoAnswer, device.answer)
+            device.read(100)
+            device.datagram(OWNER, b"")
+            self.assertRaises(NoAnswer, device.answer)
+            device.stream(0, OWNER)
+            device.frame(0, REGISTER)
+            self.assertEqual(device.answer().frames, (Frame(0, REGISTERED),))
+
+    def test_memory_that_is_refused(self):
+        """The library's statuses 1, 8 and 9, which no test can cause here."""
+        with RecordedDevice(ADAPTER) as device:
+            def no_room(*_words):
+                device._size.value = 1 << 62
+                return 8
+
+            for call, fault, now_ms in (lambda *_: 1, Refused, 0), (lambda *_: 9, AnswerKept, 5), (no_room, AnswerKept, 10):
+                device._calls = types.SimpleNamespace(eip_c_tick=call)
+                with self.assertRaises(fault):
+                    device.tick(5)
+                self.assertEqual(device.now_ms, now_ms)
+            # what was performed is in the record, without its outcome
+            self.assertEqual(device.trace(), ADAPTER + "tick 5\ntick 5\n")
+
+    def test_every_item_reads(self):
+        """Items that need a rare state of a device: their numbers are those of include/eip.h."""
+        for kind, numbers, notice, words in [
+            (49, (1, 2, 3, 0), ConnectionNotice(NoticeKind.CLOSED, 1, 2, 3), "closed 1 2 3"),
+            (51, (1, 2, 3, 0), ConnectionNotice(NoticeKind.DROPPED, 1, 2, 3), "dropped 1 2 3"),
+            (52, (1, 2, 3, 0), ConnectionNotice(NoticeKind.REPLACED, 1, 2, 3), "replaced 1 2 3"),
+            (54, (4, 6, 0, 0), SlotNotice(NoticeKind.SLOT, 4, SlotState.CLOSING), "slot 4 6"),
+            (55, (4, 0, 0, 0), SlotNotice(NoticeKind.NO_IDS, 4), "no-ids 4"),
+            (64, (4, 100, 0, 0), RefusalNotice(NoticeKind.REFUSED_ENCAP, 4, 100), "refused 4 encap 100"),
+            (65, (4, 0, 0, 0), RefusalNotice(NoticeKind.UNREADABLE, 4), "refused 4 unreadable"),
+            (66, (4, 1, 1, 0x0106), RefusalNotice(NoticeKind.REFUSED, 4, 1, 0x0106), "refused 4 cip 01 0106"),
+            (66, (4, 8, 0, 0), RefusalNotice(NoticeKind.REFUSED, 4, 8), "refused 4 cip 08 -"),
+            (67, (4, 0, 0, 0), RefusalNotice(NoticeKind.OTHER_TRIAD, 4), "refused 4 mismatch Triad"),
+            (68, (4, 0, 0, 0), RefusalNotice(NoticeKind.OTHER_ID, 4), "refused 4 mismatch Id"),
+            (69, (4, 0, 0, 0), RefusalNotice(NoticeKind.OTHER_API, 4), "refused 4 mismatch Api"),
+            (70, (4, 1, 1, 0x0113), RefusalNotice(NoticeKind.MISMATCH, 4, 1, 0x0113), "refused 4 cip 01 0113"),
+        ]:
+            items = [(1, 0, 0, 0, 0), (kind, *numbers)]
+            raw = b"".join(b"".join(n.to_bytes(4, "little") for n in item) + bytes(8) for item in items)
+            answer = Answer(Verdict.DONE, notices=(notice,))
+            self.assertEqual(read_answer(raw), answer)
+            self.assertEqual(outcome_lines(9, answer), ["9 done", f"9 note {words}"])
+
+    def test_a_closed_device(self):
+        device = Device(ADAPTER)
+        device.close()
+        device.close()
+        self.assertTrue(device.is_closed)
+        for call in (
+            lambda: device.tick(1), lambda: device.read(100), lambda: device.datagram(OWNER, b""), device.next_wake,
+            device.answer,
+        ):
+            self.assertRaises(DeviceClosed, call)
+
+    def test_a_device_is_not_copied(self):
+        with Device(ADAPTER) as device:
+            self.assertRaises(TypeError, copy.copy, device)
+            self.assertRaises(TypeError, copy.deepcopy, device)
+
+    def test_numbers_that_no_call_can_hold(self):
+        with Device(ADAPTER) as device:
+            for call in (
+                lambda: device.stream(65_536, OWNER), lambda: device.stream(0, "1.2.3.256"), lambda: device.tick(-1),
+                lambda: device.read(1 << 32),
+            ):
+                self.assertRaises(ValueError, call)
+        self.assertEqual((node_number("192.168.1.10"), node_text(0xC0A8010A)), (0xC0A8010A, "192.168.1.10"))
+
+    def test_threads_share_a_device(self):
+        device = self.opened()
+
+        def ticks():
+            for _ in range(500):
+                device.tick(2)
+
+        threads = [threading.Thread(target=ticks) for _ in range(4)]
+        for thread in threads:
+            thread.start()
+        for thread in threads:
+            thread.join()
+        self.assertEqual(device.now_ms, 4_000)
+
+
+class Inquiries(unittest.TestCase):
+    def test_a_device_is_found(self):
+        """ListIdentity, by the fields of rule 25.2."""
+        identity = Identity("192.168.1.10", 0x01020304, "island", vendor=7, device_type=12, product=9, major=2, minor=3)
+        asked = "6300" "0000" "00000000" "00000000" "6162636465666768" "00000000"
+        item = "0100" "0c00" "2800" "0100" "0002af12c0a8010a" + "00" * 8 + "07000c000900" "0203" "0000" "04030201"
+        item += "06" + b"island".hex() + "03"
+        header = "6300" f"{len(item) // 2:02x}00" "00000000" "00000000" "6162636465666768" "00000000"
+        self.assertEqual(inquiry(identity, bytes.fromhex(asked)), bytes.fromhex(header + item))
+        self.assertIsNone(inquiry(identity, RUN_DATA))
+        with self.assertRaises(Refused) as caught:
+            inquiry(Identity("192.168.1.10", 1, "n" * 33), bytes.fromhex(asked))
+        self.assertEqual(caught.exception.status, Status.LONG_NAME)
+        with self.assertRaises(ValueError):
+            inquiry(Identity("192.168.1.10", 1, "n", vendor=65_536), bytes.fromhex(asked))
+
+
+class Plants(unittest.TestCase):
+    def plant(self, faults=Faults(), seed=1, device_type=Device):
+        plant = Plant(seed, faults)
+        self.addCleanup(plant.close)
+        adapter, scanner = plant.add(device_type(ADAPTER), "adapter"), plant.add(device_type(SCANNER), "scanner")
+        plant.connect(scanner, adapter)
+        scanner.start(0)
+        scanner.mode(True)
+        scanner.write(0, bytes.fromhex("11223344"))
+        adapter.write(100, bytes.fromhex("05060701"))
+        return plant, adapter, scanner
+
+    def states(self, scanner):
+        return [(ms, n.state) for ms, n in scanner.notices if isinstance(n, SlotNotice)]
+
+    def test_nothing_takes_time_on_a_network_without_delay(self):
+        plant, adapter, scanner = self.plant()
+        plant.run_until(0)
+        self.assertEqual(self.states(scanner), [(0, SlotState.OPENING), (0, SlotState.ESTABLISHED)])
+        self.assertEqual((adapter.read(150).hex(), scanner.read(0).hex()), ("11223344", "05060701"))
+        plant.run_until(95)
+        # at 0, 10, .. 90
+        self.assertEqual((sum(adapter.deliveries.values()), sum(scanner.deliveries.values())), (10, 10))
+
+    def test_messages_wait_for_their_delay(self):
+        plant, adapter, scanner = self.plant(Faults(delay_ms=(5, 5)))
+        # 5 the streams open, 10 and 15 the session, 20 and 25 the opening; its data are there after 5 more
+        plant.run_until(29)
+        self.assertEqual(self.states(scanner), [(15, SlotState.OPENING), (25, SlotState.ESTABLISHED)])
+        self.assertEqual(adapter.read(150), bytes(4))
+        plant.run_until(30)
+        self.assertEqual(adapter.read(150).hex(), "11223344")
+
+    def test_a_network_that_loses_everything(self):
+        plant, adapter, scanner = self.plant(Faults(lost=1.0))
+        plant.run_until(9_999)
+        self.assertEqual(self.states(scanner)[-1], (0, SlotState.ESTABLISHED))
+        plant.run_until(10_000)
+        self.assertEqual(self.states(scanner)[-1], (10_000, SlotState.TIMED_OUT))
+        self.assertEqual((adapter.deliveries, scanner.deliveries), ({}, {}))
+
+    def test_a_network_that_repeats_everything(self):
+        plant, adapter, _ = self.plant(Faults(repeated=1.0))
+        plant.run_until(95)
+        self.assertEqual(adapter.deliveries, {Delivery.APPLIED: 1, Delivery.DUPLICATE: 9, Delivery.OLD: 10})
+
+    def test_a_stream_that_is_cut_opens_again(self):
+        plant, adapter, scanner = self.plant()
+        plant.run_until(500)
+        plant.cut(scanner, adapter)
+        with self.assertRaises(Refused):
+            adapter.device.cut(0)
+        plant.run_until(1_499)
+        with self.assertRaises(Refused):
+            adapter.device.cut(0)
+        plant.run_until(1_500)
+        self.assertEqual(len(adapter.device.frame(0, bytes(24)).frames), 0)
+        self.assertEqual(self.states(scanner), [(0, SlotState.OPENING), (0, SlotState.ESTABLISHED)])
+
+    def test_a_stream_that_its_device_closed_ends_at_the_other(self):
+        plant, adapter, scanner = self.plant()
+        plant.run_until(500)
+        adapter.frame(scanner, UNREGISTER)
+        plant.run_until(500)
+        self.assertEqual(adapter.notices[-1], (500, StreamNotice(NoticeKind.STREAM_CLOSED, 0)))
+        for member in adapter, scanner:
+            with self.assertRaises(Refused):
+                member.device.cut(0)
+        with self.assertRaises(ValueError):
+            adapter.frame(scanner, UNREGISTER)
+        plant.run_until(1_500)
+        scanner.stop(0)
+        plant.run_until(1_500)
+        self.assertEqual(self.states(scanner)[-2:], [(1_500, SlotState.CLOSING), (1_500, SlotState.IDLE)])
+
+    def test_a_device_that_restarts(self):
+        plant, adapter, scanner = self.plant()
+        sent = []
+        plant.watch = lambda member, datagram: sent.append(datagram.data) if member is scanner else None
+        plant.run_until(500)
+        adapter.restart(Device(ADAPTER.replace("adapter 16", "adapter 17")))
+        # 160 ms after the last datagram the slot times out, and it tries again 3 s later; the stream is back by then
+        plant.run_until(4_000)
+        reopened = [(660, SlotState.TIMED_OUT), (3_660, SlotState.OPENING), (3_660, SlotState.ESTABLISHED)]
+        self.assertEqual(self.states(scanner)[2:], reopened)
+        self.assertEqual(adapter.read(150).hex(), "11223344")
+        # (a stream that the device has closed, while its end is on the way to the other)
+        adapter.unplug()
+        adapter.frame(scanner, UNREGISTER)
+        scanner.restart(Device(SCANNER.replace("scanner 32", "scanner 33")))
+        adapter.plug()
+        plant.run_until(5_000)
+        scanner.start(0)
+        plant.run_until(5_000)
+        # (the output has had no owner since 160 ms after the last datagram of the first scanner)
+        self.assertEqual(self.states(scanner)[-2:], [(5_000, SlotState.OPENING), (5_000, SlotState.ESTABLISHED)])
+        # the second life does not know a datagram of the first
+        self.assertEqual(adapter.datagram(scanner.node, sent[0]), Delivery.UNKNOWN_ID)
+        with self.assertRaises(ValueError):
+            adapter.restart(Device(SCANNER))
+
+    def test_streams_wait_while_a_cable_is_pulled(self):
+        plant, adapter, scanner = self.plant(Faults(delay_ms=(0, 9)))
+        plant.run_until(500)
+        scanner.stop(0)
+        adapter.unplug()
+        plant.run_until(900)
+        self.assertEqual(self.states(scanner)[-1], (500, SlotState.CLOSING))
+        adapter.plug()
+        plant.run_until(918)
+        self.assertEqual(self.states(scanner)[-1][1], SlotState.IDLE)
+        # (the connection expired meanwhile, and the close that waited in the stream removes it)
+        self.assertEqual([n.kind for _, n in adapter.notices], [NoticeKind.OPENED, NoticeKind.EXPIRED, NoticeKind.CLOSED])
+
+    def test_a_device_takes_sixteen_streams(self):
+        plant = Plant()
+        self.addCleanup(plant.close)
+        first, second, target = (plant.add(Device(ADAPTER.replace("1.10", f"1.{it}"))) for it in (11, 12, 13))
+        for opener, streams in (first, 10), (second, 7):
+            for _ in range(streams):
+                plant.connect(opener, target, None)
+        plant.run_until(0)
+        self.assertEqual([len(it._streams) for it in (first, second, target)], [10, 6, 16])
+        # (one that the opener itself refuses is a fault of the test)
+        for _ in range(7):
+            plant.connect(first, second, None)
+        with self.assertRaises(Refused):
+            plant.run_until(0)
+        with self.assertRaises(ValueError):
+            plant.add(Device(ADAPTER.replace("1.10", "1.11")))
+
+    def test_the_same_seed_gives_the_same_run(self):
+        def traces(seed):
+            plant, adapter, scanner = self.plant(Faults(lost=0.1, repeated=0.1, delay_ms=(0, 30)), seed, RecordedDevice)
+            plant.run_until(1_000)
+            return adapter.device.trace(), scanner.device.trace()
+
+        self.assertEqual(traces(1), traces(1))
+        self.assertNotEqual(traces(1), traces(2))
+
+
+class Documents(unittest.TestCase):
+    def test_every_public_name_is_typed_and_documented(self):
+        for module in eip, plant, trace_lines:
+            for name, it in vars(module).items():
+                if name.startswith("_") or getattr(it, "__module__", None) != module.__name__ or not callable(it):
+                    continue
+                self.assertTrue(it.__doc__, name)
+                for call in map(inspect.unwrap, filter(callable, vars(it).values() if inspect.isclass(it) else [it])):
+                    # (not what dataclasses and enums make)
+                    if not inspect.isfunction(call) or call.__code__.co_filename != module.__file__:
+                        continue
+                    typed = typing.get_type_hints(call)
+                    self.assertIn("return", typed, call)
+                    names = set(inspect.signature(call).parameters) - {"self", "cls"}
+                    self.assertLessEqual(names, set(typed), call)
+
+    def test_the_code_of_the_page_runs(self):
+        """Each block of code of docs/PYTHON.md runs, behind those before it, and prints the block of text behind it."""
+        os.chdir(TOP)
+        page = (TOP / "docs" / "PYTHON.md").read_text()
+        blocks = re.findall(r"^```python\n(.*?)^```\n+(?:```\n(.*?)^```)?", page, re.M | re.S)
+        self.assertGreater(len(blocks), 2)
+        names = {}
+        for code, printed in blocks:
+            out = io.StringIO()
+            with contextlib.redirect_stdout(out):
+                exec(code, names)
+            self.assertEqual(out.getvalue(), printed, code)
+
+
+if __name__ == "__main__":
+    unittest.main()
