@@ -1,5 +1,5 @@
 -- What a turn did, and what is done behind it, which changes neither the device nor what is known of the port.
-use Rattle.std.proofs.Common.{◌≡◌, ℕ, Bool, true, List, Option, Some, None, Result, Ok, Err, refl, sym, ap, subst, ◌∙◌}
+use Rattle.std.proofs.Common.{◌≡◌, ℕ, ◌-◌, ◌^◌, Bool, true, List, Option, Some, None, Result, Ok, Err, refl, sym, ap, subst, ◌∙◌}
 use Rattle.cip_tables.specs.declared.table.DeviceTable.{DeviceTable}
 use Rattle.udp_runner.specs.declared.fault.RunFault.{RunFault}
 use Rattle.udp_runner.specs.Tape.{Tape}
@@ -26,6 +26,7 @@ made_on ps cs times later old mid new failed between now before after (Err fault
 
 did_on : (ps cs : Bool) (times later : List ℕ) (old mid new : Tape) (failed between now : ℕ) (before after : DeviceTable) (made : Option (Result ℕ RunFault)) → MadeOrNot ps cs times later old mid failed between before after made → (ps ≡ true → new ≡ mid) → now ≡ between → MadeOrNot ps cs times later old new failed now before after made
 did_on ps cs times later old mid new failed between now before after None did tape worked = record {
+  full = did.full;
   times_ms = did.times_ms;
   tape = λ p. tape p ∙ did.tape p;
   worked = worked ∙ did.worked;
@@ -43,5 +44,5 @@ turned_after ps cs coming tape failed table clock_old clock_mid clock_new port_o
     subst (λ k. Turned ps cs (coming clock_old) (coming k) (tape port_old) (tape port_new) (failed port_old) (failed port_new) (table device_old) (table device_new)) (sym clock) with_device
 
 -- no turn was made
-pub not_turned : (ps cs : Bool) (times : List ℕ) (tape : Tape) (failed : ℕ) (table : DeviceTable) → Turned ps cs times times tape tape failed failed table table
-not_turned ps cs times tape failed table = record { made = None; did = record { times_ms = λ c. refl; tape = λ p. refl; worked = refl; table = refl } }
+pub not_turned : (ps cs : Bool) (times : List ℕ) (tape : Tape) (failed : ℕ) (table : DeviceTable) → failed ≡ 2 ^ 64 - 1 → Turned ps cs times times tape tape failed failed table table
+not_turned ps cs times tape failed table full = record { made = None; did = record { full = full; times_ms = λ c. refl; tape = λ p. refl; worked = refl; table = refl } }

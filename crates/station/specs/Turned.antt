@@ -1,5 +1,5 @@
 -- What a turn of a station did to its device and its port, whatever became of its outputs.
-use Rattle.std.specs.Prelude.{◌≡◌, ℕ, Bool, true, List, Option, Some, None, Result, IfOk, IfErr, OnOk}
+use Rattle.std.specs.Prelude.{◌≡◌, ℕ, ◌-◌, ◌^◌, Bool, true, List, Option, Some, None, Result, IfOk, IfErr, OnOk}
 use Rattle.cip_tables.specs.declared.table.DeviceTable.{DeviceTable}
 use Rattle.udp_runner.specs.declared.fault.RunFault.{RunFault}
 use Rattle.udp_runner.specs.Tape.{Tape, rest_of}
@@ -18,6 +18,7 @@ pub record Made (port_scripted clock_scripted : Bool) (times later : List ℕ) (
 
 -- No turn was made: the count of the port's failures is at its end.
 pub record NotMade (port_scripted clock_scripted : Bool) (times later : List ℕ) (old new : Tape) (failed failed_new : ℕ) (before after : DeviceTable) : Type 0 where
+  pub full : failed ≡ 2 ^ 64 - 1
   pub times_ms : clock_scripted ≡ true → later ≡ times
   pub tape : port_scripted ≡ true → new ≡ old
   pub worked : failed_new ≡ failed
