@@ -246,7 +246,3 @@ datagram_reads t d is =
 -- the text that is written is read as the datagram that it was written for
 pub datagram_text_reads : (d : DatagramFields) → DatagramFits d → datagram_reading (datagram_text d) ≡ Ok d
 datagram_text_reads d fits = datagram_reads (datagram_text d) d (fits, refl)
-
--- and it is 20 bytes longer than the data
-pub length-datagram_text : (d : DatagramFields) → length (datagram_text d) ≡ length d.payload + 20
-length-datagram_text d = omega arith

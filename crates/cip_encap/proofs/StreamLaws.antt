@@ -139,9 +139,6 @@ pub record IsWalk (stream : List ℕ) (ms : List (List ℕ)) (rest : List ℕ) :
   pub each : AllByRecursion IsShortMessage ms
   pub parts : stream ≡ concat ms ++ rest
 
-pub walk_starts : (stream : List ℕ) → IsWalk stream [] stream
-walk_starts stream = record { each = tt; parts = refl }
-
 pub walk_more : (stream rest t after : List ℕ) (ms : List (List ℕ)) → IsWalk stream ms rest → IsShortMessage t → rest ≡ t ++ after → IsWalk stream (ms ++ t ∷ []) after
 walk_more stream rest t after ms walk is same =
     let one : concat (t ∷ []) ++ after ≡ t ++ after = append_assoc t [] after in
@@ -157,9 +154,6 @@ walk_ends stream rest ms walk none = record { each = walk.each; parts = walk.par
 pub record IsPlace (stream : List ℕ) (at : ℕ) : Type 0 where
   pub messages : List (List ℕ)
   pub walk : IsWalk stream messages (drop at stream)
-
-pub place_starts : (stream : List ℕ) → IsPlace stream 0
-place_starts stream = record { messages = []; walk = walk_starts stream }
 
 pub place_more : (stream : List ℕ) (at len : ℕ) → IsBytes stream → IsPlace stream at → len ≡ length_field (drop at stream) → 24 + len ≤ length (drop at stream) → len ≤ 2048 → IsPlace stream (at + (24 + len))
 place_more stream at len fits place field long short =

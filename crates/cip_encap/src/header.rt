@@ -6,7 +6,7 @@ ghost use Rattle.std.specs.Int.{w64};
 ghost use Rattle.cip_types.specs.Fields.{Finds, fields_at};
 ghost use Rattle.cip_types.specs.Parts.{number_in};
 ghost use Rattle.cip_types.specs.Texts.{Tailed};
-ghost use Rattle.cip_encap.specs.Message.{header_widths, view_header, headed, IsHeaderReading};
+ghost use Rattle.cip_encap.specs.Message.{header_widths, headed, IsHeaderReading};
 
 use cip_types::fields::{u16_in, u32_in};
 

@@ -132,7 +132,8 @@ fn begins_none(kept: &[u8], piece: &[u8]) -> bool
 /// The messages that end in the next piece. The bytes after the last whole one are kept: a piece that ends none is
 /// appended in place.
 fn split(alloc: Global, kept: &mut Vec<u8>, piece: &[u8]) -> Result<Vec<Message>, OutOfMemory>
-    ensures messages { IfOk result (λ messages. AreMessages (kept.old.items ++ piece.now) messages.items kept.new.items) }
+    ensures messages { IfOk result
+        (λ messages. AreMessages (kept.old.items ++ piece.now) messages.items kept.new.items) }
     ensures small { IfOk result (λ _. IsTooLong kept.new.items ⊎ (length kept.new.items < 24 + 2048)) }
     ensures err { OnErr result (kept.new.items ≡ kept.old.items) }
 {

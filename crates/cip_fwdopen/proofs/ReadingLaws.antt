@@ -48,6 +48,3 @@ one_reading IsText free bytes r r' is is' =
     let a = reading_is_found IsText bytes r is in
     let b = reading_is_found IsText bytes r' is' in
     a.same ∙ ap answer_of (one_found IsText free bytes a.found b.found a.is b.is) ∙ sym b.same
-
-pub ok_is : {P : Type 0} (p q : P) → ◌≡◌ {A = Result P ReadFault} (Ok p) (Ok q) → p ≡ q
-ok_is p q e = cc

@@ -1,7 +1,9 @@
 //! The fixed part of a Forward_Open's data.
 
 ghost use Rattle.cip_types.specs.Fields.{Finds, fields_at};
+ghost use Rattle.cip_fwdopen.specs.Services.{is_large_open};
 
+use crate::open_service::OpenService;
 use cip_types::fields::{u16_in, u32_in};
 
 /// The fields before the path. The connection parameters are words, not yet decoded.
@@ -86,9 +88,11 @@ impl OpenFront {
     }
 
     /// The fixed part at the front, and the bytes after it. None where the bytes are fewer.
-    pub fn at(large: bool, bytes: &[u8]) -> Option<(OpenFront, &[u8])>
-        ensures { Finds (λ x. (numbers_of x.0, x.1.now)) result (fields_at (open_widths large) bytes.now) }
+    pub fn at(service: OpenService, bytes: &[u8]) -> Option<(OpenFront, &[u8])>
+        ensures { Finds (λ x. (numbers_of x.0, x.1.now)) result
+            (fields_at (open_widths (is_large_open service)) bytes.now) }
     {
+        let large = service.is_large();
         if large {
             OpenFront::large_at(bytes)
         } else {

@@ -9,6 +9,7 @@ mod get;
 mod laws;
 mod message;
 mod open;
+mod open_service;
 mod reply;
 pub mod service;
 mod write;
@@ -22,6 +23,7 @@ pub use get::{GetAnswer, GetReply, put_got, read_get_reply, write_get, write_got
 pub use laws::reads_back;
 pub use message::{Request, read_request};
 pub use open::{OpenRequest, read_open};
+pub use open_service::OpenService;
 pub use reply::{OpenAnswer, OpenReply, Opened, Refused, read_open_reply};
 pub use write::{
     open_len, put_open, put_opened, put_refused, write_open, write_opened, write_refused,

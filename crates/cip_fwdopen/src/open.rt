@@ -1,13 +1,15 @@
 //! The data of a Forward_Open and of a Large_Forward_Open.
 
-ghost use Rattle.std.specs.Prelude.{◌≡◌, Result, ◌≤◌, ◌<◌, ◌^◌, false};
+ghost use Rattle.std.specs.Prelude.{◌≡◌, Result, ◌<◌};
 ghost use Rattle.cip_fwdopen.specs.declared.fault.ReadFault.{ReadFault};
 ghost use Rattle.cip_fwdopen.specs.Readings.{seen};
 ghost use Rattle.cip_fwdopen.specs.Open.{OpenFields, view_open, open_of, params_of, IsOpenReading, open_reading};
 ghost use Rattle.cip_fwdopen.specs.Numbers.{numbers_of};
+ghost use Rattle.cip_fwdopen.specs.Services.{is_large_open};
 
 use crate::fault::ReadFault;
 use crate::fixed::OpenFront;
+use crate::open_service::OpenService;
 use cip_netparams::{NetParams, read16, read32};
 use cip_types::{ConnId, Triad};
 
@@ -35,9 +37,10 @@ pub struct OpenRequest<P> {
     pub path: P,
 }
 
-fn params_of(large: bool, word: u32) -> NetParams
-    ensures { result ≡ params_of large word }
+fn params_of(service: OpenService, word: u32) -> NetParams
+    ensures { result ≡ params_of (is_large_open service) word }
 {
+    let large = service.is_large();
     if large {
         read32(word)
     } else {
@@ -45,8 +48,8 @@ fn params_of(large: bool, word: u32) -> NetParams
     }
 }
 
-fn request_of<'a>(large: bool, fixed: OpenFront, path: &'a [u8]) -> OpenRequest<&'a [u8]>
-    ensures { view_open result ≡ open_of large (numbers_of fixed, path.now) }
+fn request_of<'a>(service: OpenService, fixed: OpenFront, path: &'a [u8]) -> OpenRequest<&'a [u8]>
+    ensures { view_open result ≡ open_of (is_large_open service) (numbers_of fixed, path.now) }
 {
     OpenRequest {
         priority_tick: fixed.priority_tick,
@@ -60,18 +63,18 @@ fn request_of<'a>(large: bool, fixed: OpenFront, path: &'a [u8]) -> OpenRequest<
         },
         multiplier: fixed.multiplier,
         o_t_rpi: fixed.o_t_rpi,
-        o_t_params: params_of(large, fixed.o_t_word),
+        o_t_params: params_of(service, fixed.o_t_word),
         t_o_rpi: fixed.t_o_rpi,
-        t_o_params: params_of(large, fixed.t_o_word),
+        t_o_params: params_of(service, fixed.t_o_word),
         trigger: fixed.trigger,
         path,
     }
 }
 
-fn whole_open(large: bool, bytes: &[u8]) -> Result<OpenRequest<&[u8]>, ReadFault>
-    ensures { seen view_open result ≡ open_reading large bytes.now }
+fn whole_open(service: OpenService, bytes: &[u8]) -> Result<OpenRequest<&[u8]>, ReadFault>
+    ensures { seen view_open result ≡ open_reading (is_large_open service) bytes.now }
 {
-    let Some((fixed, rest)) = OpenFront::at(large, bytes) else {
+    let Some((fixed, rest)) = OpenFront::at(service, bytes) else {
         return Err(ReadFault::NotEnough);
     };
     let len = 2 * usize::from(fixed.path_words);
@@ -81,7 +84,7 @@ fn whole_open(large: bool, bytes: &[u8]) -> Result<OpenRequest<&[u8]>, ReadFault
     if rest.len() > len {
         return Err(ReadFault::TooMuch);
     }
-    Ok(request_of(large, fixed, rest))
+    Ok(request_of(service, fixed, rest))
 }
 
 /// Reads the data of a Large_Forward_Open, whose connection parameters have 32 bits, or of a Forward_Open,
@@ -91,13 +94,13 @@ fn whole_open(large: bool, bytes: &[u8]) -> Result<OpenRequest<&[u8]>, ReadFault
 /// path; never Path.
 ///
 /// Volume 1, chapter 3, Forward_Open and Large_Forward_Open services.
-pub fn read_open(large: bool, bytes: &[u8]) -> Result<OpenRequest<&[u8]>, ReadFault>
-    ensures value { seen view_open result ≡ open_reading large bytes.now }
+pub fn read_open(service: OpenService, bytes: &[u8]) -> Result<OpenRequest<&[u8]>, ReadFault>
+    ensures value { seen view_open result ≡ open_reading (is_large_open service) bytes.now }
     // The result is a reading of the bytes.
-    ensures reading { IsOpenReading large bytes.now (seen view_open result) }
+    ensures reading { IsOpenReading (is_large_open service) bytes.now (seen view_open result) }
     // The bytes have no other reading.
-    ensures only { (other : Result OpenFields ReadFault) → IsOpenReading large bytes.now other
+    ensures only { (other : Result OpenFields ReadFault) → IsOpenReading (is_large_open service) bytes.now other
         → seen view_open result ≡ other }
 {
-    whole_open(large, bytes)
+    whole_open(service, bytes)
 }

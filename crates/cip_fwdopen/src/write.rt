@@ -6,11 +6,13 @@ ghost use Rattle.cip_epath.specs.Written.{path_text, AreWords};
 ghost use Rattle.std.specs.Int.{w32, to_le_bytes};
 ghost use Rattle.cip_types.specs.Fields.{fields_text};
 ghost use Rattle.cip_fwdopen.specs.Open.{OpenFields, open_contents, view_open, sent_open, params_width, params_word, greatest_size, open_text, OpenFits, IsOpenText, open_reading};
-ghost use Rattle.cip_fwdopen.specs.Reply.{opened_service, opened_text, opened_reply, refused_text, refused_reply, IsOpenReplyText, open_reply_reading, extended_text, failure_text, triad_widths, triad_numbers, OpenedFits, TriadFits};
+ghost use Rattle.cip_fwdopen.specs.Reply.{opened_text, opened_reply, refused_text, refused_reply, IsOpenReplyText, open_reply_reading, extended_text, failure_text, triad_widths, triad_numbers, OpenedFits, TriadFits};
+ghost use Rattle.cip_fwdopen.specs.Services.{is_large_open};
 
 use crate::open::OpenRequest;
+use crate::open_service::OpenService;
 use crate::reply::Opened;
-use crate::service::{FORWARD_OPEN, LARGE_FORWARD_OPEN, REPLY};
+use crate::service::REPLY;
 use cip_epath::{ConnPath, path_len, put_path};
 use cip_netparams::{NetParams, write16, write32};
 use cip_types::fields::{put_bytes, put_u8, put_u16, put_u32};
@@ -26,11 +28,17 @@ const LARGE_FRONT_LEN: usize = 40;
 /// The length of the reply to a successful open, in bytes.
 const OPENED_LEN: usize = 30;
 
-fn put_params(out: &mut Vec<u8>, large: bool, params: &NetParams) -> Result<(), OutOfMemory>
-    requires { params.now.size ≤ greatest_size large }
+fn put_params(
+    out: &mut Vec<u8>,
+    service: OpenService,
+    params: &NetParams,
+) -> Result<(), OutOfMemory>
+    requires { params.now.size ≤ greatest_size (is_large_open service) }
     ensures { OnOk result (out.new.items
-        ≡ out.old.items ++ to_le_bytes (params_width large) (params_word large params.now)) }
+        ≡ out.old.items ++ to_le_bytes (params_width (is_large_open service))
+        (params_word (is_large_open service) params.now)) }
 {
+    let large = service.is_large();
     if large {
         return put_u32(out, write32(params));
     }
@@ -66,31 +74,34 @@ pub fn put_triad(out: &mut Vec<u8>, triad: Triad) -> Result<(), OutOfMemory>
 /// Appends the packet interval and the parameters of one direction.
 fn put_direction(
     out: &mut Vec<u8>,
-    large: bool,
+    service: OpenService,
     rpi: u32,
     params: &NetParams,
 ) -> Result<(), OutOfMemory>
-    requires { params.now.size ≤ greatest_size large }
+    requires { params.now.size ≤ greatest_size (is_large_open service) }
     ensures fits { rpi < 2 ^ 32 }
     ensures text { OnOk result (out.new.items ≡ out.old.items
-        ++ (to_le_bytes w32 rpi ++ to_le_bytes (params_width large) (params_word large params.now))) }
+        ++ (to_le_bytes w32 rpi
+        ++ to_le_bytes (params_width (is_large_open service)) (params_word (is_large_open service) params.now))) }
 {
     put_u32(out, rpi)?;
-    put_params(out, large, params)
+    put_params(out, service, params)
 }
 
 /// Appends the fields of a Forward_Open, or of a Large_Forward_Open, before its path, with reserved bytes and spare bits
 /// zero. A path of so many words is to follow.
 fn put_open_front<P>(
     out: &mut Vec<u8>,
-    large: bool,
+    service: OpenService,
     request: &OpenRequest<P>,
     words: u8,
 ) -> Result<(), OutOfMemory>
-    requires o_t_size { request.now.o_t_params.size ≤ greatest_size large }
-    requires t_o_size { request.now.t_o_params.size ≤ greatest_size large }
-    ensures { (path : List ℕ) → length path ≡ 2 * words → OnOk result (OpenFits large (open_contents request.now path)
-        × (out.new.items ++ path ≡ out.old.items ++ open_text large (open_contents request.now path))) }
+    requires o_t_size { request.now.o_t_params.size ≤ greatest_size (is_large_open service) }
+    requires t_o_size { request.now.t_o_params.size ≤ greatest_size (is_large_open service) }
+    ensures { (path : List ℕ) → length path ≡ 2 * words
+        → OnOk result (OpenFits (is_large_open service) (open_contents request.now path)
+        × (out.new.items ++ path ≡ out.old.items
+        ++ open_text (is_large_open service) (open_contents request.now path))) }
 {
     put_two(out, request.priority_tick, request.ticks)?;
     put_long(out, request.o_t_id.0)?;
@@ -98,8 +109,8 @@ fn put_open_front<P>(
     put_triad(out, request.triad)?;
     put_two(out, request.multiplier, 0)?;
     put_two(out, 0, 0)?;
-    put_direction(out, large, request.o_t_rpi, &request.o_t_params)?;
-    put_direction(out, large, request.t_o_rpi, &request.t_o_params)?;
+    put_direction(out, service, request.o_t_rpi, &request.o_t_params)?;
+    put_direction(out, service, request.t_o_rpi, &request.t_o_params)?;
     put_two(out, request.trigger, words)?;
     Ok(())
 }
@@ -107,10 +118,12 @@ fn put_open_front<P>(
 /// The bytes of the data of a Forward_Open, or of a Large_Forward_Open, with a path of so many bytes.
 ///
 /// Volume 1, chapter 3, Forward_Open and Large_Forward_Open services.
-pub fn open_len(large: bool, path_len: usize) -> usize
+pub fn open_len(service: OpenService, path_len: usize) -> usize
     requires { path_len ≤ 510 }
-    ensures { (request : OpenFields) → length request.path ≡ path_len → length (open_text large request) ≡ result }
+    ensures { (request : OpenFields) → length request.path ≡ path_len
+        → length (open_text (is_large_open service) request) ≡ result }
 {
+    let large = service.is_large();
     if large {
         LARGE_FRONT_LEN + path_len
     } else {
@@ -124,19 +137,19 @@ pub fn open_len(large: bool, path_len: usize) -> usize
 /// Volume 1, chapter 3, Forward_Open and Large_Forward_Open services.
 pub fn put_open(
     out: &mut Vec<u8>,
-    large: bool,
+    service: OpenService,
     request: &OpenRequest<ConnPath<'_>>,
 ) -> Result<(), OutOfMemory>
     // The data segment of the path has whole words, which one byte counts.
     requires words { IfSome (view_path request.now.path).segment AreWords }
     // One byte counts the words of the path.
     requires short { length (path_text (view_path request.now.path)) ≤ 510 }
-    requires o_t_size { request.now.o_t_params.size ≤ greatest_size large }
-    requires t_o_size { request.now.t_o_params.size ≤ greatest_size large }
-    ensures { OnOk result (out.new.items ≡ out.old.items ++ open_text large (sent_open request.now)) }
+    requires o_t_size { request.now.o_t_params.size ≤ greatest_size (is_large_open service) }
+    requires t_o_size { request.now.t_o_params.size ≤ greatest_size (is_large_open service) }
+    ensures { OnOk result (out.new.items ≡ out.old.items ++ open_text (is_large_open service) (sent_open request.now)) }
 {
     let words = (path_len(&request.path) / 2) as u8;
-    put_open_front(out, large, request, words)?;
+    put_open_front(out, service, request, words)?;
     put_path(out, &request.path)?;
     Ok(())
 }
@@ -147,43 +160,36 @@ pub fn put_open(
 /// Volume 1, chapter 3, Forward_Open and Large_Forward_Open services.
 pub fn write_open(
     alloc: Global,
-    large: bool,
+    service: OpenService,
     request: &OpenRequest<&[u8]>,
 ) -> Result<Vec<u8>, OutOfMemory>
     requires whole_words { length request.now.path.now % 2 ≡ 0 }
     requires short { length request.now.path.now ≤ 510 }
-    requires o_t_size { request.now.o_t_params.size ≤ greatest_size large }
-    requires t_o_size { request.now.t_o_params.size ≤ greatest_size large }
-    ensures text { IfOk result (λ v. v.items ≡ open_text large (view_open request.now)) }
-    ensures is_text { IfOk result (λ v. IsOpenText large v.items (view_open request.now)) }
-    ensures read_back { IfOk result (λ v. open_reading large v.items ≡ Ok (view_open request.now)) }
+    requires o_t_size { request.now.o_t_params.size ≤ greatest_size (is_large_open service) }
+    requires t_o_size { request.now.t_o_params.size ≤ greatest_size (is_large_open service) }
+    ensures text { IfOk result (λ v. v.items ≡ open_text (is_large_open service) (view_open request.now)) }
+    ensures is_text { IfOk result (λ v. IsOpenText (is_large_open service) v.items (view_open request.now)) }
+    ensures read_back { IfOk result (λ v. open_reading (is_large_open service) v.items ≡ Ok (view_open request.now)) }
 {
     let mut out = Vec::new(alloc);
-    put_open_front(&mut out, large, request, (request.path.len() / 2) as u8)?;
+    put_open_front(&mut out, service, request, (request.path.len() / 2) as u8)?;
     put_bytes(&mut out, request.path)?;
     Ok(out)
-}
-
-/// The service byte of a reply to a Large_Forward_Open or to a Forward_Open.
-fn service_of(large: bool) -> u8
-    ensures { result ≡ opened_service large }
-{
-    if large {
-        LARGE_FORWARD_OPEN | REPLY
-    } else {
-        FORWARD_OPEN | REPLY
-    }
 }
 
 /// Appends the whole reply to a successful Large_Forward_Open or Forward_Open, with no application reply: 30 bytes.
 /// OutOfMemory is the only fault.
 ///
 /// Volume 1, chapter 3, Forward_Open service, successful response.
-pub fn put_opened(out: &mut Vec<u8>, large: bool, opened: &Opened) -> Result<(), OutOfMemory>
+pub fn put_opened(
+    out: &mut Vec<u8>,
+    service: OpenService,
+    opened: &Opened,
+) -> Result<(), OutOfMemory>
     ensures { OnOk result (OpenedFits opened.now
-        × (out.new.items ≡ out.old.items ++ opened_text large opened.now)) }
+        × (out.new.items ≡ out.old.items ++ opened_text (is_large_open service) opened.now)) }
 {
-    put_bytes(out, &[service_of(large), 0, 0, 0])?;
+    put_bytes(out, &[service.reply_code(), 0, 0, 0])?;
     put_u32(out, opened.o_t_id.0)?;
     put_u32(out, opened.t_o_id.0)?;
     put_triad(out, opened.triad)?;
@@ -196,13 +202,18 @@ pub fn put_opened(out: &mut Vec<u8>, large: bool, opened: &Opened) -> Result<(),
 /// Writes the whole reply to a successful Large_Forward_Open or Forward_Open, with no application reply.
 ///
 /// Volume 1, chapter 3, Forward_Open service, successful response.
-pub fn write_opened(alloc: Global, large: bool, opened: &Opened) -> Result<Vec<u8>, OutOfMemory>
-    ensures text { IfOk result (λ v. v.items ≡ opened_text large opened.now) }
-    ensures is_text { IfOk result (λ v. IsOpenReplyText v.items (opened_reply large opened.now)) }
-    ensures read_back { IfOk result (λ v. open_reply_reading v.items ≡ Ok (opened_reply large opened.now)) }
+pub fn write_opened(
+    alloc: Global,
+    service: OpenService,
+    opened: &Opened,
+) -> Result<Vec<u8>, OutOfMemory>
+    ensures text { IfOk result (λ v. v.items ≡ opened_text (is_large_open service) opened.now) }
+    ensures is_text { IfOk result (λ v. IsOpenReplyText v.items (opened_reply (is_large_open service) opened.now)) }
+    ensures read_back { IfOk result
+        (λ v. open_reply_reading v.items ≡ Ok (opened_reply (is_large_open service) opened.now)) }
 {
     let mut out = Vec::with_capacity(alloc, OPENED_LEN)?;
-    put_opened(&mut out, large, opened)?;
+    put_opened(&mut out, service, opened)?;
     Ok(out)
 }
 

@@ -7,11 +7,12 @@ use Rattle.cip_fwdopen.specs.Reply.{triad_widths, triad_numbers}
 use Rattle.cip_fwdopen.proofs.ParamsLaws.{params_word_fits}
 use Rattle.cip_fwdopen.proofs.OpenLaws.{direction_text, open_text_parts}
 use Rattle.cip_fwdopen.proofs.write.put_open_front.Goals as goal
+use Rattle.cip_fwdopen.specs.Services.{is_large_open}
 
 pub returns : goal.returns
 returns g c = λ path is.
     let r = c.args.request.now in
-    let large = c.args.large in
+    let large = (is_large_open c.args.service) in
     let ticks = c.in_ok-put_two.ensures.fits in
     let o_t_id = c.in_ok-put_long.ensures.fits in
     let t_o_id = c.in_ok-put_long-2.ensures.fits in

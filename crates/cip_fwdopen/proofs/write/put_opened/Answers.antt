@@ -4,6 +4,7 @@ use Rattle.cip_types.specs.Fields.{fields_text}
 use Rattle.cip_types.specs.PartLaws.{appended}
 use Rattle.cip_fwdopen.specs.Reply.{opened_service, opened_text, triad_widths, triad_numbers, OpenedFits}
 use Rattle.cip_fwdopen.proofs.write.put_opened.Goals as goal
+use Rattle.cip_fwdopen.specs.Services.{is_large_open}
 
 fits : (c : goal.In_ok-put_bytes-2) → OpenedFits c.args.opened.now
 fits c =
@@ -19,7 +20,7 @@ unfolding opened_text
 returns c =
     let o = c.args.opened.now in (
       fits c,
-      appended c.args.out.now.items c.put_bytes.new.out.items _ (opened_service c.args.large ∷ 0 ∷ 0 ∷ 0 ∷ []) _ (rw c.service_of.ensures at c.in_ok-put_bytes.ensures.ok)
+      appended c.args.out.now.items c.put_bytes.new.out.items _ (opened_service (is_large_open c.args.service) ∷ 0 ∷ 0 ∷ 0 ∷ []) _ (rw c.reply_code.ensures at c.in_ok-put_bytes.ensures.ok)
           (appended c.put_bytes.new.out.items c.put_u32.new.out.items _ (to_le_bytes w32 o.o_t_id.0) _ c.in_ok-put_u32.ensures.ok
           (appended c.put_u32.new.out.items c.put_u32-2.new.out.items _ (to_le_bytes w32 o.t_o_id.0) _ c.in_ok-put_u32-2.ensures.ok
           (appended c.put_u32-2.new.out.items c.put_triad.new.out.items _ (fields_text triad_widths (triad_numbers o.triad)) _ c.in_ok-put_triad.ensures.text
