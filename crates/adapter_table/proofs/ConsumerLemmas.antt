@@ -16,9 +16,9 @@ use Rattle.adapter_table.specs.declared.table.AdapterTable.{AdapterTable}
 use Rattle.adapter_table.specs.Checks.{heartbeat_kind, heartbeat_point, consumed_point_at, Admitted}
 use Rattle.adapter_table.specs.Ticks.{has_expired, expired_row, expired_rows}
 use Rattle.adapter_table.specs.Whole.{ConsumesOutput, OwnersConsume}
-use Rattle.adapter_table.proofs.CheckLemmas.{IsAdmitted}
+use Rattle.adapter_table.specs.Lemmas.CheckLemmas.{IsAdmitted}
 use Rattle.adapter_table.specs.EachLemmas.{each_map}
-use Rattle.adapter_table.proofs.LikeLemmas.{Keeps}
+use Rattle.adapter_table.specs.Lemmas.LikeLemmas.{Keeps}
 
 -- ---- the connections change
 

@@ -17,9 +17,9 @@ use Rattle.adapter_table.specs.Ticks.{has_expired, by_deadline, expired, expired
 use Rattle.adapter_table.specs.Shapes.{IsShaped}
 use Rattle.adapter_table.specs.Scratch.{left_lost, is_lost}
 use Rattle.adapter_table.proofs.OrderLemmas.{count_in_order}
-use Rattle.adapter_table.proofs.LikeLemmas.{any_driver_kept, due_keeps}
+use Rattle.adapter_table.specs.Lemmas.LikeLemmas.{any_driver_kept, due_keeps}
 use Rattle.adapter_table.proofs.FadeLemmas.{count_expired}
-use Rattle.adapter_table.proofs.DriverLemmas.{any_counted, none_counted, any_staying}
+use Rattle.adapter_table.specs.Lemmas.DriverLemmas.{any_counted, none_counted, any_staying}
 use Rattle.adapter_table.specs.Fitting.{shaped_closed}
 use Rattle.adapter_table.proofs.ServedLemmas.{closed_here, closed_beside}
 

@@ -2,6 +2,7 @@
 use Rattle.std.proofs.Common.{◌≡◌, ◌≢◌, ◌≤◌, ◌<◌, ℕ, ◌+◌, ◌-◌, ◌*◌, ◌^◌, ◌==◌, nat_le, length, Bool, true, false, cond, not, ◌&&◌, List, [], ◌∷◌, map, find, Option, Some, None, Result, Ok, Err, refl, sym, ◌∙◌, ap, subst, arith}
 use Rattle.std.proofs.lemmas.Bool.{and_parts}
 use Rattle.std.proofs.lemmas.Bool.Decides.{nat_tests}
+use Rattle.base_lemmas.specs.Lists.{found_passes}
 use Rattle.cip_types.specs.declared.names.Ms.{Ms}
 use Rattle.cip_types.specs.declared.names.Node.{Node}
 use Rattle.cip_types.specs.declared.names.ConnId.{ConnId}
@@ -12,7 +13,7 @@ use Rattle.cip_datagram.specs.Header.{header_at}
 use Rattle.cip_datagram.specs.Reading.{datagram_reading}
 use Rattle.cip_events.specs.declared.event.Delivery.{Delivery}
 use Rattle.cip_events.specs.declared.event.Delivery.TheVariants.{Duplicate, Heartbeat, Old, WrongSize}
-use Rattle.cip_events.specs.declared.event.Event.TheVariants.{Request, StreamOpened, Frame, StreamCut, Datagram, Write, Read, Tick, Mode, Start, Stop}
+use Rattle.cip_events.specs.declared.event.Event.TheVariants.{Request, StreamOpened, Frame, StreamCut, Datagram, Write, Read, Tick}
 use Rattle.cip_events.specs.Answers.{is_accepted}
 use Rattle.cip_fwdopen.specs.Open.{OpenFields}
 use Rattle.cip_productions.specs.declared.acceptance.Accepted.{Accepted}
@@ -39,9 +40,8 @@ use Rattle.adapter_table.specs.Sound.{IdsAreDrawn, IsSound, OpensBefore}
 use Rattle.adapter_table.specs.Newest.{Acceptance, is_applied, acceptance_of, accepted_found, accepted_read, EachAfter, last_accepted, HasNewerNumber, HasOtherCount, IsAppliedNew, IsNotAgain, RemembersLast, TableRemembers}
 use Rattle.adapter_table.specs.Laws.{StepsAcceptAfter, RefusalsAcceptNothing}
 use Rattle.adapter_table.specs.EachLemmas.{each_filter, each_append, each_map, each_found, each_both, each_changed, two_weak, two_found}
-use Rattle.adapter_table.proofs.ProducerLemmas.{found_passes}
-use Rattle.adapter_table.proofs.RequestLemmas.{RequestsDo, answered_does, frame_does, next_is, IsStreamed, streamed_is, cut_does}
-use Rattle.adapter_table.proofs.EffectLemmas.{IsWrite, write_is, IsTick, tick_is}
+use Rattle.adapter_table.specs.Lemmas.RequestLemmas.{RequestsDo, answered_does, frame_does, next_is, IsStreamed, streamed_is, cut_does}
+use Rattle.adapter_table.specs.Lemmas.EffectLemmas.{IsWrite, write_is, IsTick, tick_is}
 
 -- ---- what an accepted datagram is
 
@@ -307,9 +307,7 @@ steps_accept R holds opening last t (Datagram peer bytes) next is sound remember
 steps_accept R holds opening last t (Write point bytes) next is sound remembers = (tt, remembers_write opening last t point bytes next (write_is t point bytes next is) remembers)
 steps_accept R holds opening last t (Read point) next is sound remembers = (tt, remembers_read opening last t (bytes_at t.values point) next is remembers)
 steps_accept R holds opening last t (Tick ms) next is sound remembers = (tt, remembers_tick opening last t ms next (tick_is t ms next is) remembers)
-steps_accept R holds opening last t (Mode run) next is sound remembers = absurd cc
-steps_accept R holds opening last t (Start slot) next is sound remembers = absurd cc
-steps_accept R holds opening last t (Stop slot) next is sound remembers = absurd cc
+steps_accept R holds opening last t other next is sound remembers = absurd cc
 
 pub steps_accept_newer : StepsAcceptAfter HasNewerNumber
 steps_accept_newer = steps_accept HasNewerNumber (λ profile row d is. newer_than row.last (acceptance_of d (row_delivery profile row d)) (accepted_newer (length d.payload == expected_len profile row) (accepts_sequence row.last d.sequence) (accepted_delivery row d) is))
@@ -321,14 +319,5 @@ pub steps_apply_once : StepsAcceptAfter IsNotAgain
 steps_apply_once = steps_accept IsNotAgain (λ profile row d is. not_again row.last (acceptance_of d (row_delivery profile row d)) (applied_new profile row d))
 
 pub faults_accept_nothing : RefusalsAcceptNothing
-faults_accept_nothing opening t (Request peer bytes) fault is = refl
-faults_accept_nothing opening t (StreamOpened number peer) fault is = refl
-faults_accept_nothing opening t (Frame number bytes) fault is = refl
-faults_accept_nothing opening t (StreamCut number) fault is = refl
 faults_accept_nothing opening t (Datagram peer bytes) fault is = absurd cc
-faults_accept_nothing opening t (Write point bytes) fault is = refl
-faults_accept_nothing opening t (Read point) fault is = refl
-faults_accept_nothing opening t (Tick ms) fault is = refl
-faults_accept_nothing opening t (Mode run) fault is = refl
-faults_accept_nothing opening t (Start slot) fault is = refl
-faults_accept_nothing opening t (Stop slot) fault is = refl
+faults_accept_nothing opening t other fault is = refl

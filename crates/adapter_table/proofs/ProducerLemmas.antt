@@ -1,5 +1,6 @@
 -- Openings rise, and producers keep their numbers, whatever is taken out, changed, timed out or appended.
-use Rattle.std.proofs.Common.{◌≡◌, ◌≤◌, ◌<◌, ℕ, ◌+◌, Bool, true, false, cond, List, [], ◌∷◌, ◌++◌, map, filter, find, Option, Some, refl, sym, ◌∙◌, ap, subst, arith}
+use Rattle.std.proofs.Common.{◌≡◌, ◌≤◌, ◌<◌, ℕ, ◌+◌, Bool, true, false, cond, List, [], ◌∷◌, ◌++◌, map, filter, find, Some, refl, sym, ◌∙◌, ap, arith}
+use Rattle.base_lemmas.specs.Lists.{found_passes}
 use Rattle.cip_types.specs.declared.names.Ms.{Ms}
 use Rattle.adapter_table.specs.declared.profile.Profile.{Profile}
 use Rattle.adapter_table.specs.Connections.{Row}
@@ -10,8 +11,8 @@ use Rattle.adapter_table.specs.Opening.{connection_id}
 use Rattle.adapter_table.specs.Ticks.{has_expired, expired_row, expired_rows}
 use Rattle.adapter_table.specs.Sound.{IdsAreDrawn, SharesProducer, OpensBefore, ProducerIsDrawn, SingleHasItsOwn, MulticastIdIsDrawn, ShareInGroup, ProducersAreSound}
 use Rattle.adapter_table.specs.EachLemmas.{each_filter, each_append, each_map, each_found, each_weak, two_filter, two_append, two_map, two_found}
-use Rattle.adapter_table.proofs.GroupLemmas.{produced_is, member_parts}
-use Rattle.adapter_table.proofs.LikeLemmas.{IsLike, Keeps}
+use Rattle.adapter_table.specs.Lemmas.GroupLemmas.{produced_is, member_parts}
+use Rattle.adapter_table.specs.Lemmas.LikeLemmas.{IsLike, Keeps}
 
 -- ---- some are taken out
 
@@ -160,15 +161,6 @@ joined_share new m many input m_lives shares row share = λ lives new_lives same
     let group = share lives m_lives (same ∙ ap producer_of shares.state) in
     let shared = group.shared in
     record { first = group.first; second = many; input = group.input ∙ sym input; shared = record { id = shared.id ∙ sym shares.id; api = shared.api ∙ sym shares.api; state = shared.state ∙ sym shares.state } }
-
-passes_step : (b : Bool) (p : Row → Bool) (first row : Row) (rest : Option Row) → p first ≡ b → cond b (Some first) rest ≡ Some row → (rest ≡ Some row → p row ≡ true) → p row ≡ true
-passes_step true p first row rest here is more = let same : first ≡ row = cc in subst (λ (r : Row). p r ≡ true) same here
-passes_step false p first row rest here is more = more is
-
--- what is found passes the test
-pub found_passes : (p : Row → Bool) (rows : List Row) (row : Row) → find p rows ≡ Some row → p row ≡ true
-found_passes p [] row is = absurd cc
-found_passes p (first ∷ rows) row is = passes_step (p first) p first row (find p rows) refl is (found_passes p rows row)
 
 -- what holds of the new one
 record Begins (profile : Profile) (next : ℕ) (rows : List Row) (new : Row) : Type 0 where

@@ -9,7 +9,7 @@ use Rattle.cip_datagram.specs.Reading.{datagram_reading}
 use Rattle.cip_events.specs.declared.event.Delivery.{Delivery}
 use Rattle.cip_events.specs.declared.event.Delivery.TheVariants.{Applied, Idle, Heartbeat, Duplicate, Old, UnknownId, WrongSize, Malformed}
 use Rattle.cip_events.specs.declared.event.Event.{Event}
-use Rattle.cip_events.specs.declared.event.Event.TheVariants.{Request, StreamOpened, Frame, StreamCut, Datagram, Write, Read, Tick, Mode, Start, Stop}
+use Rattle.cip_events.specs.declared.event.Event.TheVariants.{Request, StreamOpened, Frame, StreamCut, Datagram, Write, Read, Tick}
 use Rattle.adapter_table.specs.declared.profile.InputPoint.{InputPoint}
 use Rattle.adapter_table.specs.declared.profile.OutputPoint.{OutputPoint}
 use Rattle.adapter_table.specs.Connections.{Row}
@@ -29,12 +29,12 @@ use Rattle.adapter_table.specs.Scratch.{or_else, left_lost, left_accepted, accep
 use Rattle.adapter_table.specs.Laws.{StepsLeave, RefusalsTouchNothing, FreshOutputsAreZeros}
 use Rattle.adapter_table.specs.Shaping.{input_no_output, output_found}
 use Rattle.adapter_table.specs.Fitting.{output_fits, length_is}
-use Rattle.adapter_table.proofs.ValueLemmas.{put_beside, zeros_at}
-use Rattle.adapter_table.proofs.DriverLemmas.{same_owner}
-use Rattle.adapter_table.proofs.LikeLemmas.{any_driver_kept, written_keeps, changed_keeps, fed_keeps}
-use Rattle.adapter_table.proofs.FedLemmas.{fed_value}
-use Rattle.adapter_table.proofs.RequestLemmas.{answered_does, frame_does, next_is, IsStreamed, streamed_is, cut_does}
-use Rattle.adapter_table.proofs.EffectLemmas.{IsWrite, write_is, IsTick, tick_is}
+use Rattle.adapter_table.specs.Lemmas.ValueLemmas.{put_beside, zeros_at}
+use Rattle.adapter_table.specs.Lemmas.DriverLemmas.{same_owner}
+use Rattle.adapter_table.specs.Lemmas.LikeLemmas.{any_driver_kept, written_keeps, changed_keeps, fed_keeps}
+use Rattle.adapter_table.specs.Lemmas.FedLemmas.{fed_value}
+use Rattle.adapter_table.specs.Lemmas.RequestLemmas.{answered_does, frame_does, next_is, IsStreamed, streamed_is, cut_does}
+use Rattle.adapter_table.specs.Lemmas.EffectLemmas.{IsWrite, write_is, IsTick, tick_is}
 use Rattle.adapter_table.proofs.ServedLemmas.{LosesOnly, unlost, loses_nothing, loses_with, requests_lose}
 use Rattle.adapter_table.proofs.ExpiryLemmas.{one_expired, owner_expired, expired_value}
 
@@ -147,9 +147,7 @@ leaves_bytes t (Datagram peer bytes) next is whole =
 leaves_bytes t (Write point bytes) next is whole = leaves_write t point bytes next (write_is t point bytes next is) whole.shaped
 leaves_bytes t (Read point) next is whole = leaves_read t point (bytes_at t.values point) next is
 leaves_bytes t (Tick ms) next is whole = leaves_tick t ms next (tick_is t ms next is) whole
-leaves_bytes t (Mode run) next is whole = absurd cc
-leaves_bytes t (Start slot) next is whole = absurd cc
-leaves_bytes t (Stop slot) next is whole = absurd cc
+leaves_bytes t other next is whole = absurd cc
 
 -- ---- from what each output held, which it does
 
@@ -180,14 +178,5 @@ untouched point t = rw (same_owner point t.rows t.rows refl) refl
 
 -- and one that has none touches nothing
 pub fault_touches_none : RefusalsTouchNothing
-fault_touches_none point t (Request peer bytes) fault is = untouched point t
-fault_touches_none point t (StreamOpened number peer) fault is = untouched point t
-fault_touches_none point t (Frame number bytes) fault is = untouched point t
-fault_touches_none point t (StreamCut number) fault is = untouched point t
 fault_touches_none point t (Datagram peer bytes) fault is = absurd cc
-fault_touches_none point t (Write other bytes) fault is = untouched point t
-fault_touches_none point t (Read other) fault is = untouched point t
-fault_touches_none point t (Tick ms) fault is = untouched point t
-fault_touches_none point t (Mode run) fault is = untouched point t
-fault_touches_none point t (Start slot) fault is = untouched point t
-fault_touches_none point t (Stop slot) fault is = untouched point t
+fault_touches_none point t other fault is = untouched point t

@@ -23,12 +23,12 @@ use Rattle.adapter_table.specs.Streams.{with_stream, without_stream, registered_
 use Rattle.adapter_table.specs.Shapes.{IsShaped}
 use Rattle.adapter_table.specs.Whole.{IsWhole}
 use Rattle.adapter_table.specs.Scratch.{left_lost, is_lost, lost}
-use Rattle.adapter_table.proofs.CheckLemmas.{admitted_is}
+use Rattle.adapter_table.specs.Lemmas.CheckLemmas.{admitted_is}
 use Rattle.adapter_table.specs.Shaping.{configuration_no_output}
 use Rattle.adapter_table.specs.Fitting.{output_length}
-use Rattle.adapter_table.proofs.ValueLemmas.{put_beside, lost_at, lost_beside}
-use Rattle.adapter_table.proofs.DriverLemmas.{same_owner, owner_opened, owner_stays, owner_closed}
-use Rattle.adapter_table.proofs.RequestLemmas.{RequestsDo}
+use Rattle.adapter_table.specs.Lemmas.ValueLemmas.{put_beside, lost_at, lost_beside}
+use Rattle.adapter_table.specs.Lemmas.DriverLemmas.{same_owner, owner_opened, owner_stays, owner_closed}
+use Rattle.adapter_table.specs.Lemmas.RequestLemmas.{RequestsDo}
 
 -- each output holds what the loss of its owner leaves there
 abbrev pub LosesOnly : AdapterTable → AdapterTable → Type 0

@@ -27,15 +27,15 @@ use Rattle.adapter_table.specs.Productions.{producer_of, produced_row, changed_r
 use Rattle.adapter_table.specs.Ticks.{clocked_table, expired_row, expired_rows, expired_table, produced_table}
 use Rattle.adapter_table.specs.Step.{adapter_table, written_table, changed_table}
 use Rattle.adapter_table.specs.Sound.{IsSound, StreamsDiffer}
-use Rattle.adapter_table.proofs.CheckLemmas.{HasSameApi, IsAdmitted, admitted_is, draws_some}
+use Rattle.adapter_table.specs.Lemmas.CheckLemmas.{HasSameApi, IsAdmitted, admitted_is, draws_some}
 use Rattle.adapter_table.specs.Laws.{EffectsKeep}
-use Rattle.adapter_table.proofs.GroupLemmas.{Joins, is_single, is_first, is_joiner, groups_opened, groups_filter}
-use Rattle.adapter_table.proofs.SupportLemmas.{listeners_opened, listeners_staying}
-use Rattle.adapter_table.proofs.LikeLemmas.{Keeps, count_kept, triads_kept, ids_kept, drawn_kept, listeners_kept, groups_kept, written_keeps, fed_keeps, due_keeps, changed_keeps}
+use Rattle.adapter_table.specs.Lemmas.GroupLemmas.{Joins, is_single, is_first, is_joiner, groups_opened, groups_filter}
+use Rattle.adapter_table.specs.Lemmas.SupportLemmas.{listeners_opened, listeners_staying}
+use Rattle.adapter_table.specs.Lemmas.LikeLemmas.{Keeps, count_kept, triads_kept, ids_kept, drawn_kept, listeners_kept, groups_kept, written_keeps, fed_keeps, due_keeps, changed_keeps}
 use Rattle.adapter_table.proofs.FadeLemmas.{count_expired, triads_expired, ids_expired, drawn_expired, groups_expired}
 use Rattle.adapter_table.proofs.ProducerLemmas.{Produces, is_single as is_alone, is_first as is_leader, is_joiner as is_follower, producers_opened, producers_filter, producers_kept, producers_expired}
 use Rattle.adapter_table.proofs.StreamLemmas.{has_capacity, few_with, few_left, differ_with, differ_left, differ_registered}
-use Rattle.adapter_table.proofs.SoundLemmas.{length_opened, any_opened, drivers_opened, filter_none, triads_append, ids_append, IsDrawn, drawn_new, drawn_append, length_filter_le, count_filter, triads_filter, ids_filter, drawn_filter}
+use Rattle.adapter_table.specs.Lemmas.SoundLemmas.{length_opened, any_opened, drivers_opened, filter_none, triads_append, ids_append, IsDrawn, drawn_new, drawn_append, length_filter_le, count_filter, triads_filter, ids_filter, drawn_filter}
 
 free_output : (rows : List Row) (kind : Kind) (consumed point : ℕ) → (is_owner kind && list_any (drives consumed) rows) ≡ false → (is_owner kind && consumed == point) ≡ true → drivers point rows ≡ []
 free_output rows kind consumed point free drives_it =

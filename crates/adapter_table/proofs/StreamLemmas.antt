@@ -1,10 +1,11 @@
 -- Streams open, and end, and sessions are registered on them: their numbers differ, and they stay few.
-use Rattle.std.proofs.Common.{◌≡◌, ◌≤◌, ℕ, ◌+◌, Bool, true, false, cond, ◌||◌, nat_le, ◌==◌, List, [], ◌∷◌, ◌++◌, length, map, filter, refl, ap, arith, length-append}
+use Rattle.std.proofs.Common.{◌≡◌, ◌≤◌, ℕ, ◌+◌, Bool, true, false, cond, ◌||◌, nat_le, List, [], ◌∷◌, ◌++◌, length, map, filter, refl, ap, arith, length-append}
 use Rattle.std.specs.List.{list_any}
 use Rattle.std.proofs.lemmas.Bool.Decides.{nat_tests}
 use Rattle.std.proofs.lemmas.Bool.{or_parts}
 use Rattle.std.proofs.lemmas.Grind.{common_steps}
 use Rattle.std.proofs.lemmas.List.Folds.{list_any-append}
+use Rattle.base_lemmas.specs.Numbers.{other_number}
 use Rattle.adapter_table.specs.declared.table.Stream.{Stream}
 use Rattle.adapter_table.specs.Streams.{is_stream, is_taken, registered_stream}
 use Rattle.adapter_table.specs.Sound.{StreamsDiffer}
@@ -23,9 +24,6 @@ has_capacity streams number free =
 
 pub few_with : (streams : List Stream) (stream : Stream) → length streams + 1 ≤ 16 → length (streams ++ stream ∷ []) ≤ 16
 few_with streams stream capacity = simp length-append (omega arith)
-
-other_number : (a b : ℕ) → (a == b) ≡ false → (b == a) ≡ false
-other_number a b h = grind (arith, nat_tests)
 
 pub differ_with : (streams : List Stream) (new : Stream) → StreamsDiffer streams → list_any (is_stream new.number) streams ≡ false → StreamsDiffer (streams ++ new ∷ [])
 differ_with [] new differ none = (refl, tt)

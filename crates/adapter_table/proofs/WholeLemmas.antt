@@ -1,5 +1,5 @@
 -- Connections stay within the limits of their adapter.
-use Rattle.std.proofs.Common.{◌≡◌, ◌≤◌, ◌<◌, ℕ, ◌+◌, ◌*◌, ◌^◌, ◌==◌, nat_lt, nat_le, Bool, true, false, cond, not, List, [], ◌∷◌, length, map, Option, Some, None, Ok, refl, sym, ap, ◌∙◌, arith, lit<, le_trans}
+use Rattle.std.proofs.Common.{◌≡◌, ◌≤◌, ◌<◌, ℕ, ◌+◌, ◌*◌, ◌^◌, ◌==◌, nat_lt, nat_le, Bool, true, false, cond, not, List, [], ◌∷◌, length, Option, Some, None, Ok, refl, sym, ap, ◌∙◌, arith, lit<, le_trans, leb-true}
 use Rattle.std.proofs.Math.Nat.{pow-le-pow_right, mul-le-mul_left, mul-le-mul_right}
 use Rattle.std.specs.Prelude.{IsTrue}
 use Rattle.std.specs.Option.{option_map}
@@ -20,7 +20,7 @@ use Rattle.adapter_table.specs.declared.row.State.{State}
 use Rattle.adapter_table.specs.declared.row.State.TheVariants.{Established, TimedOut}
 use Rattle.adapter_table.specs.declared.table.AdapterTable.{AdapterTable}
 use Rattle.adapter_table.specs.Rows.{is_member}
-use Rattle.adapter_table.specs.Checks.{Admitted, admission, stored, is_known_config, named_len, has_other_length, group_of, joined, drawn_ids}
+use Rattle.adapter_table.specs.Checks.{Admitted, admission, stored, is_known_config, named_len, has_other_length, group_of, joined}
 use Rattle.adapter_table.specs.Opening.{opened_row, opened_state}
 use Rattle.adapter_table.specs.Datagrams.{is_for, accepted_row, accepted_if_for}
 use Rattle.adapter_table.specs.Productions.{due_of, produced_state, produced_row, changed_state, changed_row}
@@ -29,7 +29,7 @@ use Rattle.adapter_table.specs.Shapes.{len_in}
 use Rattle.adapter_table.specs.Sound.{IdsAreDrawn}
 use Rattle.adapter_table.specs.Whole.{FitsRow, RowsFit, IsWhole}
 use Rattle.adapter_table.specs.Laws.{IsTimed}
-use Rattle.adapter_table.proofs.CheckLemmas.{admitted_is, draws_some}
+use Rattle.adapter_table.specs.Lemmas.CheckLemmas.{admitted_is, draws_some}
 use Rattle.adapter_table.proofs.ProducerLemmas.{producers_later}
 use Rattle.adapter_table.specs.RowLimits.{fits_stated, fits_chosen}
 use Rattle.adapter_table.specs.EachLemmas.{each_found}
@@ -45,11 +45,8 @@ again_fits : (trigger : Trigger) (clock due api : ℕ) → clock ≤ 2 ^ 48 → 
 again_fits Cyclic clock due api time late short = again_step (nat_lt clock (due + api)) clock due api refl time late short
 again_fits ChangeOfState clock due api time late short = omega arith
 
-le_of : (a b : ℕ) → nat_le a b ≡ true → a ≤ b
-le_of a b h = grind (arith, nat_tests)
-
 due_step : (b : Bool) (clock : Ms) (api : ℕ) (production : Production) → nat_le production.due.0 clock.0 ≡ b → clock.0 ≤ 2 ^ 48 → api ≤ 10000 → production.due.0 ≤ 2 ^ 48 + 10000 → due_of (cond b (Established (produced clock api production)) (Established production)) ≤ 2 ^ 48 + 10000
-due_step true clock api production is time short due = again_fits production.trigger clock.0 production.due.0 api time (le_of _ _ is) short
+due_step true clock api production is time short due = again_fits production.trigger clock.0 production.due.0 api time (leb-true _ _ is) short
 due_step false clock api production is time short due = due
 
 due_fits : (clock : Ms) (api : ℕ) (state : State) → clock.0 ≤ 2 ^ 48 → api ≤ 10000 → due_of state ≤ 2 ^ 48 + 10000 → due_of (produced_state clock api state) ≤ 2 ^ 48 + 10000

@@ -22,14 +22,14 @@ use Rattle.adapter_table.specs.Ticks.{clocked_table, expired, expired_row, expir
 use Rattle.adapter_table.specs.Requests.{Next}
 use Rattle.adapter_table.specs.Step.{adapter_step, adapter_table, written_table, changed_table}
 use Rattle.adapter_table.specs.Whole.{ConsumesOutput, FitsRow, IsWhole}
-use Rattle.adapter_table.proofs.CheckLemmas.{admitted_is}
+use Rattle.adapter_table.specs.Lemmas.CheckLemmas.{admitted_is}
 use Rattle.adapter_table.specs.Fitting.{input_fits, shaped_opening, shaped_put, shaped_closed, shaped_expired, stored_len, shaped_configured}
-use Rattle.adapter_table.proofs.LikeLemmas.{written_keeps, changed_keeps, fed_keeps, due_keeps}
+use Rattle.adapter_table.specs.Lemmas.LikeLemmas.{written_keeps, changed_keeps, fed_keeps, due_keeps}
 use Rattle.adapter_table.specs.EachLemmas.{each_filter, each_append, each_map, each_found}
 use Rattle.adapter_table.proofs.ConsumerLemmas.{consume_kept, consume_expired, admitted_consumes}
-use Rattle.adapter_table.proofs.FedLemmas.{shaped_fed}
+use Rattle.adapter_table.specs.Lemmas.FedLemmas.{shaped_fed}
 use Rattle.adapter_table.specs.Laws.{EffectsKeep}
-use Rattle.adapter_table.proofs.EffectLemmas.{adapter_keeps}
+use Rattle.adapter_table.specs.Lemmas.EffectLemmas.{adapter_keeps}
 use Rattle.adapter_table.proofs.StepLemmas.{sound_fresh, sound_opened, sound_closed, sound_written, sound_fed, sound_advanced, sound_with, sound_without, sound_registered}
 use Rattle.adapter_table.specs.RowLimits.{fits_written, fits_expired}
 use Rattle.adapter_table.proofs.WholeLemmas.{fits_due, fits_changed, fits_fed, fits_opened}

@@ -26,7 +26,7 @@ use Rattle.adapter_table.specs.Requests.{Next, Served, served}
 use Rattle.cip_events.specs.Answers.{plain_answer}
 use Rattle.cip_router.specs.Commands.{command_of, is_silent}
 use Rattle.adapter_table.specs.Streams.{is_stream, session_of, has_session, without_stream, registered_table}
-use Rattle.cip_router.specs.Frames.{ReplyHeader, FrameFields, headless, misfit, whole, frame_reading, FrameReply, services, registered, other_version, router_reply, refused, protocol_text, reply_message}
+use Rattle.cip_router.specs.Frames.{RequestHeader, FrameFields, without_header, wrong_length, whole, frame_reading, FrameReply, services, registered, other_version, router_reply, refused, protocol_text, reply_message}
 
 -- THE REPLY TO A MESSAGE
 
@@ -84,26 +84,26 @@ send_rr_data t stream session body =
     if has_session stream session then packet_replied t stream.peer (packet_reading body) else refusal t status.InvalidSession
 
 -- a message by its command
-unfoldable pub handled : AdapterTable → Stream → ReplyHeader → List ℕ → Command → Handled
-handled t stream reply_header body command.Nop = unanswered t
-handled t stream reply_header body command.ListServices = reply_only t services
-handled t stream reply_header body command.RegisterSession = register_session t stream body
-handled t stream reply_header body command.UnregisterSession = unregister_session t stream reply_header.session
-handled t stream reply_header body command.SendRrData = send_rr_data t stream reply_header.session body
-handled t stream reply_header body command.Other = refusal t status.InvalidCommand
+unfoldable pub handled : AdapterTable → Stream → RequestHeader → List ℕ → Command → Handled
+handled t stream request_header body command.Nop = unanswered t
+handled t stream request_header body command.ListServices = reply_only t services
+handled t stream request_header body command.RegisterSession = register_session t stream body
+handled t stream request_header body command.UnregisterSession = unregister_session t stream request_header.session
+handled t stream request_header body command.SendRrData = send_rr_data t stream request_header.session body
+handled t stream request_header body command.Other = refusal t status.InvalidCommand
 
 -- THE ANSWER
 
 -- the frame of a reply, for the other end of the stream
-abbrev pub reply_frames : ℕ → ReplyHeader → Option FrameReply → List Frame
-reply_frames number reply_header None = []
-reply_frames number reply_header (Some reply) = record { to = recipient.Stream number; bytes = message_text (reply_message reply_header reply) } ∷ []
+abbrev pub reply_frames : ℕ → RequestHeader → Option FrameReply → List Frame
+reply_frames number request_header None = []
+reply_frames number request_header (Some reply) = record { to = recipient.Stream number; bytes = message_text (reply_message request_header reply) } ∷ []
 
 -- the answer to a message of the stream of this number, and the table after it
-abbrev pub framed : ℕ → ReplyHeader → Handled → Next
-framed number reply_header done = (
+abbrev pub framed : ℕ → RequestHeader → Handled → Next
+framed number request_header done = (
   record {
-    frames = reply_frames number reply_header done.reply;
+    frames = reply_frames number request_header done.reply;
     datagrams = [];
     verdict = Done;
     notices = done.notices;
@@ -112,16 +112,16 @@ framed number reply_header done = (
 )
 
 -- a wrong length field is checked first; if no reply is due, the verdict is a bad frame
-abbrev pub misfit_answer : AdapterTable → ℕ → ReplyHeader → Next
-misfit_answer t number reply_header = first_case_or (framed number reply_header (refusal t status.InvalidLength)) (
-    (is_silent (command_of reply_header.command), (plain_answer BadFrame, t))
+abbrev pub wrong_length_answer : AdapterTable → ℕ → RequestHeader → Next
+wrong_length_answer t number request_header = first_case_or (framed number request_header (refusal t status.InvalidLength)) (
+    (is_silent (command_of request_header.command), (plain_answer BadFrame, t))
     ∷ [])
 
 -- the answer to a frame of an open stream, and the table after it
 abbrev pub frame_answer : AdapterTable → Stream → FrameFields → Next
-frame_answer t stream headless = (plain_answer BadFrame, t)
-frame_answer t stream (misfit reply_header) = misfit_answer t stream.number reply_header
-frame_answer t stream (whole reply_header body) = framed stream.number reply_header (handled t stream reply_header body (command_of reply_header.command))
+frame_answer t stream without_header = (plain_answer BadFrame, t)
+frame_answer t stream (wrong_length request_header) = wrong_length_answer t stream.number request_header
+frame_answer t stream (whole request_header body) = framed stream.number request_header (handled t stream request_header body (command_of request_header.command))
 
 -- the same of the stream that is found, if one is
 abbrev pub frame_of : AdapterTable → List ℕ → Option Stream → Result Next StepFault

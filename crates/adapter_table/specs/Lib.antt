@@ -24,3 +24,4 @@ pub mod Shaping
 pub mod Fitting
 pub mod Limits
 pub mod RowLimits
+pub mod Lemmas

@@ -11,7 +11,7 @@ use Rattle.cip_datagram.specs.Reading.{datagram_reading}
 use Rattle.cip_events.specs.declared.event.Delivery.{Delivery}
 use Rattle.cip_events.specs.declared.event.Delivery.TheVariants.{Applied, Idle, Heartbeat, Duplicate, Old, UnknownId, WrongSize, Malformed}
 use Rattle.cip_events.specs.declared.event.Event.{Event}
-use Rattle.cip_events.specs.declared.event.Event.TheVariants.{Request, StreamOpened, Frame, StreamCut, Datagram, Write, Read, Tick, Mode, Start, Stop}
+use Rattle.cip_events.specs.declared.event.Event.TheVariants.{Datagram}
 use Rattle.cip_events.specs.Answers.{is_accepted}
 use Rattle.cip_productions.specs.declared.acceptance.Accepted.{Accepted}
 use Rattle.adapter_table.specs.declared.profile.Profile.{Profile}
@@ -66,17 +66,8 @@ accepted_read opening t peer (Ok d) = accepted_found opening t.profile d (find (
 
 -- the datagram that the connection of an opening number accepts at an event
 abbrev pub accepted_at : ℕ → AdapterTable → Event → List Acceptance
-accepted_at opening t (Request peer bytes) = []
-accepted_at opening t (StreamOpened stream peer) = []
-accepted_at opening t (Frame stream bytes) = []
-accepted_at opening t (StreamCut stream) = []
 accepted_at opening t (Datagram peer bytes) = accepted_read opening t peer (datagram_reading bytes)
-accepted_at opening t (Write point bytes) = []
-accepted_at opening t (Read point) = []
-accepted_at opening t (Tick ms) = []
-accepted_at opening t (Mode run) = []
-accepted_at opening t (Start slot) = []
-accepted_at opening t (Stop slot) = []
+accepted_at opening t other = []
 
 -- ---- one after another
 

@@ -10,7 +10,7 @@ use Rattle.cip_datagram.specs.Reading.{datagram_reading}
 use Rattle.cip_events.specs.declared.event.Delivery.{Delivery}
 use Rattle.cip_events.specs.declared.event.Delivery.TheVariants.{Applied, Idle, Heartbeat, Duplicate, Old, UnknownId, WrongSize, Malformed}
 use Rattle.cip_events.specs.declared.event.Event.{Event}
-use Rattle.cip_events.specs.declared.event.Event.TheVariants.{Request, StreamOpened, Frame, StreamCut, Datagram, Write, Read, Tick, Mode, Start, Stop}
+use Rattle.cip_events.specs.declared.event.Event.TheVariants.{Datagram}
 use Rattle.adapter_table.specs.declared.profile.Action.{Action}
 use Rattle.adapter_table.specs.declared.profile.Action.TheVariants.{Hold, Zero}
 use Rattle.adapter_table.specs.declared.profile.OutputPoint.{OutputPoint}
@@ -68,17 +68,8 @@ read_accepted point t peer (Ok d) = accepted_by point t.profile d (find (is_for 
 
 -- the bytes that the datagram of an event leaves at an output
 abbrev pub data_left : ℕ → AdapterTable → Event → Option (List ℕ)
-data_left point t (Request peer bytes) = None
-data_left point t (StreamOpened stream peer) = None
-data_left point t (Frame stream bytes) = None
-data_left point t (StreamCut stream) = None
 data_left point t (Datagram peer bytes) = read_accepted point t peer (datagram_reading bytes)
-data_left point t (Write other bytes) = None
-data_left point t (Read other) = None
-data_left point t (Tick ms) = None
-data_left point t (Mode run) = None
-data_left point t (Start slot) = None
-data_left point t (Stop slot) = None
+data_left point t other = None
 
 -- ---- the loss of the owner
 

@@ -3,7 +3,7 @@
 ghost use Rattle.std.specs.Prelude.{◌≡◌, ◌≤◌, ◌+◌, ◌==◌, ◌^◌};
 ghost use Rattle.cip_datagram.specs.Datagram.{view_datagram};
 ghost use Rattle.cip_datagram.specs.Header.{header_at};
-ghost use Rattle.adapter_table.specs.Datagrams.{is_for, output_len, expected_len, run_data, owned_delivery, accepted_delivery, sized_delivery, row_delivery, later_deadline, accepted_row, accepted_if_for};
+ghost use Rattle.adapter_table.specs.Datagrams.{is_for, expected_len, run_data, owned_delivery, row_delivery, accepted_row, accepted_if_for};
 ghost use Rattle.adapter_table.specs.Judging.{IsJudged, judged_delivery};
 
 use crate::profile::Profile;

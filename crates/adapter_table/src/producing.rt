@@ -3,7 +3,7 @@
 ghost use Rattle.std.specs.Prelude.{◌≡◌, ◌≤◌, ◌+◌, ◌^◌};
 ghost use Rattle.std.specs.List.{list_any};
 ghost use Rattle.adapter_table.specs.Rows.{written_row, written_state};
-ghost use Rattle.adapter_table.specs.Productions.{producer_in, producer_number, is_produced_by, same_node, due_of, is_due, produced_state, produced_row, produces_on_change, state_produces_on_change, changed_state, changed_row};
+ghost use Rattle.adapter_table.specs.Productions.{producer_in, producer_number, is_produced_by, same_node, due_of, is_due, produced_state, produced_row, produces_on_change, changed_state, changed_row};
 
 use crate::row::{Row, State};
 use cip_productions::{

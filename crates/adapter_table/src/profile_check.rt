@@ -77,7 +77,8 @@ fn inputs_differ(inputs: &[InputPoint], profile: &Profile) -> bool
 /// Whether one of these outputs, an input, the configuration or a heartbeat has this instance.
 #[tactic(auto, using(crate::proofs::PointLemmas::any_point))]
 fn has_point(outputs: &[OutputPoint], profile: &Profile, instance: u32) -> bool
-    ensures { result ≡ list_any (is_at instance) (map as_point outputs.now ++ (profile.now.inputs ++ points_beside profile.now)) }
+    ensures { result ≡ list_any (is_at instance)
+        (map as_point outputs.now ++ (profile.now.inputs ++ points_beside profile.now)) }
 {
     has_output(outputs, instance)
         || has_input(profile.inputs.as_slice(), instance)

@@ -130,7 +130,7 @@ pub enum Notice {
     Replaced(Triad),
     /// The stream of this number was closed with its session.
     StreamClosed(u16),
-    /// The slot of this number changed to the state of this number.
+    /// The slot of this number changed to the state of this number (`SlotPhase::of`).
     Slot(u32, u8),
     /// A reply did not open the connection of this slot.
     Refused(u32, Reason),

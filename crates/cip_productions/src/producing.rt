@@ -1,7 +1,7 @@
 //! The next state of a producer.
 
 ghost use Rattle.std.specs.Prelude.{◌≡◌, ◌≤◌, ◌+◌, ◌^◌};
-ghost use Rattle.cip_productions.specs.Productions.{next_count, due_again, produced, is_production_due, is_over, is_free, is_on_change, is_produced_on_change, sooner_due, deferred, produced_or_deferred, changed};
+ghost use Rattle.cip_productions.specs.Productions.{next_count, due_again, produced, is_production_due, is_free, is_on_change, is_produced_on_change, sooner_due, deferred, produced_or_deferred, changed};
 
 use crate::production::Production;
 use cip_netparams::Trigger;

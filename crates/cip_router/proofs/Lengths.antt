@@ -1,17 +1,11 @@
 -- The lengths of replies.
-use Rattle.std.proofs.Common.{◌≡◌, ◌+◌, ℕ, Bool, List, length, Option, Some, refl, arith, length-append}
+use Rattle.std.proofs.Common.{◌≡◌, ◌+◌, ℕ, Bool, List, length, Option, refl, arith, length-append}
 use Rattle.cip_types.specs.declared.names.Triad.{Triad}
 use Rattle.cip_types.specs.declared.names.Fault.{Fault}
 use Rattle.cip_fwdopen.specs.declared.reply.Opened.{Opened}
 use Rattle.cip_fwdopen.specs.Reply.{opened_text, refused_text, extended_text, failure_text}
 use Rattle.cip_fwdopen.specs.Close.{closed_text}
 use Rattle.cip_fwdopen.specs.Get.{got_text}
-
-pub extended_len : (code : ℕ) → length (extended_text (Some code)) ≡ 3
-extended_len code = refl
-
-pub failure_len : (triad : Triad) → length (failure_text (Some triad)) ≡ 10
-failure_len triad = refl
 
 pub opened_len : (large : Bool) (opened : Opened) → length (opened_text large opened) ≡ 30
 unfolding opened_text

@@ -5,19 +5,19 @@ use Rattle.cip_encap.specs.declared.header.MessageHeader.{MessageHeader}
 use Rattle.cip_encap.specs.declared.message.EncapFault.{EncapFault}
 use Rattle.cip_encap.specs.Message.{MessageFields, header_widths, headed}
 use Rattle.cip_encap.specs.Reading.{message_reading}
-use Rattle.cip_router.specs.Frames.{whole, misfit, headless, reply_header_of, frame_fields, frame_reading}
+use Rattle.cip_router.specs.Frames.{whole, wrong_length, without_header, request_header_of, frame_fields, frame_reading}
 
 -- a whole message
-pub whole_reads : (bytes : List ℕ) (m : MessageFields) → message_reading bytes ≡ Ok m → frame_reading bytes ≡ whole (reply_header_of m) m.payload
+pub whole_reads : (bytes : List ℕ) (m : MessageFields) → message_reading bytes ≡ Ok m → frame_reading bytes ≡ whole (request_header_of m) m.payload
 unfolding frame_reading
 whole_reads bytes m is = ap (frame_fields (fields_at header_widths bytes)) is
 
 -- a header, and bytes of another length
-pub misfit_reads : (bytes : List ℕ) (fault : EncapFault) (h : MessageHeader) (rest : List ℕ) → message_reading bytes ≡ Err fault → fields_at header_widths bytes ≡ Some (headed h rest) → frame_reading bytes ≡ misfit (record { command = h.command; session = h.session; context = h.context })
+pub wrong_length_reads : (bytes : List ℕ) (fault : EncapFault) (h : MessageHeader) (rest : List ℕ) → message_reading bytes ≡ Err fault → fields_at header_widths bytes ≡ Some (headed h rest) → frame_reading bytes ≡ wrong_length (record { command = h.command; session = h.session; context = h.context })
 unfolding frame_reading
-misfit_reads bytes fault h rest wrong found = rw (wrong, found) refl
+wrong_length_reads bytes fault h rest wrong found = rw (wrong, found) refl
 
 -- too few bytes for a header
-pub headless_reads : (bytes : List ℕ) (fault : EncapFault) → message_reading bytes ≡ Err fault → fields_at header_widths bytes ≡ None → frame_reading bytes ≡ headless
+pub without_header_reads : (bytes : List ℕ) (fault : EncapFault) → message_reading bytes ≡ Err fault → fields_at header_widths bytes ≡ None → frame_reading bytes ≡ without_header
 unfolding frame_reading
-headless_reads bytes fault wrong none = rw (wrong, none) refl
+without_header_reads bytes fault wrong none = rw (wrong, none) refl

@@ -17,7 +17,7 @@ use Rattle.cip_router.specs.Replies.{ReplyFields, reply_text}
 use Rattle.cip_router.specs.Commands.{encap_code}
 
 -- the fields that a reply repeats: the command, the session handle and the sender context
-pub record ReplyHeader : Type 0 where
+pub record RequestHeader : Type 0 where
   pub command : ℕ
   pub session : ℕ
   pub context : ℕ
@@ -25,27 +25,27 @@ pub record ReplyHeader : Type 0 where
 -- a frame: too short for a header, with a header whose length field does not fit the bytes after it, or a whole
 -- message with its data; status and options of a request are not judged
 pub data FrameFields : Type 0 where
-  headless : FrameFields
-  misfit : ReplyHeader → FrameFields
-  whole : ReplyHeader → List ℕ → FrameFields
+  without_header : FrameFields
+  wrong_length : RequestHeader → FrameFields
+  whole : RequestHeader → List ℕ → FrameFields
 
 -- the repeated fields of a whole message
-abbrev pub reply_header_of : MessageFields → ReplyHeader
-reply_header_of m = record { command = m.command; session = m.session; context = m.context }
+abbrev pub request_header_of : MessageFields → RequestHeader
+request_header_of m = record { command = m.command; session = m.session; context = m.context }
 
 -- and of a header: its numbers are command, length, session handle, status, sender context and options
-abbrev pub reply_header_in : List ℕ → ReplyHeader
-reply_header_in numbers = record { command = get_or numbers 0 0; session = get_or numbers 2 0; context = get_or numbers 4 0 }
+abbrev pub request_header_in : List ℕ → RequestHeader
+request_header_in numbers = record { command = get_or numbers 0 0; session = get_or numbers 2 0; context = get_or numbers 4 0 }
 
 -- bytes that are no message, by their header
-abbrev pub misfit_of : Option Tailed → FrameFields
-misfit_of None = headless
-misfit_of (Some header) = misfit (reply_header_in header.0)
+abbrev pub wrong_length_of : Option Tailed → FrameFields
+wrong_length_of None = without_header
+wrong_length_of (Some header) = wrong_length (request_header_in header.0)
 
 -- a frame, by its header and its reading as a message
 abbrev pub frame_fields : Option Tailed → Result MessageFields EncapFault → FrameFields
-frame_fields header (Ok m) = whole (reply_header_of m) m.payload
-frame_fields header (Err fault) = misfit_of header
+frame_fields header (Ok m) = whole (request_header_of m) m.payload
+frame_fields header (Err fault) = wrong_length_of header
 
 -- the reading of the bytes of a frame
 unfoldable pub frame_reading : List ℕ → FrameFields
@@ -78,21 +78,21 @@ abbrev pub socket_of : Node → SocketAddress
 socket_of address = record { port = datagram_port; address = address }
 
 -- a message that repeats the command and the sender context of its request
-abbrev pub headed_reply : ReplyHeader → ℕ → ℕ → List ℕ → MessageFields
-headed_reply reply_header session status payload = record {
-  command = reply_header.command;
+abbrev pub headed_reply : RequestHeader → ℕ → ℕ → List ℕ → MessageFields
+headed_reply request_header session status payload = record {
+  command = request_header.command;
   session = session;
   status = status;
-  context = reply_header.context;
+  context = request_header.context;
   options = 0;
   payload = payload;
 }
 
 -- The message of a reply. A refusal has no data, except for another protocol version, which has data and session
 -- handle 0. A new session has its own handle. All others have the request's.
-abbrev pub reply_message : ReplyHeader → FrameReply → MessageFields
-reply_message reply_header services = headed_reply reply_header reply_header.session 0 services_text
-reply_message reply_header (registered session) = headed_reply reply_header session 0 protocol_text
-reply_message reply_header other_version = headed_reply reply_header 0 (encap_code status.UnsupportedVersion) protocol_text
-reply_message reply_header (router_reply reply address) = headed_reply reply_header reply_header.session 0 (packet_text (reply_text reply) (option_map socket_of address))
-reply_message reply_header (refused why) = headed_reply reply_header reply_header.session (encap_code why) []
+abbrev pub reply_message : RequestHeader → FrameReply → MessageFields
+reply_message request_header services = headed_reply request_header request_header.session 0 services_text
+reply_message request_header (registered session) = headed_reply request_header session 0 protocol_text
+reply_message request_header other_version = headed_reply request_header 0 (encap_code status.UnsupportedVersion) protocol_text
+reply_message request_header (router_reply reply address) = headed_reply request_header request_header.session 0 (packet_text (reply_text reply) (option_map socket_of address))
+reply_message request_header (refused why) = headed_reply request_header request_header.session (encap_code why) []

@@ -4,6 +4,7 @@ use Rattle.std.specs.Prelude.{ℕ, ◌≢◌, ◌≤◌, Bool, Option, List, len
 use Rattle.cip_types.specs.declared.names.Triad.{Triad}
 use Rattle.cip_types.specs.declared.names.Fault.{Fault}
 use Rattle.cip_fwdopen.specs.declared.reply.Opened.{Opened}
+use Rattle.cip_fwdopen.specs.Services.{is_large_open}
 use Rattle.cip_fwdopen.specs.Reply.{opened_text, refused_text}
 use Rattle.cip_fwdopen.specs.Close.{closed_text}
 use Rattle.cip_fwdopen.specs.Get.{got_text}
@@ -18,7 +19,7 @@ pub data ReplyFields : Type 0 where
   refused : ℕ → Fault → Option Triad → ReplyFields
 
 abbrev pub view_reply : Reply → ReplyFields
-view_reply (reply.Opened large o) = opened large o
+view_reply (reply.Opened service o) = opened (is_large_open service) o
 view_reply (reply.Closed triad) = closed triad
 view_reply (reply.Got lent) = got lent.now
 view_reply (reply.Refused service fault triad) = refused service fault triad

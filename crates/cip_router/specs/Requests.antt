@@ -8,7 +8,7 @@ use Rattle.cip_epath.specs.declared.path.Target.{Target}
 use Rattle.cip_fwdopen.specs.Open.{OpenFields, view_open, open_reading}
 use Rattle.cip_fwdopen.specs.Close.{CloseFields, view_close, close_reading}
 use Rattle.cip_fwdopen.specs.Request.{RequestFields, request_reading}
-use Rattle.cip_fwdopen.specs.Services.{forward_close, forward_open, large_forward_open}
+use Rattle.cip_fwdopen.specs.Services.{forward_close, forward_open, large_forward_open, is_large_open}
 use Rattle.cip_router.specs.declared.refusal.Status.{Status}
 use Rattle.cip_router.specs.declared.refusal.Status.TheVariants as status
 use Rattle.cip_router.specs.declared.router_request.RouterRequest.{RouterRequest}
@@ -29,7 +29,7 @@ view_router_request router_request.Nothing = nothing
 view_router_request (router_request.Refused service why) = refused service why
 view_router_request (router_request.Closing request) = closing (view_close request)
 view_router_request (router_request.Assembly service instance attribute lent) = assembly service instance attribute lent.now
-view_router_request (router_request.Opening large request) = opening large (view_open request)
+view_router_request (router_request.Opening service request) = opening (is_large_open service) (view_open request)
 
 -- the status for unreadable data of a service
 abbrev pub data_status : ReadFault → Status

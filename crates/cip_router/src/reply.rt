@@ -5,8 +5,8 @@ ghost use Rattle.cip_fwdopen.specs.Reply.{extended_text, failure_text};
 ghost use Rattle.cip_router.specs.Replies.{view_reply, reply_text, HasStatus};
 
 use cip_fwdopen::{
-    Opened, put_closed, put_got, put_opened, put_refused, write_closed, write_got, write_opened,
-    write_refused,
+    OpenService, Opened, put_closed, put_got, put_opened, put_refused, write_closed, write_got,
+    write_opened, write_refused,
 };
 use cip_types::{Fault, OutOfMemory, Triad};
 use std::alloc::Global;
@@ -16,8 +16,8 @@ use std::alloc::Global;
 /// Volume 1, chapter 2, message router reply, and chapter 3, Connection Manager.
 #[derive(Clone, Copy)]
 pub enum Reply<'a> {
-    /// A connection was opened, by a Forward_Open or (`true`) a Large_Forward_Open.
-    Opened(bool, Opened),
+    /// A connection was opened, by this service.
+    Opened(OpenService, Opened),
     /// A connection was closed.
     Closed(Triad),
     /// The value of a point, for a Get_Attribute_Single.
@@ -66,7 +66,7 @@ impl Reply<'_> {
         ensures { OnOk result (out.new.items ≡ out.old.items ++ reply_text (view_reply self.now)) }
     {
         match self {
-            Reply::Opened(large, opened) => put_opened(out, *large, opened),
+            Reply::Opened(service, opened) => put_opened(out, *service, opened),
             Reply::Closed(triad) => put_closed(out, *triad),
             Reply::Got(value) => put_got(out, value),
             Reply::Refused(service, fault, triad) => put_refused(out, *service, *fault, *triad),
@@ -79,7 +79,7 @@ impl Reply<'_> {
         ensures { IfOk result (λ bytes. bytes.items ≡ reply_text (view_reply self.now)) }
     {
         match self {
-            Reply::Opened(large, opened) => write_opened(alloc, *large, opened),
+            Reply::Opened(service, opened) => write_opened(alloc, *service, opened),
             Reply::Closed(triad) => write_closed(alloc, *triad),
             Reply::Got(value) => write_got(alloc, value),
             Reply::Refused(service, fault, triad) => write_refused(alloc, *service, *fault, *triad),

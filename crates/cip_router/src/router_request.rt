@@ -4,13 +4,14 @@ ghost use Rattle.std.specs.Prelude.{◌≡◌};
 ghost use Rattle.cip_fwdopen.specs.Open.{open_reading};
 ghost use Rattle.cip_fwdopen.specs.Close.{close_reading};
 ghost use Rattle.cip_fwdopen.specs.Request.{view_request};
+ghost use Rattle.cip_fwdopen.specs.Services.{is_large_open, open_service};
 ghost use Rattle.cip_router.specs.Requests.{router_request_reading, request_to_manager, request_to_open, request_to_close, request_to_object, data_status, view_router_request};
 
 use crate::refusal::Status;
 use cip_epath::class::{ASSEMBLY, CONNECTION_MANAGER};
-use cip_fwdopen::service::{FORWARD_CLOSE, FORWARD_OPEN, LARGE_FORWARD_OPEN};
+use cip_fwdopen::service::FORWARD_CLOSE;
 use cip_fwdopen::{
-    CloseRequest, OpenRequest, ReadFault, Request, read_close, read_open, read_request,
+    CloseRequest, OpenRequest, OpenService, ReadFault, Request, read_close, read_open, read_request,
 };
 
 /// A request to the message router, by its object and service.
@@ -26,8 +27,8 @@ pub enum RouterRequest<'a> {
     Closing(CloseRequest<&'a [u8]>),
     /// A service of an assembly instance: the service, the instance, the attribute and the data.
     Assembly(u8, u32, Option<u32>, &'a [u8]),
-    /// A connection, by a Forward_Open or (`true`) a Large_Forward_Open.
-    Opening(bool, OpenRequest<&'a [u8]>),
+    /// The opening of a connection, by this service.
+    Opening(OpenService, OpenRequest<&'a [u8]>),
 }
 
 /// The status for unreadable data of a service.
@@ -41,12 +42,14 @@ fn data_status(fault: ReadFault) -> Status
     }
 }
 
-fn request_to_open(service: u8, large: bool, body: &[u8]) -> RouterRequest<'_>
-    ensures { view_router_request result ≡ request_to_open service large (open_reading large body.now) }
+fn request_to_open(service: OpenService, body: &[u8]) -> RouterRequest<'_>
+    ensures { view_router_request result
+        ≡ request_to_open (open_service (is_large_open service)) (is_large_open service)
+        (open_reading (is_large_open service) body.now) }
 {
-    match read_open(large, body) {
-        Ok(request) => RouterRequest::Opening(large, request),
-        Err(fault) => RouterRequest::Refused(service, data_status(fault)),
+    match read_open(service, body) {
+        Ok(request) => RouterRequest::Opening(service, request),
+        Err(fault) => RouterRequest::Refused(service.code(), data_status(fault)),
     }
 }
 
@@ -62,9 +65,10 @@ fn request_to_close(service: u8, body: &[u8]) -> RouterRequest<'_>
 fn request_to_manager(service: u8, body: &[u8]) -> RouterRequest<'_>
     ensures { view_router_request result ≡ request_to_manager service body.now }
 {
+    if let Some(open) = OpenService::of(service) {
+        return request_to_open(open, body);
+    }
     match service {
-        FORWARD_OPEN => request_to_open(service, false, body),
-        LARGE_FORWARD_OPEN => request_to_open(service, true, body),
         FORWARD_CLOSE => request_to_close(service, body),
         _ => RouterRequest::Refused(service, Status::Service),
     }

@@ -1,6 +1,3 @@
-pub mod RunKeeps
-pub mod RunLemmas
-pub mod ScratchLemmas
+mod RunKeeps
+mod ScratchLemmas
 mod NewestLemmas
-mod SlotLemmas
-mod ScannerRunLemmas

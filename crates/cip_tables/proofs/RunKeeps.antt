@@ -17,16 +17,15 @@ use Rattle.scanner_table.specs.declared.table.ScannerTable.{ScannerTable}
 use Rattle.scanner_table.specs.Effects.{Next as ScannerNext}
 use Rattle.scanner_table.specs.Profiles.{profile_fault as scanner_profile_fault}
 use Rattle.scanner_table.specs.Step.{scanner_step, scanner_table}
-use Rattle.scanner_laws.specs.Whole.{IsWholeScanner}
-use Rattle.scanner_laws.specs.Counters.{CountsOn}
-use Rattle.scanner_laws.specs.Runs.{StepsLead as ScannersLead}
+use Rattle.scanner_whole.specs.Whole.{IsWholeScanner}
+use Rattle.scanner_whole.specs.Counters.{CountsOn}
+use Rattle.scanner_whole.specs.Runs.{StepsLead as ScannersLead}
 use Rattle.cip_tables.specs.declared.table.Config.{Config}
 use Rattle.cip_tables.specs.declared.table.Config.TheVariants as config
 use Rattle.cip_tables.specs.declared.table.DeviceTable.{DeviceTable}
 use Rattle.cip_tables.specs.declared.table.DeviceTable.TheVariants.{Adapter, Scanner}
-use Rattle.cip_tables.specs.Step.{DeviceNext, as_adapter, as_scanner, step, opening_table, config_fault}
+use Rattle.cip_tables.specs.Step.{DeviceNext, as_adapter, as_scanner, step, opening_table}
 use Rattle.cip_tables.specs.Run.{Runs}
-use Rattle.cip_tables.specs.Scanners.{OverEveryScanner}
 use Rattle.cip_tables.specs.Sound.{IsSoundDevice, OverEveryRun, StepsCountOn, RunsCountOn}
 use Rattle.cip_tables.specs.Whole.{IsWholeDevice, next_id_of, RunsKeepWhole, FreshDevicesAreWhole, TablesAreWhole}
 
@@ -98,10 +97,6 @@ run_keeps P Q keep keep' old (event ∷ events) (outcome ∷ outcomes) new ran h
 pub run_sound : StepsKeep IsSound → ScannersKeep IsWholeScanner → (old : DeviceTable) (events : List Event) (outcomes : List Outcome) (new : DeviceTable) → Runs old events outcomes new → IsSoundDevice old → IsSoundDevice new
 run_sound steps steps' old events outcomes new ran sound = run_keeps IsSound IsWholeScanner steps steps' old events outcomes new ran sound
 
-pub whole_is_sound : (t : DeviceTable) → IsWholeDevice t → IsSoundDevice t
-whole_is_sound (Adapter t) whole = whole.sound
-whole_is_sound (Scanner t) whole = whole
-
 pub whole_adapter : (t : DeviceTable) → IsWholeDevice t → IfAdapter IsSound t
 whole_adapter (Adapter t) whole = whole.sound
 whole_adapter (Scanner t) whole = tt
@@ -143,33 +138,6 @@ opening_whole fresh fresh' (config.Scanner profile) none = fresh' profile none
 pub reached_whole : StepsKeep IsWhole → ScannersKeep IsWholeScanner → FreshAdapters → FreshScanners → TablesAreWhole
 reached_whole steps steps' fresh fresh' made events outcomes t none ran =
     run_whole steps steps' (opening_table made) (Adapter t) events outcomes (opening_whole fresh fresh' made none) ran
-
--- ---- whole scanners
-
-whole_scanner : (t : DeviceTable) → IsWholeDevice t → InDevice (λ t. Unit {0}) IsWholeScanner t
-whole_scanner (Adapter t) whole = tt
-whole_scanner (Scanner t) whole = whole
-
-fresh_scanner : FreshScanners → (made : Config) → config_fault made ≡ None → InDevice (λ t. Unit {0}) IsWholeScanner (opening_table made)
-fresh_scanner fresh (config.Adapter profile) none = tt
-fresh_scanner fresh (config.Scanner profile) none = fresh profile none
-
-run_scanner : ScannersKeep IsWholeScanner → (old : DeviceTable) (events : List Event) (outcomes : List Outcome) (t : ScannerTable) → Runs old events outcomes (Scanner t) → InDevice (λ t. Unit {0}) IsWholeScanner old → IsWholeScanner t
-run_scanner steps old events outcomes t ran whole = run_keeps (λ t. Unit {0}) IsWholeScanner (λ t event next is holds. tt) steps old events outcomes (Scanner t) ran whole
-
--- every scanner's table that a run reaches is whole
-pub reached_scanners : ScannersKeep IsWholeScanner → FreshScanners → OverEveryScanner IsWholeScanner
-reached_scanners steps fresh = record {
-  whole = λ old events outcomes t whole ran. run_scanner steps old events outcomes t ran (whole_scanner old whole);
-  fresh = λ made events outcomes t none ran. run_scanner steps (opening_table made) events outcomes t ran (fresh_scanner fresh made none);
-}
-
--- a property of whole scanners holds over every run
-pub over_scanners : (P : ScannerTable → Type 0) → ((t : ScannerTable) → IsWholeScanner t → P t) → OverEveryScanner IsWholeScanner → OverEveryScanner P
-over_scanners P has over = record {
-  whole = λ old events outcomes t whole ran. has t (over.whole old events outcomes t whole ran);
-  fresh = λ made events outcomes t none ran. has t (over.fresh made events outcomes t none ran);
-}
 
 -- ---- the counter of the ids
 

@@ -2,9 +2,9 @@ pub mod Sound
 pub mod Whole
 pub mod Scratch
 pub mod Step
+pub mod AnyDevices
 pub mod Wakes
 pub mod Run
 pub mod Newest
-pub mod Scanners
 pub mod FollowLaws
-pub mod ScannerRuns
+pub mod RunLaws

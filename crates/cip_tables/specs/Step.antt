@@ -1,9 +1,9 @@
 -- One event at the table of a device, adapter or scanner.
-use Rattle.std.specs.Prelude.{ℕ, not, Bool, true, false, List, Option, Some, None, Result, Ok, Err}
+use Rattle.std.specs.Prelude.{ℕ, ◌≡◌, not, Bool, true, false, List, Option, Some, None, Result, Ok, Err}
 use Rattle.std.specs.List.{list_any}
 use Rattle.cip_types.specs.declared.names.Node.{Node}
 use Rattle.cip_events.specs.declared.event.Event.{Event}
-use Rattle.cip_events.specs.declared.event.Event.TheVariants.{Request, StreamOpened, Frame, StreamCut, Datagram, Write, Read, Tick, Mode, Start, Stop}
+use Rattle.cip_events.specs.declared.event.Event.TheVariants.{Datagram}
 use Rattle.cip_events.specs.declared.event.Answer.{Answer}
 use Rattle.cip_events.specs.declared.event.StepFault.{StepFault}
 use Rattle.cip_events.specs.declared.event.StepFault.TheVariants as fault
@@ -70,10 +70,13 @@ abbrev pub makes_adapter : Config → Bool
 makes_adapter (config.Adapter profile) = true
 makes_adapter (config.Scanner profile) = false
 
--- both are adapters, or both are scanners
-abbrev pub same_kind : Bool → Bool → Bool
-same_kind true other = other
-same_kind false other = not other
+-- the configuration is of a scanner
+abbrev pub makes_scanner : Config → Bool
+makes_scanner config = not (makes_adapter config)
+
+-- every configuration is accepted
+abbrev pub AcceptsAll : (Config → Bool) → Type 0
+AcceptsAll accepts = (config : Config) → accepts config ≡ true
 
 -- POINTS
 
@@ -100,14 +103,5 @@ produces_at_once (Scanner t) number = false
 
 -- the event is a class 1 datagram; a device takes no memory for it
 abbrev pub is_datagram : Event → Bool
-is_datagram (Request peer bytes) = false
-is_datagram (StreamOpened stream peer) = false
-is_datagram (Frame stream bytes) = false
-is_datagram (StreamCut stream) = false
 is_datagram (Datagram peer bytes) = true
-is_datagram (Write point bytes) = false
-is_datagram (Read point) = false
-is_datagram (Tick ms) = false
-is_datagram (Mode run) = false
-is_datagram (Start slot) = false
-is_datagram (Stop slot) = false
+is_datagram other = false

@@ -1,14 +1,27 @@
--- For how long a device needs no tick.
-use Rattle.std.specs.Prelude.{ℕ, ◌≡◌, ◌<◌, ◌≤◌, ◌+◌, Ok}
+-- When something is due at a device, and for how long it needs no tick (Volume 1, chapter 3, connection timeouts,
+-- inactivity watchdog, production triggers).
+use Rattle.std.specs.Prelude.{ℕ, ◌≡◌, ◌<◌, ◌≤◌, ◌+◌, ◌-◌, ◌^◌, ◌&&◌, min, Bool, if◌then◌else◌, List, [], ◌∷◌, find, option_and_then, Ok}
+use Rattle.std.specs.Option.{is_some}
+use Rattle.cip_types.specs.declared.names.Node.{Node}
 use Rattle.cip_events.specs.declared.event.Event.TheVariants.{Tick}
 use Rattle.cip_events.specs.declared.event.Verdict.TheVariants.{Done}
 use Rattle.cip_events.specs.Answers.{plain_answer}
 use Rattle.cip_events.specs.Clock.{longest_tick, clock_end}
+use Rattle.adapter_table.specs.Connections.{Row}
+use Rattle.adapter_table.specs.declared.row.State.{State}
+use Rattle.adapter_table.specs.declared.row.State.TheVariants as row_state
 use Rattle.adapter_table.specs.Ticks.{clocked_table}
+use Rattle.scanner_table.specs.declared.slot.SlotState.{SlotState}
+use Rattle.scanner_table.specs.declared.slot.SlotState.TheVariants as slot_state
+use Rattle.scanner_table.specs.declared.table.TargetStream.{TargetStream}
+use Rattle.scanner_table.specs.Sessions.{is_to, session_on}
+use Rattle.scanner_table.specs.Slots.{IndexedSlot, indexed_slots}
 use Rattle.scanner_table.specs.Ticks.{clocked_table as scanner_clocked_table}
 use Rattle.cip_tables.specs.declared.table.DeviceTable.{DeviceTable}
 use Rattle.cip_tables.specs.declared.table.DeviceTable.TheVariants.{Adapter, Scanner}
 use Rattle.cip_tables.specs.Step.{step}
+
+-- THE CLOCK
 
 -- the time of a device, in milliseconds
 abbrev pub clock_of : DeviceTable → ℕ
@@ -19,6 +32,57 @@ clock_of (Scanner t) = t.clock.0
 abbrev pub clocked : DeviceTable → ℕ → DeviceTable
 clocked (Adapter t) ms = Adapter (clocked_table t ms)
 clocked (Scanner t) ms = Scanner (scanner_clocked_table t ms)
+
+-- WHEN SOMETHING IS DUE
+
+-- the end of time, which no clock reaches
+abbrev pub never : ℕ
+never = 2 ^ 64 - 1
+
+-- when an adapter's connection is due: its deadline is reached, or its producer is due; a timed-out one never is
+abbrev pub connection_due : ℕ → State → ℕ
+connection_due deadline (row_state.Established production) = min deadline production.due.0
+connection_due deadline row_state.TimedOut = never
+
+-- when the first of an adapter's connections is
+abbrev pub connections_due : List Row → ℕ
+connections_due [] = never
+connections_due (row ∷ rows) = min (connection_due row.deadline.0 row.state) (connections_due rows)
+
+-- a session with the target is registered on one of the streams
+abbrev pub has_session : List TargetStream → Node → Bool
+has_session streams target = is_some (option_and_then session_on (find (is_to target) streams))
+
+-- when a slot without a connection opens: at its retry time, if the connection is desired and its target has a session
+abbrev pub retry_due : List TargetStream → IndexedSlot → ℕ
+retry_due streams indexed =
+    if indexed.slot.desired_up && has_session streams indexed.config.target then indexed.slot.retry_at.0 else never
+
+-- when a slot in a state is due, if it opens at this time: its request is given up, its connection times out or
+-- produces, or it opens
+abbrev pub state_due : ℕ → SlotState → ℕ
+state_due retry slot_state.Idle = retry
+state_due retry (slot_state.Opening o) = o.deadline.0
+state_due retry (slot_state.Established c) = min c.deadline.0 c.production.due.0
+state_due retry (slot_state.TimedOut link) = retry
+state_due retry (slot_state.Closing c) = c.deadline.0
+
+abbrev pub slot_due : List TargetStream → IndexedSlot → ℕ
+slot_due streams indexed = state_due (retry_due streams indexed) indexed.slot.state
+
+-- when the first of a scanner's slots is due
+abbrev pub slots_due : List TargetStream → List IndexedSlot → ℕ
+slots_due streams [] = never
+slots_due streams (indexed ∷ rest) = min (slot_due streams indexed) (slots_due streams rest)
+
+-- the time at which something is due at a device, if only time passes
+abbrev pub due_at : DeviceTable → ℕ
+due_at (Adapter t) = connections_due t.rows
+due_at (Scanner t) = slots_due t.streams (indexed_slots t)
+
+-- in how many milliseconds something is due at a device, at most the longest tick; 0 if it is due now
+abbrev pub due_in : DeviceTable → ℕ
+due_in t = min (due_at t - clock_of t) longest_tick
 
 -- each tick of fewer milliseconds answers nothing, and moves the clock alone
 abbrev pub IsQuietFor : DeviceTable → ℕ → Type 0

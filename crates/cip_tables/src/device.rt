@@ -1,9 +1,10 @@
 //! The interface of a device, and runs of a device.
 
-ghost use Rattle.std.specs.Prelude.{◌≡◌, ◌≢◌, ◌↔◌, ◌≤◌, Bool, false, true, Ok, Err, None, Some, Result, filter, IfOk, IfErr, OnErr, IsErr};
+ghost use Rattle.std.specs.Prelude.{◌≡◌, ◌≢◌, ◌≤◌, Bool, false, true, Ok, Err, None, Some, Result, filter, IfOk, IfErr, OnErr};
+ghost use Rattle.cip_tables.specs.declared.table.Config.{Config};
 ghost use Rattle.cip_tables.specs.declared.table.DeviceTable.{DeviceTable};
-ghost use Rattle.cip_tables.specs.Step.{step, opening_table, config_fault, bytes_in, produces_at_once, no_such, is_datagram, is_adapter, makes_adapter, same_kind};
-ghost use Rattle.cip_tables.specs.Wakes.{IsQuietFor};
+ghost use Rattle.cip_tables.specs.Step.{step, opening_table, config_fault, bytes_in, produces_at_once, no_such, is_datagram};
+ghost use Rattle.cip_tables.specs.Wakes.{IsQuietFor, due_in};
 ghost use Rattle.cip_events.specs.Answers.{plain_answer, value_answer};
 ghost use Rattle.cip_events.specs.Clock.{longest_tick};
 ghost use Rattle.cip_events.specs.Outcomes.{Follows, found_memory};
@@ -17,28 +18,29 @@ use crate::table::Config;
 use adapter_table::laws;
 use cip_events::{Delivery, Event, NewFault, Outcome, StepFault, Verdict};
 use cip_types::{Ms, Node, OutOfMemory};
-use scanner_laws::steps_keep_tables_whole;
+use scanner_whole::steps_keep_tables_whole;
 use std::alloc::Global;
 
 /// A device: an adapter or a scanner. Contracts see it as its table, and each method follows the step of that table.
 pub trait Device {
     ghost table: { Self → DeviceTable };
 
-    ghost ADAPTER: { Bool };
+    /// The configurations that `new` accepts: those of an adapter, those of a scanner, or both.
+    ghost accepts: { Config → Bool };
 
-    /// Whether devices of this type are adapters (true) or scanners (false).
-    const ADAPTER: bool;
+    /// Whether `new` accepts a configuration, whose profile may still have a fault. Takes no memory.
+    fn is_accepted(config: &Config) -> bool
+        ensures { result ≡ accepts config.now };
 
     /// Makes a fresh device. An error drops the configuration.
     ///
-    /// The errors, in order: `Profile` with the first fault of the profile; `WrongKind` if the configuration is of
-    /// the other kind; `OutOfMemory`.
+    /// The errors, in order: `Profile` with the first fault of the profile; `WrongKind` if the configuration is
+    /// not one of those that it accepts; `OutOfMemory`.
     fn new(alloc: Global, config: Config) -> Result<Self, NewFault>
         ensures table { IfOk result (λ device. table device ≡ opening_table config) }
-        ensures kind { IfOk result (λ device. is_adapter (table device) ≡ ADAPTER) }
+        ensures kind { IfOk result (λ _. accepts config ≡ true) }
         ensures valid { IfOk result (λ _. config_fault config ≡ None) }
-        ensures fault { IfErr result (λ fault.
-            IsRefusedAs (config_fault config) (same_kind ADAPTER (makes_adapter config)) fault) };
+        ensures fault { IfErr result (IsRefusedAs (config_fault config) (accepts config)) };
 
     /// Performs one event: the outcome and the next table are those of the table's step.
     ///
@@ -75,12 +77,14 @@ pub trait Device {
     fn copy(&self) -> Result<TableCopy, OutOfMemory>
         ensures { IfOk result (λ copy. copy ≡ table self.now) };
 
-    /// Returns for how long the device needs no tick: each tick of fewer milliseconds answers nothing, and moves the
-    /// clock alone. At most the longest tick, 60,000 milliseconds. Takes no memory.
+    /// Returns in how many milliseconds something is due, if only time passes: a connection times out, a production
+    /// is due, a slot opens or gives up a request. 0 if it is due now; at most the longest tick, 60,000 milliseconds.
+    /// Each tick of fewer milliseconds answers nothing, and moves the clock alone. Takes no memory.
     ///
-    /// A caller that sleeps so long misses no time-out and no production. An event may shorten the time. It may end too
-    /// early, where a device remembers bounds: the tick that is made then puts them right.
+    /// A caller that sleeps so long misses no time-out and no production, and wakes in vain only after the longest tick.
+    /// Each event may change the time.
     fn next_wake(&self) -> Ms
+        ensures due { result.0 ≡ due_in (table self.now) }
         ensures quiet { IsQuietFor (table self.now) result.0 }
         ensures longest { result.0 ≤ longest_tick };
 

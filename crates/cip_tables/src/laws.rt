@@ -1,10 +1,8 @@
-//! Laws of every run of a device. A law call does nothing; its contract states the law. The laws of adapters are
-//! here, those of scanners in `scanners`.
+//! Laws of every run of a device. A law call does nothing; its contract states the law. The laws of scanners are in
+//! `scanner_whole::runs`, above this crate.
 //!
 //! Unless a law says otherwise, it holds of every adapter's table that a run reaches: a run from a whole table, and
 //! a run from a fresh device of any configuration.
-
-pub mod scanners;
 
 ghost use Rattle.std.specs.Prelude.{◌≤◌, length};
 ghost use Rattle.cip_tables.specs.Newest.{OverEveryConnection};
@@ -17,7 +15,7 @@ ghost use Rattle.adapter_table.specs.Streams.{most_streams};
 ghost use Rattle.adapter_table.specs.Sound.{IsSound, HasOneOwner, TriadsDiffer, IdsDiffer, IdsAreDrawn, ListenersAreSupported, GroupsAgree, StreamsDiffer, OpeningsRise, ProducersAreDrawn, SinglesHaveTheirOwn, GroupsAloneShare, MulticastIdsAreDrawn};
 
 use adapter_table::laws;
-use scanner_laws::{fresh_tables_are_whole, steps_keep_tables_whole};
+use scanner_whole::{fresh_tables_are_whole, steps_keep_tables_whole};
 
 /// Every table is sound. A sound table has all the properties that the laws of single properties below name.
 pub fn tables_are_sound()
@@ -123,7 +121,7 @@ pub fn next_id_never_falls()
     ensures run { RunsCountOn }
 {
     laws::counters_never_fall();
-    scanner_laws::counters_never_fall();
+    scanner_whole::counters_never_fall();
 }
 
 /// There are at most 16 open streams.
@@ -195,7 +193,7 @@ pub fn applied_data_are_new()
 
 /// No connection applies the datagram that it accepted last once more. The law holds of each connection in each run
 /// from a whole table.
-pub fn no_datagram_is_applied_twice()
+pub fn the_last_datagram_is_not_applied_again()
     ensures { OverEveryConnection IsNotAgain }
 {
     laws::accepted_datagrams_are_newer();

@@ -1,7 +1,9 @@
-//! The table of a device of either kind, the interface `Device`, copies of tables, runs, and the laws of every run.
+//! The table of a device of either kind, the interface `Device`, the type `AnyDevice` of devices of either kind, copies of
+//! tables, runs, and the laws of every run.
 //! The crate offers the public names of the events and of both tables again.
 #![tactic(auto)]
 
+mod any_device;
 mod copy;
 mod device;
 pub mod laws;
@@ -11,6 +13,7 @@ pub use adapter_table::{
     Action, AdapterTable, Admission, ConsumedPoint, InputPoint, OutputPoint, PointValue, Profile,
     Row, State, Stream,
 };
+pub use any_device::AnyDevice;
 pub use cip_events::{
     Answer, Consumers, Delivery, Event, Frame, NewFault, Notice, Outcome, OutgoingDatagram,
     ProfileFault, Reason, Recipient, SmallBytes, StepFault, Verdict,
@@ -22,7 +25,7 @@ pub use cip_router::{
 pub use copy::TableCopy;
 pub use device::{Device, run};
 pub use scanner_table::{
-    Connection, PendingClose, PendingOpen, ScannerProfile, ScannerTable, Session, Slot, SlotConfig,
-    SlotState, Stage, TargetStream,
+    PendingClose, PendingOpen, ScannerProfile, ScannerTable, Session, Slot, SlotConfig,
+    SlotConnection, SlotState, Stage, TargetStream,
 };
 pub use table::{Config, DeviceTable};

@@ -10,7 +10,7 @@ use Rattle.table_samples.specs.Devices.{common, peer, own}
 use Rattle.table_samples.specs.Requests.{owner, gatherer, consumer, opened_reply}
 use Rattle.table_samples.specs.Runs.{said, opens, replies, opened_notice, id}
 use Rattle.table_samples.specs.Rows.{from, at_counter, alive, lost, connected}
-use Rattle.table_samples.proofs.Computing.{computing}
+use Rattle.table_samples.specs.Computing.{computing}
 
 -- ---- places
 

@@ -1,3 +1,4 @@
 mod SmallScanner
 mod Scanners
 mod Adapters
+mod Wakes

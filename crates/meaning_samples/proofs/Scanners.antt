@@ -34,7 +34,7 @@ use Rattle.scanner_table.specs.Step.{scanner_table}
 use Rattle.meaning_samples.proofs.SmallScanner.{target, other_target, owner, gatherer, profile, reported, after, quiet, only, reports_notices, becomes, refuses, sends_request, registration, registered, items, opening_frame, opened_frame, success, ownership, registers, connected}
 
 -- `unfolding computing` lets `refl` compute a step on events that are written out
-unfoldable computing : Unit {0}
+unfoldable pub computing : Unit {0}
 unfolding messages.message_reading packets.packet_reading packets.behind_socket packets.are_sockets replies.open_reply_reading replies.unread_reading opens.open_text closes.close_text datagrams.datagram_reading opened ready_opened target_opened open_answer answered target_lost stream_opened stream_cut frame received produced_table all_expired all_given_up tick write read mode start stop
 computing = tt
 
@@ -123,7 +123,7 @@ unfolding computing
 overdue_and_ready = refl
 
 -- an open connection by its number, by when it times out, and by when it is due
-abbrev open_slot : ℕ → ℕ → ℕ → Slot
+abbrev pub open_slot : ℕ → ℕ → ℕ → Slot
 open_slot number deadline due = record {
   state = Established (record {
     opening = number;

@@ -21,7 +21,7 @@ use Rattle.conn_state.specs.declared.names.Requested.{Requested}
 use Rattle.scanner_table.specs.declared.profile.SlotConfig.{SlotConfig}
 use Rattle.scanner_table.specs.declared.profile.ScannerProfile.{ScannerProfile}
 use Rattle.scanner_table.specs.declared.slot.PendingOpen.{PendingOpen}
-use Rattle.scanner_table.specs.declared.slot.Connection.{Connection}
+use Rattle.scanner_table.specs.declared.slot.SlotConnection.{SlotConnection}
 use Rattle.scanner_table.specs.declared.slot.PendingClose.{PendingClose}
 use Rattle.scanner_table.specs.declared.slot.SlotState.{SlotState}
 use Rattle.scanner_table.specs.declared.slot.Slot.{Slot}
@@ -42,7 +42,7 @@ use Rattle.conn_state.specs.contracts.names.RequestedPartialEq.TheImpl as desire
 use Rattle.scanner_table.specs.contracts.profile.SlotConfigPartialEq.TheImpl as config
 use Rattle.scanner_table.specs.contracts.profile.ScannerProfilePartialEq.TheImpl as profile
 use Rattle.scanner_table.specs.contracts.slot.PendingOpenPartialEq.TheImpl as opening
-use Rattle.scanner_table.specs.contracts.slot.ConnectionPartialEq.TheImpl as connection
+use Rattle.scanner_table.specs.contracts.slot.SlotConnectionPartialEq.TheImpl as connection
 use Rattle.scanner_table.specs.contracts.slot.PendingClosePartialEq.TheImpl as closing
 use Rattle.scanner_table.specs.contracts.slot.SlotStatePartialEq.TheImpl as state
 use Rattle.scanner_table.specs.contracts.slot.SlotPartialEq.TheImpl as slot
@@ -178,7 +178,7 @@ opening_decides a b =
     Decides-like ((opening.ghosts).eq a b) (λ p. search rules) (λ e. search rules)
     (Decides-and _ _ (Decides-eqb a.request b.request) (Decides-and _ _ (requested_decides a.requested b.requested) (ms_decides a.deadline b.deadline)))
 
-connection_decides : (a b : Connection) → Decides ((connection.ghosts).eq a b) (a ≡ b)
+connection_decides : (a b : SlotConnection) → Decides ((connection.ghosts).eq a b) (a ≡ b)
 connection_decides a b =
     Decides-like ((connection.ghosts).eq a b) (λ p. search rules) (λ e. search rules)
     (Decides-and _ _ (Decides-eqb a.opening b.opening)

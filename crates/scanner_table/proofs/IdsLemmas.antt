@@ -3,10 +3,12 @@ use Rattle.std.proofs.Common.{◌≡◌, ◌<◌, ℕ, zero, suc, ◌+◌, Bool,
 use Rattle.std.specs.List.{list_any}
 use Rattle.std.proofs.lemmas.Bool.{or_parts}
 use Rattle.std.proofs.lemmas.Bool.Decides.{nat_tests}
+use Rattle.std.proofs.lemmas.Option.{same_Some}
+use Rattle.base_lemmas.specs.Numbers.{more_other, other_number}
 use Rattle.cip_types.specs.declared.names.ConnId.{ConnId}
 use Rattle.cip_types.specs.declared.names.Node.{Node}
 use Rattle.scanner_table.specs.declared.profile.SlotConfig.{SlotConfig}
-use Rattle.scanner_table.specs.declared.slot.Connection.{Connection}
+use Rattle.scanner_table.specs.declared.slot.SlotConnection.{SlotConnection}
 use Rattle.scanner_table.specs.declared.slot.Slot.{Slot}
 use Rattle.scanner_table.specs.declared.slot.SlotState.{SlotState}
 use Rattle.scanner_table.specs.declared.slot.SlotState.TheVariants.{Idle, Opening, Established, TimedOut, Closing}
@@ -36,7 +38,7 @@ closing_weaker old c = record { consumes = λ id none. refl; clashes = λ other 
 pub same_weaker : (state : SlotState) → Weaker state state
 same_weaker state = record { consumes = λ id none. none; clashes = λ other none. none }
 
-pub linked_weaker : (old new : Connection) → new.link ≡ old.link → Weaker (Established old) (Established new)
+pub linked_weaker : (old new : SlotConnection) → new.link ≡ old.link → Weaker (Established old) (Established new)
 linked_weaker old new same = record { consumes = λ id none. rw same none; clashes = λ other none. rw same none }
 
 clash_weaker : (old new other next : SlotState) → Weaker old new → Weaker other next → states_clash old other ≡ false → states_clash new next ≡ false
@@ -96,9 +98,6 @@ differ_weaker n (config ∷ configs) (old ∷ olds) (new ∷ news) all differ =
 abbrev holds_id : Node → ConnId → IndexedSlot → Bool
 holds_id target id indexed = is_with target indexed && state_consumes id indexed.slot.state
 
-other_number : (m n : ℕ) → m < n → (n == m) ≡ false
-other_number m n less = grind (arith, nat_tests)
-
 other_step : (b c : Bool) → b ≡ false → (not b && c) ≡ false → c ≡ false
 other_step true c is none = absurd cc
 other_step false c is none = none
@@ -109,29 +108,23 @@ free_after m n target id (config ∷ configs) [] less none = refl
 free_after m n target id (config ∷ configs) (slot ∷ slots) less none =
     let head : IndexedSlot = record { number = n; config = config; slot = slot } in
     let parts = or_parts (uses_id m target id head) (list_any (uses_id m target id) (indexed_from (suc n) configs slots)) none in
-    rw (other_step (n == m) (holds_id target id head) (other_number m n less) parts.0) (free_after m (suc n) target id configs slots (omega arith) parts.1)
-
-flip_false : (a b : ℕ) → (a == b) ≡ false → (b == a) ≡ false
-flip_false a b is = grind (arith, nat_tests)
+    rw (other_step (n == m) (holds_id target id head) (more_other m n less) parts.0) (free_after m (suc n) target id configs slots (omega arith) parts.1)
 
 flip_true : (a b : ℕ) → (a == b) ≡ true → (b == a) ≡ true
 flip_true a b is = grind (arith, nat_tests)
 
 flip_step : (x : Bool) (a b : ℕ) → (a == b) ≡ x → (b == a) ≡ x
 flip_step true a b is = flip_true a b is
-flip_step false a b is = flip_false a b is
+flip_step false a b is = other_number a b is
 
 flipped : (a b : ℕ) → (b == a) ≡ (a == b)
 flipped a b = flip_step (a == b) a b refl
-
-some_is : (a b : SlotConfig) → Some a ≡ Some b → a ≡ b
-some_is a b is = cc
 
 before : (n k : ℕ) → (n == (n + suc k)) ≡ false
 before n k = grind (arith, nat_tests)
 
 -- a slot does not clash with one that is established so, where it has not its target and id
-apart_state : (target : ℕ) (head : ℕ) (c : Connection) (state : SlotState) → ((head == target) && state_consumes c.link.t_o_id state) ≡ false → ((target == head) && states_clash state (Established c)) ≡ false
+apart_state : (target : ℕ) (head : ℕ) (c : SlotConnection) (state : SlotState) → ((head == target) && state_consumes c.link.t_o_id state) ≡ false → ((target == head) && states_clash state (Established c)) ≡ false
 apart_state target head c Idle none = rw (flipped head target) none
 apart_state target head c (Opening o) none = rw (flipped head target) none
 apart_state target head c (Established h) none = rw (flipped head target, flipped h.link.t_o_id.0 c.link.t_o_id.0) none
@@ -139,14 +132,14 @@ apart_state target head c (TimedOut link) none = rw (flipped head target) none
 apart_state target head c (Closing h) none = rw (flipped head target) none
 
 -- the slot is established with the connection
-abbrev pub established : Slot → Connection → List ℕ → Slot
+abbrev pub established : Slot → SlotConnection → List ℕ → Slot
 established base c image = record base { state = Established c; image = image }
 
-any_established : (n m k : ℕ) (config sought : SlotConfig) (head base : Slot) (c : Connection) (image : List ℕ) (configs : List SlotConfig) (slots : List Slot) → slice_get configs k ≡ Some sought → ((config.target.0 == sought.target.0) && state_consumes c.link.t_o_id head.state) ≡ false → list_any (clashes (record { number = n; config = config; slot = head })) (indexed_from m configs slots) ≡ false → list_any (clashes (record { number = n; config = config; slot = head })) (indexed_from m configs (slice_set slots k (established base c image))) ≡ false
+any_established : (n m k : ℕ) (config sought : SlotConfig) (head base : Slot) (c : SlotConnection) (image : List ℕ) (configs : List SlotConfig) (slots : List Slot) → slice_get configs k ≡ Some sought → ((config.target.0 == sought.target.0) && state_consumes c.link.t_o_id head.state) ≡ false → list_any (clashes (record { number = n; config = config; slot = head })) (indexed_from m configs slots) ≡ false → list_any (clashes (record { number = n; config = config; slot = head })) (indexed_from m configs (slice_set slots k (established base c image))) ≡ false
 any_established n m k config sought head base c image [] slots at apart none = refl
 any_established n m k config sought head base c image (x ∷ configs) [] at apart none = refl
 any_established n m zero config sought head base c image (x ∷ configs) (slot ∷ slots) at apart none =
-    let same : x ≡ sought = some_is x sought at in
+    let same : x ≡ sought = same_Some x sought at in
     let one : IndexedSlot = record { number = n; config = config; slot = head } in
     let old : IndexedSlot = record { number = m; config = x; slot = slot } in
     let parts = or_parts (clashes one old) (list_any (clashes one) (indexed_from (suc m) configs slots)) none in
@@ -158,11 +151,11 @@ any_established n m (suc k) config sought head base c image (x ∷ configs) (slo
     let parts = or_parts (clashes one old) (list_any (clashes one) (indexed_from (suc m) configs slots)) none in
     rw parts.0 (any_established n (suc m) k config sought head base c image configs slots at apart parts.1)
 
-pub differ_established : (n k : ℕ) (sought : SlotConfig) (base : Slot) (c : Connection) (image : List ℕ) (configs : List SlotConfig) (slots : List Slot) → slice_get configs k ≡ Some sought → list_any (uses_id (n + k) sought.target c.link.t_o_id) (indexed_from n configs slots) ≡ false → IdsDiffer (indexed_from n configs slots) → IdsDiffer (indexed_from n configs (slice_set slots k (established base c image)))
+pub differ_established : (n k : ℕ) (sought : SlotConfig) (base : Slot) (c : SlotConnection) (image : List ℕ) (configs : List SlotConfig) (slots : List Slot) → slice_get configs k ≡ Some sought → list_any (uses_id (n + k) sought.target c.link.t_o_id) (indexed_from n configs slots) ≡ false → IdsDiffer (indexed_from n configs slots) → IdsDiffer (indexed_from n configs (slice_set slots k (established base c image)))
 differ_established n k sought base c image [] slots at free differ = tt
 differ_established n k sought base c image (x ∷ configs) [] at free differ = tt
 differ_established n zero sought base c image (x ∷ configs) (slot ∷ slots) at free differ =
-    let same : x ≡ sought = some_is x sought at in
+    let same : x ≡ sought = same_Some x sought at in
     let id = c.link.t_o_id in
     let head : IndexedSlot = record { number = n; config = x; slot = slot } in
     let parts = or_parts (uses_id (n + 0) sought.target id head) (list_any (uses_id (n + 0) sought.target id) (indexed_from (suc n) configs slots)) free in

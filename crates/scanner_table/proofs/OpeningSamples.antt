@@ -9,7 +9,8 @@ use Rattle.cip_events.specs.declared.event.Recipient.TheVariants as recipient
 use Rattle.cip_events.specs.declared.event.Verdict.TheVariants.{Done, BadFrame, Ignored}
 use Rattle.cip_events.specs.Answers.{plain_answer}
 use Rattle.scanner_table.specs.declared.profile.SlotConfig.{SlotConfig}
-use Rattle.scanner_table.specs.Requests.{open_fields, next_requested, is_large, manager_text, open_service}
+use Rattle.cip_fwdopen.specs.Services.{open_service}
+use Rattle.scanner_table.specs.Requests.{open_fields, next_requested, is_large, manager_text}
 use Rattle.scanner_table.proofs.SmallScanner.{target, other_target, owner, gatherer, profile, reported, after, quiet, only, not_now, reports_notices, becomes, refuses, sends_request, registration, registered, items, forward_open, opening_frame, success, opened_frame, ownership, registers, connected}
 use Rattle.cip_encap.specs.Reading as messages
 use Rattle.cip_encap.specs.PacketReading as packets

@@ -1,8 +1,8 @@
 -- No two slots wait for the reply to one request, whichever slot is changed.
-use Rattle.std.proofs.Common.{◌≡◌, ◌<◌, ℕ, zero, suc, Bool, false, ◌==◌, List, [], ◌∷◌, map, slice_get, slice_set, Some, refl, arith}
+use Rattle.std.proofs.Common.{◌≡◌, ℕ, zero, suc, Bool, false, ◌==◌, List, [], ◌∷◌, map, slice_get, slice_set, Some, refl}
 use Rattle.std.specs.List.{list_any}
 use Rattle.std.proofs.lemmas.Bool.{or_parts}
-use Rattle.std.proofs.lemmas.Bool.Decides.{nat_tests}
+use Rattle.base_lemmas.specs.Numbers.{less_other, other_number}
 use Rattle.scanner_table.specs.declared.profile.SlotConfig.{SlotConfig}
 use Rattle.scanner_table.specs.declared.slot.Slot.{Slot}
 use Rattle.scanner_table.specs.declared.slot.SlotState.{SlotState}
@@ -78,9 +78,6 @@ WaitsFor number (Established c) = ⊥
 WaitsFor number (TimedOut link) = ⊥
 WaitsFor number (Closing c) = c.request ≡ number
 
-less_other : (a b : ℕ) → a < b → (a == b) ≡ false
-less_other a b less = grind (arith, nat_tests)
-
 -- no state waits for a request that is not numbered yet
 state_unnumbered : (next clock : ℕ) (desired_up : Bool) (state : SlotState) → FitsState next clock desired_up state → waits_for next state ≡ false
 state_unnumbered next clock desired_up Idle fits = refl
@@ -97,15 +94,12 @@ new_shares next (Established c) other waits none = absurd waits
 new_shares next (TimedOut link) other waits none = absurd waits
 new_shares next (Closing c) other waits none = rw waits none
 
-flip_false : (a b : ℕ) → (a == b) ≡ false → (b == a) ≡ false
-flip_false a b is = grind (arith, nat_tests)
-
 waits_other : (next number : ℕ) (new : SlotState) → WaitsFor next new → (number == next) ≡ false → waits_for number new ≡ false
 waits_other next number Idle waits none = refl
-waits_other next number (Opening o) waits none = rw waits (flip_false number next none)
+waits_other next number (Opening o) waits none = rw waits (other_number number next none)
 waits_other next number (Established c) waits none = refl
 waits_other next number (TimedOut link) waits none = refl
-waits_other next number (Closing c) waits none = rw waits (flip_false number next none)
+waits_other next number (Closing c) waits none = rw waits (other_number number next none)
 
 others_share : (next : ℕ) (new other : SlotState) → WaitsFor next new → waits_for next other ≡ false → states_share other new ≡ false
 others_share next new Idle waits none = refl

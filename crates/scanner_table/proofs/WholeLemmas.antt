@@ -1,10 +1,11 @@
 -- A whole table stays whole when one slot changes, when numbers are used up, and when streams open and close.
-use Rattle.std.proofs.Common.{◌≡◌, ◌≤◌, ℕ, zero, suc, ◌+◌, Bool, true, false, cond, ◌||◌, ◌==◌, List, [], ◌∷◌, ◌++◌, length, map, filter, find, slice_get, slice_set, Option, Some, refl, sym, ◌∙◌, ap, subst, arith, length-append}
+use Rattle.std.proofs.Common.{◌≡◌, ◌≤◌, ℕ, zero, suc, ◌+◌, Bool, true, false, cond, ◌||◌, List, [], ◌∷◌, ◌++◌, length, map, filter, find, slice_get, slice_set, Option, Some, refl, sym, ◌∙◌, ap, subst, arith, length-append}
 use Rattle.std.specs.List.{list_any}
 use Rattle.std.proofs.lemmas.Bool.{or_parts}
-use Rattle.std.proofs.lemmas.Bool.Decides.{nat_tests}
 use Rattle.std.proofs.lemmas.Grind.{common_steps}
 use Rattle.std.proofs.lemmas.List.Folds.{list_any-append}
+use Rattle.std.proofs.lemmas.Option.{same_Some}
+use Rattle.base_lemmas.specs.Numbers.{other_number}
 use Rattle.scanner_table.specs.declared.profile.SlotConfig.{SlotConfig}
 use Rattle.scanner_table.specs.declared.slot.Slot.{Slot}
 use Rattle.scanner_table.specs.declared.slot.SlotState.{SlotState}
@@ -15,7 +16,7 @@ use Rattle.scanner_table.specs.declared.table.TargetStream.{TargetStream}
 use Rattle.scanner_table.specs.Slots.{IndexedSlot, indexed_from, indexed_slots, with_slot}
 use Rattle.scanner_table.specs.Sessions.{is_stream, is_to, staged_stream}
 use Rattle.scanner_table.specs.Effects.{Effect, on_each, nothing}
-use Rattle.scanner_table.specs.Whole.{FitsState, FitsSlot, SlotsFit, IdsDiffer, RequestsDiffer, StreamsDiffer, IsWhole}
+use Rattle.scanner_table.specs.Whole.{FitsState, FitsSlot, SlotsFit, IdsDiffer, RequestsDiffer, StreamsDiffer, IsWellFormed}
 
 -- ---- later tables
 
@@ -103,7 +104,7 @@ slots_at t number (config ∷ configs) (slot ∷ slots) stands fit =
 all_stand : (configs : List SlotConfig) → StandsIn configs 0 configs
 all_stand configs = λ k config is. let same : k ≡ 0 + k = omega arith in subst (λ (n : ℕ). slice_get configs n ≡ Some config) same is
 
-pub each_at : (t : ScannerTable) → IsWhole t → Each (IsAt t) (indexed_slots t)
+pub each_at : (t : ScannerTable) → IsWellFormed t → Each (IsAt t) (indexed_slots t)
 each_at t whole = slots_at t 0 t.profile.slots t.slots (all_stand t.profile.slots) whole.slots
 
 -- the indexed slot is one of the table's now
@@ -142,16 +143,13 @@ set_fits r c k (config ∷ configs) [] slot fit new = absurd fit
 set_fits r c zero (config ∷ configs) (first ∷ slots) slot fit new = (new config refl, fit.1)
 set_fits r c (suc k) (config ∷ configs) (first ∷ slots) slot fit new = (fit.0, set_fits r c k configs slots slot fit.1 new)
 
-some_is : (a b : SlotConfig) → Some a ≡ Some b → a ≡ b
-some_is a b is = cc
-
-pub whole_with : (t : ScannerTable) (indexed : IndexedSlot) (slot : Slot) → IsWhole t → slice_get t.profile.slots indexed.number ≡ Some indexed.config → FitsSlot t.next_request t.clock.0 indexed.config slot → IdsDiffer (indexed_from 0 t.profile.slots (slice_set t.slots indexed.number slot)) → RequestsDiffer (slice_set t.slots indexed.number slot) → IsWhole (with_slot t indexed.number slot)
+pub whole_with : (t : ScannerTable) (indexed : IndexedSlot) (slot : Slot) → IsWellFormed t → slice_get t.profile.slots indexed.number ≡ Some indexed.config → FitsSlot t.next_request t.clock.0 indexed.config slot → IdsDiffer (indexed_from 0 t.profile.slots (slice_set t.slots indexed.number slot)) → RequestsDiffer (slice_set t.slots indexed.number slot) → IsWellFormed (with_slot t indexed.number slot)
 whole_with t indexed slot whole at fits differ apart = record {
   ids_differ = differ;
   requests_differ = apart;
   faultless = whole.faultless;
   slots = set_fits t.next_request t.clock.0 indexed.number t.profile.slots t.slots slot whole.slots
-      (λ config is. subst (λ (c : SlotConfig). FitsSlot t.next_request t.clock.0 c slot) (some_is indexed.config config (sym at ∙ is)) fits);
+      (λ config is. subst (λ (c : SlotConfig). FitsSlot t.next_request t.clock.0 c slot) (same_Some indexed.config config (sym at ∙ is)) fits);
   clock = whole.clock;
   ids = whole.ids;
   serial_begins = whole.serial_begins;
@@ -165,21 +163,21 @@ whole_with t indexed slot whole at fits differ apart = record {
 
 -- the table after an effect is whole, and later than the one before it
 pub record Keeps (t : ScannerTable) (effect : Effect) : Type 0 where
-  pub whole : IsWhole effect.table
+  pub whole : IsWellFormed effect.table
   pub later : Later t effect.table
 
-pub keeps_nothing : (t : ScannerTable) → IsWhole t → Keeps t (nothing t)
+pub keeps_nothing : (t : ScannerTable) → IsWellFormed t → Keeps t (nothing t)
 keeps_nothing t whole = record { whole = whole; later = same_later t }
 
 -- an effect on slots of which something holds keeps a table whole
 abbrev pub KeepsAt : (IndexedSlot → Type 0) → (ScannerTable → IndexedSlot → Effect) → Type 0
-KeepsAt Q effect = (t : ScannerTable) (indexed : IndexedSlot) → IsWhole t → IsAt t indexed → Q indexed → Keeps t (effect t indexed)
+KeepsAt Q effect = (t : ScannerTable) (indexed : IndexedSlot) → IsWellFormed t → IsAt t indexed → Q indexed → Keeps t (effect t indexed)
 
 each_later : (t u : ScannerTable) (rest : List IndexedSlot) → Later t u → Each (IsAt t) rest → Each (IsAt u) rest
 each_later t u [] later all = tt
 each_later t u (indexed ∷ rest) later all = (is_at_later t u indexed later all.0, each_later t u rest later all.1)
 
-pub keeps_each : (Q : IndexedSlot → Type 0) (effect : ScannerTable → IndexedSlot → Effect) → KeepsAt Q effect → (rest : List IndexedSlot) (t : ScannerTable) → IsWhole t → Each (IsAt t) rest → Each Q rest → Keeps t (on_each effect rest t)
+pub keeps_each : (Q : IndexedSlot → Type 0) (effect : ScannerTable → IndexedSlot → Effect) → KeepsAt Q effect → (rest : List IndexedSlot) (t : ScannerTable) → IsWellFormed t → Each (IsAt t) rest → Each Q rest → Keeps t (on_each effect rest t)
 keeps_each Q effect keep [] t whole at holds = keeps_nothing t whole
 keeps_each Q effect keep (indexed ∷ rest) t whole at holds =
     let first = keep t indexed whole at.0 holds.0 in
@@ -207,9 +205,6 @@ each_passes p (indexed ∷ rest) = passes_step p (p indexed) indexed (filter p r
 
 pub few_with : (streams : List TargetStream) (stream : TargetStream) → length streams + 1 ≤ 16 → length (streams ++ stream ∷ []) ≤ 16
 few_with streams stream space = simp length-append (omega arith)
-
-other_number : (a b : ℕ) → (a == b) ≡ false → (b == a) ≡ false
-other_number a b h = grind (arith, nat_tests)
 
 pub differ_with : (streams : List TargetStream) (new : TargetStream) → StreamsDiffer streams → list_any (is_stream new.number) streams ≡ false → list_any (is_to new.peer) streams ≡ false → StreamsDiffer (streams ++ new ∷ [])
 differ_with [] new differ none alone = (refl, refl, tt)

@@ -1,9 +1,10 @@
 -- Each effect of an event keeps a scanner's table whole, and so does each step.
-use Rattle.std.proofs.Common.{◌∙◌, ◌&&◌, replicate, sym, ◌≡◌, ◌≤◌, ◌<◌, ℕ, ◌+◌, ◌^◌, Bool, true, false, not, cond, ◌||◌, ◌==◌, nat_le, List, [], ◌∷◌, length, filter, find, slice_get, slice_set, Option, Some, None, Result, Ok, Err, IfOk, IsTrue, refl, subst, arith}
+use Rattle.std.proofs.Common.{◌∙◌, ◌&&◌, replicate, sym, ◌≡◌, ◌≤◌, ◌<◌, ℕ, ◌+◌, ◌^◌, Bool, true, false, not, cond, ◌||◌, ◌==◌, nat_le, List, [], ◌∷◌, length, filter, find, slice_get, slice_set, Option, Some, None, Result, Ok, Err, IfOk, IsTrue, refl, subst, arith, eqb-true}
 use Rattle.std.specs.List.{list_any}
-use Rattle.std.proofs.lemmas.Bool.{and_parts, or_parts}
+use Rattle.std.proofs.lemmas.Bool.{and_parts, or_parts, not-true}
 use Rattle.std.proofs.lemmas.Bool.Decides.{nat_tests}
 use Rattle.std.proofs.lemmas.List.{length-replicate, length-map}
+use Rattle.std.proofs.lemmas.Option.{same_Some}
 use Rattle.cip_types.specs.Cases.{first_case}
 use Rattle.cip_types.specs.declared.names.Mismatch.{Mismatch}
 use Rattle.cip_types.specs.declared.names.Mismatch.TheVariants as mismatch
@@ -28,7 +29,7 @@ use Rattle.cip_fwdopen.specs.declared.reply.OpenAnswer.TheVariants as answer
 use Rattle.cip_productions.specs.Acceptance.{accepts_sequence, is_duplicate}
 use Rattle.conn_state.specs.Answers.{is_requested_id, answer_tests, has_intervals}
 use Rattle.scanner_table.specs.declared.profile.SlotConfig.{SlotConfig}
-use Rattle.scanner_table.specs.declared.slot.Connection.{Connection}
+use Rattle.scanner_table.specs.declared.slot.SlotConnection.{SlotConnection}
 use Rattle.scanner_table.specs.declared.slot.PendingOpen as opening
 use Rattle.scanner_table.specs.declared.slot.Slot.{Slot}
 use Rattle.scanner_table.specs.declared.slot.SlotState.{SlotState}
@@ -48,7 +49,7 @@ use Rattle.scanner_table.specs.Closing.{idle_slot, given_up_state, given_up, tar
 use Rattle.scanner_table.specs.Encapsulation.{registering_on, ignored, stream_opened, cut_of, stream_cut, is_registered, session_begun, session_failed, registered, is_awaiting, replied, replied_to, reported, frame_answer, frame_of, frame}
 use Rattle.scanner_table.specs.Datagrams.{delivered, is_for, accepted_connection, accepted_table, accepted, sized, state_received, received_at, received_as, received}
 use Rattle.scanner_table.specs.Points.{stop_of, stop}
-use Rattle.scanner_table.specs.Whole.{RequestsDiffer, IdsDiffer, FitsState, FitsSlot, IsWhole}
+use Rattle.scanner_table.specs.Whole.{RequestsDiffer, IdsDiffer, FitsState, FitsSlot, IsWellFormed}
 use Rattle.scanner_table.proofs.IdsLemmas.{Weaker, idle_weaker, opening_weaker, closing_weaker, linked_weaker, all_set, differ_weaker, differ_established}
 use Rattle.scanner_table.proofs.RequestLemmas.{Quieter, WaitsFor, idle_quieter, established_quieter, set_quieter, differ_quieter, differ_numbered}
 use Rattle.scanner_table.proofs.WholeLemmas.{IsNow, each_now, slots_later, IsAt, Each, each_filter, each_found, each_at, whole_with, Keeps, keeps_nothing, KeepsAt, keeps_each, Any, each_any, each_passes, few_with, differ_with, few_left, differ_left, differ_staged}
@@ -56,17 +57,17 @@ use Rattle.scanner_table.proofs.WholeLemmas.{IsNow, each_now, slots_later, IsAt,
 -- ---- one slot is changed
 
 -- no ids clash where the slot has no more than the one before it
-differ_set : (t : ScannerTable) (indexed : IndexedSlot) (slot : Slot) → IsWhole t → ((old : SlotState) → Weaker old slot.state) → IdsDiffer (indexed_from 0 t.profile.slots (slice_set t.slots indexed.number slot))
+differ_set : (t : ScannerTable) (indexed : IndexedSlot) (slot : Slot) → IsWellFormed t → ((old : SlotState) → Weaker old slot.state) → IdsDiffer (indexed_from 0 t.profile.slots (slice_set t.slots indexed.number slot))
 differ_set t indexed slot whole weaker =
     differ_weaker 0 t.profile.slots t.slots (slice_set t.slots indexed.number slot) (all_set indexed.number t.slots slot (λ old is. weaker old.state)) whole.ids_differ
 
 -- no requests are shared where the slot waits for nothing, or for what the one before it waits for
-quiet_set : (t : ScannerTable) (indexed : IndexedSlot) (slot : Slot) → IsWhole t → ((old : SlotState) → Quieter old slot.state) → RequestsDiffer (slice_set t.slots indexed.number slot)
+quiet_set : (t : ScannerTable) (indexed : IndexedSlot) (slot : Slot) → IsWellFormed t → ((old : SlotState) → Quieter old slot.state) → RequestsDiffer (slice_set t.slots indexed.number slot)
 quiet_set t indexed slot whole quieter =
     differ_quieter t.slots (slice_set t.slots indexed.number slot) (set_quieter indexed.number t.slots slot (λ old is. quieter old.state)) whole.requests_differ
 
 -- another slot under one number, and nothing else
-pub keeps_changed : (t : ScannerTable) (indexed : IndexedSlot) (slot : Slot) (reported : List Notice) → IsWhole t → IsAt t indexed → FitsSlot t.next_request t.clock.0 indexed.config slot → ((old : SlotState) → Weaker old slot.state) → ((old : SlotState) → Quieter old slot.state) → Keeps t (changed t indexed slot reported)
+pub keeps_changed : (t : ScannerTable) (indexed : IndexedSlot) (slot : Slot) (reported : List Notice) → IsWellFormed t → IsAt t indexed → FitsSlot t.next_request t.clock.0 indexed.config slot → ((old : SlotState) → Weaker old slot.state) → ((old : SlotState) → Quieter old slot.state) → Keeps t (changed t indexed slot reported)
 keeps_changed t indexed slot reported whole at fits weaker quieter = record {
   whole = whole_with t indexed slot whole at.config fits (differ_set t indexed slot whole weaker) (quiet_set t indexed slot whole quieter);
   later = record { profile = refl; clock = refl; requests = omega arith };
@@ -80,16 +81,16 @@ idle_fits t indexed slot at output image state = record {
   state = rw state tt;
 }
 
-keeps_resigned : (reported : List Notice) (t : ScannerTable) (indexed : IndexedSlot) → IsWhole t → IsAt t indexed → Keeps t (changed t indexed (resigned indexed.slot) reported)
+keeps_resigned : (reported : List Notice) (t : ScannerTable) (indexed : IndexedSlot) → IsWellFormed t → IsAt t indexed → Keeps t (changed t indexed (resigned indexed.slot) reported)
 keeps_resigned reported t indexed whole at = keeps_changed t indexed (resigned indexed.slot) reported whole at (idle_fits t indexed (resigned indexed.slot) at refl refl refl) idle_weaker idle_quieter
 
-keeps_failed : (reported : List Notice) (t : ScannerTable) (indexed : IndexedSlot) → IsWhole t → IsAt t indexed → Keeps t (changed t indexed (failed_slot t Idle indexed.slot) reported)
+keeps_failed : (reported : List Notice) (t : ScannerTable) (indexed : IndexedSlot) → IsWellFormed t → IsAt t indexed → Keeps t (changed t indexed (failed_slot t Idle indexed.slot) reported)
 keeps_failed reported t indexed whole at = keeps_changed t indexed (failed_slot t Idle indexed.slot) reported whole at (idle_fits t indexed (failed_slot t Idle indexed.slot) at refl refl refl) idle_weaker idle_quieter
 
-keeps_refused : (why : Reason) (t : ScannerTable) (indexed : IndexedSlot) → IsWhole t → IsAt t indexed → Keeps t (refused t indexed why)
+keeps_refused : (why : Reason) (t : ScannerTable) (indexed : IndexedSlot) → IsWellFormed t → IsAt t indexed → Keeps t (refused t indexed why)
 keeps_refused why t indexed whole at = keeps_failed (notice.Refused indexed.number why ∷ []) t indexed whole at
 
-keeps_idle : (t : ScannerTable) (indexed : IndexedSlot) → IsWhole t → IsAt t indexed → Keeps t (changed t indexed (idle_slot indexed.slot) [])
+keeps_idle : (t : ScannerTable) (indexed : IndexedSlot) → IsWellFormed t → IsAt t indexed → Keeps t (changed t indexed (idle_slot indexed.slot) [])
 keeps_idle t indexed whole at = keeps_changed t indexed (idle_slot indexed.slot) [] whole at (idle_fits t indexed (idle_slot indexed.slot) at refl refl refl) idle_weaker idle_quieter
 
 -- ---- requests
@@ -97,7 +98,7 @@ keeps_idle t indexed whole at = keeps_changed t indexed (idle_slot indexed.slot)
 request_left : (t : ScannerTable) → has_request t ≡ true → t.next_request ≤ 2 ^ 48
 request_left t left = grind (arith, nat_tests, left)
 
-whole_counted : (t : ScannerTable) → has_request t ≡ true → IsWhole t → IsWhole (counted t)
+whole_counted : (t : ScannerTable) → has_request t ≡ true → IsWellFormed t → IsWellFormed (counted t)
 whole_counted t left whole = record {
   ids_differ = whole.ids_differ;
   requests_differ = whole.requests_differ;
@@ -120,7 +121,7 @@ serial_step : (b : Bool) (serial : ℕ) → (serial == 65535) ≡ b → 1 ≤ se
 serial_step true serial is begins ends = (omega arith, omega arith)
 serial_step false serial is begins ends = (omega arith, grind (arith, nat_tests, is, ends))
 
-whole_drawn : (t : ScannerTable) (config : SlotConfig) → has_id t config ≡ true → IsWhole t → IsWhole (drawn t config)
+whole_drawn : (t : ScannerTable) (config : SlotConfig) → has_id t config ≡ true → IsWellFormed t → IsWellFormed (drawn t config)
 whole_drawn t config left whole =
     let serial = serial_step (t.next_serial == 65535) t.next_serial refl whole.serial_begins whole.serial_ends in
     record {
@@ -137,7 +138,7 @@ whole_drawn t config left whole =
       streams_differ = whole.streams_differ;
     }
 
-keeps_requested : (t : ScannerTable) (indexed : IndexedSlot) (slot : Slot) (reported : List Notice) → has_request t ≡ true → IsWhole t → slice_get t.profile.slots indexed.number ≡ Some indexed.config → FitsSlot (t.next_request + 1) t.clock.0 indexed.config slot → ((old : SlotState) → Weaker old slot.state) → WaitsFor t.next_request slot.state → Keeps t (changed (counted t) indexed slot reported)
+keeps_requested : (t : ScannerTable) (indexed : IndexedSlot) (slot : Slot) (reported : List Notice) → has_request t ≡ true → IsWellFormed t → slice_get t.profile.slots indexed.number ≡ Some indexed.config → FitsSlot (t.next_request + 1) t.clock.0 indexed.config slot → ((old : SlotState) → Weaker old slot.state) → WaitsFor t.next_request slot.state → Keeps t (changed (counted t) indexed slot reported)
 keeps_requested t indexed slot reported left whole at fits weaker waits = record {
   whole = whole_with (counted t) indexed slot (whole_counted t left whole) at fits (differ_set t indexed slot whole weaker)
       (differ_numbered t.next_request t.clock.0 indexed.number t.profile.slots t.slots slot waits whole.slots whole.requests_differ);
@@ -149,17 +150,17 @@ keeps_requested t indexed slot reported left whole at fits weaker waits = record
 opening_fits : (t : ScannerTable) (indexed : IndexedSlot) → IsAt t indexed → indexed.slot.desired_up ≡ true → FitsSlot (t.next_request + 1) t.clock.0 indexed.config (opening_slot t indexed)
 opening_fits t indexed at desired_up = record { output = at.fits.output; image = at.fits.image; state = (desired_up, omega arith) }
 
-keeps_open_requested : (t : ScannerTable) (indexed : IndexedSlot) (session : Session) → can_open t indexed.config ≡ true → IsWhole t → IsAt t indexed → indexed.slot.desired_up ≡ true → Keeps t (open_requested t indexed session)
+keeps_open_requested : (t : ScannerTable) (indexed : IndexedSlot) (session : Session) → can_open t indexed.config ≡ true → IsWellFormed t → IsAt t indexed → indexed.slot.desired_up ≡ true → Keeps t (open_requested t indexed session)
 keeps_open_requested t indexed session can whole at desired_up =
     let left = and_parts (has_request t) (has_id t indexed.config) can in
     let kept = keeps_requested (drawn t indexed.config) indexed (opening_slot t indexed) [] left.0 (whole_drawn t indexed.config left.1 whole) at.config (opening_fits t indexed at desired_up) (λ old. opening_weaker old _) refl in
     record { whole = kept.whole; later = record { profile = refl; clock = refl; requests = kept.later.requests } }
 
-can_step : (b : Bool) (t : ScannerTable) (indexed : IndexedSlot) (session : Session) → can_open t indexed.config ≡ b → IsWhole t → IsAt t indexed → indexed.slot.desired_up ≡ true → Keeps t (cond b (open_requested t indexed session) (exhausted t indexed))
+can_step : (b : Bool) (t : ScannerTable) (indexed : IndexedSlot) (session : Session) → can_open t indexed.config ≡ b → IsWellFormed t → IsAt t indexed → indexed.slot.desired_up ≡ true → Keeps t (cond b (open_requested t indexed session) (exhausted t indexed))
 can_step true t indexed session can whole at desired_up = keeps_open_requested t indexed session can whole at desired_up
 can_step false t indexed session can whole at desired_up = keeps_resigned (notice.NoIds indexed.number ∷ []) t indexed whole at
 
-keeps_within : (t : ScannerTable) (indexed : IndexedSlot) (session : Option Session) → IsWhole t → IsAt t indexed → indexed.slot.desired_up ≡ true → Keeps t (opened_within t indexed session)
+keeps_within : (t : ScannerTable) (indexed : IndexedSlot) (session : Option Session) → IsWellFormed t → IsAt t indexed → indexed.slot.desired_up ≡ true → Keeps t (opened_within t indexed session)
 keeps_within t indexed None whole at desired_up = keeps_nothing t whole
 keeps_within t indexed (Some session) whole at desired_up = can_step (can_open t indexed.config) t indexed session refl whole at desired_up
 
@@ -175,13 +176,13 @@ desired_of : (clock : _) (rest : List IndexedSlot) → Each (λ indexed. is_read
 desired_of clock [] ready = tt
 desired_of clock (indexed ∷ rest) ready = ((and_parts indexed.slot.desired_up _ ready.0).0, desired_of clock rest ready.1)
 
-pub keeps_ready : (t : ScannerTable) → IsWhole t → Keeps t (ready_opened t)
+pub keeps_ready : (t : ScannerTable) → IsWellFormed t → Keeps t (ready_opened t)
 unfolding ready_opened
 keeps_ready t whole =
     keeps_each IsDesired opened keeps_opened (ready_slots t) t whole (each_filter (IsAt t) (is_ready_slot t.clock) (indexed_slots t) (each_at t whole))
     (desired_of t.clock (ready_slots t) (each_passes (is_ready_slot t.clock) (indexed_slots t)))
 
-keeps_target : (target : Node) (t : ScannerTable) → IsWhole t → Keeps t (target_opened target t)
+keeps_target : (target : Node) (t : ScannerTable) → IsWellFormed t → Keeps t (target_opened target t)
 unfolding target_opened
 keeps_target target t whole =
     keeps_each IsDesired opened keeps_opened (filter (is_with target) (ready_slots t)) t whole
@@ -214,18 +215,14 @@ is_clear false false y c none = absurd cc
 is_clear false true true c none = refl
 is_clear false true false c none = absurd cc
 
-not_any : (b : Bool) → not b ≡ true → b ≡ false
-not_any true is = absurd cc
-not_any false is = refl
-
-established_differ : (t : ScannerTable) (indexed : IndexedSlot) (o : opening.PendingOpen) (success : made.Opened) → IsAt t indexed → is_id_free t indexed success.t_o_id ≡ true → IsWhole t → IdsDiffer (indexed_from 0 t.profile.slots (slice_set t.slots indexed.number (established_slot indexed (new_connection t indexed o success))))
+established_differ : (t : ScannerTable) (indexed : IndexedSlot) (o : opening.PendingOpen) (success : made.Opened) → IsAt t indexed → is_id_free t indexed success.t_o_id ≡ true → IsWellFormed t → IdsDiffer (indexed_from 0 t.profile.slots (slice_set t.slots indexed.number (established_slot indexed (new_connection t indexed o success))))
 established_differ t indexed o success at clear whole =
-    let free : list_any (uses_id indexed.number indexed.config.target success.t_o_id) (indexed_slots t) ≡ false = not_any _ clear in
+    let free : list_any (uses_id indexed.number indexed.config.target success.t_o_id) (indexed_slots t) ≡ false = not-true _ clear in
     let same : indexed.number ≡ 0 + indexed.number = omega arith in
     let numbered : list_any (uses_id (0 + indexed.number) indexed.config.target success.t_o_id) (indexed_slots t) ≡ false = subst (λ (n : ℕ). list_any (uses_id n indexed.config.target success.t_o_id) (indexed_slots t) ≡ false) same free in
     differ_established 0 indexed.number indexed.config indexed.slot (new_connection t indexed o success) (replicate indexed.config.in_len 0) t.profile.slots t.slots at.config numbered whole.ids_differ
 
-keeps_success : (t : ScannerTable) (indexed : IndexedSlot) (o : opening.PendingOpen) (success : made.Opened) (why : Option Mismatch) → first_case (answer_tests o.requested success (is_id_free t indexed success.t_o_id)) ≡ why → IsWhole t → IsAt t indexed → (indexed.slot.desired_up ≡ true) × (o.request < t.next_request) → Keeps t (judged_success t indexed o success why)
+keeps_success : (t : ScannerTable) (indexed : IndexedSlot) (o : opening.PendingOpen) (success : made.Opened) (why : Option Mismatch) → first_case (answer_tests o.requested success (is_id_free t indexed success.t_o_id)) ≡ why → IsWellFormed t → IsAt t indexed → (indexed.slot.desired_up ≡ true) × (o.request < t.next_request) → Keeps t (judged_success t indexed o success why)
 keeps_success t indexed o success (Some why) is whole at fits = keeps_refused (reason.Mismatch why) t indexed whole at
 keeps_success t indexed o success None is whole at fits = record {
   whole = whole_with t indexed (established_slot indexed (new_connection t indexed o success)) whole at.config
@@ -235,7 +232,7 @@ keeps_success t indexed o success None is whole at fits = record {
   later = record { profile = refl; clock = refl; requests = omega arith };
 }
 
-keeps_answered : (t : ScannerTable) (indexed : IndexedSlot) (o : opening.PendingOpen) (said : Result OpenAnswer Reason) → IsWhole t → IsAt t indexed → (indexed.slot.desired_up ≡ true) × (o.request < t.next_request) → Keeps t (answered t indexed o said)
+keeps_answered : (t : ScannerTable) (indexed : IndexedSlot) (o : opening.PendingOpen) (said : Result OpenAnswer Reason) → IsWellFormed t → IsAt t indexed → (indexed.slot.desired_up ≡ true) × (o.request < t.next_request) → Keeps t (answered t indexed o said)
 unfolding answered
 keeps_answered t indexed o (Err why) whole at fits = keeps_refused why t indexed whole at
 keeps_answered t indexed o (Ok (answer.Refused r)) whole at fits = keeps_refused (reason.Cip r.fault) t indexed whole at
@@ -244,7 +241,7 @@ keeps_answered t indexed o (Ok (answer.Opened success)) whole at fits =
 
 -- ---- endings
 
-keeps_given_state : (t : ScannerTable) (indexed : IndexedSlot) (state : SlotState) → IsWhole t → IsAt t indexed → Keeps t (given_up_state t indexed state)
+keeps_given_state : (t : ScannerTable) (indexed : IndexedSlot) (state : SlotState) → IsWellFormed t → IsAt t indexed → Keeps t (given_up_state t indexed state)
 keeps_given_state t indexed Idle whole at = keeps_nothing t whole
 keeps_given_state t indexed (Opening o) whole at = keeps_failed [] t indexed whole at
 keeps_given_state t indexed (Established c) whole at = keeps_nothing t whole
@@ -254,44 +251,44 @@ keeps_given_state t indexed (Closing c) whole at = keeps_idle t indexed whole at
 pub keeps_given : KeepsAt Any given_up
 keeps_given t indexed whole at any = keeps_given_state t indexed indexed.slot.state whole at
 
-keeps_lost : (target : Node) (t : ScannerTable) → IsWhole t → Keeps t (target_lost target t)
+keeps_lost : (target : Node) (t : ScannerTable) → IsWellFormed t → Keeps t (target_lost target t)
 unfolding target_lost
 keeps_lost target t whole =
     keeps_each Any given_up keeps_given (filter (is_with target) (indexed_slots t)) t whole (each_filter (IsAt t) (is_with target) (indexed_slots t) (each_at t whole)) (each_any _)
 
-closing_fits : (t : ScannerTable) (indexed : IndexedSlot) (c : Connection) → IsAt t indexed → FitsSlot (t.next_request + 1) t.clock.0 indexed.config (closing_slot t c indexed.slot)
+closing_fits : (t : ScannerTable) (indexed : IndexedSlot) (c : SlotConnection) → IsAt t indexed → FitsSlot (t.next_request + 1) t.clock.0 indexed.config (closing_slot t c indexed.slot)
 closing_fits t indexed c at = record { output = at.fits.output; image = at.fits.image; state = (refl, omega arith) }
 
-close_step : (b : Bool) (t : ScannerTable) (indexed : IndexedSlot) (c : Connection) (session : Session) → has_request t ≡ b → IsWhole t → IsAt t indexed → Keeps t (cond b (close_requested t indexed c session) (exhausted t indexed))
+close_step : (b : Bool) (t : ScannerTable) (indexed : IndexedSlot) (c : SlotConnection) (session : Session) → has_request t ≡ b → IsWellFormed t → IsAt t indexed → Keeps t (cond b (close_requested t indexed c session) (exhausted t indexed))
 close_step true t indexed c session left whole at =
     let kept = keeps_requested t indexed (closing_slot t c indexed.slot) [] left whole at.config (closing_fits t indexed c at) (λ old. closing_weaker old _) refl in
     record { whole = kept.whole; later = kept.later }
 close_step false t indexed c session left whole at = keeps_resigned (notice.NoIds indexed.number ∷ []) t indexed whole at
 
-keeps_closed : (t : ScannerTable) (indexed : IndexedSlot) (c : Connection) (session : Option Session) → IsWhole t → IsAt t indexed → Keeps t (closed_within t indexed c session)
+keeps_closed : (t : ScannerTable) (indexed : IndexedSlot) (c : SlotConnection) (session : Option Session) → IsWellFormed t → IsAt t indexed → Keeps t (closed_within t indexed c session)
 keeps_closed t indexed c None whole at = keeps_resigned [] t indexed whole at
 keeps_closed t indexed c (Some session) whole at = close_step (has_request t) t indexed c session refl whole at
 
 -- what is answered leaves a whole table
 abbrev pub LeavesWhole : Result Next StepFault → Type 0
-LeavesWhole said = IfOk said (λ next. IsWhole next.1)
+LeavesWhole said = IfOk said (λ next. IsWellFormed next.1)
 
-stop_step : (b : Bool) (t : ScannerTable) (indexed : IndexedSlot) → IsWhole t → IsAt t indexed → LeavesWhole (stop_of (cond b (Ok (slot_resigned t indexed)) (Err fault.NotAllowedNow)))
+stop_step : (b : Bool) (t : ScannerTable) (indexed : IndexedSlot) → IsWellFormed t → IsAt t indexed → LeavesWhole (stop_of (cond b (Ok (slot_resigned t indexed)) (Err fault.NotAllowedNow)))
 stop_step true t indexed whole at = (keeps_resigned [] t indexed whole at).whole
 stop_step false t indexed whole at = tt
 
-stopped_whole : (t : ScannerTable) (indexed : IndexedSlot) (state : SlotState) → IsWhole t → IsAt t indexed → LeavesWhole (stop_of (stopped t indexed state))
+stopped_whole : (t : ScannerTable) (indexed : IndexedSlot) (state : SlotState) → IsWellFormed t → IsAt t indexed → LeavesWhole (stop_of (stopped t indexed state))
 stopped_whole t indexed Idle whole at = stop_step indexed.slot.desired_up t indexed whole at
 stopped_whole t indexed (Opening o) whole at = (keeps_resigned [] t indexed whole at).whole
 stopped_whole t indexed (Established c) whole at = (keeps_closed t indexed c (session_with t indexed.config.target) whole at).whole
 stopped_whole t indexed (TimedOut link) whole at = (keeps_resigned [] t indexed whole at).whole
 stopped_whole t indexed (Closing c) whole at = tt
 
-stop_at_whole : (t : ScannerTable) (number : ℕ) (found : Option IndexedSlot) → slot_at t number ≡ found → IsWhole t → LeavesWhole (stop_of (stopped_at t found))
+stop_at_whole : (t : ScannerTable) (number : ℕ) (found : Option IndexedSlot) → slot_at t number ≡ found → IsWellFormed t → LeavesWhole (stop_of (stopped_at t found))
 stop_at_whole t number None is whole = tt
 stop_at_whole t number (Some indexed) is whole = stopped_whole t indexed indexed.slot.state whole (each_found (IsAt t) (is_numbered number) (indexed_slots t) indexed is (each_at t whole))
 
-pub stop_whole : (t : ScannerTable) (number : ℕ) → IsWhole t → LeavesWhole (stop t number)
+pub stop_whole : (t : ScannerTable) (number : ℕ) → IsWellFormed t → LeavesWhole (stop t number)
 unfolding stop
 stop_whole t number whole = stop_at_whole t number (slot_at t number) refl whole
 
@@ -300,7 +297,7 @@ stop_whole t number whole = stop_at_whole t number (slot_at t number) refl whole
 space_left : (streams : List TargetStream) → nat_le 16 (length streams) ≡ false → length streams + 1 ≤ 16
 space_left streams free = grind (arith, nat_tests, free)
 
-whole_streamed : (t : ScannerTable) (number : ℕ) (target : Node) → is_taken t.streams number target ≡ false → IsWhole t → IsWhole (with_stream t number target)
+whole_streamed : (t : ScannerTable) (number : ℕ) (target : Node) → is_taken t.streams number target ≡ false → IsWellFormed t → IsWellFormed (with_stream t number target)
 whole_streamed t number target free whole =
     let none = or_parts (list_any (is_stream number) t.streams) _ free in
     let alone = or_parts (list_any (is_to target) t.streams) (nat_le 16 (length t.streams)) none.1 in
@@ -319,15 +316,15 @@ whole_streamed t number target free whole =
       streams_differ = differ_with t.streams new whole.streams_differ none.0 alone.0;
     }
 
-taken_step : (b : Bool) (t : ScannerTable) (number : ℕ) (target : Node) → is_taken t.streams number target ≡ b → IsWhole t → LeavesWhole (cond b (Err fault.NotAllowedNow) (Ok (done (registering_on t number target))))
+taken_step : (b : Bool) (t : ScannerTable) (number : ℕ) (target : Node) → is_taken t.streams number target ≡ b → IsWellFormed t → LeavesWhole (cond b (Err fault.NotAllowedNow) (Ok (done (registering_on t number target))))
 taken_step true t number target taken whole = tt
 taken_step false t number target taken whole = whole_streamed t number target taken whole
 
-pub streamed_whole : (t : ScannerTable) (number : ℕ) (target : Node) → IsWhole t → LeavesWhole (stream_opened t number target)
+pub streamed_whole : (t : ScannerTable) (number : ℕ) (target : Node) → IsWellFormed t → LeavesWhole (stream_opened t number target)
 unfolding stream_opened
 streamed_whole t number target whole = taken_step (is_taken t.streams number target) t number target refl whole
 
-whole_without : (t : ScannerTable) (number : ℕ) → IsWhole t → IsWhole (without_stream t number)
+whole_without : (t : ScannerTable) (number : ℕ) → IsWellFormed t → IsWellFormed (without_stream t number)
 whole_without t number whole = record {
   ids_differ = whole.ids_differ;
   requests_differ = whole.requests_differ;
@@ -342,15 +339,15 @@ whole_without t number whole = record {
   streams_differ = differ_left (is_other_stream number) t.streams whole.streams_differ;
 }
 
-cut_whole_of : (t : ScannerTable) (found : Option TargetStream) → IsWhole t → LeavesWhole (cut_of t found)
+cut_whole_of : (t : ScannerTable) (found : Option TargetStream) → IsWellFormed t → LeavesWhole (cut_of t found)
 cut_whole_of t None whole = tt
 cut_whole_of t (Some stream) whole = (keeps_lost stream.peer (without_stream t stream.number) (whole_without t stream.number whole)).whole
 
-pub cut_whole : (t : ScannerTable) (number : ℕ) → IsWhole t → LeavesWhole (stream_cut t number)
+pub cut_whole : (t : ScannerTable) (number : ℕ) → IsWellFormed t → LeavesWhole (stream_cut t number)
 unfolding stream_cut
 cut_whole t number whole = cut_whole_of t (find (is_stream number) t.streams) whole
 
-whole_staged : (t : ScannerTable) (number : ℕ) (stage : Stage) → IsWhole t → IsWhole (with_stage t number stage)
+whole_staged : (t : ScannerTable) (number : ℕ) (stage : Stage) → IsWellFormed t → IsWellFormed (with_stage t number stage)
 whole_staged t number stage whole = record {
   ids_differ = whole.ids_differ;
   requests_differ = whole.requests_differ;
@@ -365,7 +362,7 @@ whole_staged t number stage whole = record {
   streams_differ = differ_staged number stage t.streams whole.streams_differ;
 }
 
-registered_step : (b : Bool) (t : ScannerTable) (stream : TargetStream) (handle : ℕ) → IsWhole t → IsWhole (cond b (session_begun t stream handle) (session_failed t stream)).table
+registered_step : (b : Bool) (t : ScannerTable) (stream : TargetStream) (handle : ℕ) → IsWellFormed t → IsWellFormed (cond b (session_begun t stream handle) (session_failed t stream)).table
 registered_step true t stream handle whole = (keeps_target stream.peer (with_stage t stream.number (Up handle)) (whole_staged t stream.number (Up handle) whole)).whole
 registered_step false t stream handle whole = whole_staged t stream.number Unused whole
 
@@ -374,35 +371,35 @@ registered_step false t stream handle whole = whole_staged t stream.number Unuse
 pub state_fits : (t : ScannerTable) (indexed : IndexedSlot) (state : SlotState) → indexed.slot.state ≡ state → IsAt t indexed → FitsState t.next_request t.clock.0 indexed.slot.desired_up state
 state_fits t indexed state is at = subst (FitsState t.next_request t.clock.0 indexed.slot.desired_up) is at.fits.state
 
-replied_whole : (t : ScannerTable) (indexed : IndexedSlot) (m : MessageFields) (state : SlotState) → indexed.slot.state ≡ state → IsWhole t → IsAt t indexed → IsWhole (replied t indexed m state).1
+replied_whole : (t : ScannerTable) (indexed : IndexedSlot) (m : MessageFields) (state : SlotState) → indexed.slot.state ≡ state → IsWellFormed t → IsAt t indexed → IsWellFormed (replied t indexed m state).1
 replied_whole t indexed m Idle is whole at = whole
 replied_whole t indexed m (Opening o) is whole at = (keeps_answered t indexed o (open_answer (is_large indexed.config) m) whole at (state_fits t indexed (Opening o) is at)).whole
 replied_whole t indexed m (Established c) is whole at = whole
 replied_whole t indexed m (TimedOut link) is whole at = whole
 replied_whole t indexed m (Closing c) is whole at = (keeps_idle t indexed whole at).whole
 
-replied_to_whole : (t : ScannerTable) (m : MessageFields) (p : IndexedSlot → Bool) (found : Option IndexedSlot) → find p (indexed_slots t) ≡ found → IsWhole t → IsWhole (replied_to t m found).1
+replied_to_whole : (t : ScannerTable) (m : MessageFields) (p : IndexedSlot → Bool) (found : Option IndexedSlot) → find p (indexed_slots t) ≡ found → IsWellFormed t → IsWellFormed (replied_to t m found).1
 replied_to_whole t m p None is whole = whole
 replied_to_whole t m p (Some indexed) is whole = replied_whole t indexed m indexed.slot.state refl whole (each_found (IsAt t) p (indexed_slots t) indexed is (each_at t whole))
 
-first_step : (b : Bool) (t : ScannerTable) (stream : TargetStream) (m : MessageFields) → IsWhole t → IsWhole (cond b (done (registered t stream m)) (ignored t)).1
+first_step : (b : Bool) (t : ScannerTable) (stream : TargetStream) (m : MessageFields) → IsWellFormed t → IsWellFormed (cond b (done (registered t stream m)) (ignored t)).1
 first_step true t stream m whole = registered_step (is_registered m) t stream m.session whole
 first_step false t stream m whole = whole
 
-reported_whole : (t : ScannerTable) (stream : TargetStream) (m : MessageFields) (stage : Stage) → IsWhole t → IsWhole (reported t stream m stage).1
+reported_whole : (t : ScannerTable) (stream : TargetStream) (m : MessageFields) (stage : Stage) → IsWellFormed t → IsWellFormed (reported t stream m stage).1
 reported_whole t stream m Waiting whole = first_step (m.context == 0) t stream m whole
 reported_whole t stream m (Up handle) whole = replied_to_whole t m (is_awaiting stream.peer m.context) (find (is_awaiting stream.peer m.context) (indexed_slots t)) refl whole
 reported_whole t stream m Unused whole = whole
 
-frame_answer_whole : (t : ScannerTable) (stream : TargetStream) (reading : Result MessageFields EncapFault) → IsWhole t → IsWhole (frame_answer t stream reading).1
+frame_answer_whole : (t : ScannerTable) (stream : TargetStream) (reading : Result MessageFields EncapFault) → IsWellFormed t → IsWellFormed (frame_answer t stream reading).1
 frame_answer_whole t stream (Err why) whole = whole
 frame_answer_whole t stream (Ok m) whole = reported_whole t stream m stream.stage whole
 
-frame_of_whole : (t : ScannerTable) (bytes : List ℕ) (found : Option TargetStream) → IsWhole t → LeavesWhole (frame_of t bytes found)
+frame_of_whole : (t : ScannerTable) (bytes : List ℕ) (found : Option TargetStream) → IsWellFormed t → LeavesWhole (frame_of t bytes found)
 frame_of_whole t bytes None whole = tt
 frame_of_whole t bytes (Some stream) whole = frame_answer_whole t stream (message_reading bytes) whole
 
-pub frame_whole : (t : ScannerTable) (number : ℕ) (bytes : List ℕ) → IsWhole t → LeavesWhole (frame t number bytes)
+pub frame_whole : (t : ScannerTable) (number : ℕ) (bytes : List ℕ) → IsWellFormed t → LeavesWhole (frame t number bytes)
 unfolding frame
 frame_whole t number bytes whole = frame_of_whole t bytes (find (is_stream number) t.streams) whole
 
@@ -413,60 +410,54 @@ pub record IsSame (t : ScannerTable) (indexed : IndexedSlot) (state : SlotState)
   pub now : slice_get t.slots indexed.number ≡ Some indexed.slot
   pub stands : indexed.slot.state ≡ state
 
-same_slot : (a b : Slot) → Some a ≡ Some b → a ≡ b
-same_slot a b is = cc
-
-pub differ_same : (t : ScannerTable) (indexed : IndexedSlot) (slot : Slot) (state : SlotState) → IsSame t indexed state → Weaker state slot.state → IsWhole t → IdsDiffer (indexed_from 0 t.profile.slots (slice_set t.slots indexed.number slot))
+pub differ_same : (t : ScannerTable) (indexed : IndexedSlot) (slot : Slot) (state : SlotState) → IsSame t indexed state → Weaker state slot.state → IsWellFormed t → IdsDiffer (indexed_from 0 t.profile.slots (slice_set t.slots indexed.number slot))
 differ_same t indexed slot state same weaker whole =
     let stands : (old : Slot) → slice_get t.slots indexed.number ≡ Some old → Weaker old.state slot.state = λ old is.
-    let one : indexed.slot ≡ old = same_slot indexed.slot old (sym same.now ∙ is) in
+    let one : indexed.slot ≡ old = same_Some indexed.slot old (sym same.now ∙ is) in
     subst (λ (x : Slot). Weaker x.state slot.state) one (subst (λ (x : SlotState). Weaker x slot.state) (sym same.stands) weaker) in
     differ_weaker 0 t.profile.slots t.slots (slice_set t.slots indexed.number slot) (all_set indexed.number t.slots slot stands) whole.ids_differ
 
-pub quiet_same : (t : ScannerTable) (indexed : IndexedSlot) (slot : Slot) (state : SlotState) → IsSame t indexed state → Quieter state slot.state → IsWhole t → RequestsDiffer (slice_set t.slots indexed.number slot)
+pub quiet_same : (t : ScannerTable) (indexed : IndexedSlot) (slot : Slot) (state : SlotState) → IsSame t indexed state → Quieter state slot.state → IsWellFormed t → RequestsDiffer (slice_set t.slots indexed.number slot)
 quiet_same t indexed slot state same quieter whole =
     let stands : (old : Slot) → slice_get t.slots indexed.number ≡ Some old → Quieter old.state slot.state = λ old is.
-    let one : indexed.slot ≡ old = same_slot indexed.slot old (sym same.now ∙ is) in
+    let one : indexed.slot ≡ old = same_Some indexed.slot old (sym same.now ∙ is) in
     subst (λ (x : Slot). Quieter x.state slot.state) one (subst (λ (x : SlotState). Quieter x slot.state) (sym same.stands) quieter) in
     differ_quieter t.slots (slice_set t.slots indexed.number slot) (set_quieter indexed.number t.slots slot stands) whole.requests_differ
 
-accepted_fits : (t : ScannerTable) (indexed : IndexedSlot) (d : DatagramFields) (c : Connection) (bytes : List ℕ) → IsAt t indexed → FitsState t.next_request t.clock.0 indexed.slot.desired_up (Established c) → length bytes ≡ indexed.config.in_len → IsSame t indexed (Established c) → IsWhole t → IsWhole (accepted_table t indexed d c bytes)
+accepted_fits : (t : ScannerTable) (indexed : IndexedSlot) (d : DatagramFields) (c : SlotConnection) (bytes : List ℕ) → IsAt t indexed → FitsState t.next_request t.clock.0 indexed.slot.desired_up (Established c) → length bytes ≡ indexed.config.in_len → IsSame t indexed (Established c) → IsWellFormed t → IsWellFormed (accepted_table t indexed d c bytes)
 accepted_fits t indexed d c bytes at fits long now whole =
     whole_with t indexed (record indexed.slot { state = Established (accepted_connection t.clock indexed.config.mult d c); image = bytes }) whole at.config
     (record { output = at.fits.output; image = long; state = (fits.0, record { opening = fits.1.opening; o_t_api_ms = fits.1.o_t_api_ms; t_o_api_ms = fits.1.t_o_api_ms; due = fits.1.due }) })
     (differ_same t indexed (record indexed.slot { state = Established (accepted_connection t.clock indexed.config.mult d c); image = bytes }) (Established c) now (linked_weaker c (accepted_connection t.clock indexed.config.mult d c) refl) whole)
     (quiet_set t indexed (record indexed.slot { state = Established (accepted_connection t.clock indexed.config.mult d c); image = bytes }) whole (λ old. established_quieter old (accepted_connection t.clock indexed.config.mult d c)))
 
-accepted_step : (b : Bool) (t : ScannerTable) (indexed : IndexedSlot) (d : DatagramFields) (c : Connection) → IsAt t indexed → FitsState t.next_request t.clock.0 indexed.slot.desired_up (Established c) → length d.payload ≡ indexed.config.in_len → IsSame t indexed (Established c) → IsWhole t → IsWhole (cond b (delivered Duplicate (accepted_table t indexed d c indexed.slot.image)) (delivered Applied (accepted_table t indexed d c d.payload))).1
+accepted_step : (b : Bool) (t : ScannerTable) (indexed : IndexedSlot) (d : DatagramFields) (c : SlotConnection) → IsAt t indexed → FitsState t.next_request t.clock.0 indexed.slot.desired_up (Established c) → length d.payload ≡ indexed.config.in_len → IsSame t indexed (Established c) → IsWellFormed t → IsWellFormed (cond b (delivered Duplicate (accepted_table t indexed d c indexed.slot.image)) (delivered Applied (accepted_table t indexed d c d.payload))).1
 accepted_step true t indexed d c at fits long now whole = accepted_fits t indexed d c indexed.slot.image at fits at.fits.image now whole
 accepted_step false t indexed d c at fits long now whole = accepted_fits t indexed d c d.payload at fits long now whole
 
-sequence_step : (b : Bool) (t : ScannerTable) (indexed : IndexedSlot) (d : DatagramFields) (c : Connection) → IsAt t indexed → FitsState t.next_request t.clock.0 indexed.slot.desired_up (Established c) → length d.payload ≡ indexed.config.in_len → IsSame t indexed (Established c) → IsWhole t → IsWhole (cond b (accepted t indexed d c) (delivered Old t)).1
+sequence_step : (b : Bool) (t : ScannerTable) (indexed : IndexedSlot) (d : DatagramFields) (c : SlotConnection) → IsAt t indexed → FitsState t.next_request t.clock.0 indexed.slot.desired_up (Established c) → length d.payload ≡ indexed.config.in_len → IsSame t indexed (Established c) → IsWellFormed t → IsWellFormed (cond b (accepted t indexed d c) (delivered Old t)).1
 sequence_step true t indexed d c at fits long now whole = accepted_step (is_duplicate c.last d.count) t indexed d c at fits long now whole
 sequence_step false t indexed d c at fits long now whole = whole
 
-long_is : (a b : ℕ) → (a == b) ≡ true → a ≡ b
-long_is a b is = grind (arith, nat_tests)
-
-sized_step : (b : Bool) (t : ScannerTable) (indexed : IndexedSlot) (d : DatagramFields) (c : Connection) → (length d.payload == indexed.config.in_len) ≡ b → IsAt t indexed → FitsState t.next_request t.clock.0 indexed.slot.desired_up (Established c) → IsSame t indexed (Established c) → IsWhole t → IsWhole (cond b (sized t indexed d c) (delivered WrongSize t)).1
-sized_step true t indexed d c is at fits now whole = sequence_step (accepts_sequence c.last d.sequence) t indexed d c at fits (long_is (length d.payload) indexed.config.in_len is) now whole
+sized_step : (b : Bool) (t : ScannerTable) (indexed : IndexedSlot) (d : DatagramFields) (c : SlotConnection) → (length d.payload == indexed.config.in_len) ≡ b → IsAt t indexed → FitsState t.next_request t.clock.0 indexed.slot.desired_up (Established c) → IsSame t indexed (Established c) → IsWellFormed t → IsWellFormed (cond b (sized t indexed d c) (delivered WrongSize t)).1
+sized_step true t indexed d c is at fits now whole = sequence_step (accepts_sequence c.last d.sequence) t indexed d c at fits (eqb-true (length d.payload) indexed.config.in_len is) now whole
 sized_step false t indexed d c is at fits now whole = whole
 
-state_received_whole : (t : ScannerTable) (indexed : IndexedSlot) (d : DatagramFields) (state : SlotState) → indexed.slot.state ≡ state → IsAt t indexed → slice_get t.slots indexed.number ≡ Some indexed.slot → IsWhole t → IsWhole (state_received t indexed d state).1
+state_received_whole : (t : ScannerTable) (indexed : IndexedSlot) (d : DatagramFields) (state : SlotState) → indexed.slot.state ≡ state → IsAt t indexed → slice_get t.slots indexed.number ≡ Some indexed.slot → IsWellFormed t → IsWellFormed (state_received t indexed d state).1
 state_received_whole t indexed d Idle is at now whole = whole
 state_received_whole t indexed d (Opening o) is at now whole = whole
 state_received_whole t indexed d (Established c) is at now whole = sized_step (length d.payload == indexed.config.in_len) t indexed d c refl at (state_fits t indexed (Established c) is at) (record { now = now; stands = is }) whole
 state_received_whole t indexed d (TimedOut link) is at now whole = whole
 state_received_whole t indexed d (Closing c) is at now whole = whole
 
-received_at_whole : (t : ScannerTable) (d : DatagramFields) (p : IndexedSlot → Bool) (found : Option IndexedSlot) → find p (indexed_slots t) ≡ found → IsWhole t → IsWhole (received_at t d found).1
+received_at_whole : (t : ScannerTable) (d : DatagramFields) (p : IndexedSlot → Bool) (found : Option IndexedSlot) → find p (indexed_slots t) ≡ found → IsWellFormed t → IsWellFormed (received_at t d found).1
 received_at_whole t d p None is whole = whole
 received_at_whole t d p (Some indexed) is whole = state_received_whole t indexed d indexed.slot.state refl (each_found (IsAt t) p (indexed_slots t) indexed is (each_at t whole)) (each_found (IsNow t) p (indexed_slots t) indexed is (each_now t)) whole
 
-received_as_whole : (t : ScannerTable) (peer : Node) (reading : Result DatagramFields DatagramFault) → IsWhole t → IsWhole (received_as t peer reading).1
+received_as_whole : (t : ScannerTable) (peer : Node) (reading : Result DatagramFields DatagramFault) → IsWellFormed t → IsWellFormed (received_as t peer reading).1
 received_as_whole t peer (Err why) whole = whole
 received_as_whole t peer (Ok d) whole = received_at_whole t d (is_for peer d.connection) (find (is_for peer d.connection) (indexed_slots t)) refl whole
 
-pub received_whole : (t : ScannerTable) (peer : Node) (bytes : List ℕ) → IsWhole t → IsWhole (received t peer bytes).1
+pub received_whole : (t : ScannerTable) (peer : Node) (bytes : List ℕ) → IsWellFormed t → IsWellFormed (received t peer bytes).1
 unfolding received
 received_whole t peer bytes whole = received_as_whole t peer (datagram_reading bytes) whole

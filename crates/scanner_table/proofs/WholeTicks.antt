@@ -1,21 +1,22 @@
 -- Ticks and what the application does keep a scanner's table whole, and so does each step.
-use Rattle.std.proofs.Common.{subst, sym, ◌&&◌, slice_set, ◌≡◌, ◌≤◌, ℕ, suc, ◌+◌, ◌^◌, Bool, true, false, cond, ◌==◌, nat_le, nat_lt, List, [], ◌∷◌, length, map, filter, Option, Some, None, Ok, Err, refl, arith}
+use Rattle.std.proofs.Common.{subst, sym, slice_set, ◌≡◌, ◌≤◌, ℕ, suc, ◌+◌, ◌^◌, Bool, true, false, cond, ◌==◌, nat_lt, List, [], ◌∷◌, length, map, filter, Option, Some, None, Ok, Err, refl, arith, leb-true, eqb-true}
 use Rattle.std.specs.List.{list_any}
 use Rattle.std.proofs.lemmas.Bool.Decides.{nat_tests}
 use Rattle.std.proofs.lemmas.List.{length-replicate}
+use Rattle.base_lemmas.specs.Booleans.{and_none}
 use Rattle.cip_types.specs.declared.names.Ms.{Ms}
 use Rattle.cip_types.specs.Order.{inserted, in_order}
 use Rattle.cip_netparams.specs.declared.Trigger.{Trigger}
 use Rattle.cip_netparams.specs.declared.Trigger.TheVariants.{Cyclic, ChangeOfState}
 use Rattle.cip_events.specs.declared.event.Event.{Event}
-use Rattle.cip_events.specs.declared.event.Event.TheVariants.{Request, StreamOpened, Frame, StreamCut, Datagram, Write, Read, Tick, Mode, Start, Stop}
+use Rattle.cip_events.specs.declared.event.Event.TheVariants.{StreamOpened, Frame, StreamCut, Datagram, Write, Read, Tick, Mode, Start, Stop}
 use Rattle.cip_events.specs.declared.event.StepFault.TheVariants as fault
 use Rattle.cip_events.specs.Clock.{longest_tick, clock_end}
 use Rattle.cip_productions.specs.Kinds.{is_owner}
 use Rattle.cip_productions.specs.Productions.{due_again}
 use Rattle.scanner_table.specs.declared.profile.ScannerProfile.{ScannerProfile}
 use Rattle.scanner_table.specs.declared.profile.SlotConfig.{SlotConfig}
-use Rattle.scanner_table.specs.declared.slot.Connection.{Connection}
+use Rattle.scanner_table.specs.declared.slot.SlotConnection.{SlotConnection}
 use Rattle.scanner_table.specs.declared.slot.Slot.{Slot}
 use Rattle.scanner_table.specs.declared.slot.SlotState.{SlotState}
 use Rattle.scanner_table.specs.declared.slot.SlotState.TheVariants.{Idle, Opening, Established, TimedOut, Closing}
@@ -30,7 +31,7 @@ use Rattle.scanner_table.specs.Productions.{written_connection, produced_connect
 use Rattle.scanner_table.specs.Ticks.{by_deadline, has_expired, expired_slots, expired_state, expired, all_expired, is_overdue, all_given_up, clocked_table, advanced, ticked, tick}
 use Rattle.scanner_table.specs.Points.{output_slot, output_written, write_length, write_at, write, read_at, read, same_mode, moded_slot, moded_table, mode, desired_slot, started, start_state, start_at, start}
 use Rattle.scanner_table.specs.Step.{scanner_step, fresh_slot, scanner_table}
-use Rattle.scanner_table.specs.Whole.{RequestsDiffer, shares_request, clashes, IdsDiffer, FitsState, FitsSlot, SlotsFit, IsWhole}
+use Rattle.scanner_table.specs.Whole.{RequestsDiffer, shares_request, clashes, IdsDiffer, FitsState, FitsSlot, SlotsFit, IsWellFormed}
 use Rattle.scanner_table.proofs.IdsLemmas.{Weaker, idle_weaker, timed_out_weaker, same_weaker, linked_weaker, AllWeaker, all_set, all_map, differ_weaker}
 use Rattle.scanner_table.proofs.RequestLemmas.{Quieter, AllQuieter, idle_quieter, established_quieter, timed_out_quieter, same_quieter, set_quieter, map_quieter, differ_quieter}
 use Rattle.scanner_table.proofs.WholeLemmas.{IsNow, each_now, slots_later, later_later, IsAt, Each, each_filter, each_found, each_at, whole_with, Keeps, keeps_nothing, keeps_each, Any, each_any}
@@ -51,34 +52,34 @@ each_in_order : (P : IndexedSlot → Type 0) (before : IndexedSlot → IndexedSl
 each_in_order P before [] all = tt
 each_in_order P before (indexed ∷ rest) all = each_inserted P before indexed (in_order before rest) all.0 (each_in_order P before rest all.1)
 
-expired_fits : (t : ScannerTable) (indexed : IndexedSlot) (c : Connection) → indexed.slot.state ≡ Established c → IsAt t indexed → FitsSlot t.next_request t.clock.0 indexed.config (failed_slot t (TimedOut c.link) indexed.slot)
+expired_fits : (t : ScannerTable) (indexed : IndexedSlot) (c : SlotConnection) → indexed.slot.state ≡ Established c → IsAt t indexed → FitsSlot t.next_request t.clock.0 indexed.config (failed_slot t (TimedOut c.link) indexed.slot)
 expired_fits t indexed c is at = record { output = at.fits.output; image = at.fits.image; state = (state_fits t indexed (Established c) is at).0 }
 
-keeps_expired_state : (t : ScannerTable) (indexed : IndexedSlot) (state : SlotState) → indexed.slot.state ≡ state → IsWhole t → IsAt t indexed → Keeps t (expired_state t indexed state)
+keeps_expired_state : (t : ScannerTable) (indexed : IndexedSlot) (state : SlotState) → indexed.slot.state ≡ state → IsWellFormed t → IsAt t indexed → Keeps t (expired_state t indexed state)
 keeps_expired_state t indexed Idle is whole at = keeps_nothing t whole
 keeps_expired_state t indexed (Opening o) is whole at = keeps_nothing t whole
 keeps_expired_state t indexed (Established c) is whole at = keeps_changed t indexed (failed_slot t (TimedOut c.link) indexed.slot) [] whole at (expired_fits t indexed c is at) (λ old. timed_out_weaker old c.link) (λ old. timed_out_quieter old c.link)
 keeps_expired_state t indexed (TimedOut link) is whole at = keeps_nothing t whole
 keeps_expired_state t indexed (Closing c) is whole at = keeps_nothing t whole
 
-keeps_expired : (t : ScannerTable) → IsWhole t → Keeps t (all_expired t)
+keeps_expired : (t : ScannerTable) → IsWellFormed t → Keeps t (all_expired t)
 unfolding all_expired
 keeps_expired t whole =
     keeps_each Any expired (λ u indexed is at any. keeps_expired_state u indexed indexed.slot.state refl is at) (expired_slots t) t whole
     (each_in_order (IsAt t) by_deadline (filter (has_expired t.clock) (indexed_slots t)) (each_filter (IsAt t) (has_expired t.clock) (indexed_slots t) (each_at t whole))) (each_any (expired_slots t))
 
-keeps_overdue : (t : ScannerTable) → IsWhole t → Keeps t (all_given_up t)
+keeps_overdue : (t : ScannerTable) → IsWellFormed t → Keeps t (all_given_up t)
 unfolding all_given_up
 keeps_overdue t whole =
     keeps_each Any given_up keeps_given (filter (is_overdue t.clock) (indexed_slots t)) t whole (each_filter (IsAt t) (is_overdue t.clock) (indexed_slots t) (each_at t whole))
     (each_any (filter (is_overdue t.clock) (indexed_slots t)))
 
-keeps_then : (t : ScannerTable) (first : Effect) (next : ScannerTable → Effect) → Keeps t first → ((u : ScannerTable) → IsWhole u → Keeps u (next u)) → Keeps t (and_then first next)
+keeps_then : (t : ScannerTable) (first : Effect) (next : ScannerTable → Effect) → Keeps t first → ((u : ScannerTable) → IsWellFormed u → Keeps u (next u)) → Keeps t (and_then first next)
 keeps_then t first next kept keep =
     let more = keep first.table kept.whole in
     record { whole = more.whole; later = later_later t first.table (next first.table).table kept.later more.later }
 
-keeps_advanced : (t : ScannerTable) → IsWhole t → Keeps t (advanced t)
+keeps_advanced : (t : ScannerTable) → IsWellFormed t → Keeps t (advanced t)
 keeps_advanced t whole = keeps_then t (and_then (all_expired t) all_given_up) ready_opened (keeps_then t (all_expired t) all_given_up (keeps_expired t whole) keeps_overdue) keeps_ready
 
 -- ---- productions
@@ -91,9 +92,6 @@ again_fits : (trigger : Trigger) (clock due api : ℕ) → due ≤ clock → api
 again_fits Cyclic clock due api late short = again_step (nat_lt clock (due + api)) clock due api late short
 again_fits ChangeOfState clock due api late short = omega arith
 
-is_late : (due clock : ℕ) → nat_le due clock ≡ true → due ≤ clock
-is_late due clock is = grind (arith, nat_tests)
-
 produced_fits : (r : ℕ) (clock : Ms) (desired_up : Bool) (state : SlotState) → state_is_due clock state ≡ true → FitsState r clock.0 desired_up state → FitsState r clock.0 desired_up (produced_state clock state)
 produced_fits r clock desired_up Idle due fits = tt
 produced_fits r clock desired_up (Opening o) due fits = fits
@@ -103,7 +101,7 @@ produced_fits r clock desired_up (Established c) due fits = (
     opening = fits.1.opening;
     o_t_api_ms = fits.1.o_t_api_ms;
     t_o_api_ms = fits.1.t_o_api_ms;
-    due = again_fits c.production.trigger clock.0 c.production.due.0 c.o_t_api_ms (is_late c.production.due.0 clock.0 due) fits.1.o_t_api_ms;
+    due = again_fits c.production.trigger clock.0 c.production.due.0 c.o_t_api_ms (leb-true c.production.due.0 clock.0 due) fits.1.o_t_api_ms;
   },
 )
 produced_fits r clock desired_up (TimedOut link) due fits = fits
@@ -120,7 +118,7 @@ slots_produced r clock (config ∷ configs) [] fit = absurd fit
 slots_produced r clock (config ∷ configs) (slot ∷ slots) fit = (due_step (state_is_due clock slot.state) r clock config slot refl fit.0, slots_produced r clock configs slots fit.1)
 
 -- the slots are others, and each fits its configuration
-whole_slots : (t : ScannerTable) (slots : List Slot) → IsWhole t → SlotsFit t.next_request t.clock.0 t.profile.slots slots → AllWeaker t.slots slots → AllQuieter t.slots slots → IsWhole (record t { slots = slots })
+whole_slots : (t : ScannerTable) (slots : List Slot) → IsWellFormed t → SlotsFit t.next_request t.clock.0 t.profile.slots slots → AllWeaker t.slots slots → AllQuieter t.slots slots → IsWellFormed (record t { slots = slots })
 whole_slots t slots whole fit weaker quieter = record {
   requests_differ = differ_quieter t.slots slots quieter whole.requests_differ;
   ids_differ = differ_weaker 0 t.profile.slots t.slots slots weaker whole.ids_differ;
@@ -163,13 +161,13 @@ due_quieter_by false clock slot = same_quieter slot.state
 due_quieter : (clock : Ms) (slot : Slot) → Quieter slot.state (produced_slot clock slot).state
 due_quieter clock slot = due_quieter_by (state_is_due clock slot.state) clock slot
 
-produced_whole : (t : ScannerTable) → IsWhole t → IsWhole (produced_table t)
+produced_whole : (t : ScannerTable) → IsWellFormed t → IsWellFormed (produced_table t)
 unfolding produced_table
 produced_whole t whole = whole_slots t (map (produced_slot t.clock) t.slots) whole (slots_produced t.next_request t.clock t.profile.slots t.slots whole.slots) (all_map (produced_slot t.clock) (due_weaker t.clock) t.slots) (map_quieter (produced_slot t.clock) (due_quieter t.clock) t.slots)
 
 -- ---- a tick
 
-clocked_whole : (t : ScannerTable) (ms : ℕ) → t.clock.0 + ms ≤ 2 ^ 48 → IsWhole t → IsWhole (clocked_table t ms)
+clocked_whole : (t : ScannerTable) (ms : ℕ) → t.clock.0 + ms ≤ 2 ^ 48 → IsWellFormed t → IsWellFormed (clocked_table t ms)
 clocked_whole t ms in_time whole = record {
   ids_differ = whole.ids_differ;
   requests_differ = whole.requests_differ;
@@ -187,14 +185,14 @@ clocked_whole t ms in_time whole = record {
 in_time : (now : ℕ) → nat_lt (2 ^ 48) now ≡ false → now ≤ 2 ^ 48
 in_time now is = grind (arith, nat_tests)
 
-tick_step : (a b : Bool) (t : ScannerTable) (ms : ℕ) → nat_lt clock_end (t.clock.0 + ms) ≡ b → IsWhole t → LeavesWhole (cond a (Err fault.TickTooLong) (cond b (Err fault.ClockEnd) (Ok (ticked (advanced (clocked_table t ms))))))
+tick_step : (a b : Bool) (t : ScannerTable) (ms : ℕ) → nat_lt clock_end (t.clock.0 + ms) ≡ b → IsWellFormed t → LeavesWhole (cond a (Err fault.TickTooLong) (cond b (Err fault.ClockEnd) (Ok (ticked (advanced (clocked_table t ms))))))
 tick_step true b t ms ends whole = tt
 tick_step false true t ms ends whole = tt
 tick_step false false t ms ends whole =
     let clocked = clocked_whole t ms (in_time (t.clock.0 + ms) ends) whole in
     produced_whole (advanced (clocked_table t ms)).table (keeps_advanced (clocked_table t ms) clocked).whole
 
-tick_whole : (t : ScannerTable) (ms : ℕ) → IsWhole t → LeavesWhole (tick t ms)
+tick_whole : (t : ScannerTable) (ms : ℕ) → IsWellFormed t → LeavesWhole (tick t ms)
 unfolding tick
 tick_whole t ms whole = tick_step (nat_lt longest_tick ms) (nat_lt clock_end (t.clock.0 + ms)) t ms refl whole
 
@@ -206,9 +204,6 @@ written_fits r k desired_up (Opening o) fits = fits
 written_fits r k desired_up (Established c) fits = (fits.0, record { opening = fits.1.opening; o_t_api_ms = fits.1.o_t_api_ms; t_o_api_ms = fits.1.t_o_api_ms; due = fits.1.due })
 written_fits r k desired_up (TimedOut link) fits = fits
 written_fits r k desired_up (Closing c) fits = fits
-
-long_is : (a b : ℕ) → (a == b) ≡ true → a ≡ b
-long_is a b is = grind (arith, nat_tests)
 
 written_weaker : (state : SlotState) → Weaker state (written_state state)
 written_weaker Idle = same_weaker Idle
@@ -224,31 +219,31 @@ written_quieter (Established c) = established_quieter (Established c) (written_c
 written_quieter (TimedOut link) = same_quieter (TimedOut link)
 written_quieter (Closing c) = same_quieter (Closing c)
 
-length_step : (b : Bool) (t : ScannerTable) (indexed : IndexedSlot) (bytes : List ℕ) → (length bytes == indexed.config.out_len) ≡ b → IsWhole t → IsAt t indexed → IsNow t indexed → LeavesWhole (cond b (Ok (output_written t indexed bytes)) (Err fault.WrongLength))
+length_step : (b : Bool) (t : ScannerTable) (indexed : IndexedSlot) (bytes : List ℕ) → (length bytes == indexed.config.out_len) ≡ b → IsWellFormed t → IsAt t indexed → IsNow t indexed → LeavesWhole (cond b (Ok (output_written t indexed bytes)) (Err fault.WrongLength))
 length_step true t indexed bytes is whole at now =
     whole_with t indexed (output_slot bytes indexed.slot) whole at.config
-    (record { output = long_is (length bytes) indexed.config.out_len is; image = at.fits.image; state = written_fits t.next_request t.clock.0 indexed.slot.desired_up indexed.slot.state at.fits.state })
+    (record { output = eqb-true (length bytes) indexed.config.out_len is; image = at.fits.image; state = written_fits t.next_request t.clock.0 indexed.slot.desired_up indexed.slot.state at.fits.state })
     (differ_same t indexed (output_slot bytes indexed.slot) indexed.slot.state (record { now = now; stands = refl }) (written_weaker indexed.slot.state) whole)
     (quiet_same t indexed (output_slot bytes indexed.slot) indexed.slot.state (record { now = now; stands = refl }) (written_quieter indexed.slot.state) whole)
 length_step false t indexed bytes is whole at now = tt
 
-owner_step : (b : Bool) (t : ScannerTable) (indexed : IndexedSlot) (bytes : List ℕ) → IsWhole t → IsAt t indexed → IsNow t indexed → LeavesWhole (cond b (write_length t indexed bytes) (Err fault.NotAllowedNow))
+owner_step : (b : Bool) (t : ScannerTable) (indexed : IndexedSlot) (bytes : List ℕ) → IsWellFormed t → IsAt t indexed → IsNow t indexed → LeavesWhole (cond b (write_length t indexed bytes) (Err fault.NotAllowedNow))
 owner_step true t indexed bytes whole at now = length_step (length bytes == indexed.config.out_len) t indexed bytes refl whole at now
 owner_step false t indexed bytes whole at now = tt
 
-write_at_whole : (t : ScannerTable) (number : ℕ) (bytes : List ℕ) (found : Option IndexedSlot) → slot_at t number ≡ found → IsWhole t → LeavesWhole (write_at t bytes found)
+write_at_whole : (t : ScannerTable) (number : ℕ) (bytes : List ℕ) (found : Option IndexedSlot) → slot_at t number ≡ found → IsWellFormed t → LeavesWhole (write_at t bytes found)
 write_at_whole t number bytes None is whole = tt
 write_at_whole t number bytes (Some indexed) is whole = owner_step (is_owner indexed.config.kind) t indexed bytes whole (each_found (IsAt t) (is_numbered number) (indexed_slots t) indexed is (each_at t whole)) (each_found (IsNow t) (is_numbered number) (indexed_slots t) indexed is (each_now t))
 
-write_whole : (t : ScannerTable) (number : ℕ) (bytes : List ℕ) → IsWhole t → LeavesWhole (write t number bytes)
+write_whole : (t : ScannerTable) (number : ℕ) (bytes : List ℕ) → IsWellFormed t → LeavesWhole (write t number bytes)
 unfolding write
 write_whole t number bytes whole = write_at_whole t number bytes (slot_at t number) refl whole
 
-read_at_whole : (t : ScannerTable) (found : Option IndexedSlot) → IsWhole t → LeavesWhole (read_at t found)
+read_at_whole : (t : ScannerTable) (found : Option IndexedSlot) → IsWellFormed t → LeavesWhole (read_at t found)
 read_at_whole t None whole = tt
 read_at_whole t (Some indexed) whole = whole
 
-read_whole : (t : ScannerTable) (number : ℕ) → IsWhole t → LeavesWhole (read t number)
+read_whole : (t : ScannerTable) (number : ℕ) → IsWellFormed t → LeavesWhole (read t number)
 unfolding read
 read_whole t number whole = read_at_whole t (slot_at t number) whole
 
@@ -282,7 +277,7 @@ quiet_moded r k number [] (slot ∷ slots) fit = absurd fit
 quiet_moded r k number (config ∷ configs) [] fit = absurd fit
 quiet_moded r k number (config ∷ configs) (slot ∷ slots) fit = (moded_quieter (is_owner config.kind) slot, quiet_moded r k (suc number) configs slots fit.1)
 
-moded_whole : (t : ScannerTable) (run : Bool) → IsWhole t → IsWhole (moded_table t run)
+moded_whole : (t : ScannerTable) (run : Bool) → IsWellFormed t → IsWellFormed (moded_table t run)
 moded_whole t run whole = record {
   ids_differ = differ_weaker 0 t.profile.slots t.slots (map moded_slot (indexed_slots t)) (all_moded t.next_request t.clock.0 0 t.profile.slots t.slots whole.slots) whole.ids_differ;
   requests_differ = differ_quieter t.slots (map moded_slot (indexed_slots t)) (quiet_moded t.next_request t.clock.0 0 t.profile.slots t.slots whole.slots) whole.requests_differ;
@@ -297,11 +292,11 @@ moded_whole t run whole = record {
   streams_differ = whole.streams_differ;
 }
 
-mode_step : (b : Bool) (t : ScannerTable) (run : Bool) → IsWhole t → IsWhole (cond b t (moded_table t run))
+mode_step : (b : Bool) (t : ScannerTable) (run : Bool) → IsWellFormed t → IsWellFormed (cond b t (moded_table t run))
 mode_step true t run whole = whole
 mode_step false t run whole = moded_whole t run whole
 
-mode_whole : (t : ScannerTable) (run : Bool) → IsWhole t → IsWhole (mode t run).1
+mode_whole : (t : ScannerTable) (run : Bool) → IsWellFormed t → IsWellFormed (mode t run).1
 unfolding mode
 mode_whole t run whole = mode_step (same_mode run t.run) t run whole
 
@@ -310,48 +305,47 @@ mode_whole t run whole = mode_step (same_mode run t.run) t run whole
 desired_fits : (t : ScannerTable) (indexed : IndexedSlot) → indexed.slot.state ≡ Idle → IsAt t indexed → FitsSlot t.next_request t.clock.0 indexed.config (desired_slot t indexed.slot)
 desired_fits t indexed is at = record { output = at.fits.output; image = at.fits.image; state = rw is tt }
 
-started_differ : (t : ScannerTable) (indexed : IndexedSlot) → indexed.slot.state ≡ Idle → IsWhole t → IdsDiffer (indexed_from 0 t.profile.slots (slice_set t.slots indexed.number (desired_slot t indexed.slot)))
+started_differ : (t : ScannerTable) (indexed : IndexedSlot) → indexed.slot.state ≡ Idle → IsWellFormed t → IdsDiffer (indexed_from 0 t.profile.slots (slice_set t.slots indexed.number (desired_slot t indexed.slot)))
 started_differ t indexed is whole =
     differ_weaker 0 t.profile.slots t.slots (slice_set t.slots indexed.number (desired_slot t indexed.slot))
     (all_set indexed.number t.slots (desired_slot t indexed.slot) (λ old stands. subst (Weaker old.state) (sym is) (idle_weaker old.state))) whole.ids_differ
 
-started_quiet : (t : ScannerTable) (indexed : IndexedSlot) → indexed.slot.state ≡ Idle → IsWhole t → RequestsDiffer (slice_set t.slots indexed.number (desired_slot t indexed.slot))
+started_quiet : (t : ScannerTable) (indexed : IndexedSlot) → indexed.slot.state ≡ Idle → IsWellFormed t → RequestsDiffer (slice_set t.slots indexed.number (desired_slot t indexed.slot))
 started_quiet t indexed is whole =
     differ_quieter t.slots (slice_set t.slots indexed.number (desired_slot t indexed.slot))
     (set_quieter indexed.number t.slots (desired_slot t indexed.slot) (λ old stands. subst (Quieter old.state) (sym is) (idle_quieter old.state))) whole.requests_differ
 
-started_whole : (t : ScannerTable) (indexed : IndexedSlot) → indexed.slot.state ≡ Idle → IsWhole t → IsAt t indexed → IsWhole (started t indexed (desired_slot t indexed.slot)).table
+started_whole : (t : ScannerTable) (indexed : IndexedSlot) → indexed.slot.state ≡ Idle → IsWellFormed t → IsAt t indexed → IsWellFormed (started t indexed (desired_slot t indexed.slot)).table
 started_whole t indexed is whole at =
     let fits = desired_fits t indexed is at in
     let slot = desired_slot t indexed.slot in
     (keeps_opened (with_slot t indexed.number slot) (record indexed { slot = slot }) (whole_with t indexed slot whole at.config fits (started_differ t indexed is whole) (started_quiet t indexed is whole)) (record { config = at.config; fits = fits }) refl).whole
 
-start_step : (b : Bool) (t : ScannerTable) (indexed : IndexedSlot) → indexed.slot.state ≡ Idle → IsWhole t → IsAt t indexed → LeavesWhole (cond b (Err fault.NotAllowedNow) (Ok (done (started t indexed (desired_slot t indexed.slot)))))
+start_step : (b : Bool) (t : ScannerTable) (indexed : IndexedSlot) → indexed.slot.state ≡ Idle → IsWellFormed t → IsAt t indexed → LeavesWhole (cond b (Err fault.NotAllowedNow) (Ok (done (started t indexed (desired_slot t indexed.slot)))))
 start_step true t indexed is whole at = tt
 start_step false t indexed is whole at = started_whole t indexed is whole at
 
-start_state_whole : (t : ScannerTable) (indexed : IndexedSlot) (state : SlotState) → indexed.slot.state ≡ state → IsWhole t → IsAt t indexed → LeavesWhole (start_state t indexed state)
+start_state_whole : (t : ScannerTable) (indexed : IndexedSlot) (state : SlotState) → indexed.slot.state ≡ state → IsWellFormed t → IsAt t indexed → LeavesWhole (start_state t indexed state)
 start_state_whole t indexed Idle is whole at = start_step indexed.slot.desired_up t indexed is whole at
 start_state_whole t indexed (Opening o) is whole at = tt
 start_state_whole t indexed (Established c) is whole at = tt
 start_state_whole t indexed (TimedOut link) is whole at = tt
 start_state_whole t indexed (Closing c) is whole at = tt
 
-start_at_whole : (t : ScannerTable) (number : ℕ) (found : Option IndexedSlot) → slot_at t number ≡ found → IsWhole t → LeavesWhole (start_at t found)
+start_at_whole : (t : ScannerTable) (number : ℕ) (found : Option IndexedSlot) → slot_at t number ≡ found → IsWellFormed t → LeavesWhole (start_at t found)
 start_at_whole t number None is whole = tt
 start_at_whole t number (Some indexed) is whole = start_state_whole t indexed indexed.slot.state refl whole (each_found (IsAt t) (is_numbered number) (indexed_slots t) indexed is (each_at t whole))
 
-start_whole : (t : ScannerTable) (number : ℕ) → IsWhole t → LeavesWhole (start t number)
+start_whole : (t : ScannerTable) (number : ℕ) → IsWellFormed t → LeavesWhole (start t number)
 unfolding start
 start_whole t number whole = start_at_whole t number (slot_at t number) refl whole
 
 -- ---- a step, and a fresh table
 
-pub advancing_whole : (t : ScannerTable) (ms : ℕ) → t.clock.0 + ms ≤ 2 ^ 48 → IsWhole t → IsWhole (advanced (clocked_table t ms)).table
+pub advancing_whole : (t : ScannerTable) (ms : ℕ) → t.clock.0 + ms ≤ 2 ^ 48 → IsWellFormed t → IsWellFormed (advanced (clocked_table t ms)).table
 advancing_whole t ms in_time whole = (keeps_advanced (clocked_table t ms) (clocked_whole t ms in_time whole)).whole
 
-pub step_whole : (t : ScannerTable) (event : Event) → IsWhole t → LeavesWhole (scanner_step t event)
-step_whole t (Request peer bytes) whole = tt
+pub step_whole : (t : ScannerTable) (event : Event) → IsWellFormed t → LeavesWhole (scanner_step t event)
 step_whole t (StreamOpened stream peer) whole = streamed_whole t stream peer whole
 step_whole t (Frame stream bytes) whole = frame_whole t stream bytes whole
 step_whole t (StreamCut stream) whole = cut_whole t stream whole
@@ -362,14 +356,11 @@ step_whole t (Tick ms) whole = tick_whole t ms whole
 step_whole t (Mode run) whole = mode_whole t run whole
 step_whole t (Start slot) whole = start_whole t slot whole
 step_whole t (Stop slot) whole = stop_whole t slot whole
+step_whole t other whole = tt
 
 fresh_fit : (configs : List SlotConfig) → SlotsFit 1 0 configs (map fresh_slot configs)
 fresh_fit [] = tt
 fresh_fit (config ∷ configs) = (record { output = length-replicate config.out_len 0; image = length-replicate config.in_len 0; state = tt }, fresh_fit configs)
-
-and_none : (b : Bool) → (b && false) ≡ false
-and_none true = refl
-and_none false = refl
 
 none_fresh : (n m : ℕ) (config : SlotConfig) (configs : List SlotConfig) → list_any (clashes (record { number = n; config = config; slot = fresh_slot config })) (indexed_from m configs (map fresh_slot configs)) ≡ false
 none_fresh n m config [] = refl
@@ -387,7 +378,7 @@ fresh_quiet : (configs : List SlotConfig) → RequestsDiffer (map fresh_slot con
 fresh_quiet [] = tt
 fresh_quiet (config ∷ configs) = (none_waits config configs, fresh_quiet configs)
 
-pub fresh_whole : (profile : ScannerProfile) → profile_fault profile ≡ None → IsWhole (scanner_table profile)
+pub fresh_whole : (profile : ScannerProfile) → profile_fault profile ≡ None → IsWellFormed (scanner_table profile)
 fresh_whole profile faultless = record {
   ids_differ = fresh_differ 0 profile.slots;
   requests_differ = fresh_quiet profile.slots;
@@ -402,7 +393,7 @@ fresh_whole profile faultless = record {
   streams_differ = tt;
 }
 
-pub whole_later : (t : ScannerTable) (counter : ℕ) → counter ≤ 16777216 → IsWhole t → IsWhole (record t { next_id = counter })
+pub whole_later : (t : ScannerTable) (counter : ℕ) → counter ≤ 16777216 → IsWellFormed t → IsWellFormed (record t { next_id = counter })
 whole_later t counter last whole = record {
   ids_differ = whole.ids_differ;
   requests_differ = whole.requests_differ;

@@ -4,7 +4,7 @@ use Rattle.std.specs.Prelude.{false, if◌then◌else◌, [], filter, Option, So
 use Rattle.cip_types.specs.declared.names.Node.{Node}
 use Rattle.cip_events.specs.declared.event.StepFault.{StepFault}
 use Rattle.cip_events.specs.declared.event.StepFault.TheVariants as fault
-use Rattle.scanner_table.specs.declared.slot.Connection.{Connection}
+use Rattle.scanner_table.specs.declared.slot.SlotConnection.{SlotConnection}
 use Rattle.scanner_table.specs.declared.slot.Slot.{Slot}
 use Rattle.scanner_table.specs.declared.slot.SlotState.{SlotState}
 use Rattle.scanner_table.specs.declared.slot.SlotState.TheVariants.{Idle, Opening, Established, TimedOut, Closing}
@@ -42,14 +42,14 @@ target_lost target t = on_each given_up (filter (is_with target) (indexed_slots 
 -- STOPPING
 
 -- the slot waits for the reply to its Forward_Close, and its connection is no longer desired
-abbrev pub closing_slot : ScannerTable → Connection → Slot → Slot
+abbrev pub closing_slot : ScannerTable → SlotConnection → Slot → Slot
 closing_slot t connection slot = record slot {
   state = Closing (record { request = t.next_request; link = connection.link; deadline = later t.clock t.profile.open_timeout });
   desired_up = false;
 }
 
 -- the slot sends a Forward_Close
-abbrev pub close_requested : ScannerTable → IndexedSlot → Connection → Session → Effect
+abbrev pub close_requested : ScannerTable → IndexedSlot → SlotConnection → Session → Effect
 close_requested t indexed connection session =
     request_sent t indexed session (closing (close_fields indexed.config connection.link.triad)) (closing_slot t connection indexed.slot)
 
@@ -58,7 +58,7 @@ slot_resigned t indexed = changed t indexed (resigned indexed.slot) []
 
 -- With a session the slot closes its connection by a Forward_Close. Without a session it drops the connection, and the
 -- target's watchdog ends it there.
-abbrev pub closed_within : ScannerTable → IndexedSlot → Connection → Option Session → Effect
+abbrev pub closed_within : ScannerTable → IndexedSlot → SlotConnection → Option Session → Effect
 closed_within t indexed connection None = slot_resigned t indexed
 closed_within t indexed connection (Some session) = if has_request t then close_requested t indexed connection session else exhausted t indexed
 

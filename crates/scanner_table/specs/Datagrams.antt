@@ -12,7 +12,7 @@ use Rattle.cip_events.specs.declared.event.Delivery.TheVariants.{Applied, Duplic
 use Rattle.cip_events.specs.declared.event.Verdict.TheVariants.{Delivered}
 use Rattle.cip_events.specs.Answers.{plain_answer}
 use Rattle.cip_productions.specs.Acceptance.{accepts_sequence, is_duplicate}
-use Rattle.scanner_table.specs.declared.slot.Connection.{Connection}
+use Rattle.scanner_table.specs.declared.slot.SlotConnection.{SlotConnection}
 use Rattle.scanner_table.specs.declared.slot.SlotState.{SlotState}
 use Rattle.scanner_table.specs.declared.slot.SlotState.TheVariants.{Idle, Opening, Established, TimedOut, Closing}
 use Rattle.scanner_table.specs.declared.table.ScannerTable.{ScannerTable}
@@ -26,14 +26,14 @@ abbrev pub is_for : Node → ℕ → IndexedSlot → Bool
 is_for peer id indexed = is_with peer indexed && state_consumes (record { 0 = id }) indexed.slot.state
 
 -- the connection records the datagram as its last accepted one, and starts its watchdog anew
-abbrev pub accepted_connection : Ms → ℕ → DatagramFields → Connection → Connection
+abbrev pub accepted_connection : Ms → ℕ → DatagramFields → SlotConnection → SlotConnection
 accepted_connection clock mult d c = record c {
   last = Some (record { number = d.sequence; count = d.count });
   deadline = later clock (timeout mult c.t_o_api_ms);
 }
 
 -- the table after an accepted datagram, with these bytes as the slot's image
-abbrev pub accepted_table : ScannerTable → IndexedSlot → DatagramFields → Connection → List ℕ → ScannerTable
+abbrev pub accepted_table : ScannerTable → IndexedSlot → DatagramFields → SlotConnection → List ℕ → ScannerTable
 accepted_table t indexed d c bytes =
     with_slot t indexed.number (record indexed.slot { state = Established (accepted_connection t.clock indexed.config.mult d c); image = bytes })
 
@@ -41,15 +41,15 @@ abbrev pub delivered : Delivery → ScannerTable → Next
 delivered delivery t = (plain_answer (Delivered delivery), t)
 
 -- a datagram with the count of the last accepted one is a duplicate: it restarts the watchdog, and the image stays
-abbrev pub accepted : ScannerTable → IndexedSlot → DatagramFields → Connection → Next
+abbrev pub accepted : ScannerTable → IndexedSlot → DatagramFields → SlotConnection → Next
 accepted t indexed d c =
     if is_duplicate c.last d.count then delivered Duplicate (accepted_table t indexed d c indexed.slot.image)
     else delivered Applied (accepted_table t indexed d c d.payload)
 
-abbrev pub sized : ScannerTable → IndexedSlot → DatagramFields → Connection → Next
+abbrev pub sized : ScannerTable → IndexedSlot → DatagramFields → SlotConnection → Next
 sized t indexed d c = if accepts_sequence c.last d.sequence then accepted t indexed d c else delivered Old t
 
-abbrev pub connected : ScannerTable → IndexedSlot → DatagramFields → Connection → Next
+abbrev pub connected : ScannerTable → IndexedSlot → DatagramFields → SlotConnection → Next
 connected t indexed d c = if length d.payload == indexed.config.in_len then sized t indexed d c else delivered WrongSize t
 
 abbrev pub state_received : ScannerTable → IndexedSlot → DatagramFields → SlotState → Next

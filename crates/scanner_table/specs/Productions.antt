@@ -9,7 +9,7 @@ use Rattle.cip_datagram.specs.Header.{mode_header}
 use Rattle.cip_productions.specs.Kinds.{is_owner}
 use Rattle.cip_productions.specs.declared.production.Producer.{Producer}
 use Rattle.cip_productions.specs.Productions.{is_production_due, produced, Produced, produced_by}
-use Rattle.scanner_table.specs.declared.slot.Connection.{Connection}
+use Rattle.scanner_table.specs.declared.slot.SlotConnection.{SlotConnection}
 use Rattle.scanner_table.specs.declared.slot.Slot.{Slot}
 use Rattle.scanner_table.specs.declared.slot.SlotState.{SlotState}
 use Rattle.scanner_table.specs.declared.slot.SlotState.TheVariants.{Idle, Opening, Established, TimedOut, Closing}
@@ -18,7 +18,7 @@ use Rattle.scanner_table.specs.Slots.{IndexedSlot, indexed_slots}
 
 -- NEW DATA
 
-abbrev pub written_connection : Connection → Connection
+abbrev pub written_connection : SlotConnection → SlotConnection
 written_connection c = record c { production = record c.production { written = true } }
 
 -- an established connection's producer has new data
@@ -36,11 +36,11 @@ abbrev pub slot_data : Bool → IndexedSlot → List ℕ
 slot_data run indexed = if is_owner indexed.config.kind then to_le_bytes w32 (mode_header run) ++ indexed.slot.output else []
 
 -- the producer of a slot's connection
-abbrev pub connection_producer : IndexedSlot → Connection → Producer
+abbrev pub connection_producer : IndexedSlot → SlotConnection → Producer
 connection_producer indexed c = record { point = indexed.number; id = c.link.o_t_id; production = c.production }
 
 -- the next production of a connection, for its target alone
-abbrev pub connection_production : Bool → IndexedSlot → Connection → Produced
+abbrev pub connection_production : Bool → IndexedSlot → SlotConnection → Produced
 connection_production run indexed c = produced_by (indexed.config.target ∷ []) (slot_data run indexed) (connection_producer indexed c)
 
 abbrev pub state_production : Bool → IndexedSlot → SlotState → Option Produced
@@ -85,7 +85,7 @@ due_slots t = in_order by_due (filter (is_due t.clock) (indexed_slots t))
 abbrev pub due_productions : ScannerTable → List Produced
 due_productions t = filter_map (slot_production t.run) (due_slots t)
 
-abbrev pub produced_connection : Ms → Connection → Connection
+abbrev pub produced_connection : Ms → SlotConnection → SlotConnection
 produced_connection clock c = record c { production = produced clock c.o_t_api_ms c.production }
 
 abbrev pub produced_state : Ms → SlotState → SlotState

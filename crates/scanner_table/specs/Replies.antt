@@ -24,7 +24,7 @@ use Rattle.cip_events.specs.declared.event.Reason.TheVariants as reason
 use Rattle.cip_productions.specs.declared.production.Production.{Production}
 use Rattle.cip_productions.specs.Watchdog.{first_deadline}
 use Rattle.conn_state.specs.Answers.{answer_tests, link_of}
-use Rattle.scanner_table.specs.declared.slot.Connection.{Connection}
+use Rattle.scanner_table.specs.declared.slot.SlotConnection.{SlotConnection}
 use Rattle.scanner_table.specs.declared.slot.Slot.{Slot}
 use Rattle.scanner_table.specs.declared.slot.SlotState.{SlotState}
 use Rattle.scanner_table.specs.declared.slot.SlotState.TheVariants.{Idle, Opening, Established, TimedOut, Closing}
@@ -88,7 +88,7 @@ new_production t indexed = record {
 }
 
 -- the connection that a successful reply opens, with the actual packet intervals of the reply
-abbrev pub new_connection : ScannerTable → IndexedSlot → pending.PendingOpen → made.Opened → Connection
+abbrev pub new_connection : ScannerTable → IndexedSlot → pending.PendingOpen → made.Opened → SlotConnection
 new_connection t indexed opening opened = record {
   opening = opening.request;
   link = link_of opening.requested opened;
@@ -100,7 +100,7 @@ new_connection t indexed opening opened = record {
 }
 
 -- the slot with its new connection, and an image of zeros
-abbrev pub established_slot : IndexedSlot → Connection → Slot
+abbrev pub established_slot : IndexedSlot → SlotConnection → Slot
 established_slot indexed connection = record indexed.slot { state = Established connection; image = replicate indexed.config.in_len 0 }
 
 -- the slot opens again after the retry time

@@ -15,7 +15,7 @@ use Rattle.cip_epath.specs.Path.{PathFields}
 use Rattle.cip_epath.specs.Written.{path_text, target_text}
 use Rattle.cip_fwdopen.specs.Open.{OpenFields, open_text}
 use Rattle.cip_fwdopen.specs.Close.{CloseFields, close_text}
-use Rattle.cip_fwdopen.specs.Services.{forward_close, forward_open, large_forward_open}
+use Rattle.cip_fwdopen.specs.Services.{forward_close, open_service}
 use Rattle.cip_encap.specs.Message.{MessageFields, message_text}
 use Rattle.cip_encap.specs.Packet.{packet_text}
 use Rattle.cip_events.specs.declared.event.Frame.{Frame}
@@ -133,9 +133,6 @@ manager = record { class = 6; instance = 1; attribute = None }
 -- a request to the Connection Manager
 abbrev pub manager_text : ℕ → List ℕ → List ℕ
 manager_text service body = service ∷ length (target_text manager) / 2 ∷ target_text manager ++ body
-
-abbrev pub open_service : Bool → ℕ
-open_service large = if large then large_forward_open else forward_open
 
 -- the command of a request's message: RegisterSession, or SendRRData
 abbrev pub request_command : Request → ℕ

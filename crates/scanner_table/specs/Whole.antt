@@ -3,7 +3,7 @@
 use Rattle.std.specs.Prelude.{◌≡◌, ℕ, ◌&&◌, ◌+◌, ◌<◌, ◌≤◌, ◌^◌, Bool, true, false, List, [], ◌∷◌, length, None}
 use Rattle.std.specs.List.{list_any}
 use Rattle.scanner_table.specs.declared.profile.SlotConfig.{SlotConfig}
-use Rattle.scanner_table.specs.declared.slot.Connection.{Connection}
+use Rattle.scanner_table.specs.declared.slot.SlotConnection.{SlotConnection}
 use Rattle.scanner_table.specs.declared.slot.Slot.{Slot}
 use Rattle.scanner_table.specs.declared.slot.SlotState.{SlotState}
 use Rattle.scanner_table.specs.declared.slot.SlotState.TheVariants.{Idle, Opening, Established, TimedOut, Closing}
@@ -19,7 +19,7 @@ use Rattle.scanner_table.specs.Sessions.{is_stream, is_to}
 
 -- the number of the opening was given out before, the packet intervals are at most 10,000 ms, and the producer is due within
 -- 10,000 ms
-pub record FitsConnection (next_request clock : ℕ) (c : Connection) : Type 0 where
+pub record FitsConnection (next_request clock : ℕ) (c : SlotConnection) : Type 0 where
   pub opening : c.opening < next_request
   pub o_t_api_ms : c.o_t_api_ms ≤ 10000
   pub t_o_api_ms : c.t_o_api_ms ≤ 10000
@@ -93,7 +93,7 @@ StreamsDiffer (stream ∷ streams) = (list_any (is_stream stream.number) streams
 
 -- THE TABLE
 
-pub record IsWhole (t : ScannerTable) : Type 0 where
+pub record IsWellFormed (t : ScannerTable) : Type 0 where
   pub faultless : profile_fault t.profile ≡ None
   pub slots : SlotsFit t.next_request t.clock.0 t.profile.slots t.slots
   pub ids_differ : IdsDiffer (indexed_slots t)

@@ -1,7 +1,7 @@
 //! Copies of profiles and tables, and a table with a later counter for connection ids.
 
 ghost use Rattle.std.specs.Prelude.{◌≡◌, ◌≤◌, ◌↔◌, IfOk, IsTrue};
-ghost use Rattle.scanner_table.specs.Whole.{IsWhole};
+ghost use Rattle.scanner_table.specs.Whole.{IsWellFormed};
 
 use crate::profile::{ScannerProfile, SlotConfig};
 use crate::slot::Slot;
@@ -123,11 +123,11 @@ impl ScannerTable {
     ///
     /// The new counter is no less than the present one, and at most 16,777,216, at which no id is left.
     pub fn with_next_id(self, counter: u32) -> ScannerTable
-        requires whole { IsWhole self }
+        requires whole { IsWellFormed self }
         requires later { self.next_id ≤ counter }
         requires last { counter ≤ 16777216 }
         ensures value { result ≡ record self { next_id = counter } }
-        ensures whole { IsWhole result }
+        ensures whole { IsWellFormed result }
     {
         ScannerTable {
             next_id: counter,

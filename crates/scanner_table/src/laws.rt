@@ -8,22 +8,23 @@ ghost use Rattle.scanner_table.specs.declared.table.ScannerTable.{ScannerTable};
 ghost use Rattle.scanner_table.specs.Profiles.{profile_fault};
 ghost use Rattle.scanner_table.specs.Step.{scanner_step, scanner_table};
 ghost use Rattle.scanner_table.specs.Ticks.{clocked_table, advanced};
-ghost use Rattle.scanner_table.specs.Whole.{IsWhole};
+ghost use Rattle.scanner_table.specs.Whole.{IsWellFormed};
 
 /// The table of a fresh scanner is whole, if its profile has no fault.
 pub fn fresh_tables_are_whole()
-    ensures { (profile : ScannerProfile) → profile_fault profile ≡ None → IsWhole (scanner_table profile) }
+    ensures { (profile : ScannerProfile) → profile_fault profile ≡ None → IsWellFormed (scanner_table profile) }
 {}
 
 /// A step from a whole table leads to a whole table. The law speaks of each event that the step accepts;
 /// an event that is refused leaves the table unchanged.
 pub fn steps_keep_tables_whole()
-    ensures { (t : ScannerTable) (event : Event) → IsWhole t → IfOk (scanner_step t event) (λ next. IsWhole next.1) }
+    ensures { (t : ScannerTable) (event : Event) → IsWellFormed t
+        → IfOk (scanner_step t event) (λ next. IsWellFormed next.1) }
 {}
 
 /// The part of a tick before its productions keeps a table whole: the clock moves, connections time out,
 /// slots give up late replies, and slots open. The premise is that the clock stays at most 2^48 milliseconds.
 pub fn advancing_keeps_tables_whole()
     ensures { (t : ScannerTable) (ms : ℕ) → t.clock.0 + ms ≤ 2 ^ 48 →
-        IsWhole t → IsWhole (advanced (clocked_table t ms)).table }
+        IsWellFormed t → IsWellFormed (advanced (clocked_table t ms)).table }
 {}

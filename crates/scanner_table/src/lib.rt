@@ -12,5 +12,5 @@ mod table;
 pub use copy::copy_of_slots;
 pub use laws::{advancing_keeps_tables_whole, fresh_tables_are_whole, steps_keep_tables_whole};
 pub use profile::{ScannerProfile, SlotConfig};
-pub use slot::{Connection, PendingClose, PendingOpen, Slot, SlotState};
+pub use slot::{PendingClose, PendingOpen, Slot, SlotConnection, SlotState};
 pub use table::{ScannerTable, Session, Stage, TargetStream};

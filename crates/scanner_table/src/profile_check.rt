@@ -2,7 +2,6 @@
 
 ghost use Rattle.std.specs.Prelude.{◌≡◌, ◌↔◌, None, Some, IsOk, IfErr};
 ghost use Rattle.std.specs.List.{list_any, list_all};
-ghost use Rattle.cip_netparams.specs.Rate.{is_interval, interval_ms};
 ghost use Rattle.scanner_table.specs.Profiles.{are_few, listens_to_group, are_served, shares_group, are_apart, is_point_len, is_out_len, is_config, has_lengths, is_inhibit, has_times, is_wait, keeps_time, profile_fault};
 
 use crate::profile::{ScannerProfile, SlotConfig};

@@ -19,7 +19,7 @@ pub struct PendingOpen {
 ///
 /// Volume 1, chapter 3, connection object attributes.
 #[derive(Clone, Copy, PartialEq, Eq)]
-pub struct Connection {
+pub struct SlotConnection {
     /// The number of the request that opened the connection.
     pub opening: u64,
     /// The triad and the two ids of the connection.
@@ -57,7 +57,7 @@ pub enum SlotState {
     /// The slot has sent a Forward_Open and waits for the reply.
     Opening(PendingOpen),
     /// The connection is open.
-    Established(Connection),
+    Established(SlotConnection),
     /// The connection timed out. The slot opens again after the retry time.
     TimedOut(Link),
     /// The slot has sent a Forward_Close and waits for the reply.

@@ -11,7 +11,7 @@ use Rattle.table_samples.specs.Devices.{common, peer, own}
 use Rattle.table_samples.specs.Requests.{OpeningRequest, owner, gatherer, listener, consumer, inhibited, opened_reply}
 use Rattle.table_samples.specs.Runs.{after, opens, closes, replies, opened_notice, accepts, refuses, notices_of, id}
 use Rattle.table_samples.specs.Rows.{from, at_counter, alive, lost, connected}
-use Rattle.table_samples.proofs.Computing.{computing}
+use Rattle.table_samples.specs.Computing.{computing}
 
 -- ---- ids
 

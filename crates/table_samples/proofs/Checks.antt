@@ -9,7 +9,7 @@ use Rattle.table_samples.specs.Hex.{hex}
 use Rattle.table_samples.specs.Devices.{common, configured, peer}
 use Rattle.table_samples.specs.Requests.{OpeningRequest, owner, gatherer, listener, consumer, inhibited, keyed, followed, opened_reply}
 use Rattle.table_samples.specs.Runs.{said, after, opens, replies, opened_notice, accepts, refuses, holds, id}
-use Rattle.table_samples.proofs.Computing.{computing}
+use Rattle.table_samples.specs.Computing.{computing}
 
 -- the outcome of a request at a fresh device
 abbrev answer_to : OpeningRequest → List Outcome

@@ -15,7 +15,7 @@ use Rattle.table_samples.specs.Requests.{OpeningRequest, owner, consumer}
 use Rattle.table_samples.specs.Datagrams.{datagram, running, idling}
 use Rattle.table_samples.specs.Runs.{after, opens, closes, delivers, holds, ends, accepts, notices_of}
 use Rattle.table_samples.specs.Rows.{from}
-use Rattle.table_samples.proofs.Computing.{computing}
+use Rattle.table_samples.specs.Computing.{computing}
 
 -- a datagram of the first originator
 abbrev comes : List ℕ → Event

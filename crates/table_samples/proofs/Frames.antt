@@ -15,7 +15,7 @@ use Rattle.table_samples.specs.Datagrams.{datagram, to_one}
 use Rattle.table_samples.specs.Runs.{said, after, says, emits, opened_notice, id}
 use Rattle.table_samples.specs.Rows.{from}
 use Rattle.table_samples.specs.Messages.{message, register, items, items_with_socket, sent, in_session, frames}
-use Rattle.table_samples.proofs.Computing.{computing}
+use Rattle.table_samples.specs.Computing.{computing}
 
 the_register_request : register ≡ hex "65 00 04 00 00 00 00 00 00 00 00 00 01 02 03 04 05 06 07 08 00 00 00 00 01 00 00 00"
 the_register_request = refl

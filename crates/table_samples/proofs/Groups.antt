@@ -13,7 +13,7 @@ use Rattle.table_samples.specs.Devices.{common, double, input, peer, other, grou
 use Rattle.table_samples.specs.Requests.{OpeningRequest, opening, owner, gatherer, listener, consumer, inhibited}
 use Rattle.table_samples.specs.Datagrams.{datagram, outgoing}
 use Rattle.table_samples.specs.Runs.{said, after, opens, closes, replies, accepts, refuses, ends, emits}
-use Rattle.table_samples.proofs.Computing.{computing}
+use Rattle.table_samples.specs.Computing.{computing}
 
 -- ---- multicast addresses
 

@@ -1,4 +1,3 @@
-pub mod Computing
 pub mod Opens
 pub mod Checks
 pub mod Groups
@@ -9,3 +8,4 @@ pub mod Times
 pub mod Requests
 pub mod Profiles
 pub mod Frames
+pub mod Wakes

@@ -6,7 +6,7 @@ use Rattle.table_samples.specs.Devices.{common, peer, own}
 use Rattle.table_samples.specs.Requests.{owner, opening, gatherer, closing}
 use Rattle.table_samples.specs.Datagrams.{datagram, running}
 use Rattle.table_samples.specs.Runs.{said, opens, replies, accepts}
-use Rattle.table_samples.proofs.Computing.{computing}
+use Rattle.table_samples.specs.Computing.{computing}
 
 -- ---- the samples' words, byte for byte
 

@@ -15,7 +15,7 @@ use Rattle.table_samples.specs.Requests.{opening, owner, gatherer, consumer, inh
 use Rattle.table_samples.specs.Datagrams.{datagram, outgoing, to_one}
 use Rattle.table_samples.specs.Runs.{after, opens, closes, emits, holds}
 use Rattle.table_samples.specs.Rows.{connection_in, production, producing, connected_at}
-use Rattle.table_samples.proofs.Computing.{computing}
+use Rattle.table_samples.specs.Computing.{computing}
 
 abbrev zeros : List ℕ
 zeros = hex "00 00 00 00"

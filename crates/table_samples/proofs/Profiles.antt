@@ -10,7 +10,7 @@ use Rattle.adapter_table.specs.Profiles.{profile_fault}
 use Rattle.cip_events.specs.Faults.{fault_number}
 use Rattle.table_samples.specs.Devices.{common, configured, double, output, input}
 use Rattle.table_samples.specs.Rows.{from}
-use Rattle.table_samples.proofs.Computing.{computing}
+use Rattle.table_samples.specs.Computing.{computing}
 
 nothing_is_wrong : map profile_fault (common ∷ configured ∷ double ∷ []) ≡ None ∷ None ∷ None ∷ []
 unfolding computing ones

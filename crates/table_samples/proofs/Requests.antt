@@ -14,7 +14,7 @@ use Rattle.table_samples.specs.Requests.{OpeningRequest, owner, followed, openin
 use Rattle.table_samples.specs.Datagrams.{datagram, running}
 use Rattle.table_samples.specs.Runs.{said, after, opens, replies, opened_notice, accepts, refuses, says}
 use Rattle.table_samples.specs.Rows.{from}
-use Rattle.table_samples.proofs.Computing.{computing}
+use Rattle.table_samples.specs.Computing.{computing}
 
 -- the first originator sends a request
 abbrev sends_request : List ℕ → Event

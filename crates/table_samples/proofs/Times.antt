@@ -15,7 +15,7 @@ use Rattle.table_samples.specs.Requests.{OpeningRequest, opening, owner, gathere
 use Rattle.table_samples.specs.Datagrams.{datagram, running, outgoing, to_one}
 use Rattle.table_samples.specs.Runs.{after, opens, closes, delivers, emits, holds, notices_of}
 use Rattle.table_samples.specs.Rows.{at_clock}
-use Rattle.table_samples.proofs.Computing.{computing}
+use Rattle.table_samples.specs.Computing.{computing}
 
 abbrev none : Outcome
 none = emits [] []

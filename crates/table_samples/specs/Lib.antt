@@ -5,3 +5,4 @@ pub mod Datagrams
 pub mod Runs
 pub mod Rows
 pub mod Messages
+pub mod Computing

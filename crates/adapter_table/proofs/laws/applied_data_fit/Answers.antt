@@ -1,4 +1,4 @@
-use Rattle.adapter_table.proofs.FedLemmas.{applied_fits, applied_output}
+use Rattle.adapter_table.specs.Lemmas.FedLemmas.{applied_fits, applied_output}
 use Rattle.adapter_table.proofs.laws.applied_data_fit.Goals as goal
 
 pub returns : goal.returns

@@ -1,4 +1,4 @@
-use Rattle.adapter_table.proofs.EffectLemmas.{adapter_keeps}
+use Rattle.adapter_table.specs.Lemmas.EffectLemmas.{adapter_keeps}
 use Rattle.adapter_table.proofs.StepLemmas.{sound_effects, sound_fresh}
 use Rattle.adapter_table.specs.Sound.{IsSound}
 use Rattle.adapter_table.proofs.laws.tables_are_sound.Goals as goal

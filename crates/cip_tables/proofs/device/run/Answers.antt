@@ -1,6 +1,6 @@
 use Rattle.std.proofs.Common.{arith}
 use Rattle.std.proofs.lemmas.List.{take_more}
-use Rattle.cip_tables.proofs.RunLemmas.{Runs_more, run_all, run_folds}
+use Rattle.cip_tables.specs.RunLaws.{Runs_more, run_all, run_folds}
 use Rattle.cip_tables.proofs.RunKeeps.{run_sound, run_whole}
 use Rattle.cip_tables.proofs.device.run.Goals as goal
 

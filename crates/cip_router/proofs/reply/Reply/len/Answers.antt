@@ -1,9 +1,10 @@
 use Rattle.std.proofs.Common.{arith, sym}
+use Rattle.cip_fwdopen.specs.Services.{is_large_open}
 use Rattle.cip_router.proofs.Lengths.{opened_len, closed_len, got_len, refused_len}
 use Rattle.cip_router.proofs.reply.Reply.len.Goals as goal
 
 pub returns-in-Opened : goal.returns-in-Opened
-returns-in-Opened c = rw c.in-Opened.is (sym (opened_len c.in-Opened.field-0 c.in-Opened.field-1))
+returns-in-Opened c = rw c.in-Opened.is (sym (opened_len (is_large_open c.in-Opened.field-0) c.in-Opened.field-1))
 
 pub returns-in-Closed : goal.returns-in-Closed
 returns-in-Closed c = rw c.in-Closed.is (sym (closed_len c.in-Closed.field-0))

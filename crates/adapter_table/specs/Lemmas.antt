@@ -1,0 +1,12 @@
+-- Lemmas that crates above cite: the checks of an opening, and what each effect does to rows, values, groups and numbers.
+pub mod CheckLemmas
+pub mod SoundLemmas
+pub mod GroupLemmas
+pub mod SupportLemmas
+pub mod LikeLemmas
+pub mod RequestLemmas
+pub mod EffectLemmas
+pub mod ValueLemmas
+pub mod DriverLemmas
+pub mod FedLemmas
+pub mod CounterSteps

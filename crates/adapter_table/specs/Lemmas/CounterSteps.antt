@@ -1,0 +1,53 @@
+-- The counter of the ids never falls, and the profile stays.
+use Rattle.std.proofs.Common.{◌≡◌, ◌≤◌, ℕ, arith}
+use Rattle.adapter_table.specs.declared.profile.Profile.{Profile}
+use Rattle.adapter_table.specs.declared.table.AdapterTable.{AdapterTable}
+use Rattle.adapter_table.specs.Opening.{opened_table}
+use Rattle.adapter_table.specs.Closing.{closed_table}
+use Rattle.adapter_table.specs.Streams.{with_stream, without_stream, registered_table}
+use Rattle.adapter_table.specs.Datagrams.{accepted_table}
+use Rattle.adapter_table.specs.Ticks.{clocked_table, expired_table, produced_table}
+use Rattle.adapter_table.specs.Step.{written_table, changed_table}
+use Rattle.adapter_table.specs.Laws.{StepsKeep}
+use Rattle.adapter_table.specs.Laws.{EffectsKeep}
+use Rattle.adapter_table.specs.Lemmas.EffectLemmas.{adapter_keeps}
+
+-- the counter is no less than this
+abbrev Counts : ℕ → AdapterTable → Type 0
+Counts n t = n ≤ t.next_id
+
+counter_effects : (n : ℕ) → EffectsKeep (Counts n)
+unfolding opened_table closed_table written_table changed_table accepted_table clocked_table expired_table produced_table with_stream without_stream registered_table
+counter_effects n = record {
+  opened = λ t peer request admitted is le. omega arith;
+  closed = λ t row le. le;
+  written = λ t point bytes input found long le. le;
+  fed = λ t peer d row delivery is found le. le;
+  advanced = λ t ms in_time le. le;
+  streamed = λ t number peer free le. le;
+  unstreamed = λ t number le. le;
+  registered = λ t number le. le;
+}
+
+pub steps_count : (n : ℕ) → StepsKeep (λ t. n ≤ t.next_id)
+steps_count n t event next is le = adapter_keeps (Counts n) (counter_effects n) t event next is le
+
+-- the adapter has this profile
+abbrev HasProfile : Profile → AdapterTable → Type 0
+HasProfile profile t = t.profile ≡ profile
+
+profile_effects : (profile : Profile) → EffectsKeep (HasProfile profile)
+unfolding opened_table closed_table written_table changed_table accepted_table clocked_table expired_table produced_table with_stream without_stream registered_table
+profile_effects profile = record {
+  opened = λ t peer request admitted is same. same;
+  closed = λ t row same. same;
+  written = λ t point bytes input found long same. same;
+  fed = λ t peer d row delivery is found same. same;
+  advanced = λ t ms in_time same. same;
+  streamed = λ t number peer free same. same;
+  unstreamed = λ t number same. same;
+  registered = λ t number same. same;
+}
+
+pub profile_stays : (profile : Profile) → StepsKeep (λ t. t.profile ≡ profile)
+profile_stays profile t event next is same = adapter_keeps (HasProfile profile) (profile_effects profile) t event next is same

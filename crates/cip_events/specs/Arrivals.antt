@@ -1,0 +1,12 @@
+-- What arrives at a device from outside: over a stream, or as a class 1 datagram.
+use Rattle.cip_events.specs.declared.arrival.Arrival.{Arrival}
+use Rattle.cip_events.specs.declared.arrival.Arrival.TheVariants as arrival
+use Rattle.cip_events.specs.declared.event.Event.{Event}
+use Rattle.cip_events.specs.declared.event.Event.TheVariants as event
+
+-- the event of the device at which this arrives
+abbrev pub arrival_event : Arrival → Event
+arrival_event (arrival.Opened stream peer) = event.StreamOpened stream peer
+arrival_event (arrival.Frame stream bytes) = event.Frame stream bytes
+arrival_event (arrival.Cut stream) = event.StreamCut stream
+arrival_event (arrival.Datagram peer bytes) = event.Datagram peer bytes

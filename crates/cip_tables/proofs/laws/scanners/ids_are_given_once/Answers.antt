@@ -1,6 +1,0 @@
-use Rattle.cip_tables.specs.ScannerRuns.{OpensWithNewId}
-use Rattle.cip_tables.proofs.ScannerRunLemmas.{over_runs}
-use Rattle.cip_tables.proofs.laws.scanners.ids_are_given_once.Goals as goal
-
-pub returns : goal.returns
-returns c = over_runs OpensWithNewId c.runs_fold_events.ensures c.fresh_tables_are_whole.ensures (λ t events whole. c.ids_are_given_once.ensures t events)

@@ -1,6 +1,0 @@
-use Rattle.std.proofs.Common.{◌≤◌}
-use Rattle.cip_tables.proofs.RunKeeps.{over_scanners}
-use Rattle.cip_tables.proofs.laws.scanners.ids_end.Goals as goal
-
-pub returns : goal.returns
-returns c = over_scanners (λ t. t.next_id ≤ 16777216) (λ t whole. whole.table.ids) c.tables_are_whole.ensures

@@ -1,6 +1,0 @@
-use Rattle.cip_tables.specs.ScannerRuns.{OpensAbove}
-use Rattle.cip_tables.proofs.ScannerRunLemmas.{over_runs}
-use Rattle.cip_tables.proofs.laws.scanners.request_numbers_rise.Goals as goal
-
-pub returns : goal.returns
-returns c = over_runs OpensAbove c.runs_fold_events.ensures c.fresh_tables_are_whole.ensures (λ t events whole. c.request_numbers_rise.ensures t events)

@@ -1,8 +1,0 @@
-use Rattle.scanner_table.specs.Slots.{indexed_slots}
-use Rattle.cip_tables.specs.Scanners.{EachSlot, HasLengths}
-use Rattle.cip_tables.proofs.SlotLemmas.{each_has_lengths}
-use Rattle.cip_tables.proofs.RunKeeps.{over_scanners}
-use Rattle.cip_tables.proofs.laws.scanners.slots_have_their_lengths.Goals as goal
-
-pub returns : goal.returns
-returns c = over_scanners (λ t. EachSlot HasLengths (indexed_slots t)) (λ t whole. each_has_lengths t whole.table) c.tables_are_whole.ensures

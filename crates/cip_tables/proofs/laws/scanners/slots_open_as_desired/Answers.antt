@@ -1,8 +1,0 @@
-use Rattle.scanner_table.specs.Slots.{indexed_slots}
-use Rattle.cip_tables.specs.Scanners.{EachSlot, IsOpenAsDesired}
-use Rattle.cip_tables.proofs.SlotLemmas.{each_opens_as_desired}
-use Rattle.cip_tables.proofs.RunKeeps.{over_scanners}
-use Rattle.cip_tables.proofs.laws.scanners.slots_open_as_desired.Goals as goal
-
-pub returns : goal.returns
-returns c = over_scanners (λ t. EachSlot IsOpenAsDesired (indexed_slots t)) (λ t whole. each_opens_as_desired t whole.table) c.tables_are_whole.ensures

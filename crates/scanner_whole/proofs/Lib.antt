@@ -1,0 +1,3 @@
+mod CounterSteps
+mod OwnSteps
+mod ProducerSteps

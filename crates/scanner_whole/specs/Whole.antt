@@ -1,0 +1,15 @@
+-- The invariant of a scanner's table with all its laws: it holds of a fresh table whose profile has no fault, and every step
+-- keeps it.
+use Rattle.scanner_table.specs.declared.table.ScannerTable.{ScannerTable}
+use Rattle.scanner_table.specs.Whole.{IsWellFormed}
+use Rattle.scanner_whole.specs.Drawn.{NumbersAreOwn}
+use Rattle.scanner_whole.specs.Producers.{SlotsProduceAsThemselves}
+use Rattle.scanner_whole.specs.Waiting.{SlotsWaitInTime}
+
+-- The table is whole by its own definition; its numbers were allocated, and no id is used twice; each slot produces by its own
+-- number for its own target; and no slot waits too long for a reply.
+pub record IsWholeScanner (t : ScannerTable) : Type 0 where
+  pub table : IsWellFormed t
+  pub numbers : NumbersAreOwn t
+  pub producers : SlotsProduceAsThemselves t
+  pub waits : SlotsWaitInTime t
