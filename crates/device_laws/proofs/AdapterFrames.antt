@@ -19,7 +19,7 @@ use Rattle.cip_router.specs.declared.refusal.Refusal.{Refusal}
 use Rattle.cip_router.specs.declared.refusal.Status.TheVariants as status
 use Rattle.cip_router.specs.Requests.{RouterRequestFields, nothing, refused, closing, assembly, opening, router_request_reading}
 use Rattle.cip_router.specs.Commands.{command_of, is_silent}
-use Rattle.cip_router.specs.Frames.{ReplyHeader, FrameFields, headless, misfit, whole, FrameReply, router_reply, socket_of, protocol_text, reply_message, frame_reading}
+use Rattle.cip_router.specs.Frames.{RequestHeader, FrameFields, without_header, wrong_length, whole, FrameReply, router_reply, socket_of, protocol_text, reply_message, frame_reading}
 use Rattle.cip_router.specs.Replies.{got, reply_text, GetsFew}
 use Rattle.cip_router.specs.ReplyLaws.{items_length, reply_is_short}
 use Rattle.adapter_table.specs.Connections.{Row}
@@ -92,9 +92,9 @@ abbrev SaysFew : FrameReply → Type 0
 SaysFew (router_reply reply address) = GetsFew reply
 SaysFew reply = Unit {0}
 
-data_short : (reply_header : ReplyHeader) (reply : FrameReply) → SaysFew reply → length (reply_message reply_header reply).payload ≤ 2000
-data_short reply_header (router_reply reply address) few = omega (arith, items_length (reply_text reply) (option_map socket_of address), (reply_is_short reply few).few)
-data_short reply_header reply few = omega arith
+data_short : (request_header : RequestHeader) (reply : FrameReply) → SaysFew reply → length (reply_message request_header reply).payload ≤ 2000
+data_short request_header (router_reply reply address) few = omega (arith, items_length (reply_text reply) (option_map socket_of address), (reply_is_short reply few).few)
+data_short request_header reply few = omega arith
 
 -- the same, if there is one
 abbrev RepliesFew : Option FrameReply → Type 0
@@ -118,28 +118,28 @@ items_few : (t : AdapterTable) (peer : Node) (reading : Result PacketFields Item
 items_few t peer (Err fault) shaped = tt
 items_few t peer (Ok packet) shaped = passes_few t (served t peer (router_request_reading packet.payload)) (serves_few t peer (router_request_reading packet.payload) shaped)
 
-handles_few : (t : AdapterTable) (stream : Stream) (reply_header : ReplyHeader) (body : List ℕ) (kind : Command) → IsShaped t.profile t.values → HandlesFew (handled t stream reply_header body kind)
+handles_few : (t : AdapterTable) (stream : Stream) (request_header : RequestHeader) (body : List ℕ) (kind : Command) → IsShaped t.profile t.values → HandlesFew (handled t stream request_header body kind)
 unfolding handled
-handles_few t stream reply_header body command.RegisterSession shaped = registers_few t stream body
-handles_few t stream reply_header body command.UnregisterSession shaped = either HandlesFew (has_session stream reply_header.session) _ _ tt tt
-handles_few t stream reply_header body command.SendRrData shaped = either HandlesFew (has_session stream reply_header.session) _ _ (items_few t stream.peer (packet_reading body) shaped) tt
-handles_few t stream reply_header body kind shaped = tt
+handles_few t stream request_header body command.RegisterSession shaped = registers_few t stream body
+handles_few t stream request_header body command.UnregisterSession shaped = either HandlesFew (has_session stream request_header.session) _ _ tt tt
+handles_few t stream request_header body command.SendRrData shaped = either HandlesFew (has_session stream request_header.session) _ _ (items_few t stream.peer (packet_reading body) shaped) tt
+handles_few t stream request_header body kind shaped = tt
 
 -- ---- frames
 
-reply_small : (number : ℕ) (reply_header : ReplyHeader) (done : Handled) (reply : Option FrameReply) → done.reply ≡ reply → RepliesFew reply → IsSmall (framed number reply_header done).0
-reply_small number reply_header done None is few = rw is (both_small [] [] Done done.notices (few_none 64 IsShortFrame) (few_none 64 IsShortDatagram))
-reply_small number reply_header done (Some reply) is few = rw is (one_small _ Done done.notices (message_short (reply_message reply_header reply) (data_short reply_header reply few)))
+reply_small : (number : ℕ) (request_header : RequestHeader) (done : Handled) (reply : Option FrameReply) → done.reply ≡ reply → RepliesFew reply → IsSmall (framed number request_header done).0
+reply_small number request_header done None is few = rw is (both_small [] [] Done done.notices (few_none 64 IsShortFrame) (few_none 64 IsShortDatagram))
+reply_small number request_header done (Some reply) is few = rw is (one_small _ Done done.notices (message_short (reply_message request_header reply) (data_short request_header reply few)))
 
-framed_small : (number : ℕ) (reply_header : ReplyHeader) (done : Handled) → HandlesFew done → IsSmall (framed number reply_header done).0
-framed_small number reply_header done few = reply_small number reply_header done done.reply refl few
+framed_small : (number : ℕ) (request_header : RequestHeader) (done : Handled) → HandlesFew done → IsSmall (framed number request_header done).0
+framed_small number request_header done few = reply_small number request_header done done.reply refl few
 
 fields_small : (t : AdapterTable) (stream : Stream) (fields : FrameFields) → IsShaped t.profile t.values → IsSmall (frame_answer t stream fields).0
-fields_small t stream headless shaped = plain_small BadFrame
-fields_small t stream (misfit reply_header) shaped =
-    either (λ (next : Next). IsSmall next.0) (is_silent (command_of reply_header.command)) _ _ (plain_small BadFrame) (framed_small stream.number reply_header (refusal t encap.InvalidLength) tt)
-fields_small t stream (whole reply_header body) shaped =
-    framed_small stream.number reply_header (handled t stream reply_header body (command_of reply_header.command)) (handles_few t stream reply_header body (command_of reply_header.command) shaped)
+fields_small t stream without_header shaped = plain_small BadFrame
+fields_small t stream (wrong_length request_header) shaped =
+    either (λ (next : Next). IsSmall next.0) (is_silent (command_of request_header.command)) _ _ (plain_small BadFrame) (framed_small stream.number request_header (refusal t encap.InvalidLength) tt)
+fields_small t stream (whole request_header body) shaped =
+    framed_small stream.number request_header (handled t stream request_header body (command_of request_header.command)) (handles_few t stream request_header body (command_of request_header.command) shaped)
 
 found_small : (t : AdapterTable) (bytes : List ℕ) (found : Option Stream) → IsShaped t.profile t.values → AnswersSmall (frame_of t bytes found)
 found_small t bytes None shaped = tt

@@ -3,6 +3,7 @@ use Rattle.std.proofs.Common.{◌≡◌, ◌≤◌, ◌<◌, ◌⊎◌, inl, inr
 use Rattle.std.specs.List.{AllByRecursion, Contains}
 use Rattle.std.proofs.lemmas.Bool.Decides.{nat_tests}
 use Rattle.std.proofs.lemmas.List.Elements.{Contains-append_left, Contains-append_right, Contains-push}
+use Rattle.base_lemmas.specs.Numbers.{number_same}
 use Rattle.cip_types.specs.declared.names.ConnId.{ConnId}
 use Rattle.cip_encap.specs.declared.packet.ItemFault.{ItemFault}
 use Rattle.cip_encap.specs.Message.{MessageFields}
@@ -37,12 +38,12 @@ use Rattle.cip_tables.specs.Whole.{IsWholeDevice, next_id_of}
 use Rattle.device_laws.specs.Sizes.{IsSmall, AnswersAreSmall}
 use Rattle.device_laws.specs.Ids.{ReplyIds, PacketIds, MessageIds, FrameIds, AnswerIds, RowIds, IdsFromTo, EventIds, RequestedId, LinkIds, StateIds, Replied}
 use Rattle.device_laws.specs.Carrying.{Passes, TableIds, StepsCarryIds, IsFrom, WantsFrom, StateFrom, StepsKeepFrom, Stands, IsAnswered, StateCame, SlotCame, RepliesEstablish}
-use Rattle.device_laws.proofs.Texts.{either, same_again, Cuts}
-use Rattle.device_laws.proofs.AdapterIds as adapters
-use Rattle.device_laws.proofs.AdapterIds.{adapter_holds}
-use Rattle.device_laws.proofs.Slots.{OfSlots, SlotsHold, CanDraw, Kept}
-use Rattle.device_laws.proofs.ScannerIds as scanners
-use Rattle.device_laws.proofs.ScannerIds.{Sends, scanner_holds}
+use Rattle.device_laws.specs.Lemmas.Texts.{either, same_again, Cuts}
+use Rattle.device_laws.specs.Lemmas.AdapterIds as adapters
+use Rattle.device_laws.specs.Lemmas.AdapterIds.{adapter_holds}
+use Rattle.device_laws.specs.Lemmas.Slots.{OfSlots, SlotsHold, CanDraw, Kept}
+use Rattle.device_laws.specs.Lemmas.ScannerIds as scanners
+use Rattle.device_laws.specs.Lemmas.ScannerIds.{scanner_holds}
 
 -- ---- answers are small
 
@@ -215,14 +216,11 @@ came_kept t to happens = record {
       (inr (record { config = config; opening = o; waits = waits; request_is = refl; success = success; replied = replied }));
 }
 
-equal_is : (n : ℕ) → (n == n) ≡ true
-equal_is n = grind (arith, nat_tests)
-
 stands_now : (t : ScannerTable) (happens : Event) (indexed : IndexedSlot) (state : SlotState) → Contains (indexed_slots t) indexed → indexed.slot.state ≡ state → StateCame t happens indexed.number state
 stands_now t happens indexed Idle there is = tt
 stands_now t happens indexed (Opening o) there is = tt
 stands_now t happens indexed (Established c) there is =
-    inl (record { indexed = indexed; there = there; number_is = refl; state = ap (came_from c.opening) is ∙ equal_is c.opening })
+    inl (record { indexed = indexed; there = there; number_is = refl; state = ap (came_from c.opening) is ∙ number_same c.opening })
 stands_now t happens indexed (TimedOut link) there is = tt
 stands_now t happens indexed (Closing c) there is = tt
 

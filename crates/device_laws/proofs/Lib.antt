@@ -12,12 +12,7 @@ mod OwnerEffects
 mod OwnerSteps
 mod TurnRuns
 mod TurnReading
-mod TurnSamples
-pub mod Texts
-pub mod Payloads
-pub mod Lists
-pub mod AdapterIds
-pub mod Slots
-pub mod ScannerIds
 pub mod Carrying
-mod IdSamples
+pub mod Emptied
+pub mod AdapterDue
+pub mod ScannerDue

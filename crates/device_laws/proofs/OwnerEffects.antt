@@ -1,9 +1,12 @@
 -- Each effect on a table leaves an output its owner, unless a notice reports that the owner has ended.
 use Rattle.std.proofs.Common.{◌≡◌, ◌≤◌, ℕ, ◌+◌, ◌==◌, nat_le, Bool, true, false, cond, not, ◌&&◌, List, [], ◌∷◌, length, map, filter, find, Option, Some, None, refl, sym, ◌∙◌, ap, subst, arith}
 use Rattle.std.specs.List.{list_any}
-use Rattle.std.proofs.lemmas.Bool.{and_parts, or_parts}
+use Rattle.std.proofs.lemmas.Bool.{and_parts, or_parts, not_from_false}
 use Rattle.std.proofs.lemmas.Bool.Decides.{nat_tests}
 use Rattle.std.proofs.lemmas.List.Folds.{list_any-append}
+use Rattle.adapter_table.specs.Lemmas.LikeLemmas.{lives_written, lives_due, lives_changed}
+use Rattle.adapter_table.specs.Lemmas.DriverLemmas.{owner_listens_not}
+use Rattle.base_lemmas.specs.Lists.{found_passes}
 use Rattle.cip_types.specs.declared.names.Ms.{Ms}
 use Rattle.cip_types.specs.declared.names.Node.{Node}
 use Rattle.cip_types.specs.declared.names.Triad.{Triad}
@@ -11,13 +14,10 @@ use Rattle.cip_datagram.specs.Datagram.{DatagramFields}
 use Rattle.cip_events.specs.declared.event.Delivery.{Delivery}
 use Rattle.cip_events.specs.declared.event.Notice.{Notice}
 use Rattle.cip_fwdopen.specs.Open.{OpenFields}
-use Rattle.cip_productions.specs.declared.kind.Kind.{Kind}
-use Rattle.cip_productions.specs.declared.kind.Kind.TheVariants.{ExclusiveOwner, InputOnly, ListenOnly}
 use Rattle.cip_productions.specs.Kinds.{is_owner, is_listener}
-use Rattle.cip_productions.specs.Productions.{is_production_due, produced}
 use Rattle.adapter_table.specs.Connections.{Row}
 use Rattle.adapter_table.specs.declared.row.State.{State}
-use Rattle.adapter_table.specs.declared.row.State.TheVariants.{Established, TimedOut}
+use Rattle.adapter_table.specs.declared.row.State.TheVariants.{TimedOut}
 use Rattle.adapter_table.specs.declared.table.AdapterTable.{AdapterTable}
 use Rattle.adapter_table.specs.Rows.{most_rows, lives, is_established, is_timed_out, is_supported, same_triad, has_triad, holds_triad, drives, drivers, others, written_state, written_row}
 use Rattle.adapter_table.specs.Checks.{Admitted}
@@ -69,21 +69,6 @@ chosen : (b : Bool) (point : ℕ) (row new : Row) → IsAlike point row new → 
 chosen true point row new alike = alike
 chosen false point row new alike = record { drives = refl; opening = refl }
 
-lives_written : (state : State) → lives (written_state state) ≡ lives state
-lives_written (Established production) = refl
-lives_written TimedOut = refl
-
-lives_changed : (clock : Ms) (api : ℕ) (state : State) → lives (changed_state clock api state) ≡ lives state
-lives_changed clock api (Established production) = refl
-lives_changed clock api TimedOut = refl
-
-lives_produced : (clock : Ms) (api : ℕ) (state : State) → lives (produced_state clock api state) ≡ lives state
-lives_produced clock api TimedOut = refl
-lives_produced clock api (Established production) = produced_step (is_production_due clock production) where
-  produced_step : (b : Bool) → lives (cond b (Established (produced clock api production)) (Established production)) ≡ true
-  produced_step true = refl
-  produced_step false = refl
-
 alike_written : (point input : ℕ) (row : Row) → IsAlike point row (written_row input row)
 alike_written point input row = chosen (row.produced == input) point row (record row { state = written_state row.state }) (stated point row (written_state row.state) (lives_written row.state))
 
@@ -91,7 +76,7 @@ alike_changed : (point input : ℕ) (clock : Ms) (row : Row) → IsAlike point r
 alike_changed point input clock row = chosen (row.produced == input) point row (record row { state = changed_state clock row.t_o_api_ms row.state }) (stated point row (changed_state clock row.t_o_api_ms row.state) (lives_changed clock row.t_o_api_ms row.state))
 
 alike_produced : (point : ℕ) (clock : Ms) (row : Row) → IsAlike point row (produced_row clock row)
-alike_produced point clock row = stated point row (produced_state clock row.t_o_api_ms row.state) (lives_produced clock row.t_o_api_ms row.state)
+alike_produced point clock row = stated point row (produced_state clock row.t_o_api_ms row.state) (lives_due clock row.t_o_api_ms row.state)
 
 pub keeps_fed : (point : ℕ) (t : AdapterTable) (peer : Node) (d : DatagramFields) (to : Row) (delivery : Delivery) (notices : List Notice) → KeepsOwner point t notices (accepted_table t peer d to delivery)
 unfolding accepted_table
@@ -107,11 +92,6 @@ keeps_written point t input bytes notices = λ row alone lasts.
     ∙ ap (map opening_of) alone
 
 -- ---- removed listeners
-
-owner_listens_not : (kind : Kind) → is_owner kind ≡ true → is_listener kind ≡ false
-owner_listens_not ExclusiveOwner is = refl
-owner_listens_not InputOnly is = absurd cc
-owner_listens_not ListenOnly is = absurd cc
 
 driver_is : (point : ℕ) (row : Row) → drives point row ≡ true → (is_established row ≡ true) × (is_owner row.kind ≡ true)
 driver_is point row is =
@@ -131,16 +111,12 @@ staying_alone point rows row alone = left_alone (stays rows) (drives point) rows
 
 -- ---- a close
 
-passes_not : (b : Bool) → b ≡ false → not b ≡ true
-passes_not true is = absurd cc
-passes_not false is = refl
-
 -- a notice reports the closed connection by its triad
 pub keeps_closed : (point : ℕ) (t : AdapterTable) (removed : Row) → KeepsOwner point t (closed_notices t.rows removed) (closed_table t removed)
 unfolding closed_table
 keeps_closed point t removed = λ row alone lasts.
     let other : has_triad removed.triad row ≡ false = (or_parts (same_triad row.triad removed.triad) _ lasts).0 in
-    ap (map opening_of) (staying_alone point (without_triad removed.triad t.rows) row (left_alone (λ r. not (has_triad removed.triad r)) (drives point) t.rows row alone (passes_not (has_triad removed.triad row) other)))
+    ap (map opening_of) (staying_alone point (without_triad removed.triad t.rows) row (left_alone (λ r. not (has_triad removed.triad r)) (drives point) t.rows row alone (not_from_false (has_triad removed.triad row) other)))
 
 -- ---- an opening
 
@@ -153,14 +129,6 @@ rising a b before = λ same. absurd (omega arith)
 
 same_back : (a b : Row) → SameOpening a b → SameOpening b a
 same_back a b is = λ same. sym (is (sym same))
-
-passes_step : (b : Bool) (p : Row → Bool) (first row : Row) (rest : Option Row) → p first ≡ b → cond b (Some first) rest ≡ Some row → (rest ≡ Some row → p row ≡ true) → p row ≡ true
-passes_step true p first row rest here is more = let same : first ≡ row = cc in subst (λ (r : Row). p r ≡ true) same here
-passes_step false p first row rest here is more = more is
-
-pub found_passes : (p : Row → Bool) (rows : List Row) (row : Row) → find p rows ≡ Some row → p row ≡ true
-found_passes p [] row is = absurd cc
-found_passes p (first ∷ rows) row is = passes_step (p first) p first row (find p rows) refl is (found_passes p rows row)
 
 -- the first timed-out connection is not an established one
 first_is_other : (point : ℕ) (rows : List Row) (row : Row) (found : Option Row) → find is_timed_out rows ≡ found → drivers point rows ≡ row ∷ [] → OpeningsRise rows → is_opened_as found row ≡ false
@@ -193,7 +161,7 @@ pub keeps_opened : (point : ℕ) (t : AdapterTable) (peer : Node) (request : Ope
 unfolding opened_table opened_row
 keeps_opened point t peer request admitted notices free rise one = λ row alone lasts.
     let other = replaced_is_other (list_any (has_triad request.triad) t.rows) (nat_le most_rows (length t.rows)) request.triad point t.rows row alone free rise in
-    let left = left_alone (λ r. not (is_replaced t.rows request.triad r)) (drives point) t.rows row alone (passes_not (is_replaced t.rows request.triad row) other) in
+    let left = left_alone (λ r. not (is_replaced t.rows request.triad r)) (drives point) t.rows row alone (not_from_false (is_replaced t.rows request.triad row) other) in
     ap (map opening_of) (alone_before (drives point) (others (is_replaced t.rows request.triad) t.rows) (opened_row t peer request admitted) row left one)
 
 -- ---- time
@@ -233,6 +201,6 @@ unfolding clocked_table expired_table produced_table
 keeps_advanced point t ms = λ row alone lasts.
     let clock : Ms = record { 0 = t.clock.0 + ms } in
     let late = not_expired clock point t.rows row alone lasts in
-    let left = faded clock point t.rows ∙ left_alone (λ r. not (has_expired clock r)) (drives point) t.rows row alone (passes_not (has_expired clock row) late) in
+    let left = faded clock point t.rows ∙ left_alone (λ r. not (has_expired clock r)) (drives point) t.rows row alone (not_from_false (has_expired clock row) late) in
     openings_mapped point (produced_row clock) (alike_produced point clock) (staying (expired_rows clock t.rows))
     ∙ ap (map opening_of) (staying_alone point (expired_rows clock t.rows) row left)

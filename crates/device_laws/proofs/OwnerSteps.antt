@@ -12,7 +12,7 @@ use Rattle.cip_encap.specs.Packet.{PacketFields}
 use Rattle.cip_encap.specs.PacketReading.{packet_reading}
 use Rattle.cip_epath.specs.Reading.{path_reading}
 use Rattle.cip_events.specs.declared.event.Event.{Event}
-use Rattle.cip_events.specs.declared.event.Event.TheVariants.{Request, StreamOpened, Frame, StreamCut, Datagram, Write, Read, Tick, Mode, Start, Stop}
+use Rattle.cip_events.specs.declared.event.Event.TheVariants.{Request, StreamOpened, Frame, StreamCut, Datagram, Write, Read, Tick}
 use Rattle.cip_events.specs.declared.event.Notice.TheVariants.{StreamClosed}
 use Rattle.cip_events.specs.declared.event.StepFault.{StepFault}
 use Rattle.cip_events.specs.declared.event.StepFault.TheVariants.{NotAllowedNow, TickTooLong, ClockEnd, WrongLength}
@@ -28,7 +28,7 @@ use Rattle.cip_router.specs.declared.refusal.Refusal.{Refusal}
 use Rattle.cip_router.specs.declared.refusal.Refusal.TheVariants.{InUse}
 use Rattle.cip_router.specs.Requests.{RouterRequestFields, nothing, refused, closing, assembly, opening, router_request_reading}
 use Rattle.cip_router.specs.Commands.{command_of, is_silent}
-use Rattle.cip_router.specs.Frames.{ReplyHeader, FrameFields, headless, misfit, whole, frame_reading, protocol_text}
+use Rattle.cip_router.specs.Frames.{RequestHeader, FrameFields, without_header, wrong_length, whole, frame_reading, protocol_text}
 use Rattle.adapter_table.specs.declared.profile.InputPoint.{InputPoint}
 use Rattle.adapter_table.specs.Connections.{Row}
 use Rattle.adapter_table.specs.declared.table.AdapterTable.{AdapterTable}
@@ -146,19 +146,19 @@ keeps_packet : (point : ℕ) (t : AdapterTable) → OpeningsKeep point t → (pe
 keeps_packet point t opens peer (Err fault) = unchanged point t []
 keeps_packet point t opens peer (Ok packet) = keeps_replied point t (served t peer (router_request_reading packet.payload)) (keeps_served point t opens peer (router_request_reading packet.payload))
 
-keeps_handled : (point : ℕ) (t : AdapterTable) → OpeningsKeep point t → (stream : Stream) (reply_header : ReplyHeader) (body : List ℕ) (kind : Command) → HandledKeeps point t (handled t stream reply_header body kind)
+keeps_handled : (point : ℕ) (t : AdapterTable) → OpeningsKeep point t → (stream : Stream) (request_header : RequestHeader) (body : List ℕ) (kind : Command) → HandledKeeps point t (handled t stream request_header body kind)
 unfolding handled without_stream
-keeps_handled point t opens stream reply_header body command.RegisterSession = keeps_register point t stream body
-keeps_handled point t opens stream reply_header body command.UnregisterSession =
-    either (HandledKeeps point t) (has_session stream reply_header.session) (session_ended t stream) (unanswered t) (unchanged point t (StreamClosed stream.number ∷ [])) (unchanged point t [])
-keeps_handled point t opens stream reply_header body command.SendRrData =
-    either (HandledKeeps point t) (has_session stream reply_header.session) _ _ (keeps_packet point t opens stream.peer (packet_reading body)) (unchanged point t [])
-keeps_handled point t opens stream reply_header body _ = unchanged point t []
+keeps_handled point t opens stream request_header body command.RegisterSession = keeps_register point t stream body
+keeps_handled point t opens stream request_header body command.UnregisterSession =
+    either (HandledKeeps point t) (has_session stream request_header.session) (session_ended t stream) (unanswered t) (unchanged point t (StreamClosed stream.number ∷ [])) (unchanged point t [])
+keeps_handled point t opens stream request_header body command.SendRrData =
+    either (HandledKeeps point t) (has_session stream request_header.session) _ _ (keeps_packet point t opens stream.peer (packet_reading body)) (unchanged point t [])
+keeps_handled point t opens stream request_header body _ = unchanged point t []
 
 keeps_frame : (point : ℕ) (t : AdapterTable) → OpeningsKeep point t → (stream : Stream) (fields : FrameFields) → NextKeeps point t (frame_answer t stream fields)
-keeps_frame point t opens stream headless = unchanged point t []
-keeps_frame point t opens stream (misfit reply_header) = either (NextKeeps point t) (is_silent (command_of reply_header.command)) _ _ (unchanged point t []) (unchanged point t [])
-keeps_frame point t opens stream (whole reply_header body) = keeps_handled point t opens stream reply_header body (command_of reply_header.command)
+keeps_frame point t opens stream without_header = unchanged point t []
+keeps_frame point t opens stream (wrong_length request_header) = either (NextKeeps point t) (is_silent (command_of request_header.command)) _ _ (unchanged point t []) (unchanged point t [])
+keeps_frame point t opens stream (whole request_header body) = keeps_handled point t opens stream request_header body (command_of request_header.command)
 
 -- ---- datagrams
 
@@ -215,9 +215,7 @@ ok_step point t opens (Datagram peer bytes) = keeps_datagram point t peer (datag
 ok_step point t opens (Write input bytes) = ok_written point t input bytes (find (is_at input) t.profile.inputs)
 ok_step point t opens (Read other) = ok_read point t (bytes_at t.values other)
 ok_step point t opens (Tick ms) = ok_ticked point t ms
-ok_step point t opens (Mode run) = tt
-ok_step point t opens (Start slot) = tt
-ok_step point t opens (Stop slot) = tt
+ok_step point t opens other = tt
 
 -- each step from a whole table that gives an answer keeps the owner, unless the answer reports its end
 pub step_keeps : EffectsKeep IsWhole → (point : ℕ) (t : AdapterTable) (event : Event) (next : Next) → IsWhole t → adapter_step t event ≡ Ok next → KeepsOwner point t next.0.notices next.1

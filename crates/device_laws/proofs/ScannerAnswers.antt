@@ -19,7 +19,7 @@ use Rattle.cip_events.specs.Clock.{longest_tick, clock_end}
 use Rattle.cip_productions.specs.Acceptance.{accepts_sequence, is_duplicate}
 use Rattle.cip_productions.specs.Kinds.{is_owner}
 use Rattle.cip_productions.specs.Productions.{sent}
-use Rattle.scanner_table.specs.declared.slot.Connection.{Connection}
+use Rattle.scanner_table.specs.declared.slot.SlotConnection.{SlotConnection}
 use Rattle.scanner_table.specs.declared.slot.SlotState.{SlotState}
 use Rattle.scanner_table.specs.declared.slot.SlotState.TheVariants.{Idle, Opening, Established, Closing}
 use Rattle.scanner_table.specs.declared.table.ScannerTable.{ScannerTable}
@@ -39,7 +39,7 @@ use Rattle.scanner_table.specs.Sessions.{is_stream, is_taken, without_stream, wi
 use Rattle.scanner_table.specs.Slots.{IndexedSlot, indexed_slots, slot_at, is_numbered, with_slot}
 use Rattle.scanner_table.specs.Step.{scanner_step}
 use Rattle.scanner_table.specs.Ticks.{clocked_table, advanced, ticked, tick}
-use Rattle.scanner_table.specs.Whole.{IsWhole}
+use Rattle.scanner_table.specs.Whole.{IsWellFormed}
 use Rattle.device_laws.specs.Sizes.{IsShortFrame, IsShortDatagram, IsSmall}
 use Rattle.device_laws.proofs.Answers.{both_small, plain_small, AnswersSmall}
 use Rattle.device_laws.proofs.Few.{Few, few_none, few_one, few_most, few_mapped, each_found, either}
@@ -112,7 +112,7 @@ frame_small t number bytes none = found_small t bytes (find (is_stream number) t
 
 -- ---- datagrams
 
-connected_small : (t : ScannerTable) (indexed : IndexedSlot) (d : DatagramFields) (c : Connection) → IsSmall (connected t indexed d c).0
+connected_small : (t : ScannerTable) (indexed : IndexedSlot) (d : DatagramFields) (c : SlotConnection) → IsSmall (connected t indexed d c).0
 connected_small t indexed d c =
     either NextSmall (length d.payload == indexed.config.in_len) (sized t indexed d c) (delivered WrongSize t)
     (either NextSmall (accepts_sequence c.last d.sequence) (accepted t indexed d c) (delivered Old t)
@@ -198,26 +198,25 @@ stop_small t number none = stops_small t (slot_at t number) (found_sends t numbe
 
 -- the part of a tick before its productions keeps a table whole
 abbrev pub AdvancesWhole : Type 0
-AdvancesWhole = (t : ScannerTable) (ms : ℕ) → t.clock.0 + ms ≤ 2 ^ 48 → IsWhole t → IsWhole (advanced (clocked_table t ms)).table
+AdvancesWhole = (t : ScannerTable) (ms : ℕ) → t.clock.0 + ms ≤ 2 ^ 48 → IsWellFormed t → IsWellFormed (advanced (clocked_table t ms)).table
 
 within : (n : ℕ) → nat_lt clock_end n ≡ false → n ≤ 2 ^ 48
 within n is = grind (arith, nat_tests)
 
-tick_step : (a b : Bool) → AdvancesWhole → (t : ScannerTable) (ms : ℕ) → nat_lt clock_end (t.clock.0 + ms) ≡ b → IsWhole t → AnswersSmall (cond a (Err fault.TickTooLong) (cond b (Err fault.ClockEnd) (Ok (ticked (advanced (clocked_table t ms))))))
+tick_step : (a b : Bool) → AdvancesWhole → (t : ScannerTable) (ms : ℕ) → nat_lt clock_end (t.clock.0 + ms) ≡ b → IsWellFormed t → AnswersSmall (cond a (Err fault.TickTooLong) (cond b (Err fault.ClockEnd) (Ok (ticked (advanced (clocked_table t ms))))))
 tick_step true b advance t ms is whole = tt
 tick_step false true advance t ms is whole = tt
 tick_step false false advance t ms is whole =
     let effect = advanced (clocked_table t ms) in
     effect_small effect (map sent (due_productions effect.table)) (advanced_sends (clocked_table t ms) whole.faultless) (due_few effect.table (advance t ms (within (t.clock.0 + ms) is) whole))
 
-tick_small : AdvancesWhole → (t : ScannerTable) (ms : ℕ) → IsWhole t → AnswersSmall (tick t ms)
+tick_small : AdvancesWhole → (t : ScannerTable) (ms : ℕ) → IsWellFormed t → AnswersSmall (tick t ms)
 unfolding tick
 tick_small advance t ms whole = tick_step (nat_lt longest_tick ms) (nat_lt clock_end (t.clock.0 + ms)) advance t ms refl whole
 
 -- ---- the step
 
-pub scanner_small : AdvancesWhole → (t : ScannerTable) (happens : Event) → IsWhole t → AnswersSmall (scanner_step t happens)
-scanner_small advance t (event.Request peer bytes) whole = tt
+pub scanner_small : AdvancesWhole → (t : ScannerTable) (happens : Event) → IsWellFormed t → AnswersSmall (scanner_step t happens)
 scanner_small advance t (event.StreamOpened stream peer) whole = opened_small t stream peer
 scanner_small advance t (event.Frame stream bytes) whole = frame_small t stream bytes whole.faultless
 scanner_small advance t (event.StreamCut stream) whole = cut_small t stream
@@ -228,3 +227,4 @@ scanner_small advance t (event.Tick ms) whole = tick_small advance t ms whole
 scanner_small advance t (event.Mode run) whole = mode_small t run
 scanner_small advance t (event.Start slot) whole = start_small t slot whole.faultless
 scanner_small advance t (event.Stop slot) whole = stop_small t slot whole.faultless
+scanner_small advance t other whole = tt

@@ -18,7 +18,7 @@ use Rattle.scanner_table.specs.declared.table.ScannerTable.{ScannerTable}
 use Rattle.scanner_table.specs.Productions.{slot_data, state_production, slot_production, is_due, by_due, due_slots, due_productions}
 use Rattle.scanner_table.specs.Profiles.{is_out_len, has_lengths}
 use Rattle.scanner_table.specs.Slots.{IndexedSlot, indexed_from, indexed_slots}
-use Rattle.scanner_table.specs.Whole.{SlotsFit, IsWhole}
+use Rattle.scanner_table.specs.Whole.{SlotsFit, IsWellFormed}
 use Rattle.device_laws.specs.Sizes.{IsShortDatagram}
 use Rattle.device_laws.proofs.Few.{Few, few_none, few_more, few_most, few_filtered, few_ordered, few_mapped, few_made, either}
 use Rattle.device_laws.proofs.Answers.{datagram_short}
@@ -45,7 +45,7 @@ own_outputs r clock number (config ∷ configs) (slot ∷ slots) all fit =
     let parts = and_parts (has_lengths config) (list_all has_lengths configs) all in
     few_more (length configs) HasShortOutput (record { number = number; config = config; slot = slot }) (indexed_from (suc number) configs slots) (omega (arith, fit.0.output, output_short config parts.0)) (own_outputs r clock (suc number) configs slots parts.1 fit.1)
 
-few_outputs : (t : ScannerTable) → IsWhole t → Few 64 HasShortOutput (indexed_slots t)
+few_outputs : (t : ScannerTable) → IsWellFormed t → Few 64 HasShortOutput (indexed_slots t)
 few_outputs t whole =
     let has = faultless t.profile whole.faultless in
     few_most 64 (length t.profile.slots) HasShortOutput (indexed_slots t) has.few (own_outputs t.next_request t.clock.0 0 t.profile.slots t.slots has.lengths whole.slots)
@@ -71,7 +71,7 @@ unfolding SendsFew
 sent_short production few = datagram_short production.datagram (omega arith)
 
 -- the datagrams of the due slots
-pub due_few : (t : ScannerTable) → IsWhole t → Few 64 IsShortDatagram (map sent (due_productions t))
+pub due_few : (t : ScannerTable) → IsWellFormed t → Few 64 IsShortDatagram (map sent (due_productions t))
 due_few t whole =
     let due = few_ordered 64 HasShortOutput by_due (filter (is_due t.clock) (indexed_slots t)) (few_filtered 64 HasShortOutput (is_due t.clock) (indexed_slots t) (few_outputs t whole)) in
     few_mapped 64 SendsFew IsShortDatagram sent sent_short (due_productions t)

@@ -14,7 +14,7 @@ use Rattle.conn_state.specs.Answers.{answer_tests}
 use Rattle.adapter_table.specs.Shaping.{all_pass}
 use Rattle.scanner_table.specs.declared.profile.ScannerProfile.{ScannerProfile}
 use Rattle.scanner_table.specs.declared.profile.SlotConfig.{SlotConfig}
-use Rattle.scanner_table.specs.declared.slot.Connection.{Connection}
+use Rattle.scanner_table.specs.declared.slot.SlotConnection.{SlotConnection}
 use Rattle.scanner_table.specs.declared.slot.PendingOpen as opening
 use Rattle.scanner_table.specs.declared.slot.Slot.{Slot}
 use Rattle.scanner_table.specs.declared.slot.SlotState.{SlotState}
@@ -114,7 +114,7 @@ target_sends target t none = few_send (filter (is_with target) (ready_slots t)) 
 
 -- ---- closings
 
-pub closed_sends : (t : ScannerTable) (indexed : IndexedSlot) (c : Connection) (session : Option Session) → HasShortRequests indexed → SendsRequests 1 (closed_within t indexed c session)
+pub closed_sends : (t : ScannerTable) (indexed : IndexedSlot) (c : SlotConnection) (session : Option Session) → HasShortRequests indexed → SendsRequests 1 (closed_within t indexed c session)
 closed_sends t indexed c None few = few_none 1 IsShortRequest
 closed_sends t indexed c (Some session) few =
     either (SendsRequests 1) (has_request t) (close_requested t indexed c session) (exhausted t indexed)

@@ -16,7 +16,8 @@ use Rattle.cip_router.specs.ReplyLaws.{items_length}
 use Rattle.conn_state.specs.declared.names.Requested.{Requested}
 use Rattle.scanner_table.specs.declared.profile.SlotConfig.{SlotConfig}
 use Rattle.scanner_table.specs.declared.table.Session.{Session}
-use Rattle.scanner_table.specs.Requests.{segment_of, slot_path, open_fields, close_fields, opening, closing, Sent, manager, manager_text, open_service, request_data, sent_message, sent_frame, registration, numbered}
+use Rattle.cip_fwdopen.specs.Services.{open_service}
+use Rattle.scanner_table.specs.Requests.{segment_of, slot_path, open_fields, close_fields, opening, closing, Sent, manager, manager_text, request_data, sent_message, sent_frame, registration, numbered}
 use Rattle.device_laws.specs.Sizes.{IsShortFrame}
 use Rattle.device_laws.proofs.Answers.{message_short}
 use Rattle.device_laws.proofs.Few.{either}

@@ -3,6 +3,7 @@ use Rattle.std.proofs.Common.{◌≡◌, ℕ, ◌==◌, ◌&&◌, Bool, true, fa
 use Rattle.std.specs.Option.{option_map}
 use Rattle.std.proofs.lemmas.Bool.{and_parts}
 use Rattle.std.proofs.lemmas.Bool.Decides.{nat_tests}
+use Rattle.base_lemmas.specs.Lists.{found_passes}
 use Rattle.cip_types.specs.declared.names.Node.{Node}
 use Rattle.cip_datagram.specs.declared.datagram.DatagramFault.{DatagramFault}
 use Rattle.cip_datagram.specs.Datagram.{DatagramFields}
@@ -36,7 +37,7 @@ use Rattle.cip_tables.specs.Run.{table_of, performed}
 use Rattle.cip_tables.specs.Whole.{IsWholeDevice, RunsKeepWhole}
 use Rattle.device_laws.specs.Turns.{Turn, brought, brought_found, brought_read, brought_at, has_ended, ended_turn, ended_at, reported, turns_at, turns, left_after, owner_after, IsOwner, Follow, opening_of, driver_in, OwnersFollow, DriversGoOn}
 use Rattle.device_laws.proofs.OneOwner.{found_alone}
-use Rattle.device_laws.proofs.OwnerEffects.{openings, KeepsOwner, found_passes}
+use Rattle.device_laws.proofs.OwnerEffects.{openings, KeepsOwner}
 use Rattle.device_laws.proofs.OwnerSteps.{step_keeps}
 
 -- ---- turns after one another

@@ -13,7 +13,7 @@ use Rattle.cip_encap.specs.Packet.{PacketFields}
 use Rattle.cip_encap.specs.PacketReading.{packet_reading}
 use Rattle.cip_events.specs.declared.event.Answer.{Answer}
 use Rattle.cip_events.specs.declared.event.Event.{Event}
-use Rattle.cip_events.specs.declared.event.Event.TheVariants.{Request, StreamOpened, StreamCut, Datagram, Write, Read, Tick, Mode, Start, Stop}
+use Rattle.cip_events.specs.declared.event.Event.TheVariants.{Request}
 use Rattle.cip_events.specs.declared.event.Event.TheVariants as event
 use Rattle.cip_events.specs.declared.event.Frame.{Frame}
 use Rattle.cip_events.specs.declared.event.Reason.{Reason}
@@ -110,16 +110,8 @@ IdsFromTo P incarnation from to = FromTo (λ counter. P (incarnation * 2 ^ 24 + 
 -- does not matter, since no table keeps it.
 abbrev pub EventIds : (ℕ → Type 0) → Event → Type 0
 EventIds P (Request peer bytes) = ⊥
-EventIds P (StreamOpened stream peer) = Unit {0}
 EventIds P (event.Frame stream bytes) = FrameIds P bytes
-EventIds P (StreamCut stream) = Unit {0}
-EventIds P (Datagram peer bytes) = Unit {0}
-EventIds P (Write point bytes) = Unit {0}
-EventIds P (Read point) = Unit {0}
-EventIds P (Tick ms) = Unit {0}
-EventIds P (Mode run) = Unit {0}
-EventIds P (Start slot) = Unit {0}
-EventIds P (Stop slot) = Unit {0}
+EventIds P other = Unit {0}
 
 -- A SCANNER
 

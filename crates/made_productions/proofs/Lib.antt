@@ -1,15 +1,3 @@
-pub mod Lists
-pub mod Books
-pub mod Inputs
-pub mod Quietly
-pub mod ScannerBooks
-pub mod ScannerTicks
 pub mod ScannerSending
 pub mod SentTexts
-pub mod AdapterBooks
-pub mod AdapterTicks
-pub mod DeviceBooks
-pub mod Steps
-pub mod Runs
-pub mod Reading
 pub mod Values

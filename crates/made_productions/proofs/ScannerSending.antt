@@ -12,13 +12,13 @@ use Rattle.cip_events.specs.Clock.{longest_tick, clock_end}
 use Rattle.cip_events.specs.declared.event.Answer.{Answer}
 use Rattle.cip_events.specs.declared.event.Delivery.TheVariants.{Applied, Duplicate, Old, WrongSize}
 use Rattle.cip_events.specs.declared.event.Event.{Event}
-use Rattle.cip_events.specs.declared.event.Event.TheVariants.{Request, StreamOpened, Frame, StreamCut, Datagram, Write, Read, Tick, Mode, Start, Stop}
+use Rattle.cip_events.specs.declared.event.Event.TheVariants.{StreamOpened, Frame, StreamCut, Datagram, Write, Read, Tick, Mode, Start, Stop}
 use Rattle.cip_events.specs.declared.event.StepFault.{StepFault}
 use Rattle.cip_events.specs.declared.event.StepFault.TheVariants as fault
 use Rattle.cip_productions.specs.Acceptance.{accepts_sequence, is_duplicate}
 use Rattle.cip_productions.specs.Kinds.{is_owner}
 use Rattle.cip_productions.specs.Productions.{sent}
-use Rattle.scanner_table.specs.declared.slot.Connection.{Connection}
+use Rattle.scanner_table.specs.declared.slot.SlotConnection.{SlotConnection}
 use Rattle.scanner_table.specs.declared.slot.SlotState.{SlotState}
 use Rattle.scanner_table.specs.declared.slot.SlotState.TheVariants.{Idle, Opening, Established, TimedOut, Closing}
 use Rattle.scanner_table.specs.declared.table.ScannerTable.{ScannerTable}
@@ -110,11 +110,11 @@ accepted_step : (b : Bool) (t u v : ScannerTable) → QuietNext (cond b (deliver
 accepted_step true t u v = refl
 accepted_step false t u v = refl
 
-news_step : (b : Bool) (t : ScannerTable) (place : IndexedSlot) (d : DatagramFields) (c : Connection) → QuietNext (cond b (accepted t place d c) (delivered Old t))
+news_step : (b : Bool) (t : ScannerTable) (place : IndexedSlot) (d : DatagramFields) (c : SlotConnection) → QuietNext (cond b (accepted t place d c) (delivered Old t))
 news_step true t place d c = accepted_step (is_duplicate c.last d.count) t (accepted_table t place d c place.slot.image) (accepted_table t place d c d.payload)
 news_step false t place d c = refl
 
-sized_step : (b : Bool) (t : ScannerTable) (place : IndexedSlot) (d : DatagramFields) (c : Connection) → QuietNext (cond b (sized t place d c) (delivered WrongSize t))
+sized_step : (b : Bool) (t : ScannerTable) (place : IndexedSlot) (d : DatagramFields) (c : SlotConnection) → QuietNext (cond b (sized t place d c) (delivered WrongSize t))
 sized_step true t place d c = news_step (accepts_sequence c.last d.sequence) t place d c
 sized_step false t place d c = refl
 
@@ -211,7 +211,6 @@ unfolding tick
 tick_sends t ms = tick_step (nat_lt longest_tick ms) (nat_lt clock_end (t.clock.0 + ms)) (advanced (clocked_table t ms))
 
 pub scanner_sends : (t : ScannerTable) (event : Event) → IfOk (scanner_step t event) (NextSends (scanner_makes t event))
-scanner_sends t (Request peer bytes) = tt
 scanner_sends t (StreamOpened stream peer) = quietly (stream_opened t stream peer) (streamed_quiet t stream peer)
 scanner_sends t (Frame stream bytes) = quietly (frame t stream bytes) (frame_quiet t stream bytes)
 scanner_sends t (StreamCut stream) = quietly (stream_cut t stream) (cut_quiet t stream)
@@ -222,3 +221,4 @@ scanner_sends t (Tick ms) = tick_sends t ms
 scanner_sends t (Mode run) = quietly (Ok (mode t run)) (mode_quiet t run)
 scanner_sends t (Start slot) = quietly (start t slot) (start_quiet t slot)
 scanner_sends t (Stop slot) = quietly (stop t slot) (stop_quiet t slot)
+scanner_sends t other = tt

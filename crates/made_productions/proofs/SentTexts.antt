@@ -5,7 +5,7 @@ use Rattle.cip_datagram.specs.Datagram.{DatagramFields}
 use Rattle.cip_datagram.specs.Reading.{datagram_reading}
 use Rattle.cip_events.specs.declared.event.Answer.{Answer}
 use Rattle.cip_events.specs.declared.event.Event.{Event}
-use Rattle.cip_events.specs.declared.event.Event.TheVariants.{Request, StreamOpened, Frame, StreamCut, Datagram, Write, Read, Tick, Mode, Start, Stop}
+use Rattle.cip_events.specs.declared.event.Event.TheVariants.{Request, StreamOpened, Frame, StreamCut, Datagram, Write, Read, Tick}
 use Rattle.cip_events.specs.declared.event.StepFault.{StepFault}
 use Rattle.cip_productions.specs.declared.production.Producer.{Producer}
 use Rattle.cip_productions.specs.Productions.{sent}
@@ -17,7 +17,7 @@ use Rattle.cip_events.specs.declared.event.StepFault.TheVariants as fault
 use Rattle.cip_events.specs.declared.event.Verdict.TheVariants.{Done, BadFrame}
 use Rattle.cip_router.specs.Requests.{router_request_reading}
 use Rattle.cip_router.specs.Commands.{command_of, is_silent}
-use Rattle.cip_router.specs.Frames.{ReplyHeader, FrameFields, headless, misfit, whole, frame_reading}
+use Rattle.cip_router.specs.Frames.{RequestHeader, FrameFields, without_header, wrong_length, whole, frame_reading}
 use Rattle.cip_router.specs.declared.command.EncapStatus.TheVariants as status
 use Rattle.adapter_table.specs.Connections.{Row}
 use Rattle.adapter_table.specs.declared.table.Stream.{Stream}
@@ -80,13 +80,13 @@ streamed_quiet : (t : AdapterTable) (number : ℕ) (peer : Node) → AllQuiet (s
 unfolding stream_opened
 streamed_quiet t number peer = taken_quiet (is_taken t.streams number) t number peer
 
-misfit_quiet : (b : Bool) (t : AdapterTable) (number : ℕ) (echo : ReplyHeader) (handled : Handled) → QuietNext (cond b (plain_answer BadFrame, t) (framed number echo handled))
-misfit_quiet true t number echo handled = refl
-misfit_quiet false t number echo handled = refl
+wrong_length_quiet : (b : Bool) (t : AdapterTable) (number : ℕ) (echo : RequestHeader) (handled : Handled) → QuietNext (cond b (plain_answer BadFrame, t) (framed number echo handled))
+wrong_length_quiet true t number echo handled = refl
+wrong_length_quiet false t number echo handled = refl
 
 frame_answer_quiet : (t : AdapterTable) (stream : Stream) (reading : FrameFields) → QuietNext (frame_answer t stream reading)
-frame_answer_quiet t stream headless = refl
-frame_answer_quiet t stream (misfit echo) = misfit_quiet (is_silent (command_of echo.command)) t stream.number echo (refusal t status.InvalidLength)
+frame_answer_quiet t stream without_header = refl
+frame_answer_quiet t stream (wrong_length echo) = wrong_length_quiet (is_silent (command_of echo.command)) t stream.number echo (refusal t status.InvalidLength)
 frame_answer_quiet t stream (whole echo body) = refl
 
 frame_of_quiet : (t : AdapterTable) (bytes : List ℕ) (found : Option Stream) → AllQuiet (frame_of t bytes found)
@@ -172,9 +172,7 @@ adapter_sends t (Datagram peer bytes) = quietly (Ok (received t peer bytes)) (re
 adapter_sends t (Write point bytes) = write_sends t point bytes
 adapter_sends t (Read point) = quietly (read t point) (read_quiet t point)
 adapter_sends t (Tick ms) = tick_sends t ms
-adapter_sends t (Mode run) = tt
-adapter_sends t (Start slot) = tt
-adapter_sends t (Stop slot) = tt
+adapter_sends t other = tt
 
 -- ---- either kind
 

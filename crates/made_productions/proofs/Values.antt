@@ -1,13 +1,11 @@
 -- What slots produce is what their outputs held before the event.
-use Rattle.std.proofs.Common.{◌≡◌, ℕ, ◌==◌, Bool, true, false, cond, List, [], ◌∷◌, Option, Some, None, refl, sym, ◌∙◌, ap, subst}
+use Rattle.std.proofs.Common.{◌≡◌, ℕ, ◌==◌, Bool, true, false, cond, List, [], ◌∷◌, Option, Some, None, refl, sym, ◌∙◌, ap, subst, eqb-true, eq-eqb}
 use Rattle.std.specs.List.{AllByRecursion, filter_map}
 use Rattle.std.specs.Option.{IfSome}
 use Rattle.cip_types.specs.declared.names.Ms.{Ms}
-use Rattle.cip_events.specs.declared.event.Event.{Event}
-use Rattle.cip_events.specs.declared.event.Event.TheVariants.{Request, StreamOpened, Frame, StreamCut, Datagram, Write, Read, Tick, Mode, Start, Stop}
+use Rattle.cip_events.specs.declared.event.Event.TheVariants.{Tick}
 use Rattle.cip_productions.specs.Kinds.{is_owner}
-use Rattle.scanner_table.specs.declared.profile.SlotConfig.{SlotConfig}
-use Rattle.scanner_table.specs.declared.slot.Connection.{Connection}
+use Rattle.scanner_table.specs.declared.slot.SlotConnection.{SlotConnection}
 use Rattle.scanner_table.specs.declared.slot.Slot.{Slot}
 use Rattle.scanner_table.specs.declared.slot.SlotState.{SlotState}
 use Rattle.scanner_table.specs.declared.slot.SlotState.TheVariants.{Idle, Opening, Established, TimedOut, Closing}
@@ -19,27 +17,26 @@ use Rattle.scanner_table.specs.Replies.{failed_slot}
 use Rattle.scanner_table.specs.Slots.{IndexedSlot, indexed_slots}
 use Rattle.scanner_table.specs.Ticks.{clocked_table, advanced}
 use Rattle.scanner_laws.specs.Newest.{came_from}
-use Rattle.scanner_laws.proofs.Moves.{Kept}
-use Rattle.scanner_laws.proofs.SlotLookups.{Each, Stands, each_filter, each_in_order, each_stands, slot_stands, indexed_at}
-use Rattle.scanner_laws.proofs.Slotwise.{Goes, Relation, Slotwise, goes_kept, goes_widely, was_of}
-use Rattle.made_productions.specs.Made.{Made, places_made, scanner_makes, slot_made, state_made}
-use Rattle.made_productions.specs.Values.{IsMadeBy, IsSlots, SlotsProduceTheirOutputs}
-use Rattle.made_productions.proofs.Lists.{equal_is, is_equal}
-use Rattle.made_productions.proofs.Quietly.{advanced_leads}
+use Rattle.scanner_whole.specs.Lemmas.Moves.{Kept}
+use Rattle.scanner_whole.specs.Lemmas.SlotLookups.{Each, Stands, each_filter, each_in_order, each_stands, slot_stands, indexed_at}
+use Rattle.scanner_whole.specs.Lemmas.Slotwise.{Goes, Relation, Slotwise, goes_kept, goes_widely, was_of}
+use Rattle.made_productions.specs.Made.{Made, places_made, slot_made, state_made}
+use Rattle.made_productions.specs.Values.{IsSlots, SlotsProduceTheirOutputs}
+use Rattle.made_productions.specs.Lemmas.Quietly.{advanced_leads}
 
 -- ---- an output stays, and what is established was so by the same opening
 
 pub record StaysOut (was now : Slot) : Type 0 where
   pub output : now.output ≡ was.output
-  pub opening : (c : Connection) → now.state ≡ Established c → came_from c.opening was.state ≡ true
+  pub opening : (c : SlotConnection) → now.state ≡ Established c → came_from c.opening was.state ≡ true
 
 abbrev Outputs : Relation
 Outputs t u number config was now = StaysOut was now
 
-own_opening : (state : SlotState) (c : Connection) → state ≡ Established c → came_from c.opening state ≡ true
-own_opening state c is = rw is (equal_is c.opening c.opening refl)
+own_opening : (state : SlotState) (c : SlotConnection) → state ≡ Established c → came_from c.opening state ≡ true
+own_opening state c is = rw is (eq-eqb c.opening c.opening refl)
 
-came_so : (n : ℕ) (state : SlotState) → came_from n state ≡ true → (b : Connection) × (state ≡ Established b) × ((b.opening == n) ≡ true)
+came_so : (n : ℕ) (state : SlotState) → came_from n state ≡ true → (b : SlotConnection) × (state ≡ Established b) × ((b.opening == n) ≡ true)
 came_so n Idle is = absurd (let e = is in cc)
 came_so n (Opening o) is = absurd (let e = is in cc)
 came_so n (Established c) is = (c, refl, is)
@@ -47,7 +44,7 @@ came_so n (TimedOut link) is = absurd (let e = is in cc)
 came_so n (Closing c) is = absurd (let e = is in cc)
 
 came_as : (a b : ℕ) (state : SlotState) → (a == b) ≡ true → came_from a state ≡ true → came_from b state ≡ true
-came_as a b state same is = subst (λ (n : ℕ). came_from n state ≡ true) (is_equal a b same) is
+came_as a b state same is = subst (λ (n : ℕ). came_from n state ≡ true) (eqb-true a b same) is
 
 out_after : (a b c : Slot) → StaysOut a b → StaysOut b c → StaysOut a c
 out_after a b c first next = record {
@@ -55,32 +52,32 @@ out_after a b c first next = record {
   opening = λ d is. let m = came_so d.opening b.state (next.opening d is) in came_as m.0.opening d.opening a.state m.2 (first.opening m.0 m.1);
 }
 
-not_open : (was now : Slot) (state : SlotState) → now.state ≡ state → ((c : Connection) → state ≡ Established c → ⊥) → now.output ≡ was.output → StaysOut was now
+not_open : (was now : Slot) (state : SlotState) → now.state ≡ state → ((c : SlotConnection) → state ≡ Established c → ⊥) → now.output ≡ was.output → StaysOut was now
 not_open was now state is never output = record { output = output; opening = λ c so. absurd (never c (sym is ∙ so)) }
 
-changed_out : (b : Bool) (was : Slot) (next : SlotState → SlotState) → ((c : Connection) → next was.state ≡ Established c → came_from c.opening was.state ≡ true) → StaysOut was (cond b (record was { state = next was.state }) was)
+changed_out : (b : Bool) (was : Slot) (next : SlotState → SlotState) → ((c : SlotConnection) → next was.state ≡ Established c → came_from c.opening was.state ≡ true) → StaysOut was (cond b (record was { state = next was.state }) was)
 changed_out true was next same = record { output = refl; opening = same }
 changed_out false was next same = record { output = refl; opening = λ c is. own_opening was.state c is }
 
 -- the opening number of an established state
-abbrev opening_of : Connection → SlotState → ℕ
+abbrev opening_of : SlotConnection → SlotState → ℕ
 opening_of other Idle = other.opening
 opening_of other (Opening o) = other.opening
 opening_of other (Established c) = c.opening
 opening_of other (TimedOut link) = other.opening
 opening_of other (Closing c) = other.opening
 
-written_out : (state : SlotState) (c : Connection) → written_state state ≡ Established c → came_from c.opening state ≡ true
+written_out : (state : SlotState) (c : SlotConnection) → written_state state ≡ Established c → came_from c.opening state ≡ true
 written_out Idle c is = absurd (let e = is in cc)
 written_out (Opening o) c is = absurd (let e = is in cc)
-written_out (Established a) c is = let same : a.opening ≡ c.opening = ap (opening_of a) is in equal_is a.opening c.opening same
+written_out (Established a) c is = let same : a.opening ≡ c.opening = ap (opening_of a) is in eq-eqb a.opening c.opening same
 written_out (TimedOut link) c is = absurd (let e = is in cc)
 written_out (Closing a) c is = absurd (let e = is in cc)
 
-made_out : (clock : Ms) (state : SlotState) (c : Connection) → produced_state clock state ≡ Established c → came_from c.opening state ≡ true
+made_out : (clock : Ms) (state : SlotState) (c : SlotConnection) → produced_state clock state ≡ Established c → came_from c.opening state ≡ true
 made_out clock Idle c is = absurd (let e = is in cc)
 made_out clock (Opening o) c is = absurd (let e = is in cc)
-made_out clock (Established a) c is = let same : a.opening ≡ c.opening = ap (opening_of a) is in equal_is a.opening c.opening same
+made_out clock (Established a) c is = let same : a.opening ≡ c.opening = ap (opening_of a) is in eq-eqb a.opening c.opening same
 made_out clock (TimedOut link) c is = absurd (let e = is in cc)
 made_out clock (Closing a) c is = absurd (let e = is in cc)
 
@@ -145,18 +142,9 @@ clocked_run : (t : ScannerTable) (ms : ℕ) → SameRun t (clocked_table t ms)
 clocked_run t ms = refl
 
 pub outputs_produced : SlotsProduceTheirOutputs
-outputs_produced t (Request peer bytes) = tt
-outputs_produced t (StreamOpened stream peer) = tt
-outputs_produced t (Frame stream bytes) = tt
-outputs_produced t (StreamCut stream) = tt
-outputs_produced t (Datagram peer bytes) = tt
-outputs_produced t (Write point bytes) = tt
-outputs_produced t (Read point) = tt
 outputs_produced t (Tick ms) =
     let kept = goes_kept Outputs outputs_slotwise in
     let now = clocked_table t ms in
     due_values t (advanced now).table (kept.after t now (advanced now).table ((goes_widely Outputs outputs_slotwise).clocked t ms) (advanced_leads (Goes Outputs) kept now))
     (advanced_leads SameRun runs_kept now ∙ clocked_run t ms)
-outputs_produced t (Mode run) = tt
-outputs_produced t (Start slot) = tt
-outputs_produced t (Stop slot) = tt
+outputs_produced t other = tt

@@ -1,7 +1,7 @@
 -- What an input of an adapter holds: what its application last wrote there (Volume 1, chapter 5, Assembly object).
 use Rattle.std.specs.Prelude.{ℕ, ◌≡◌, ◌==◌, if◌then◌else◌, List, find, replicate, Option, Some, None, Ok}
 use Rattle.cip_events.specs.declared.event.Event.{Event}
-use Rattle.cip_events.specs.declared.event.Event.TheVariants.{Request, StreamOpened, Frame, StreamCut, Datagram, Write, Read, Tick, Mode, Start, Stop}
+use Rattle.cip_events.specs.declared.event.Event.TheVariants.{Write}
 use Rattle.adapter_table.specs.declared.profile.InputPoint.{InputPoint}
 use Rattle.adapter_table.specs.declared.profile.Profile.{Profile}
 use Rattle.adapter_table.specs.declared.table.AdapterTable.{AdapterTable}
@@ -14,17 +14,8 @@ use Rattle.adapter_table.specs.Whole.{IsWhole}
 
 -- what an event writes at a point
 abbrev pub written_at : ℕ → Event → Option (List ℕ)
-written_at point (Request peer bytes) = None
-written_at point (StreamOpened stream peer) = None
-written_at point (Frame stream bytes) = None
-written_at point (StreamCut stream) = None
-written_at point (Datagram peer bytes) = None
 written_at point (Write other bytes) = if other == point then Some bytes else None
-written_at point (Read other) = None
-written_at point (Tick ms) = None
-written_at point (Mode run) = None
-written_at point (Start slot) = None
-written_at point (Stop slot) = None
+written_at point other = None
 
 -- after a step of a whole table each input holds what the event wrote there, and otherwise what it held
 abbrev pub StepsWriteInputs : Type 0

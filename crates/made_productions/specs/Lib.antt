@@ -3,3 +3,4 @@ pub mod Inputs
 pub mod Productions
 pub mod Runs
 pub mod Values
+pub mod Lemmas

@@ -5,7 +5,7 @@ use Rattle.std.specs.List.{filter_map}
 use Rattle.cip_datagram.specs.Datagram.{DatagramFields, datagram_text}
 use Rattle.cip_events.specs.declared.event.Answer.{Answer}
 use Rattle.cip_events.specs.declared.event.Event.{Event}
-use Rattle.cip_events.specs.declared.event.Event.TheVariants.{Request, StreamOpened, Frame, StreamCut, Datagram, Write, Read, Tick, Mode, Start, Stop}
+use Rattle.cip_events.specs.declared.event.Event.TheVariants.{Write, Tick}
 use Rattle.cip_events.specs.declared.event.OutgoingDatagram.{OutgoingDatagram}
 use Rattle.cip_productions.specs.declared.production.Producer.{Producer}
 use Rattle.cip_productions.specs.Productions.{production_datagram}
@@ -15,7 +15,7 @@ use Rattle.adapter_table.specs.declared.table.PointValue.{PointValue}
 use Rattle.adapter_table.specs.Productions.{due_producers, input_of, producers_on_change}
 use Rattle.adapter_table.specs.Step.{written_table}
 use Rattle.adapter_table.specs.Ticks.{clocked_table, expired_table}
-use Rattle.scanner_table.specs.declared.slot.Connection.{Connection}
+use Rattle.scanner_table.specs.declared.slot.SlotConnection.{SlotConnection}
 use Rattle.scanner_table.specs.declared.slot.SlotState.{SlotState}
 use Rattle.scanner_table.specs.declared.slot.SlotState.TheVariants.{Idle, Opening, Established, TimedOut, Closing}
 use Rattle.scanner_table.specs.declared.table.ScannerTable.{ScannerTable}
@@ -31,7 +31,7 @@ use Rattle.cip_tables.specs.Step.{step}
 -- producer's input or output holds; and the datagram.
 pub record Made : Type 0 where
   pub number : ℕ
-  pub risen : Bool
+  pub is_new_data : Bool
   pub run : Bool
   pub value : List ℕ
   pub datagram : DatagramFields
@@ -41,7 +41,7 @@ pub record Made : Type 0 where
 abbrev pub adapter_made : List ℕ → Producer → Made
 adapter_made input producer = record {
   number = producer.production.producer;
-  risen = producer.production.written;
+  is_new_data = producer.production.written;
   run = true;
   value = input;
   datagram = production_datagram producer.id producer.production input;
@@ -59,24 +59,16 @@ abbrev pub changed_made : AdapterTable → ℕ → List ℕ → List Made
 changed_made written point bytes = map (adapter_made bytes) (producers_on_change written.clock point written.rows)
 
 abbrev pub adapter_makes : AdapterTable → Event → List Made
-adapter_makes t (Request peer bytes) = []
-adapter_makes t (StreamOpened stream peer) = []
-adapter_makes t (Frame stream bytes) = []
-adapter_makes t (StreamCut stream) = []
-adapter_makes t (Datagram peer bytes) = []
 adapter_makes t (Write point bytes) = changed_made (written_table t point bytes) point bytes
-adapter_makes t (Read point) = []
 adapter_makes t (Tick ms) = advanced_made (clocked_table t ms) (expired_table (clocked_table t ms)).rows
-adapter_makes t (Mode run) = []
-adapter_makes t (Start slot) = []
-adapter_makes t (Stop slot) = []
+adapter_makes t other = []
 
 -- A SCANNER
 
-abbrev pub connection_made : Bool → IndexedSlot → Connection → Made
+abbrev pub connection_made : Bool → IndexedSlot → SlotConnection → Made
 connection_made run place c = record {
   number = c.opening;
-  risen = c.production.written;
+  is_new_data = c.production.written;
   run = run;
   value = place.slot.output;
   datagram = production_datagram c.link.o_t_id c.production (slot_data run place);
@@ -97,17 +89,8 @@ abbrev pub places_made : ScannerTable → List Made
 places_made t = filter_map (slot_made t.run) (due_slots t)
 
 abbrev pub scanner_makes : ScannerTable → Event → List Made
-scanner_makes t (Request peer bytes) = []
-scanner_makes t (StreamOpened stream peer) = []
-scanner_makes t (Frame stream bytes) = []
-scanner_makes t (StreamCut stream) = []
-scanner_makes t (Datagram peer bytes) = []
-scanner_makes t (Write point bytes) = []
-scanner_makes t (Read point) = []
 scanner_makes t (Tick ms) = places_made (advanced (scanner_clocked t ms)).table
-scanner_makes t (Mode run) = []
-scanner_makes t (Start slot) = []
-scanner_makes t (Stop slot) = []
+scanner_makes t other = []
 
 -- EITHER
 

@@ -27,7 +27,7 @@ is_end a b = b.device == a.device && b.number == a.number
 pub record Production : Type 0 where
   pub producer : End
   pub index : ℕ
-  pub news : ℕ
+  pub new_data : ℕ
   pub made : Made
 
 -- the producer made it
@@ -35,8 +35,8 @@ abbrev pub is_by : End → Production → Bool
 is_by producer p = is_end producer p.producer
 
 -- the producer made it, and its count rose
-abbrev pub is_news_by : End → Production → Bool
-is_news_by producer p = is_by producer p && p.made.risen
+abbrev pub is_new_data_by : End → Production → Bool
+is_new_data_by producer p = is_by producer p && p.made.is_new_data
 
 abbrev pub one_if : Bool → ℕ
 one_if holds = if holds then 1 else 0
@@ -46,7 +46,7 @@ abbrev pub numbered : ℕ → List Production → Made → Production
 numbered device produced made = record {
   producer = end_at device made.number;
   index = count_by (is_by (end_at device made.number)) produced + 1;
-  news = count_by (is_news_by (end_at device made.number)) produced + one_if made.risen;
+  new_data = count_by (is_new_data_by (end_at device made.number)) produced + one_if made.is_new_data;
   made = made;
 }
 
@@ -60,7 +60,7 @@ produced_more device produced (made ∷ rest) = produced_more device (produced +
 -- the sequence number and the count of the datagram are its indexes on their circles
 pub record IsNumbered (p : Production) : Type 0 where
   pub sequence : p.made.datagram.sequence ≡ p.index % 2 ^ 32
-  pub count : p.made.datagram.count ≡ p.news % 2 ^ 16
+  pub count : p.made.datagram.count ≡ p.new_data % 2 ^ 16
 
 -- DATA
 
@@ -68,7 +68,7 @@ pub record IsNumbered (p : Production) : Type 0 where
 abbrev pub DataAgree : List Production → Type 0
 DataAgree produced =
     (i j : ℕ) (p q : Production) → slice_get produced i ≡ Some p → slice_get produced j ≡ Some q →
-    p.producer ≡ q.producer → p.news ≡ q.news → p.made.datagram.payload ≡ q.made.datagram.payload
+    p.producer ≡ q.producer → p.new_data ≡ q.new_data → p.made.datagram.payload ≡ q.made.datagram.payload
 
 -- the sequence numbers and counts of productions follow from their indexes, and so does what is repeated
 pub record AreInOrder (produced : List Production) : Type 0 where

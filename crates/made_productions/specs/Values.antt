@@ -1,6 +1,6 @@
 -- What a scanner's production carries: what the output of its slot holds as it is made, and the mode (Volume 1, chapter 3,
 -- class 1 transport, real time formats).
-use Rattle.std.specs.Prelude.{ℕ, ◌≡◌, true, Some}
+use Rattle.std.specs.Prelude.{◌≡◌, true, Some}
 use Rattle.std.specs.List.{AllByRecursion}
 use Rattle.cip_events.specs.declared.event.Event.{Event}
 use Rattle.scanner_table.specs.declared.table.ScannerTable.{ScannerTable}

@@ -1,5 +1,5 @@
 -- The law of an adapter's replies: a success in a frame is of the connection that the event opened.
-use Rattle.std.proofs.Common.{◌≡◌, ℕ, ◌+◌, arith, ◌==◌, Bool, true, false, cond, List, [], ◌∷◌, length, find, Option, Some, None, Result, Ok, Err, IfOk, refl, sym, ◌∙◌, ap, subst}
+use Rattle.std.proofs.Common.{◌≡◌, ℕ, ◌+◌, ◌==◌, Bool, true, false, cond, List, [], ◌∷◌, length, find, Option, Some, None, Result, Ok, Err, IfOk, refl, sym, ◌∙◌, ap, subst, eqb-true}
 use Rattle.std.specs.List.{AllByRecursion}
 use Rattle.std.specs.Option.{IfSome}
 use Rattle.cip_types.specs.Texts.{Tailed}
@@ -16,18 +16,17 @@ use Rattle.cip_fwdopen.specs.declared.reply.Opened.{Opened}
 use Rattle.cip_router.specs.Commands.{command_of, is_silent}
 use Rattle.cip_router.specs.declared.command.EncapStatus.{EncapStatus}
 use Rattle.cip_router.specs.declared.command.EncapStatus.TheVariants as encap
-use Rattle.cip_router.specs.Frames.{ReplyHeader, reply_header_of, FrameReply, reply_message, reply_header_in, misfit_of, frame_fields, frame_reading}
+use Rattle.cip_router.specs.Frames.{RequestHeader, request_header_of, FrameReply, reply_message, request_header_in, wrong_length_of, frame_fields, frame_reading}
 use Rattle.cip_router.specs.Frames as frames
 use Rattle.adapter_table.specs.declared.table.AdapterTable.{AdapterTable}
 use Rattle.adapter_table.specs.declared.table.Stream.{Stream}
 use Rattle.adapter_table.specs.Requests.{Next}
-use Rattle.std.proofs.lemmas.Bool.Decides.{nat_tests}
 use Rattle.adapter_table.specs.Streams.{is_stream}
 use Rattle.adapter_table.specs.Encapsulation.{refusal, handled, reply_frames, framed, frame_answer, frame_of, frame}
 use Rattle.adapter_table.specs.Sound.{IdsAreDrawn}
 use Rattle.adapter_table.specs.Step.{adapter_step}
 use Rattle.device_laws.specs.Sizes.{IsShortFrame, IsSmall}
-use Rattle.device_laws.proofs.Texts.{either}
+use Rattle.device_laws.specs.Lemmas.Texts.{either}
 use Rattle.cip_events.specs.declared.event.Event.{Event}
 use Rattle.adapter_table.specs.declared.profile.InputPoint.{InputPoint}
 use Rattle.adapter_table.specs.Datagrams.{is_for, row_delivery, accepted_table, delivered, found_datagram, datagram_of, received}
@@ -41,6 +40,7 @@ use Rattle.cip_events.specs.declared.event.Verdict.TheVariants.{Done}
 use Rattle.cip_router.specs.Requests.{router_request_reading}
 use Rattle.cip_types.specs.declared.names.Node.{Node}
 use Rattle.std.proofs.Common.{nat_lt}
+use Rattle.device_laws.specs.Lemmas.AdapterIds.{plain_none}
 use Rattle.adapter_table.specs.Connections.{Row}
 use Rattle.adapter_table.specs.Points.{bytes_at}
 use Rattle.adapter_table.specs.Profiles.{is_at}
@@ -53,36 +53,33 @@ use Rattle.cip_tables.specs.declared.table.DeviceTable.TheVariants.{Adapter}
 use Rattle.cip_tables.specs.Step.{as_adapter, step}
 use Rattle.reply_ids.specs.Frames.{SuccessesAre, IsNoOpening}
 use Rattle.reply_ids.specs.Replies.{IsSuccessOf, IsReplyTo, IsAnswerTo, RepliesCarryOpenedIds}
-use Rattle.reply_ids.proofs.Texts.{MessageBack, message_back, context_fits}
-use Rattle.reply_ids.proofs.Framing.{ReplyHas, handled_has, reply_frame_says, frame_says, PacketSays, none_packet, plain_none}
+use Rattle.reply_ids.specs.Lemmas.Texts.{MessageBack, message_back, context_fits}
+use Rattle.reply_ids.proofs.Framing.{ReplyHas, handled_has, reply_frame_says, frame_says, PacketSays, none_packet}
 
 abbrev NextReplies : AdapterTable → ℕ → List ℕ → Next → Type 0
 NextReplies t number bytes next = IsSmall next.0 → AllByRecursion (IsReplyTo t next.1 number bytes) next.0.frames
 
 -- a refusal is no success
-refused_says : (Q : ℕ → Opened → Type 0) (echo : ReplyHeader) (why : EncapStatus) → SuccessesAre Q (message_text (reply_message echo (frames.refused why))) × IsNoOpening (message_text (reply_message echo (frames.refused why)))
+refused_says : (Q : ℕ → Opened → Type 0) (echo : RequestHeader) (why : EncapStatus) → SuccessesAre Q (message_text (reply_message echo (frames.refused why))) × IsNoOpening (message_text (reply_message echo (frames.refused why)))
 refused_says Q echo why = frame_says Q (message_text (reply_message echo (frames.refused why))) (λ m is.
     let same : MessageBack (reply_message echo (frames.refused why)) m = message_back (reply_message echo (frames.refused why)) m is in
     subst (λ (payload : List ℕ). PacketSays (Q m.context) (packet_reading payload)) (sym same.payload) (none_packet (Q m.context) [] plain_none))
 
-is_equal : (a b : ℕ) → (a == b) ≡ true → a ≡ b
-is_equal a b is = grind (arith, nat_tests)
-
-replies_say : ItemsReadBack → (t next : AdapterTable) (number : ℕ) (bytes : List ℕ) (request : MessageFields) (reply : Option FrameReply) → message_reading bytes ≡ Ok request → IfSome reply (ReplyHas t next) → AllByRecursion IsShortFrame (reply_frames number (reply_header_of request) reply) → AllByRecursion (IsReplyTo t next number bytes) (reply_frames number (reply_header_of request) reply)
+replies_say : ItemsReadBack → (t next : AdapterTable) (number : ℕ) (bytes : List ℕ) (request : MessageFields) (reply : Option FrameReply) → message_reading bytes ≡ Ok request → IfSome reply (ReplyHas t next) → AllByRecursion IsShortFrame (reply_frames number (request_header_of request) reply) → AllByRecursion (IsReplyTo t next number bytes) (reply_frames number (request_header_of request) reply)
 replies_say back t next number bytes request None reads says short = tt
-replies_say back t next number bytes request (Some reply) reads says short = let said = reply_frame_says back t next bytes request reply reads says short.0 in (record { to = refl; successes = said.0; opens_nothing = said.1; context = context_fits (reply_message (reply_header_of request) reply) }, tt)
+replies_say back t next number bytes request (Some reply) reads says short = let said = reply_frame_says back t next bytes request reply reads says short.0 in (record { to = refl; successes = said.0; opens_nothing = said.1; context = context_fits (reply_message (request_header_of request) reply) }, tt)
 
-misfit_replies : (t : AdapterTable) (stream : Stream) (bytes : List ℕ) (header : Option Tailed) → NextReplies t stream.number bytes (frame_answer t stream (misfit_of header))
-misfit_replies t stream bytes None = λ small. tt
-misfit_replies t stream bytes (Some h) =
-    either (NextReplies t stream.number bytes) (is_silent (command_of (reply_header_in h.0).command)) (plain_answer BadFrame, t) (framed stream.number (reply_header_in h.0) (refusal t encap.InvalidLength)) (λ small. tt)
-    (λ small. let said = refused_says (IsSuccessOf t t bytes) (reply_header_in h.0) encap.InvalidLength in (record { to = refl; successes = said.0; opens_nothing = said.1; context = context_fits (reply_message (reply_header_in h.0) (frames.refused encap.InvalidLength)) }, tt))
+wrong_length_replies : (t : AdapterTable) (stream : Stream) (bytes : List ℕ) (header : Option Tailed) → NextReplies t stream.number bytes (frame_answer t stream (wrong_length_of header))
+wrong_length_replies t stream bytes None = λ small. tt
+wrong_length_replies t stream bytes (Some h) =
+    either (NextReplies t stream.number bytes) (is_silent (command_of (request_header_in h.0).command)) (plain_answer BadFrame, t) (framed stream.number (request_header_in h.0) (refusal t encap.InvalidLength)) (λ small. tt)
+    (λ small. let said = refused_says (IsSuccessOf t t bytes) (request_header_in h.0) encap.InvalidLength in (record { to = refl; successes = said.0; opens_nothing = said.1; context = context_fits (reply_message (request_header_in h.0) (frames.refused encap.InvalidLength)) }, tt))
 
 message_answer : ItemsReadBack → (t : AdapterTable) (stream : Stream) (bytes : List ℕ) (header : Option Tailed) (reading : Result MessageFields EncapFault) → message_reading bytes ≡ reading → IdsAreDrawn t.profile t.next_id t.rows → NextReplies t stream.number bytes (frame_answer t stream (frame_fields header reading))
-message_answer back t stream bytes header (Err why) reads drawn = misfit_replies t stream bytes header
+message_answer back t stream bytes header (Err why) reads drawn = wrong_length_replies t stream bytes header
 message_answer back t stream bytes header (Ok m) reads drawn = λ small.
-    replies_say back t (handled t stream (reply_header_of m) m.payload (command_of m.command)).table stream.number bytes m (handled t stream (reply_header_of m) m.payload (command_of m.command)).reply reads
-    (handled_has t stream (reply_header_of m) m.payload (command_of m.command) drawn) small.short_frames
+    replies_say back t (handled t stream (request_header_of m) m.payload (command_of m.command)).table stream.number bytes m (handled t stream (request_header_of m) m.payload (command_of m.command)).reply reads
+    (handled_has t stream (request_header_of m) m.payload (command_of m.command) drawn) small.short_frames
 
 found_number : (number : ℕ) (streams : List Stream) (s : Stream) → find (is_stream number) streams ≡ Some s → s.number ≡ number
 found_number number [] s is = absurd (let e = is in cc)
@@ -91,7 +88,7 @@ found_number number (x ∷ streams) s is = step (is_stream number x) refl is (fo
   same_stream a b e = cc
 
   step : (b : Bool) → is_stream number x ≡ b → cond b (Some x) (find (is_stream number) streams) ≡ Some s → (find (is_stream number) streams ≡ Some s → s.number ≡ number) → s.number ≡ number
-  step true passes found more = ap (λ (y : Stream). y.number) (sym (same_stream x s found)) ∙ is_equal x.number number passes
+  step true passes found more = ap (λ (y : Stream). y.number) (sym (same_stream x s found)) ∙ eqb-true x.number number passes
   step false passes found more = more found
 
 frame_of_replies : ItemsReadBack → (t : AdapterTable) (number : ℕ) (bytes : List ℕ) (found : Option Stream) → find (is_stream number) t.streams ≡ found → IdsAreDrawn t.profile t.next_id t.rows → IfOk (frame_of t bytes found) (NextReplies t number bytes)
@@ -153,9 +150,7 @@ step_answers back t (event.Datagram peer bytes) drawn = datagram_answers t peer 
 step_answers back t (event.Write point bytes) drawn = write_answers t point bytes (find (is_at point) t.profile.inputs)
 step_answers back t (event.Read point) drawn = read_answers t point (bytes_at t.values point)
 step_answers back t (event.Tick ms) drawn = tick_answers t ms
-step_answers back t (event.Mode run) drawn = tt
-step_answers back t (event.Start slot) drawn = tt
-step_answers back t (event.Stop slot) drawn = tt
+step_answers back t other drawn = tt
 
 pub replies_carry : ItemsReadBack → AnswersAreSmall → RepliesCarryOpenedIds
 unfolding step

@@ -1,5 +1,5 @@
 -- An adapter's frames: a success in one is of the connection that the event opened, and answers the event's request.
-use Rattle.std.proofs.Common.{◌≡◌, ◌≤◌, ℕ, ◌==◌, not, Bool, List, [], length, Option, Some, None, Result, Ok, Err, refl, sym, ◌∙◌, ap, subst, arith}
+use Rattle.std.proofs.Common.{◌≡◌, ◌≤◌, ℕ, ◌==◌, not, Bool, List, [], length, Option, Some, None, Result, Ok, Err, refl, sym, ◌∙◌, ap, subst}
 use Rattle.std.specs.Option.{IfSome, option_map}
 use Rattle.std.specs.Str.{bytes_eq}
 use Rattle.cip_types.specs.declared.names.Node.{Node}
@@ -9,18 +9,15 @@ use Rattle.cip_encap.specs.declared.packet.ItemFault.TheVariants.{Bad}
 use Rattle.cip_encap.specs.Message.{MessageFields, message_text}
 use Rattle.cip_encap.specs.Reading.{message_reading}
 use Rattle.cip_encap.specs.Packet.{PacketFields, packet_text}
-use Rattle.cip_encap.specs.PacketReading.{behind_socket, are_sockets, packet_reading}
+use Rattle.cip_encap.specs.PacketReading.{packet_reading}
 use Rattle.cip_encap.specs.ReadsBack.{ItemsReadBack}
 use Rattle.cip_events.specs.declared.event.Reason.TheVariants as reason
 use Rattle.cip_fwdopen.specs.declared.reply.Opened.{Opened}
-use Rattle.cip_fwdopen.specs.Close.{closed_text}
-use Rattle.cip_fwdopen.specs.Get.{got_text}
-use Rattle.cip_fwdopen.specs.Reply.{opened_text, refused_text}
 use Rattle.cip_router.specs.Requests.{router_request_reading}
 use Rattle.cip_router.specs.declared.command.Command.{Command}
 use Rattle.cip_router.specs.declared.command.Command.TheVariants as command
 use Rattle.cip_router.specs.declared.command.EncapStatus.TheVariants as encap
-use Rattle.cip_router.specs.Frames.{ReplyHeader, reply_header_of, FrameReply, services, registered, other_version, router_reply, services_text, protocol_text, socket_of, reply_message}
+use Rattle.cip_router.specs.Frames.{RequestHeader, request_header_of, FrameReply, services, registered, other_version, router_reply, services_text, protocol_text, socket_of, reply_message}
 use Rattle.cip_router.specs.Frames as frames
 use Rattle.cip_router.specs.Replies.{ReplyFields, opened, closed, got, reply_text}
 use Rattle.cip_router.specs.Replies as replies
@@ -31,13 +28,13 @@ use Rattle.adapter_table.specs.Streams.{has_session}
 use Rattle.adapter_table.specs.Encapsulation.{Handled, refusal, unanswered, session_begun, session_ended, register_session, request_replied, packet_replied, handled}
 use Rattle.adapter_table.specs.Sound.{IdsAreDrawn}
 use Rattle.scanner_table.specs.Replies.{packet_answer, open_answer}
-use Rattle.device_laws.proofs.AdapterIds.{few_bytes, plain_protocol}
-use Rattle.device_laws.proofs.Texts.{either}
+use Rattle.device_laws.specs.Lemmas.AdapterIds.{few_bytes, plain_protocol, plain_services, plain_none, some_bytes}
+use Rattle.device_laws.specs.Lemmas.Texts.{either}
 use Rattle.std.specs.Int.{w64}
 use Rattle.reply_ids.specs.Frames.{again, SuccessIs, SuccessesAre, OpensNothing, IsNoOpening}
 use Rattle.reply_ids.specs.Replies.{IsSuccessOf}
-use Rattle.reply_ids.proofs.Texts.{PayloadSays, ReplyHolds, reply_says, MessageBack, message_back}
-use Rattle.reply_ids.proofs.Serving.{IsOfRow, ServedHas, served_has}
+use Rattle.reply_ids.specs.Lemmas.Texts.{PayloadSays, ReplyHolds, reply_says, MessageBack, message_back}
+use Rattle.reply_ids.specs.Lemmas.Serving.{IsOfRow, ServedHas, served_has}
 
 -- ---- what becomes of a message
 
@@ -65,7 +62,7 @@ packet_has : (t : AdapterTable) (peer : Node) (reading : Result PacketFields Ite
 packet_has t peer (Err fault) drawn = tt
 packet_has t peer (Ok packet) drawn = replied_has t (served t peer (router_request_reading packet.payload)) (served_has t peer (router_request_reading packet.payload) drawn)
 
-pub handled_has : (t : AdapterTable) (stream : Stream) (echo : ReplyHeader) (body : List ℕ) (requested : Command) → IdsAreDrawn t.profile t.next_id t.rows → HandledHas t (handled t stream echo body requested)
+pub handled_has : (t : AdapterTable) (stream : Stream) (echo : RequestHeader) (body : List ℕ) (requested : Command) → IdsAreDrawn t.profile t.next_id t.rows → HandledHas t (handled t stream echo body requested)
 unfolding handled
 handled_has t stream echo body command.Nop drawn = tt
 handled_has t stream echo body command.ListServices drawn = tt
@@ -75,21 +72,6 @@ handled_has t stream echo body command.SendRrData drawn = either (HandledHas t) 
 handled_has t stream echo body command.Other drawn = tt
 
 -- ---- the frame of a reply
-
-plain_services : packet_reading services_text ≡ Err Bad
-unfolding packet_reading are_sockets behind_socket
-plain_services = refl
-
-pub plain_none : packet_reading [] ≡ Err Bad
-unfolding packet_reading are_sockets behind_socket
-plain_none = refl
-
-some_bytes : (reply : ReplyFields) → 1 ≤ length (reply_text reply)
-unfolding opened_text closed_text got_text refused_text
-some_bytes (opened large o) = omega arith
-some_bytes (closed triad) = omega arith
-some_bytes (got value) = omega arith
-some_bytes (replies.refused service fault triad) = omega arith
 
 reply_weaker : (P Q : Opened → Type 0) → ((o : Opened) → P o → Q o) → (reply : ReplyFields) → ReplyHolds P reply → ReplyHolds Q reply
 reply_weaker P Q more (opened large o) holds = λ read ids. more read (holds read ids)
@@ -109,7 +91,7 @@ pub written_packet : ItemsReadBack → (Q : Opened → Type 0) (payload : List �
 written_packet back Q payload socket some few says =
     subst (PacketSays Q) (sym (back payload socket some few)) (record { opens_nothing = says.no_opening; successes = says.successes })
 
-reply_packet : ItemsReadBack → (t next : AdapterTable) (Q : Opened → Type 0) → ((o : Opened) → IsOfRow t next o → Q o) → (echo : ReplyHeader) (reply : FrameReply) → ReplyHas t next reply → length (message_text (reply_message echo reply)) ≤ 2048 → PacketSays Q (packet_reading (reply_message echo reply).payload)
+reply_packet : ItemsReadBack → (t next : AdapterTable) (Q : Opened → Type 0) → ((o : Opened) → IsOfRow t next o → Q o) → (echo : RequestHeader) (reply : FrameReply) → ReplyHas t next reply → length (message_text (reply_message echo reply)) ≤ 2048 → PacketSays Q (packet_reading (reply_message echo reply).payload)
 reply_packet back t next Q more echo (router_reply reply address) says short =
     written_packet back Q (reply_text reply) (option_map socket_of address) (some_bytes reply) (few_bytes (reply_message echo (router_reply reply address)) (reply_text reply) (option_map socket_of address) refl short)
     (reply_says Q reply (reply_weaker (IsOfRow t next) Q more reply says))
@@ -124,27 +106,27 @@ message_success Q m large is =
     either (SuccessIs Q) (m.status == 0) _ (Err (reason.Encap m.status))
     (either (SuccessIs Q) (m.command == 0x006F) (packet_answer large (packet_reading m.payload)) (Err reason.Unreadable) is tt) tt
 
-context_same : (request : MessageFields) (reply : FrameReply) → (reply_message (reply_header_of request) reply).context ≡ request.context
+context_same : (request : MessageFields) (reply : FrameReply) → (reply_message (request_header_of request) reply).context ≡ request.context
 context_same request services = refl
 context_same request (registered session) = refl
 context_same request other_version = refl
 context_same request (router_reply reply address) = refl
 context_same request (frames.refused why) = refl
 
-reply_says_so : ItemsReadBack → (t next : AdapterTable) (bytes : List ℕ) (request : MessageFields) (reply : FrameReply) → message_reading bytes ≡ Ok request → ReplyHas t next reply → length (message_text (reply_message (reply_header_of request) reply)) ≤ 2048 → (m : MessageFields) → message_reading (message_text (reply_message (reply_header_of request) reply)) ≡ Ok m → PacketSays (IsSuccessOf t next bytes m.context) (packet_reading m.payload)
+reply_says_so : ItemsReadBack → (t next : AdapterTable) (bytes : List ℕ) (request : MessageFields) (reply : FrameReply) → message_reading bytes ≡ Ok request → ReplyHas t next reply → length (message_text (reply_message (request_header_of request) reply)) ≤ 2048 → (m : MessageFields) → message_reading (message_text (reply_message (request_header_of request) reply)) ≡ Ok m → PacketSays (IsSuccessOf t next bytes m.context) (packet_reading m.payload)
 reply_says_so back t next bytes request reply reads says short m is =
-    let m0 = reply_message (reply_header_of request) reply in
+    let m0 = reply_message (request_header_of request) reply in
     let same : MessageBack m0 m = message_back m0 m is in
     subst (λ (payload : List ℕ). PacketSays (IsSuccessOf t next bytes m.context) (packet_reading payload)) (sym same.payload)
     (reply_packet back t next (IsSuccessOf t next bytes m.context)
     (λ o row. record { message = request; reads = reads; context_is = same.context ∙ ap (again w64) (context_same request reply); row = row.row; new = row.new; o_t = row.o_t; t_o = row.t_o; o_t_api = row.o_t_api; t_o_api = row.t_o_api })
-    (reply_header_of request) reply says short)
+    (request_header_of request) reply says short)
 
 -- a frame that says so of each success is no request to open
 pub frame_says : (Q : ℕ → Opened → Type 0) (bytes : List ℕ) → ((m : MessageFields) → message_reading bytes ≡ Ok m → PacketSays (Q m.context) (packet_reading m.payload)) → SuccessesAre Q bytes × IsNoOpening bytes
 frame_says Q bytes says = (λ m is large. message_success (Q m.context) m large ((says m is).successes large), λ m is. (says m is).opens_nothing)
 
 -- a reply's frame has a success only of what the request opened
-pub reply_frame_says : ItemsReadBack → (t next : AdapterTable) (bytes : List ℕ) (request : MessageFields) (reply : FrameReply) → message_reading bytes ≡ Ok request → ReplyHas t next reply → length (message_text (reply_message (reply_header_of request) reply)) ≤ 2048 → SuccessesAre (IsSuccessOf t next bytes) (message_text (reply_message (reply_header_of request) reply)) × IsNoOpening (message_text (reply_message (reply_header_of request) reply))
+pub reply_frame_says : ItemsReadBack → (t next : AdapterTable) (bytes : List ℕ) (request : MessageFields) (reply : FrameReply) → message_reading bytes ≡ Ok request → ReplyHas t next reply → length (message_text (reply_message (request_header_of request) reply)) ≤ 2048 → SuccessesAre (IsSuccessOf t next bytes) (message_text (reply_message (request_header_of request) reply)) × IsNoOpening (message_text (reply_message (request_header_of request) reply))
 reply_frame_says back t next bytes request reply reads says short =
-    frame_says (IsSuccessOf t next bytes) (message_text (reply_message (reply_header_of request) reply)) (reply_says_so back t next bytes request reply reads says short)
+    frame_says (IsSuccessOf t next bytes) (message_text (reply_message (request_header_of request) reply)) (reply_says_so back t next bytes request reply reads says short)

@@ -1,14 +1,6 @@
-pub mod Texts
-pub mod Serving
 pub mod Framing
 pub mod Answering
 pub mod Requests
-pub mod Slots
-pub mod Rows
-pub mod Admissions
-pub mod RequestTexts
 pub mod OwnIds
-pub mod RequestedIds
 pub mod RequestedRows
-pub mod ScannerEffects
 pub mod SentStreams

@@ -28,7 +28,7 @@ use Rattle.cip_productions.specs.Kinds.{is_owner}
 use Rattle.adapter_table.specs.Shaping.{all_pass}
 use Rattle.scanner_table.specs.declared.profile.ScannerProfile.{ScannerProfile}
 use Rattle.scanner_table.specs.declared.profile.SlotConfig.{SlotConfig}
-use Rattle.scanner_table.specs.declared.slot.Connection.{Connection}
+use Rattle.scanner_table.specs.declared.slot.SlotConnection.{SlotConnection}
 use Rattle.scanner_table.specs.declared.slot.PendingOpen as pending
 use Rattle.scanner_table.specs.declared.slot.Slot.{Slot}
 use Rattle.scanner_table.specs.declared.slot.SlotState.{SlotState}
@@ -55,13 +55,13 @@ use Rattle.scanner_table.specs.Ticks.{clocked_table, expired_state, expired, exp
 use Rattle.cip_tables.specs.declared.table.DeviceTable.TheVariants.{Scanner}
 use Rattle.cip_tables.specs.Step.{as_scanner, step}
 use Rattle.device_laws.specs.Sizes.{IsSmall, AnswersAreSmall}
-use Rattle.device_laws.proofs.Lists.{all_both, all_filtered, all_mapped, all_more, all_found}
-use Rattle.device_laws.proofs.Texts.{either}
+use Rattle.device_laws.specs.Lemmas.Lists.{all_both, all_filtered, all_mapped, all_more, all_found}
+use Rattle.device_laws.specs.Lemmas.Texts.{either}
 use Rattle.std.specs.Option.{IfSome}
 use Rattle.reply_ids.specs.OwnIds.{IsDrawnId, FrameAsks, ScannersAskOwnIds}
 use Rattle.reply_ids.specs.TargetStreams.{StreamCame, StreamsComeWithEvents}
-use Rattle.reply_ids.proofs.RequestTexts.{SizeFits, IsMulticast, SentAsks, requests_ask}
-use Rattle.reply_ids.proofs.Rows.{all_contained}
+use Rattle.reply_ids.specs.Lemmas.RequestTexts.{SizeFits, IsMulticast, SentAsks, requests_ask}
+use Rattle.reply_ids.specs.Lemmas.Rows.{all_contained}
 
 -- ---- slots of a profile without a fault
 
@@ -204,7 +204,7 @@ answered_asks t indexed o (Err why) = record { sent = tt; profile_is = refl; str
 answered_asks t indexed o (Ok (answer.Refused r)) = record { sent = tt; profile_is = refl; streams_are = refl }
 answered_asks t indexed o (Ok (answer.Opened success)) = success_asks t indexed o success (first_case (answer_tests o.requested success (is_id_free t indexed success.t_o_id)))
 
-closed_asks : (t : ScannerTable) (indexed : IndexedSlot) (c : Connection) (session : Option Session) → Asks t.profile t.streams (closed_within t indexed c session)
+closed_asks : (t : ScannerTable) (indexed : IndexedSlot) (c : SlotConnection) (session : Option Session) → Asks t.profile t.streams (closed_within t indexed c session)
 closed_asks t indexed c None = record { sent = tt; profile_is = refl; streams_are = refl }
 closed_asks t indexed c (Some session) =
     either (Asks t.profile t.streams) (has_request t) (close_requested t indexed c session) (exhausted t indexed)
@@ -292,7 +292,7 @@ cut_asks back t happens (Some stream) =
 
 -- ---- datagrams
 
-connected_asks : (t : ScannerTable) (happens : Event) (indexed : IndexedSlot) (d : DatagramFields) (c : Connection) → NextAsks t happens (connected t indexed d c)
+connected_asks : (t : ScannerTable) (happens : Event) (indexed : IndexedSlot) (d : DatagramFields) (c : SlotConnection) → NextAsks t happens (connected t indexed d c)
 connected_asks t happens indexed d c =
     either (NextAsks t happens) (length d.payload == indexed.config.in_len) (sized t indexed d c) _
     (either (NextAsks t happens) (accepts_sequence c.last d.sequence) (accepted t indexed d c) _
@@ -395,7 +395,6 @@ found_short t number none = all_found IsShort (is_numbered number) (indexed_slot
 
 step_asks : ItemsReadBack → (t : ScannerTable) (happens : Event) → profile_fault t.profile ≡ None → OkAsks t happens (scanner_step t happens)
 unfolding received frame stream_cut write read start stop
-step_asks back t (event.Request peer bytes) none = tt
 step_asks back t (event.StreamOpened number peer) none = opens_ask back t number peer
 step_asks back t (event.Frame number bytes) none = frame_of_asks back t (event.Frame number bytes) bytes (find (is_stream number) t.streams) none
 step_asks back t (event.StreamCut number) none = cut_asks back t (event.StreamCut number) (find (is_stream number) t.streams)
@@ -406,6 +405,7 @@ step_asks back t (event.Tick ms) none = tick_asks back t (event.Tick ms) ms none
 step_asks back t (event.Mode run) none = mode_asks t (event.Mode run) run
 step_asks back t (event.Start number) none = start_asks back t (event.Start number) (slot_at t number) (found_short t number none)
 step_asks back t (event.Stop number) none = stop_asks back t (event.Stop number) (slot_at t number)
+step_asks back t other none = tt
 
 pub scanners_ask : ItemsReadBack → AnswersAreSmall → ScannersAskOwnIds
 unfolding step

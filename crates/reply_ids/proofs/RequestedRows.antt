@@ -4,7 +4,8 @@ use Rattle.std.specs.List.{AllByRecursion}
 use Rattle.std.specs.Option.{IfSome}
 use Rattle.std.specs.Str.{bytes_eq}
 use Rattle.std.proofs.lemmas.Bool.{and_parts}
-use Rattle.std.proofs.lemmas.Bool.Decides.{nat_tests}
+use Rattle.std.proofs.lemmas.Option.{same_Some as some_row}
+use Rattle.base_lemmas.specs.Numbers.{number_same}
 use Rattle.cip_types.specs.declared.names.ConnId.{ConnId}
 use Rattle.cip_types.specs.declared.names.Node.{Node}
 use Rattle.cip_types.specs.Texts.{Tailed}
@@ -26,7 +27,7 @@ use Rattle.cip_router.specs.declared.refusal.Refusal.{Refusal}
 use Rattle.cip_router.specs.declared.refusal.Status.TheVariants as status
 use Rattle.cip_router.specs.Requests.{RouterRequestFields, nothing, refused, closing, assembly, opening, router_request_reading}
 use Rattle.cip_router.specs.Commands.{command_of, is_silent}
-use Rattle.cip_router.specs.Frames.{ReplyHeader, reply_header_of, reply_header_in, misfit_of, frame_fields, protocol_text, frame_reading}
+use Rattle.cip_router.specs.Frames.{RequestHeader, request_header_of, request_header_in, wrong_length_of, frame_fields, protocol_text, frame_reading}
 use Rattle.cip_router.specs.Replies.{got}
 use Rattle.adapter_table.specs.declared.profile.Profile.{Profile}
 use Rattle.adapter_table.specs.Connections.{Row}
@@ -42,9 +43,9 @@ use Rattle.adapter_table.specs.Requests.{Next, Served, judged_open, admitted_ope
 use Rattle.adapter_table.specs.Rows.{has_triad, is_established, is_member, Each}
 use Rattle.adapter_table.specs.Sound.{IdsAreDrawn, IsSound, MulticastIdIsDrawn}
 use Rattle.adapter_table.specs.Streams.{is_stream, without_stream, has_session, registered_table}
-use Rattle.adapter_table.proofs.CheckLemmas.{admitted_is}
-use Rattle.device_laws.proofs.Lists.{all_both, all_filtered}
-use Rattle.device_laws.proofs.Texts.{either}
+use Rattle.adapter_table.specs.Lemmas.CheckLemmas.{admitted_is}
+use Rattle.device_laws.specs.Lemmas.Lists.{all_both, all_filtered}
+use Rattle.device_laws.specs.Lemmas.Texts.{either}
 use Rattle.reply_ids.specs.Requests.{request_asks, packet_asks, message_asks, asks_id, IsOwnId, IsOldOrRequested, NewConnectionsAreRequested}
 
 -- ---- the T->O id of a new connection
@@ -53,9 +54,6 @@ member_parts : (point : ℕ) (row : Row) → is_member point row ≡ true → (i
 member_parts point row is =
     let first = and_parts (is_established row) (row.multicast && row.produced == point) is in
     (first.0, (and_parts row.multicast (row.produced == point) first.1).0)
-
-some_row : (a b : Row) → Some a ≡ Some b → a ≡ b
-some_row a b e = cc
 
 own_step : (profile : Profile) (next_id point : ℕ) (row member : Row) (rest : Option Row) (b : Bool) → next_id ≤ 16777216 → MulticastIdIsDrawn profile next_id row → (rest ≡ Some member → IsOwnId profile member.t_o_id) → is_member point row ≡ b → cond b (Some row) rest ≡ Some member → IsOwnId profile member.t_o_id
 own_step profile next_id point row member rest true left drawn on passes is =
@@ -147,7 +145,7 @@ packet_rows : (O : Row → Type 0) (t : AdapterTable) (peer : Node) (reading : R
 packet_rows O t peer (Err why) makes rows = rows
 packet_rows O t peer (Ok packet) makes rows = replied_rows O t (served t peer (router_request_reading packet.payload)) (served_rows O t peer (router_request_reading packet.payload) (makes packet refl) rows) rows
 
-handled_rows : (O : Row → Type 0) (t : AdapterTable) (stream : Stream) (echo : ReplyHeader) (body : List ℕ) (requested : Command) → PacketMakes O t (packet_reading body) → RowsAre O t → HandledRows O (handled t stream echo body requested)
+handled_rows : (O : Row → Type 0) (t : AdapterTable) (stream : Stream) (echo : RequestHeader) (body : List ℕ) (requested : Command) → PacketMakes O t (packet_reading body) → RowsAre O t → HandledRows O (handled t stream echo body requested)
 unfolding handled
 handled_rows O t stream echo body command.Nop makes rows = rows
 handled_rows O t stream echo body command.ListServices makes rows = rows
@@ -160,17 +158,17 @@ handled_rows O t stream echo body command.Other makes rows = rows
 abbrev NextRows : (Row → Type 0) → Next → Type 0
 NextRows O next = RowsAre O next.1
 
-misfit_rows : (O : Row → Type 0) (t : AdapterTable) (stream : Stream) (header : Option Tailed) → RowsAre O t → NextRows O (frame_answer t stream (misfit_of header))
-misfit_rows O t stream None rows = rows
-misfit_rows O t stream (Some h) rows =
-    either (NextRows O) (is_silent (command_of (reply_header_in h.0).command)) (plain_answer BadFrame, t) (framed stream.number (reply_header_in h.0) (refusal t encap.InvalidLength)) rows rows
+wrong_length_rows : (O : Row → Type 0) (t : AdapterTable) (stream : Stream) (header : Option Tailed) → RowsAre O t → NextRows O (frame_answer t stream (wrong_length_of header))
+wrong_length_rows O t stream None rows = rows
+wrong_length_rows O t stream (Some h) rows =
+    either (NextRows O) (is_silent (command_of (request_header_in h.0).command)) (plain_answer BadFrame, t) (framed stream.number (request_header_in h.0) (refusal t encap.InvalidLength)) rows rows
 
 abbrev MessageMakes : (Row → Type 0) → AdapterTable → Result MessageFields EncapFault → Type 0
 MessageMakes O t reading = (m : MessageFields) → reading ≡ Ok m → PacketMakes O t (packet_reading m.payload)
 
 message_rows : (O : Row → Type 0) (t : AdapterTable) (stream : Stream) (header : Option Tailed) (reading : Result MessageFields EncapFault) → MessageMakes O t reading → RowsAre O t → NextRows O (frame_answer t stream (frame_fields header reading))
-message_rows O t stream header (Err why) makes rows = misfit_rows O t stream header rows
-message_rows O t stream header (Ok m) makes rows = handled_rows O t stream (reply_header_of m) m.payload (command_of m.command) (makes m refl) rows
+message_rows O t stream header (Err why) makes rows = wrong_length_rows O t stream header rows
+message_rows O t stream header (Ok m) makes rows = handled_rows O t stream (request_header_of m) m.payload (command_of m.command) (makes m refl) rows
 
 frame_rows : (O : Row → Type 0) (t : AdapterTable) (bytes : List ℕ) (found : Option Stream) → MessageMakes O t (message_reading bytes) → RowsAre O t → IfOk (frame_of t bytes found) (NextRows O)
 unfolding frame_reading
@@ -179,15 +177,12 @@ frame_rows O t bytes (Some stream) makes rows = message_rows O t stream _ (messa
 
 -- ---- the law
 
-own_number : (n : ℕ) → (n == n) ≡ true
-own_number n = grind (arith, nat_tests)
-
 -- the bytes ask for the id of the request that they are
 requested_by : (bytes : List ℕ) (m : MessageFields) (packet : PacketFields) (large : Bool) (request : OpenFields) → message_reading bytes ≡ Ok m → packet_reading m.payload ≡ Ok packet → router_request_reading packet.payload ≡ opening large request → asks_id request.t_o_id.0 bytes ≡ true
 unfolding asks_id
 requested_by bytes m packet large request one two three =
     let id = request.t_o_id.0 in
-    ap (message_asks request.t_o_id.0) one ∙ ap (packet_asks request.t_o_id.0) two ∙ ap (request_asks request.t_o_id.0) three ∙ own_number request.t_o_id.0
+    ap (message_asks request.t_o_id.0) one ∙ ap (packet_asks request.t_o_id.0) two ∙ ap (request_asks request.t_o_id.0) three ∙ number_same request.t_o_id.0
 
 row_requested : (t : AdapterTable) (bytes : List ℕ) (peer : Node) (request : OpenFields) (admitted : Admitted) → IsSound t → asks_id request.t_o_id.0 bytes ≡ true → admission t request ≡ Ok admitted → IsOldOrRequested t bytes (opened_row t peer request admitted)
 unfolding opened_row

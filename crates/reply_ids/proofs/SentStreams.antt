@@ -1,8 +1,10 @@
 -- A device sends over the streams of its table, and over the one that the event opens.
-use Rattle.std.proofs.Common.{◌≡◌, inl, inr, ℕ, ◌==◌, ◌||◌, Bool, true, false, cond, List, [], ◌∷◌, map, find, Option, Some, None, Result, Ok, Err, IfOk, refl, sym, ◌∙◌, ap, subst, arith}
+use Rattle.std.proofs.Common.{◌≡◌, inl, inr, ℕ, ◌==◌, ◌||◌, Bool, true, false, cond, List, [], ◌∷◌, map, find, Option, Some, None, Result, Ok, Err, IfOk, refl, sym, ◌∙◌, ap, subst}
 use Rattle.std.specs.List.{AllByRecursion, list_any}
-use Rattle.std.proofs.lemmas.Bool.Decides.{nat_tests}
 use Rattle.std.specs.Option.{option_and_then}
+use Rattle.std.proofs.lemmas.Option.{same_Some}
+use Rattle.base_lemmas.specs.Booleans.{or_true}
+use Rattle.base_lemmas.specs.Numbers.{number_same}
 use Rattle.cip_events.specs.declared.event.Answer.{Answer}
 use Rattle.cip_events.specs.declared.event.Event.{Event}
 use Rattle.cip_events.specs.declared.event.Event.TheVariants as event
@@ -31,11 +33,11 @@ use Rattle.scanner_table.specs.Step.{scanner_step}
 use Rattle.cip_tables.specs.declared.table.DeviceTable.{DeviceTable}
 use Rattle.cip_tables.specs.declared.table.DeviceTable.TheVariants.{Adapter, Scanner}
 use Rattle.cip_tables.specs.Step.{DeviceNext, as_adapter, as_scanner, step}
-use Rattle.device_laws.proofs.Lists.{all_both, all_more}
-use Rattle.device_laws.proofs.Texts.{either}
+use Rattle.device_laws.specs.Lemmas.Lists.{all_both, all_more}
+use Rattle.device_laws.specs.Lemmas.Texts.{either}
 use Rattle.reply_ids.specs.Replies.{IsAnswerTo, RepliesCarryOpenedIds}
 use Rattle.reply_ids.specs.OwnStreams.{GoesOverItsOwn, DevicesSendOverTheirStreams}
-use Rattle.reply_ids.proofs.ScannerEffects.{SameStreams, EffectsDo, NextDoes, OkDoes, event_does}
+use Rattle.reply_ids.specs.Lemmas.ScannerEffects.{SameStreams, EffectsDo, NextDoes, OkDoes, event_does}
 
 -- ---- a scanner
 
@@ -53,20 +55,10 @@ then_sends t first second one other = record {
   sent = all_both (IsOver t) first.sent second.sent one.sent (all_more (IsOver first.table) (IsOver t) (λ sent is. sym (one.streams sent.stream) ∙ is) second.sent other.sent);
 }
 
-own_number : (n : ℕ) → (n == n) ≡ true
-own_number n = grind (arith, nat_tests)
-
-same_session : (a b : Session) → Some a ≡ Some b → a ≡ b
-same_session a b e = cc
-
 at_number : (number : ℕ) (stage : Stage) (session : Session) → session_at number stage ≡ Some session → session.stream ≡ number
 at_number number Waiting session is = absurd (let e = is in cc)
-at_number number (Up handle) session is = ap (λ (s : Session). s.stream) (sym (same_session (record { stream = number; handle = handle }) session is))
+at_number number (Up handle) session is = ap (λ (s : Session). s.stream) (sym (same_Some (record { stream = number; handle = handle }) session is))
 at_number number Unused session is = absurd (let e = is in cc)
-
-or_true : (a : Bool) → (a || true) ≡ true
-or_true true = refl
-or_true false = refl
 
 -- a session's stream is one of the table's
 session_among : (target : Node) (session : Session) (streams : List TargetStream) → option_and_then session_on (find (is_to target) streams) ≡ Some session → list_any (is_stream session.stream) streams ≡ true
@@ -77,7 +69,7 @@ session_among target session (s ∷ streams) is =
     among : (b : Bool) (rest : Option TargetStream) → option_and_then session_on (cond b (Some s) rest) ≡ Some session → (option_and_then session_on rest ≡ Some session → list_any (is_stream session.stream) streams ≡ true) → list_any (is_stream session.stream) (s ∷ streams) ≡ true
     among true rest found on =
         let same : session.stream ≡ s.number = at_number s.number s.stage session found in
-        let here : is_stream session.stream s ≡ true = ap (λ (n : ℕ). is_stream n s) same ∙ own_number s.number in
+        let here : is_stream session.stream s ≡ true = ap (λ (n : ℕ). is_stream n s) same ∙ number_same s.number in
         rw here refl
     among false rest found on = let more = on found in rw more (or_true (is_stream session.stream s))
 
@@ -120,7 +112,7 @@ ok_goes t happens (Ok next) does = next_goes t happens next does
 registering_goes : (t : ScannerTable) (number : ℕ) (target : Node) → NextGoes t (event.StreamOpened number target) (done (registering_on t number target))
 registering_goes t number target = (
   (λ n to.
-      let own : (number == n) ≡ true = ap (λ (m : ℕ). number == m) (sym (same_number number n to)) ∙ own_number number in
+      let own : (number == n) ≡ true = ap (λ (m : ℕ). number == m) (sym (same_number number n to)) ∙ number_same number in
       rw own (or_true (list_any (is_stream n) t.streams))),
   tt,
 )
@@ -133,15 +125,7 @@ opens_goes t number target =
 scanner_goes : (t : ScannerTable) (happens : Event) → IfOk (scanner_step t happens) (NextGoes t happens)
 scanner_goes t (event.Request peer bytes) = tt
 scanner_goes t (event.StreamOpened number peer) = opens_goes t number peer
-scanner_goes t (event.Frame number bytes) = ok_goes t (event.Frame number bytes) (scanner_step t (event.Frame number bytes)) (event_does Sends effects_send t (event.Frame number bytes))
-scanner_goes t (event.StreamCut number) = ok_goes t (event.StreamCut number) (scanner_step t (event.StreamCut number)) (event_does Sends effects_send t (event.StreamCut number))
-scanner_goes t (event.Datagram peer bytes) = ok_goes t (event.Datagram peer bytes) (scanner_step t (event.Datagram peer bytes)) (event_does Sends effects_send t (event.Datagram peer bytes))
-scanner_goes t (event.Write point bytes) = ok_goes t (event.Write point bytes) (scanner_step t (event.Write point bytes)) (event_does Sends effects_send t (event.Write point bytes))
-scanner_goes t (event.Read point) = ok_goes t (event.Read point) (scanner_step t (event.Read point)) (event_does Sends effects_send t (event.Read point))
-scanner_goes t (event.Tick ms) = ok_goes t (event.Tick ms) (scanner_step t (event.Tick ms)) (event_does Sends effects_send t (event.Tick ms))
-scanner_goes t (event.Mode run) = ok_goes t (event.Mode run) (scanner_step t (event.Mode run)) (event_does Sends effects_send t (event.Mode run))
-scanner_goes t (event.Start number) = ok_goes t (event.Start number) (scanner_step t (event.Start number)) (event_does Sends effects_send t (event.Start number))
-scanner_goes t (event.Stop number) = ok_goes t (event.Stop number) (scanner_step t (event.Stop number)) (event_does Sends effects_send t (event.Stop number))
+scanner_goes t other = ok_goes t other (scanner_step t other) (event_does Sends effects_send t other)
 
 -- ---- an adapter
 
@@ -166,19 +150,11 @@ never_peer peer number e = absurd cc
 
 answer_goes : (t next : AdapterTable) (happens : Event) (answer : Answer) → adapter_step t happens ≡ Ok (answer, next) → (frame : Frame) → IsAnswerTo t next happens frame → GoesOverItsOwn (Adapter t) happens frame
 answer_goes t next (event.Request peer bytes) answer said frame is = λ number to. never_peer peer number (sym is ∙ to)
-answer_goes t next (event.StreamOpened stream peer) answer said frame is = absurd is
 answer_goes t next (event.Frame number bytes) answer said frame is = λ n to.
     let same : n ≡ number = same_number n number (sym to ∙ is.to) in
     let there : list_any (adapter_streams.is_stream n) t.streams ≡ true = ap (λ (m : ℕ). list_any (adapter_streams.is_stream m) t.streams) same ∙ came_over t number bytes (answer, next) said in
     rw there refl
-answer_goes t next (event.StreamCut stream) answer said frame is = absurd is
-answer_goes t next (event.Datagram peer bytes) answer said frame is = absurd is
-answer_goes t next (event.Write point bytes) answer said frame is = absurd is
-answer_goes t next (event.Read point) answer said frame is = absurd is
-answer_goes t next (event.Tick ms) answer said frame is = absurd is
-answer_goes t next (event.Mode run) answer said frame is = absurd is
-answer_goes t next (event.Start slot) answer said frame is = absurd is
-answer_goes t next (event.Stop slot) answer said frame is = absurd is
+answer_goes t next other answer said frame is = absurd is
 
 -- ---- a device
 

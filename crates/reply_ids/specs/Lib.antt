@@ -6,3 +6,4 @@ pub mod OwnIds
 pub mod TargetStreams
 pub mod Requests
 pub mod OwnStreams
+pub mod Lemmas

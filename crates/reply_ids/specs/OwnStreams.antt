@@ -4,8 +4,7 @@ use Rattle.std.specs.Prelude.{ℕ, ◌≡◌, ◌==◌, ◌||◌, Bool, true, fa
 use Rattle.std.specs.List.{AllByRecursion, list_any}
 use Rattle.cip_events.specs.declared.event.Answer.{Answer}
 use Rattle.cip_events.specs.declared.event.Event.{Event}
-use Rattle.cip_events.specs.declared.event.Event.TheVariants.{Request, StreamOpened, StreamCut, Datagram, Write, Read, Tick, Mode, Start, Stop}
-use Rattle.cip_events.specs.declared.event.Event.TheVariants as event
+use Rattle.cip_events.specs.declared.event.Event.TheVariants.{StreamOpened}
 use Rattle.cip_events.specs.declared.event.Frame.{Frame}
 use Rattle.cip_events.specs.declared.event.Recipient.TheVariants as recipient
 use Rattle.adapter_table.specs.Streams as adapters
@@ -22,17 +21,8 @@ has_stream (Scanner t) number = list_any (scanners.is_stream number) t.streams
 
 -- the event is the mark that the stream of this number opens
 abbrev pub opens_stream : ℕ → Event → Bool
-opens_stream number (Request peer bytes) = false
 opens_stream number (StreamOpened stream peer) = stream == number
-opens_stream number (event.Frame stream bytes) = false
-opens_stream number (StreamCut stream) = false
-opens_stream number (Datagram peer bytes) = false
-opens_stream number (Write point bytes) = false
-opens_stream number (Read point) = false
-opens_stream number (Tick ms) = false
-opens_stream number (Mode run) = false
-opens_stream number (Start slot) = false
-opens_stream number (Stop slot) = false
+opens_stream number other = false
 
 -- a frame that goes over a stream goes over an open stream of the table, or over the one that the event opens
 abbrev pub GoesOverItsOwn : DeviceTable → Event → Frame → Type 0

@@ -7,7 +7,7 @@ use Rattle.cip_encap.specs.Message.{MessageFields}
 use Rattle.cip_encap.specs.Reading.{message_reading}
 use Rattle.cip_events.specs.declared.event.Answer.{Answer}
 use Rattle.cip_events.specs.declared.event.Event.{Event}
-use Rattle.cip_events.specs.declared.event.Event.TheVariants.{Request, StreamOpened, StreamCut, Datagram, Write, Read, Tick, Mode, Start, Stop}
+use Rattle.cip_events.specs.declared.event.Event.TheVariants.{Request}
 use Rattle.cip_events.specs.declared.event.Event.TheVariants as event
 use Rattle.cip_events.specs.declared.event.Frame.{Frame}
 use Rattle.cip_events.specs.declared.event.Recipient.TheVariants as recipient
@@ -48,16 +48,8 @@ pub record IsReplyTo (t next : AdapterTable) (number : ℕ) (bytes : List ℕ) (
 -- an adapter sends frames only where one came, or a request without a stream
 abbrev pub IsAnswerTo : AdapterTable → AdapterTable → Event → Frame → Type 0
 IsAnswerTo t next (Request peer bytes) frame = frame.to ≡ recipient.Peer peer
-IsAnswerTo t next (StreamOpened stream peer) frame = ⊥
 IsAnswerTo t next (event.Frame number bytes) frame = IsReplyTo t next number bytes frame
-IsAnswerTo t next (StreamCut stream) frame = ⊥
-IsAnswerTo t next (Datagram peer bytes) frame = ⊥
-IsAnswerTo t next (Write point bytes) frame = ⊥
-IsAnswerTo t next (Read point) frame = ⊥
-IsAnswerTo t next (Tick ms) frame = ⊥
-IsAnswerTo t next (Mode run) frame = ⊥
-IsAnswerTo t next (Start slot) frame = ⊥
-IsAnswerTo t next (Stop slot) frame = ⊥
+IsAnswerTo t next other frame = ⊥
 
 -- so is each frame that an adapter sends at an event
 abbrev pub RepliesCarryOpenedIds : Type 0

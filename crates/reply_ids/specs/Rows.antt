@@ -6,7 +6,7 @@ use Rattle.std.specs.List.{AllByRecursion, Contains}
 use Rattle.cip_types.specs.declared.names.Node.{Node}
 use Rattle.cip_events.specs.declared.event.Answer.{Answer}
 use Rattle.cip_events.specs.declared.event.Event.{Event}
-use Rattle.cip_events.specs.declared.event.Event.TheVariants.{Request, StreamOpened, StreamCut, Datagram, Write, Read, Tick, Mode, Start, Stop}
+use Rattle.cip_events.specs.declared.event.Event.TheVariants.{Request, StreamOpened}
 use Rattle.cip_events.specs.declared.event.Event.TheVariants as event
 use Rattle.cip_fwdopen.specs.Open.{OpenFields}
 use Rattle.adapter_table.specs.Connections.{Row}
@@ -80,16 +80,8 @@ pub record IsNewOver (t next : AdapterTable) (number : ℕ) (bytes : List ℕ) (
 
 abbrev pub IsNewRow : AdapterTable → AdapterTable → Event → Row → Type 0
 IsNewRow t next (Request peer bytes) row = IsNewOf t next peer row
-IsNewRow t next (StreamOpened stream peer) row = ⊥
 IsNewRow t next (event.Frame number bytes) row = IsNewOver t next number bytes row
-IsNewRow t next (StreamCut stream) row = ⊥
-IsNewRow t next (Datagram peer bytes) row = ⊥
-IsNewRow t next (Write point bytes) row = ⊥
-IsNewRow t next (Read point) row = ⊥
-IsNewRow t next (Tick ms) row = ⊥
-IsNewRow t next (Mode run) row = ⊥
-IsNewRow t next (Start slot) row = ⊥
-IsNewRow t next (Stop slot) row = ⊥
+IsNewRow t next other row = ⊥
 
 abbrev pub RowCame : AdapterTable → AdapterTable → Event → Row → Type 0
 RowCame t next event row = WasThere t row ⊎ IsNewRow t next event row

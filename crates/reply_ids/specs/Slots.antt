@@ -6,7 +6,7 @@ use Rattle.cip_events.specs.declared.event.Answer.{Answer}
 use Rattle.cip_events.specs.declared.event.Event.{Event}
 use Rattle.cip_fwdopen.specs.declared.reply.Opened.{Opened}
 use Rattle.scanner_table.specs.declared.profile.SlotConfig.{SlotConfig}
-use Rattle.scanner_table.specs.declared.slot.Connection.{Connection}
+use Rattle.scanner_table.specs.declared.slot.SlotConnection.{SlotConnection}
 use Rattle.scanner_table.specs.declared.slot.PendingOpen as pending
 use Rattle.scanner_table.specs.declared.slot.SlotState.{SlotState}
 use Rattle.scanner_table.specs.declared.slot.SlotState.TheVariants.{Idle, Opening, Established, TimedOut, Closing}
@@ -19,22 +19,22 @@ use Rattle.device_laws.specs.Ids.{Replied}
 use Rattle.device_laws.specs.Carrying.{Waits}
 
 -- one connection of one opening, with the same ids
-pub record IsSameConnection (c d : Connection) : Type 0 where
+pub record IsSameConnection (c d : SlotConnection) : Type 0 where
   pub opening : d.opening ≡ c.opening
   pub link : d.link ≡ c.link
 
 -- the slot of this number and configuration had the connection already
-pub record WasEstablished (t : ScannerTable) (number : ℕ) (config : SlotConfig) (c : Connection) : Type 0 where
+pub record WasEstablished (t : ScannerTable) (number : ℕ) (config : SlotConfig) (c : SlotConnection) : Type 0 where
   pub place : IndexedSlot
   pub there : Contains (indexed_slots t) place
   pub number_is : place.number ≡ number
   pub config_is : place.config ≡ config
-  pub before : Connection
+  pub before : SlotConnection
   pub state : place.slot.state ≡ Established before
   pub same : IsSameConnection before c
 
 -- it waited for the connection's opening, and the event is the success that answers the opening's request, with these ids
-pub record IsEstablishedBy (t : ScannerTable) (event : Event) (number : ℕ) (config : SlotConfig) (c : Connection) : Type 0 where
+pub record IsEstablishedBy (t : ScannerTable) (event : Event) (number : ℕ) (config : SlotConfig) (c : SlotConnection) : Type 0 where
   pub opening : pending.PendingOpen
   pub waits : Waits t number config opening
   pub request_is : c.opening ≡ opening.request

@@ -1,8 +1,11 @@
 -- After a tick no slot has a deadline that has come.
-use Rattle.std.proofs.Common.{◌≡◌, ◌≢◌, ◌≤◌, ◌<◌, ◌⊎◌, inl, inr, ℕ, ◌+◌, Bool, true, false, cond, not, ◌&&◌, ◌||◌, ◌==◌, nat_le, nat_lt, List, [], ◌∷◌, filter, find, slice_get, Some, None, Result, Ok, Err, refl, sym, ◌∙◌, subst, arith}
+use Rattle.std.proofs.Common.{◌≡◌, ◌≤◌, ◌⊎◌, inl, inr, ℕ, ◌+◌, Bool, true, false, cond, not, ◌&&◌, ◌||◌, ◌==◌, nat_le, nat_lt, List, [], ◌∷◌, filter, find, slice_get, Some, None, Result, Ok, Err, refl, sym, ◌∙◌, subst, arith, eqb-true, leb-false}
 use Rattle.std.specs.List.{list_any, list_all}
-use Rattle.std.proofs.lemmas.Bool.{and_parts}
+use Rattle.std.proofs.lemmas.Bool.{and_parts, false_from_ne_true, eqb-false}
 use Rattle.std.proofs.lemmas.Bool.Decides.{nat_tests}
+use Rattle.std.proofs.lemmas.Option.{same_Some}
+use Rattle.base_lemmas.specs.Booleans.{or_true}
+use Rattle.base_lemmas.specs.Numbers.{other_number}
 use Rattle.cip_types.specs.Order.{inserted, in_order}
 use Rattle.cip_types.specs.declared.names.Ms.{Ms}
 use Rattle.cip_events.specs.declared.profile_fault.ProfileFault.TheVariants as wrong
@@ -27,9 +30,9 @@ use Rattle.scanner_table.specs.Closing.{idle_slot, given_up_state, given_up}
 use Rattle.scanner_table.specs.Productions.{written_state, state_is_due, produced_state, produced_table}
 use Rattle.scanner_table.specs.Ticks.{state_has_expired, has_expired, by_deadline, expired_slots, expired_state, expired, all_expired, state_is_overdue, is_overdue, all_given_up, clocked_table, advanced, ticked, tick}
 use Rattle.scanner_laws.specs.Deadlines.{StateIsAhead, DeadlinesAreAhead, TicksLeaveNoneLate}
-use Rattle.scanner_laws.proofs.SlotLookups.{some_is, get_same, Stands, indexed_at, Each, EachTwo, Apart, each_filter, two_filter, each_in_order, two_in_order, each_stands, slots_apart, slot_is, slot_stands}
-use Rattle.scanner_laws.proofs.Moves.{Kept, Local, given_does, expired_does, expired_leads, overdue_leads, ready_leads, stand_on}
-use Rattle.scanner_laws.proofs.Slotwise.{Relation, Slotwise, Goes, goes_widely, was_of}
+use Rattle.scanner_whole.specs.Lemmas.SlotLookups.{get_same, Stands, indexed_at, Each, EachTwo, Apart, each_filter, two_filter, each_in_order, two_in_order, each_stands, slots_apart, slot_is, slot_stands}
+use Rattle.scanner_whole.specs.Lemmas.Moves.{Kept, Local, given_does, expired_does, expired_leads, overdue_leads, ready_leads, stand_on}
+use Rattle.scanner_whole.specs.Lemmas.Slotwise.{Relation, Slotwise, Goes, goes_widely, was_of}
 
 -- ---- clocks stay while slots change
 
@@ -61,28 +64,15 @@ record Clears (test : SlotState → Bool) (indexed : IndexedSlot) (t u : Scanner
   local : Local indexed.number t u
   clear : (slot : Slot) → slice_get u.slots indexed.number ≡ Some slot → test slot.state ≡ false
 
-is_true_or : (b : Bool) → (b ≡ true → ⊥) → b ≡ false
-is_true_or true not_so = absurd (not_so refl)
-is_true_or false not_so = refl
-
-number_differs : (a b : ℕ) → (a == b) ≡ false → a ≢ b
-number_differs a b is same = absurd (grind (arith, nat_tests))
-
-number_is : (a b : ℕ) → (a == b) ≡ true → a ≡ b
-number_is a b is = grind (arith, nat_tests)
-
-number_flip : (a b : ℕ) → (a == b) ≡ false → (b == a) ≡ false
-number_flip a b is = grind (arith, nat_tests)
-
 left_step : (b : Bool) (test : SlotState → Bool) (indexed : IndexedSlot) (rest : List IndexedSlot) (t u : ScannerTable) → Left test (indexed ∷ rest) t → Clears test indexed t u → (other : IndexedSlot) → (indexed.number == other.number) ≡ b → Stands u other → test other.slot.state ≡ true → list_any (is_numbered other.number) rest ≡ true
 left_step true test indexed rest t u left clears other is stands holds =
-    let same : other.number ≡ indexed.number = sym (number_is indexed.number other.number is) in
+    let same : other.number ≡ indexed.number = sym (eqb-true indexed.number other.number is) in
     let clear : test other.slot.state ≡ false = clears.clear other.slot (subst (λ (n : ℕ). slice_get u.slots n ≡ Some other.slot) same stands.slot) in
     absurd (contrary (test other.slot.state) holds clear) where
       contrary : (b : Bool) → b ≡ true → b ≡ false → ⊥
       contrary b yes_so not_so = absurd cc
 left_step false test indexed rest t u left clears other is stands holds =
-    let before : Stands t other = record { config = subst (λ (p : ScannerProfile). slice_get p.slots other.number ≡ Some other.config) clears.local.profile stands.config; slot = sym (clears.local.elsewhere other.number (number_differs other.number indexed.number (number_flip indexed.number other.number is))) ∙ stands.slot } in
+    let before : Stands t other = record { config = subst (λ (p : ScannerProfile). slice_get p.slots other.number ≡ Some other.config) clears.local.profile stands.config; slot = sym (clears.local.elsewhere other.number (eqb-false other.number indexed.number (other_number indexed.number other.number is))) ∙ stands.slot } in
     behind (indexed.number == other.number) is (left other before holds) where
       behind : (b : Bool) → b ≡ false → (b || list_any (is_numbered other.number) rest) ≡ true → list_any (is_numbered other.number) rest ≡ true
       behind true not_so any = absurd cc
@@ -93,7 +83,7 @@ abbrev ClearsAt : (SlotState → Bool) → (IndexedSlot → Type 0) → (Scanner
 ClearsAt test Q effect = (t : ScannerTable) (indexed : IndexedSlot) → Stands t indexed → Q indexed → Clears test indexed t (effect t indexed).table
 
 sweep : (test : SlotState → Bool) (Q : IndexedSlot → Type 0) (effect : ScannerTable → IndexedSlot → Effect) → ClearsAt test Q effect → (rest : List IndexedSlot) (t : ScannerTable) → Each (Stands t) rest → EachTwo Apart rest → Each Q rest → Left test rest t → NoneIs test (on_each effect rest t).table
-sweep test Q effect clears [] t stand apart holds left = λ indexed stands. is_true_or (test indexed.slot.state) (λ is. absurd (empty (left indexed stands is))) where
+sweep test Q effect clears [] t stand apart holds left = λ indexed stands. false_from_ne_true (test indexed.slot.state) (λ is. absurd (empty (left indexed stands is))) where
   empty : false ≡ true → ⊥
   empty is = absurd cc
 sweep test Q effect clears (indexed ∷ rest) t stand apart holds left =
@@ -104,16 +94,12 @@ sweep test Q effect clears (indexed ∷ rest) t stand apart holds left =
 
 -- ---- a filter selects all slots of which its test holds
 
-or_true : (b : Bool) → (b || true) ≡ true
-or_true true = refl
-or_true false = refl
-
 contrary : (b : Bool) → b ≡ true → b ≡ false → ⊥
 contrary b yes_so not_so = absurd cc
 
 filter_step : (a b : Bool) (p q : IndexedSlot → Bool) (indexed first : IndexedSlot) (rest : List IndexedSlot) → q first ≡ a → p first ≡ b → cond a (Some first) (find q rest) ≡ Some indexed → p indexed ≡ true → (find q rest ≡ Some indexed → list_any q (filter p rest) ≡ true) → list_any q (cond b (first ∷ filter p rest) (filter p rest)) ≡ true
 filter_step true true p q indexed first rest passes kept is holds more = rw passes refl
-filter_step true false p q indexed first rest passes kept is holds more = absurd (contrary (p indexed) holds (subst (λ (x : IndexedSlot). p x ≡ false) (some_is first indexed is) kept))
+filter_step true false p q indexed first rest passes kept is holds more = absurd (contrary (p indexed) holds (subst (λ (x : IndexedSlot). p x ≡ false) (same_Some first indexed is) kept))
 filter_step false true p q indexed first rest passes kept is holds more = rw passes (more is)
 filter_step false false p q indexed first rest passes kept is holds more = more is
 
@@ -169,7 +155,7 @@ each_passes test (indexed ∷ rest) = passes_step test (test indexed.slot.state)
 set_clears : (test : SlotState → Bool) (t : ScannerTable) (indexed : IndexedSlot) (slot : Slot) → Stands t indexed → Local indexed.number t (with_slot t indexed.number slot) → test slot.state ≡ false → Clears test indexed t (with_slot t indexed.number slot)
 set_clears test t indexed slot stands local clear = record {
   local = local;
-  clear = λ now is. subst (λ (s : Slot). test s.state ≡ false) (some_is slot now (sym (get_same indexed.number t.slots slot indexed.slot stands.slot) ∙ is)) clear;
+  clear = λ now is. subst (λ (s : Slot). test s.state ≡ false) (same_Some slot now (sym (get_same indexed.number t.slots slot indexed.slot stands.slot) ∙ is)) clear;
 }
 
 expired_clears : (k : Ms) (t : ScannerTable) (indexed : IndexedSlot) (state : SlotState) → indexed.slot.state ≡ state → Stands t indexed → state_has_expired k state ≡ true → Local indexed.number t (expired_state t indexed state).table → Clears (state_has_expired k) indexed t (expired_state t indexed state).table
@@ -290,15 +276,12 @@ record Ticks (k : Ms) (u : ScannerTable) : Type 0 where
   expired : NoneIs (state_has_expired k) u
   overdue : NoneIs (state_is_overdue k) u
 
-later_than : (due now : ℕ) → nat_le due now ≡ false → now < due
-later_than due now is = grind (arith, nat_tests, is)
-
 ahead_is : (k : Ms) (state : SlotState) → state_has_expired k state ≡ false → state_is_overdue k state ≡ false → StateIsAhead k.0 state
 ahead_is k Idle not_expired not_overdue = tt
-ahead_is k (Opening o) not_expired not_overdue = later_than o.deadline.0 k.0 not_overdue
-ahead_is k (Established c) not_expired not_overdue = later_than c.deadline.0 k.0 not_expired
+ahead_is k (Opening o) not_expired not_overdue = leb-false o.deadline.0 k.0 not_overdue
+ahead_is k (Established c) not_expired not_overdue = leb-false c.deadline.0 k.0 not_expired
 ahead_is k (TimedOut link) not_expired not_overdue = tt
-ahead_is k (Closing c) not_expired not_overdue = later_than c.deadline.0 k.0 not_overdue
+ahead_is k (Closing c) not_expired not_overdue = leb-false c.deadline.0 k.0 not_overdue
 
 tick_ends : (t : ScannerTable) → 1 ≤ t.profile.open_timeout → Ticks t.clock (produced_table (advanced t).table)
 unfolding produced_table

@@ -10,14 +10,14 @@ use Rattle.scanner_table.specs.declared.slot.Slot.{Slot}
 use Rattle.scanner_table.specs.declared.slot.SlotState.{SlotState}
 use Rattle.scanner_table.specs.declared.slot.SlotState.TheVariants.{Idle, Opening, Established, TimedOut, Closing}
 use Rattle.scanner_table.specs.declared.table.ScannerTable.{ScannerTable}
-use Rattle.scanner_table.specs.Slots.{is_closed}
 use Rattle.scanner_table.specs.Requests.{connection_id}
 use Rattle.scanner_table.specs.Opening.{opening_slot}
 use Rattle.scanner_table.specs.Productions.{written_state, state_is_due, produced_state}
-use Rattle.scanner_laws.specs.Runs.{StepsLead, EventsLead}
-use Rattle.scanner_laws.specs.Drawn.{WantsDrawn, Began, OpeningsBegin}
-use Rattle.scanner_laws.proofs.Events.{steps_lead, events_lead}
-use Rattle.scanner_laws.proofs.Slotwise.{Later, Relation, SlotwiseAlways, Goes, goes_always, of_each_change}
+use Rattle.scanner_whole.specs.Runs.{StepsLead, EventsLead}
+use Rattle.scanner_whole.specs.Drawn.{WantsDrawn}
+use Rattle.scanner_laws.specs.Openings.{Began, OpeningsBegin}
+use Rattle.scanner_whole.specs.Lemmas.Events.{steps_lead, events_lead}
+use Rattle.scanner_whole.specs.Lemmas.Slotwise.{Later, Relation, SlotwiseAlways, Goes, goes_always, of_each_change}
 
 -- ---- openings that begin
 
@@ -62,13 +62,6 @@ opens_after t u v number config a b c first next before behind = λ opening is. 
 next_drawn : (profile : ScannerProfile) (n : ℕ) (multicast : Bool) → WantsDrawn profile n (cond multicast n (n + 1)) multicast (cond multicast None (Some (connection_id profile n)))
 next_drawn profile n true = tt
 next_drawn profile n false = record { counter = n; is = refl; begins = omega arith; ends = omega arith }
-
-not_opening : (state : SlotState) (opening : pending.PendingOpen) → is_closed state ≡ true → state ≡ Opening opening → ⊥
-not_opening Idle opening closed_before is = absurd cc
-not_opening (Opening o) opening closed_before is = absurd cc
-not_opening (Established c) opening closed_before is = absurd cc
-not_opening (TimedOut link) opening closed_before is = absurd cc
-not_opening (Closing c) opening closed_before is = absurd cc
 
 -- the same state, if it is opening
 written_opening : (state : SlotState) (opening : pending.PendingOpen) → written_state state ≡ Opening opening → state ≡ Opening opening

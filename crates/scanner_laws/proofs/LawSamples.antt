@@ -11,11 +11,13 @@ use Rattle.scanner_table.specs.Datagrams.{received}
 use Rattle.scanner_table.specs.Productions.{produced_table}
 use Rattle.scanner_table.specs.Ticks.{all_expired, all_given_up, tick}
 use Rattle.scanner_table.specs.Points.{write, start, stop}
-use Rattle.scanner_laws.specs.Runs.{table_after}
-use Rattle.scanner_laws.specs.Counters.{CountsOn}
-use Rattle.scanner_laws.specs.Drawn.{IsDrawn, WantsDrawn, Began, StateIsDrawn, OpensAnew, id_of, IdsAreOwn}
-use Rattle.scanner_laws.specs.Producers.{ProducesAsItself}
-use Rattle.scanner_laws.specs.Deadlines.{SlotWaits, SlotIsAhead}
+use Rattle.scanner_whole.specs.Runs.{table_after}
+use Rattle.scanner_whole.specs.Counters.{CountsOn}
+use Rattle.scanner_whole.specs.Drawn.{IsDrawn, WantsDrawn, StateIsDrawn, id_of, IdsAreOwn}
+use Rattle.scanner_laws.specs.Openings.{Began, OpensAnew}
+use Rattle.scanner_whole.specs.Producers.{ProducesAsItself}
+use Rattle.scanner_whole.specs.Waiting.{SlotWaits}
+use Rattle.scanner_laws.specs.Deadlines.{SlotIsAhead}
 use Rattle.scanner_laws.specs.Scratch.{data_left, zeros_left, output_left, last_image, last_output}
 use Rattle.scanner_laws.specs.Newest.{Acceptance, accepted_at, acceptances, last_accepted, HasNewerNumber, HasOtherCount, StateRemembers, last_in, StateIsNumbered}
 use Rattle.scanner_laws.proofs.SmallTables.{target, owner, gatherer, profile, triad, own_id, opening, link, connection, first_slot, indexed, table, open_table, arrives}

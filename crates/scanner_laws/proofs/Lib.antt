@@ -1,13 +1,9 @@
-pub mod SlotLookups
-pub mod Moves
-mod Events
-mod CounterSteps
-pub mod Slotwise
 mod DrawnSteps
-mod OwnSteps
-mod ProducerSteps
+mod RisingNumbers
 mod ScratchSteps
 mod NewestSteps
 mod DeadlineSteps
+mod RunLemmas
+mod SlotLemmas
 mod SmallTables
 mod LawSamples

@@ -1,7 +1,8 @@
 -- A connection accepts only datagrams that are newer than the one that it accepted before.
-use Rattle.std.proofs.Common.{◌≡◌, ◌≢◌, ◌≤◌, ◌<◌, ℕ, zero, suc, ◌-◌, ◌^◌, Bool, true, false, cond, ◌&&◌, ◌==◌, nat_le, List, [], ◌∷◌, ◌++◌, find, slice_get, Option, Some, None, Result, Ok, Err, refl, sym, ◌∙◌, ap, subst, arith}
-use Rattle.std.proofs.lemmas.Bool.{and_parts}
+use Rattle.std.proofs.Common.{◌≡◌, ◌≤◌, ◌<◌, ℕ, zero, suc, ◌-◌, ◌^◌, Bool, true, false, cond, ◌&&◌, ◌==◌, nat_le, List, [], ◌∷◌, ◌++◌, find, slice_get, Option, Some, None, Result, Ok, Err, refl, sym, ◌∙◌, ap, subst, arith, eqb-true as number_is, eq-eqb}
+use Rattle.std.proofs.lemmas.Bool.{and_parts, eqb-false}
 use Rattle.std.proofs.lemmas.Bool.Decides.{nat_tests}
+use Rattle.base_lemmas.specs.Booleans.{and_none}
 use Rattle.cip_types.specs.Circle.{distance, IsNewer, is_newer}
 use Rattle.cip_types.specs.declared.names.Ms.{Ms}
 use Rattle.cip_types.specs.declared.names.Node.{Node}
@@ -11,7 +12,7 @@ use Rattle.cip_datagram.specs.Reading.{datagram_reading}
 use Rattle.cip_events.specs.declared.event.Delivery.{Delivery}
 use Rattle.cip_events.specs.declared.event.Delivery.TheVariants as delivery
 use Rattle.cip_events.specs.declared.event.Event.{Event}
-use Rattle.cip_events.specs.declared.event.Event.TheVariants.{Request, StreamOpened, Frame, StreamCut, Datagram, Write, Read, Tick, Mode, Start, Stop}
+use Rattle.cip_events.specs.declared.event.Event.TheVariants.{StreamOpened, Frame, StreamCut, Datagram, Write, Read, Tick, Mode, Start, Stop}
 use Rattle.cip_events.specs.declared.event.StepFault.{StepFault}
 use Rattle.cip_events.specs.declared.event.Verdict.TheVariants.{Delivered}
 use Rattle.cip_events.specs.Answers.{is_accepted}
@@ -19,7 +20,7 @@ use Rattle.cip_productions.specs.declared.acceptance.Accepted.{Accepted}
 use Rattle.cip_productions.specs.Acceptance.{accepts_sequence, is_duplicate}
 use Rattle.cip_productions.specs.Kinds.{is_owner}
 use Rattle.scanner_table.specs.declared.profile.SlotConfig.{SlotConfig}
-use Rattle.scanner_table.specs.declared.slot.Connection.{Connection}
+use Rattle.scanner_table.specs.declared.slot.SlotConnection.{SlotConnection}
 use Rattle.scanner_table.specs.declared.slot.Slot.{Slot}
 use Rattle.scanner_table.specs.declared.slot.SlotState.{SlotState}
 use Rattle.scanner_table.specs.declared.slot.SlotState.TheVariants.{Idle, Opening, Established, TimedOut, Closing}
@@ -32,14 +33,14 @@ use Rattle.scanner_table.specs.Points.{output_slot}
 use Rattle.scanner_table.specs.Productions.{written_state, state_is_due, produced_state, produced_slot, produced_table}
 use Rattle.scanner_table.specs.Step.{scanner_step}
 use Rattle.scanner_table.specs.Whole.{FitsState, SlotsFit}
-use Rattle.scanner_laws.specs.Runs.{left_by, StepsKeep, IsLaw}
+use Rattle.scanner_whole.specs.Runs.{left_by, StepsKeep, IsLaw}
 use Rattle.scanner_laws.specs.Deliveries.{is_applied}
 use Rattle.scanner_laws.specs.Newest.{Acceptance, came_from, is_connection, accepted_found, accepted_read, accepted_at, acceptances, EachAfter, last_accepted, HasNewerNumber, IsAppliedNew, IsNotAgain, StateRemembers, TableRemembers, state_last, last_of, last_in, StateIsNumbered, OpeningsAreNumbered, WholeTablesNumberOpenings, StepsAcceptAfter, RefusalsAcceptNothing, EventsAcceptAfter}
-use Rattle.scanner_laws.proofs.SlotLookups.{Stands, indexed_at, slot_is, slot_stands, each_found, each_stands}
-use Rattle.scanner_laws.proofs.Moves.{KeptWidely, OrEstablished, Leads, Writes, streamed_leads, frame_leads, cut_leads, read_leads, tick_leads, mode_leads, start_leads, stop_leads, write_leads}
-use Rattle.scanner_laws.proofs.Events.{steps_lead, law_of}
-use Rattle.scanner_laws.proofs.Slotwise.{set_later, Relation, Slotwise, SlotwiseAlways, Goes, set_goes, apart_goes, goes_widely, goes_always, Property, Stays, was_of, of_each_slot}
-use Rattle.scanner_laws.proofs.OwnSteps.{fresh_rests}
+use Rattle.scanner_whole.specs.Lemmas.SlotLookups.{Stands, indexed_at, slot_is, slot_stands, each_found, each_stands}
+use Rattle.scanner_whole.specs.Lemmas.Moves.{KeptWidely, OrEstablished, Leads, Writes, streamed_leads, frame_leads, cut_leads, read_leads, tick_leads, mode_leads, start_leads, stop_leads, write_leads}
+use Rattle.scanner_whole.specs.Lemmas.Events.{steps_lead, law_of}
+use Rattle.scanner_whole.specs.Lemmas.Slotwise.{set_later, Relation, Slotwise, SlotwiseAlways, Goes, set_goes, apart_goes, goes_widely, goes_always, Property, Stays, was_of, of_each_slot}
+use Rattle.scanner_whole.specs.Lemmas.FreshSlots.{fresh_rests}
 
 -- ---- openings are numbered
 
@@ -237,30 +238,15 @@ newer_fits : FitsNewer HasNewerNumber
 newer_fits None next newer other = tt
 newer_fits (Some last) next newer other = is_newer_by next.datagram.number last.number newer
 
-count_differs : (a b : ℕ) → (a == b) ≡ false → a ≢ b
-count_differs a b h same = absurd (grind (arith, nat_tests))
-
 applied_fits : FitsNewer IsAppliedNew
 applied_fits None next newer other = λ applied. tt
-applied_fits (Some last) next newer other = λ applied. count_differs next.datagram.count last.count (other applied)
+applied_fits (Some last) next newer other = λ applied. eqb-false next.datagram.count last.count (other applied)
 
 again_fits : FitsNewer IsNotAgain
 again_fits None next newer other = tt
-again_fits (Some last) next newer other = λ applied same. count_differs next.datagram.count last.count (other applied) (ap (λ (a : Accepted). a.count) same)
+again_fits (Some last) next newer other = λ applied same. eqb-false next.datagram.count last.count (other applied) (ap (λ (a : Accepted). a.count) same)
 
 -- ---- a datagram
-
-number_flip : (a b : ℕ) → (a == b) ≡ false → (b == a) ≡ false
-number_flip a b is = grind (arith, nat_tests)
-
-number_is : (a b : ℕ) → (a == b) ≡ true → a ≡ b
-number_is a b is = grind (arith, nat_tests)
-
-number_same : (a b : ℕ) → a ≡ b → (a == b) ≡ true
-number_same a b is = grind (arith, nat_tests)
-
-number_differs : (a b : ℕ) → (a == b) ≡ false → a ≡ b → ⊥
-number_differs a b is same = absurd (grind (arith, nat_tests))
 
 -- an accepted datagram comes after the last one, and becomes the last one
 abbrev GoesOn : (Option Accepted → Acceptance → Type 0) → ℕ → ℕ → Option Accepted → List Acceptance → ScannerTable → Type 0
@@ -282,52 +268,48 @@ renewed_table number opening last after t u table unopened goes = record {
 }
 
 -- the table before a datagram
-record Before (number opening : ℕ) (last : Option Accepted) (t : ScannerTable) (indexed : IndexedSlot) (c : Connection) : Type 0 where
+record Before (number opening : ℕ) (last : Option Accepted) (t : ScannerTable) (indexed : IndexedSlot) (c : SlotConnection) : Type 0 where
   stands : Stands t indexed
   established : indexed.slot.state ≡ Established c
   all : OpeningsAreNumbered t
   table : TableRemembers number opening last t
 
 -- the datagram is accepted on another connection
-other_goes : (number opening : ℕ) (last : Option Accepted) (t : ScannerTable) (indexed : IndexedSlot) (d : DatagramFields) (c : Connection) (bytes : List ℕ) → Before number opening last t indexed c → (indexed.number ≡ number → c.opening ≡ opening → ⊥) → TableRemembers number opening last (accepted_table t indexed d c bytes)
+other_goes : (number opening : ℕ) (last : Option Accepted) (t : ScannerTable) (indexed : IndexedSlot) (d : DatagramFields) (c : SlotConnection) (bytes : List ℕ) → Before number opening last t indexed c → (indexed.number ≡ number → c.opening ≡ opening → ⊥) → TableRemembers number opening last (accepted_table t indexed d c bytes)
 other_goes number opening last t indexed d c bytes before other =
     let slot : Slot = record indexed.slot { state = Established (accepted_connection t.clock indexed.config.mult d c); image = bytes } in
     renewed_table number opening last last t (accepted_table t indexed d c bytes) before.table before.table.unopened
     (apart_goes (Renewed number opening last last) t t indexed slot (λ k config was apart same remembers. remembers) (set_later t indexed.number slot) refl before.stands (λ same remembers opened. absurd (other same opened)))
 
 -- the datagram is accepted on the connection itself
-own_goes : (number opening : ℕ) (last : Option Accepted) (t : ScannerTable) (indexed : IndexedSlot) (d : DatagramFields) (c : Connection) (bytes : List ℕ) → Before number opening last t indexed c → indexed.number ≡ number → c.opening ≡ opening → TableRemembers number opening (Some (record { number = d.sequence; count = d.count })) (accepted_table t indexed d c bytes)
+own_goes : (number opening : ℕ) (last : Option Accepted) (t : ScannerTable) (indexed : IndexedSlot) (d : DatagramFields) (c : SlotConnection) (bytes : List ℕ) → Before number opening last t indexed c → indexed.number ≡ number → c.opening ≡ opening → TableRemembers number opening (Some (record { number = d.sequence; count = d.count })) (accepted_table t indexed d c bytes)
 own_goes number opening last t indexed d c bytes before same opened =
     let slot : Slot = record indexed.slot { state = Established (accepted_connection t.clock indexed.config.mult d c); image = bytes } in
     let below : c.opening < t.next_request = numbered_is t.next_request indexed.slot.state (Established c) before.established (before.all indexed.number indexed (slot_stands t indexed before.stands)) in
     let after : Option Accepted = Some (record { number = d.sequence; count = d.count }) in
     renewed_table number opening last after t (accepted_table t indexed d c bytes) before.table (λ more. absurd (omega (arith, more, below, opened)))
-    (apart_goes (Renewed number opening last after) t t indexed slot (λ k config was apart is. absurd (number_differs k indexed.number apart (is ∙ sym same))) (set_later t indexed.number slot) refl before.stands (λ is remembers other. refl))
+    (apart_goes (Renewed number opening last after) t t indexed slot (λ k config was apart is. absurd (eqb-false k indexed.number apart (is ∙ sym same))) (set_later t indexed.number slot) refl before.stands (λ is remembers other. refl))
 
 -- the datagram that the connection accepted last
-had_last : (number opening : ℕ) (last : Option Accepted) (t : ScannerTable) (indexed : IndexedSlot) (c : Connection) → Before number opening last t indexed c → indexed.number ≡ number → c.opening ≡ opening → c.last ≡ last
+had_last : (number opening : ℕ) (last : Option Accepted) (t : ScannerTable) (indexed : IndexedSlot) (c : SlotConnection) → Before number opening last t indexed c → indexed.number ≡ number → c.opening ≡ opening → c.last ≡ last
 had_last number opening last t indexed c before same opened =
     let at : slot_at t number ≡ Some indexed = subst (λ (n : ℕ). slot_at t n ≡ Some indexed) same (slot_stands t indexed before.stands) in
     remembers_is opening last indexed.slot.state (Established c) before.established (before.table.there indexed at) opened
 
-accepts_step : (a b : Bool) (R : Option Accepted → Acceptance → Type 0) → FitsNewer R → (number opening : ℕ) (last : Option Accepted) (t : ScannerTable) (indexed : IndexedSlot) (d : DatagramFields) (c : Connection) (bytes : List ℕ) (applied : Bool) → (indexed.number == number) ≡ a → (c.opening == opening) ≡ b → Before number opening last t indexed c → accepts_sequence c.last d.sequence ≡ true → (applied ≡ true → is_duplicate c.last d.count ≡ false) → GoesOn R number opening last (cond ((a && b) && true) (record { datagram = record { number = d.sequence; count = d.count }; applied = applied } ∷ []) []) (accepted_table t indexed d c bytes)
+accepts_step : (a b : Bool) (R : Option Accepted → Acceptance → Type 0) → FitsNewer R → (number opening : ℕ) (last : Option Accepted) (t : ScannerTable) (indexed : IndexedSlot) (d : DatagramFields) (c : SlotConnection) (bytes : List ℕ) (applied : Bool) → (indexed.number == number) ≡ a → (c.opening == opening) ≡ b → Before number opening last t indexed c → accepts_sequence c.last d.sequence ≡ true → (applied ≡ true → is_duplicate c.last d.count ≡ false) → GoesOn R number opening last (cond ((a && b) && true) (record { datagram = record { number = d.sequence; count = d.count }; applied = applied } ∷ []) []) (accepted_table t indexed d c bytes)
 accepts_step true true R fits number opening last t indexed d c bytes applied numbered opened before newer fresh =
     let same = number_is indexed.number number numbered in
     let from = number_is c.opening opening opened in
     let next : Acceptance = record { datagram = record { number = d.sequence; count = d.count }; applied = applied } in
     ((subst (λ (x : Option Accepted). R x next) (had_last number opening last t indexed c before same from) (fits c.last next newer fresh), tt), own_goes number opening last t indexed d c bytes before same from)
 accepts_step true false R fits number opening last t indexed d c bytes applied numbered opened before newer fresh =
-    (tt, other_goes number opening last t indexed d c bytes before (λ same from. number_differs c.opening opening opened from))
+    (tt, other_goes number opening last t indexed d c bytes before (λ same from. eqb-false c.opening opening opened from))
 accepts_step false b R fits number opening last t indexed d c bytes applied numbered opened before newer fresh =
-    (tt, other_goes number opening last t indexed d c bytes before (λ same from. number_differs indexed.number number numbered same))
+    (tt, other_goes number opening last t indexed d c bytes before (λ same from. eqb-false indexed.number number numbered same))
 
 -- a datagram at the slot that the lookup found
 abbrev GoesBy : (Option Accepted → Acceptance → Type 0) → ℕ → ℕ → Option Accepted → Option IndexedSlot → DatagramFields → Next → Type 0
 GoesBy R number opening last found d next = GoesOn R number opening last (accepted_found number opening d next.0.verdict found) next.1
-
-and_none : (b : Bool) → (b && false) ≡ false
-and_none true = refl
-and_none false = refl
 
 none_accepted : (number opening : ℕ) (d : DatagramFields) (what : Delivery) (found : Option IndexedSlot) → is_accepted what ≡ false → accepted_found number opening d (Delivered what) found ≡ []
 none_accepted number opening d what None is = refl
@@ -336,23 +318,23 @@ none_accepted number opening d what (Some indexed) is = rw (is, and_none (is_con
 stays_on : (R : Option Accepted → Acceptance → Type 0) (number opening : ℕ) (last : Option Accepted) (t : ScannerTable) (d : DatagramFields) (what : Delivery) (found : Option IndexedSlot) → is_accepted what ≡ false → TableRemembers number opening last t → GoesBy R number opening last found d (delivered what t)
 stays_on R number opening last t d what found is table = rw (none_accepted number opening d what found is) (tt, table)
 
-came_is : (opening : ℕ) (state : SlotState) (c : Connection) → state ≡ Established c → came_from opening state ≡ (c.opening == opening)
+came_is : (opening : ℕ) (state : SlotState) (c : SlotConnection) → state ≡ Established c → came_from opening state ≡ (c.opening == opening)
 came_is opening state c is = ap (came_from opening) is
 
-accepted_goes : (R : Option Accepted → Acceptance → Type 0) → FitsNewer R → (number opening : ℕ) (last : Option Accepted) (t : ScannerTable) (indexed : IndexedSlot) (d : DatagramFields) (c : Connection) (bytes : List ℕ) (what : Delivery) → is_accepted what ≡ true → Before number opening last t indexed c → accepts_sequence c.last d.sequence ≡ true → (is_applied what ≡ true → is_duplicate c.last d.count ≡ false) → GoesBy R number opening last (Some indexed) d (delivered what (accepted_table t indexed d c bytes))
+accepted_goes : (R : Option Accepted → Acceptance → Type 0) → FitsNewer R → (number opening : ℕ) (last : Option Accepted) (t : ScannerTable) (indexed : IndexedSlot) (d : DatagramFields) (c : SlotConnection) (bytes : List ℕ) (what : Delivery) → is_accepted what ≡ true → Before number opening last t indexed c → accepts_sequence c.last d.sequence ≡ true → (is_applied what ≡ true → is_duplicate c.last d.count ≡ false) → GoesBy R number opening last (Some indexed) d (delivered what (accepted_table t indexed d c bytes))
 accepted_goes R fits number opening last t indexed d c bytes what is before newer fresh =
     rw (is, came_is opening indexed.slot.state c before.established)
     (accepts_step (indexed.number == number) (c.opening == opening) R fits number opening last t indexed d c bytes (is_applied what) refl refl before newer fresh)
 
-duplicate_step : (b : Bool) (R : Option Accepted → Acceptance → Type 0) → FitsNewer R → (number opening : ℕ) (last : Option Accepted) (t : ScannerTable) (indexed : IndexedSlot) (d : DatagramFields) (c : Connection) → is_duplicate c.last d.count ≡ b → Before number opening last t indexed c → accepts_sequence c.last d.sequence ≡ true → GoesBy R number opening last (Some indexed) d (cond b (delivered delivery.Duplicate (accepted_table t indexed d c indexed.slot.image)) (delivered delivery.Applied (accepted_table t indexed d c d.payload)))
+duplicate_step : (b : Bool) (R : Option Accepted → Acceptance → Type 0) → FitsNewer R → (number opening : ℕ) (last : Option Accepted) (t : ScannerTable) (indexed : IndexedSlot) (d : DatagramFields) (c : SlotConnection) → is_duplicate c.last d.count ≡ b → Before number opening last t indexed c → accepts_sequence c.last d.sequence ≡ true → GoesBy R number opening last (Some indexed) d (cond b (delivered delivery.Duplicate (accepted_table t indexed d c indexed.slot.image)) (delivered delivery.Applied (accepted_table t indexed d c d.payload)))
 duplicate_step true R fits number opening last t indexed d c is before newer = accepted_goes R fits number opening last t indexed d c indexed.slot.image delivery.Duplicate refl before newer (λ never. absurd cc)
 duplicate_step false R fits number opening last t indexed d c is before newer = accepted_goes R fits number opening last t indexed d c d.payload delivery.Applied refl before newer (λ applied. is)
 
-sequence_step : (b : Bool) (R : Option Accepted → Acceptance → Type 0) → FitsNewer R → (number opening : ℕ) (last : Option Accepted) (t : ScannerTable) (indexed : IndexedSlot) (d : DatagramFields) (c : Connection) → accepts_sequence c.last d.sequence ≡ b → Before number opening last t indexed c → GoesBy R number opening last (Some indexed) d (cond b (accepted t indexed d c) (delivered delivery.Old t))
+sequence_step : (b : Bool) (R : Option Accepted → Acceptance → Type 0) → FitsNewer R → (number opening : ℕ) (last : Option Accepted) (t : ScannerTable) (indexed : IndexedSlot) (d : DatagramFields) (c : SlotConnection) → accepts_sequence c.last d.sequence ≡ b → Before number opening last t indexed c → GoesBy R number opening last (Some indexed) d (cond b (accepted t indexed d c) (delivered delivery.Old t))
 sequence_step true R fits number opening last t indexed d c is before = duplicate_step (is_duplicate c.last d.count) R fits number opening last t indexed d c refl before is
 sequence_step false R fits number opening last t indexed d c is before = stays_on R number opening last t d delivery.Old (Some indexed) refl before.table
 
-sized_step : (b : Bool) (R : Option Accepted → Acceptance → Type 0) → FitsNewer R → (number opening : ℕ) (last : Option Accepted) (t : ScannerTable) (indexed : IndexedSlot) (d : DatagramFields) (c : Connection) → Before number opening last t indexed c → GoesBy R number opening last (Some indexed) d (cond b (sized t indexed d c) (delivered delivery.WrongSize t))
+sized_step : (b : Bool) (R : Option Accepted → Acceptance → Type 0) → FitsNewer R → (number opening : ℕ) (last : Option Accepted) (t : ScannerTable) (indexed : IndexedSlot) (d : DatagramFields) (c : SlotConnection) → Before number opening last t indexed c → GoesBy R number opening last (Some indexed) d (cond b (sized t indexed d c) (delivered delivery.WrongSize t))
 sized_step true R fits number opening last t indexed d c before = sequence_step (accepts_sequence c.last d.sequence) R fits number opening last t indexed d c refl before
 sized_step false R fits number opening last t indexed d c before = stays_on R number opening last t d delivery.WrongSize (Some indexed) refl before.table
 
@@ -386,7 +368,6 @@ leads_known number opening last t (Ok next) all table goes = (tt, known_table nu
 leads_known number opening last t (Err why) all table goes = tt
 
 step_goes : (R : Option Accepted → Acceptance → Type 0) → FitsNewer R → (number opening : ℕ) (last : Option Accepted) (t : ScannerTable) (event : Event) → OpeningsAreNumbered t → TableRemembers number opening last t → AnswerGoes R number opening last t event (scanner_step t event)
-step_goes R fits number opening last t (Request peer bytes) all table = tt
 step_goes R fits number opening last t (StreamOpened stream peer) all table = leads_known number opening last t (scanner_step t (StreamOpened stream peer)) all table (streamed_leads (Knowing opening last) (known_widely opening last) t stream peer)
 step_goes R fits number opening last t (Frame stream bytes) all table = leads_known number opening last t (scanner_step t (Frame stream bytes)) all table (frame_leads (Knowing opening last) (Knowing opening last) t (known_established opening last t) stream bytes)
 step_goes R fits number opening last t (StreamCut stream) all table = leads_known number opening last t (scanner_step t (StreamCut stream)) all table (cut_leads (Knowing opening last) (known_widely opening last) t stream)
@@ -397,6 +378,7 @@ step_goes R fits number opening last t (Tick ms) all table = leads_known number 
 step_goes R fits number opening last t (Mode run) all table = leads_known number opening last t (scanner_step t (Mode run)) all table (mode_leads (Knowing opening last) (known_widely opening last) t run)
 step_goes R fits number opening last t (Start slot) all table = leads_known number opening last t (scanner_step t (Start slot)) all table (start_leads (Knowing opening last) (known_widely opening last).slots t slot)
 step_goes R fits number opening last t (Stop slot) all table = leads_known number opening last t (scanner_step t (Stop slot)) all table (stop_leads (Knowing opening last) (known_widely opening last).slots t slot)
+step_goes R fits number opening last t other all table = tt
 
 goes_next : (R : Option Accepted → Acceptance → Type 0) (number opening : ℕ) (last : Option Accepted) (t : ScannerTable) (event : Event) (said : Result Next StepFault) (next : Next) → said ≡ Ok next → AnswerGoes R number opening last t event said → GoesOn R number opening last (accepted_at number opening t event) next.1
 goes_next R number opening last t event said next is goes = subst (AnswerGoes R number opening last t event) is goes
@@ -405,17 +387,8 @@ accept_after : (R : Option Accepted → Acceptance → Type 0) → FitsNewer R �
 accept_after R fits number opening last t event next is all table = goes_next R number opening last t event (scanner_step t event) next is (step_goes R fits number opening last t event all table)
 
 pub refusals_accept_nothing : RefusalsAcceptNothing
-refusals_accept_nothing number opening t (Request peer bytes) why is = refl
-refusals_accept_nothing number opening t (StreamOpened stream peer) why is = refl
-refusals_accept_nothing number opening t (Frame stream bytes) why is = refl
-refusals_accept_nothing number opening t (StreamCut stream) why is = refl
 refusals_accept_nothing number opening t (Datagram peer bytes) why is = absurd cc
-refusals_accept_nothing number opening t (Write point bytes) why is = refl
-refusals_accept_nothing number opening t (Read point) why is = refl
-refusals_accept_nothing number opening t (Tick ms) why is = refl
-refusals_accept_nothing number opening t (Mode run) why is = refl
-refusals_accept_nothing number opening t (Start slot) why is = refl
-refusals_accept_nothing number opening t (Stop slot) why is = refl
+refusals_accept_nothing number opening t other why is = refl
 
 -- ---- events
 
@@ -444,11 +417,11 @@ events_go R fits number opening last t (event ∷ events) all table =
 state_knows : (opening : ℕ) (state : SlotState) → StateRemembers opening (state_last opening state) state
 state_knows opening Idle = tt
 state_knows opening (Opening o) = λ same. refl
-state_knows opening (Established c) = λ same. rw (number_same c.opening opening same) refl
+state_knows opening (Established c) = λ same. rw (eq-eqb c.opening opening same) refl
 state_knows opening (TimedOut link) = tt
 state_knows opening (Closing c) = tt
 
-none_later : (b : Bool) (opening next : ℕ) (c : Connection) → (c.opening == opening) ≡ b → c.opening < next → next ≤ opening → cond b c.last None ≡ None
+none_later : (b : Bool) (opening next : ℕ) (c : SlotConnection) → (c.opening == opening) ≡ b → c.opening < next → next ≤ opening → cond b c.last None ≡ None
 none_later true opening next c is below more = let same = number_is c.opening opening is in absurd (omega (arith, same, below, more))
 none_later false opening next c is below more = refl
 

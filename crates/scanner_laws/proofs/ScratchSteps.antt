@@ -1,6 +1,8 @@
 -- A step leaves at each image and output the bytes that the event says.
-use Rattle.std.proofs.Common.{◌≡◌, ℕ, zero, suc, Bool, true, false, cond, not, ◌&&◌, ◌==◌, List, [], ◌∷◌, map, find, replicate, unwrap_or, slice_get, Option, Some, None, Result, Ok, Err, refl, sym, ◌∙◌, ap, subst, arith}
-use Rattle.std.proofs.lemmas.Bool.Decides.{nat_tests}
+use Rattle.std.proofs.Common.{◌≡◌, ℕ, zero, suc, Bool, true, false, cond, not, ◌&&◌, ◌==◌, List, [], ◌∷◌, map, find, replicate, unwrap_or, slice_get, Option, Some, None, Result, Ok, Err, refl, sym, ◌∙◌, ap, subst}
+use Rattle.std.proofs.lemmas.Option.{same_Some}
+use Rattle.base_lemmas.specs.Numbers.{other_number, number_same}
+use Rattle.base_lemmas.specs.Booleans.{not_alone, and_none}
 use Rattle.cip_types.specs.declared.names.Ms.{Ms}
 use Rattle.cip_types.specs.declared.names.Node.{Node}
 use Rattle.cip_datagram.specs.declared.datagram.DatagramFault.{DatagramFault}
@@ -9,14 +11,14 @@ use Rattle.cip_datagram.specs.Reading.{datagram_reading}
 use Rattle.cip_events.specs.declared.event.Delivery.{Delivery}
 use Rattle.cip_events.specs.declared.event.Delivery.TheVariants as delivery
 use Rattle.cip_events.specs.declared.event.Event.{Event}
-use Rattle.cip_events.specs.declared.event.Event.TheVariants.{Request, StreamOpened, Frame, StreamCut, Datagram, Write, Read, Tick, Mode, Start, Stop}
+use Rattle.cip_events.specs.declared.event.Event.TheVariants.{StreamOpened, Frame, StreamCut, Datagram, Write, Read, Tick, Mode, Start, Stop}
 use Rattle.cip_events.specs.declared.event.StepFault.{StepFault}
 use Rattle.cip_events.specs.declared.event.StepFault.TheVariants as fault
 use Rattle.cip_fwdopen.specs.declared.reply.Opened as made
 use Rattle.cip_productions.specs.Acceptance.{accepts_sequence, is_duplicate}
 use Rattle.cip_productions.specs.Kinds.{is_owner}
 use Rattle.scanner_table.specs.declared.profile.SlotConfig.{SlotConfig}
-use Rattle.scanner_table.specs.declared.slot.Connection.{Connection}
+use Rattle.scanner_table.specs.declared.slot.SlotConnection.{SlotConnection}
 use Rattle.scanner_table.specs.declared.slot.PendingOpen as pending
 use Rattle.scanner_table.specs.declared.slot.Slot.{Slot}
 use Rattle.scanner_table.specs.declared.slot.SlotState.{SlotState}
@@ -29,13 +31,13 @@ use Rattle.scanner_table.specs.Datagrams.{is_for, accepted_connection, accepted_
 use Rattle.scanner_table.specs.Points.{output_slot, output_written, write_at, write, mode}
 use Rattle.scanner_table.specs.Productions.{written_state, state_is_due, produced_state}
 use Rattle.scanner_table.specs.Step.{scanner_step, fresh_slot, scanner_table}
-use Rattle.scanner_laws.specs.Runs.{left_by, table_after}
+use Rattle.scanner_whole.specs.Runs.{left_by, table_after}
 use Rattle.scanner_laws.specs.Deliveries.{is_applied, reports_applied, is_slots}
 use Rattle.scanner_laws.specs.Scratch.{or_else, datagram_left, data_left, is_established, opening_left, image_left, written, output_left, StepsLeaveBytes, RefusalsTouchNothing, last_image, last_output, BytesAreFromScratch, FreshBytesAreFromScratch}
-use Rattle.scanner_laws.proofs.SlotLookups.{some_is, Stands, indexed_at, slot_is, slot_stands, each_found, each_stands}
-use Rattle.scanner_laws.proofs.Moves.{KeptWidely, OrEstablished, Leads, Writes, Accepts, streamed_leads, frame_leads, cut_leads, read_leads, tick_leads, mode_leads, start_leads, stop_leads, write_leads, received_leads}
-use Rattle.scanner_laws.proofs.Events.{events_lead}
-use Rattle.scanner_laws.proofs.Slotwise.{set_later, Relation, StaysSo, Slotwise, SlotwiseAlways, Goes, goes_always, stays_goes, set_goes, apart_goes, goes_widely, was_of, of_each_change}
+use Rattle.scanner_whole.specs.Lemmas.SlotLookups.{Stands, indexed_at, slot_is, slot_stands, each_found, each_stands}
+use Rattle.scanner_whole.specs.Lemmas.Moves.{KeptWidely, OrEstablished, Leads, Writes, Accepts, streamed_leads, frame_leads, cut_leads, read_leads, tick_leads, mode_leads, start_leads, stop_leads, write_leads, received_leads}
+use Rattle.scanner_whole.specs.Lemmas.Events.{events_lead, leads_next}
+use Rattle.scanner_whole.specs.Lemmas.Slotwise.{set_later, Relation, StaysSo, Slotwise, SlotwiseAlways, Goes, goes_always, stays_goes, set_goes, apart_goes, goes_widely, was_of, of_each_change}
 
 -- ---- images that stay
 
@@ -98,12 +100,8 @@ abbrev ImageIs : Option (List ℕ) → SlotConfig → Slot → Slot → Type 0
 ImageIs left config was now =
     now.image ≡ unwrap_or (or_else left (cond (is_established now.state && not (is_established was.state)) (Some (replicate config.in_len 0)) None)) was.image
 
-none_begins : (now was : Bool) → (now ≡ true → was ≡ true) → (now && not was) ≡ false
-none_begins true was begun = rw (begun refl) refl
-none_begins false was begun = refl
-
 calm_image : (config : SlotConfig) (was now : Slot) → Holds was now → ImageIs None config was now
-calm_image config was now holds = rw (none_begins (is_established now.state) (is_established was.state) holds.begun) holds.image
+calm_image config was now holds = rw (not_alone (is_established now.state) (is_established was.state) holds.begun) holds.image
 
 abbrev Images : Relation
 Images t u number config was now = ImageIs None config was now
@@ -163,30 +161,20 @@ stays_images t = stays_goes Images images_stay t t (calm_widely.slots.same t).la
 abbrev delivery_left : Option IndexedSlot → DatagramFields → Delivery → ℕ → Option (List ℕ)
 delivery_left found d what number = cond (is_slots number found && is_applied what) (Some d.payload) None
 
-and_none : (b : Bool) → (b && false) ≡ false
-and_none true = refl
-and_none false = refl
-
 none_applied : (found : Option IndexedSlot) (d : DatagramFields) (what : Delivery) (number : ℕ) → is_applied what ≡ false → delivery_left found d what number ≡ None
 none_applied found d what number is = rw (is, and_none (is_slots number found)) refl
 
-number_flip : (a b : ℕ) → (a == b) ≡ false → (b == a) ≡ false
-number_flip a b is = grind (arith, nat_tests)
-
-number_same : (n : ℕ) → (n == n) ≡ true
-number_same n = grind (arith, nat_tests)
-
 -- an accepted datagram leaves the image as it is, or its data there
-accepted_images : (t : ScannerTable) (indexed : IndexedSlot) (d : DatagramFields) (c : Connection) → Stands t indexed → indexed.slot.state ≡ Established c → Goes Images t (accepted_table t indexed d c indexed.slot.image)
+accepted_images : (t : ScannerTable) (indexed : IndexedSlot) (d : DatagramFields) (c : SlotConnection) → Stands t indexed → indexed.slot.state ≡ Established c → Goes Images t (accepted_table t indexed d c indexed.slot.image)
 accepted_images t indexed d c stands is =
     let slot : Slot = record indexed.slot { state = Established (accepted_connection t.clock indexed.config.mult d c) } in
     set_goes Images images_stay t t indexed slot (set_later t indexed.number slot) refl stands (calm_image indexed.config indexed.slot slot (record { image = refl; begun = λ now. rw is refl }))
 
-applied_goes : (t : ScannerTable) (indexed : IndexedSlot) (d : DatagramFields) (c : Connection) → Stands t indexed → indexed.slot.state ≡ Established c → Goes (Left (delivery_left (Some indexed) d delivery.Applied)) t (accepted_table t indexed d c d.payload)
+applied_goes : (t : ScannerTable) (indexed : IndexedSlot) (d : DatagramFields) (c : SlotConnection) → Stands t indexed → indexed.slot.state ≡ Established c → Goes (Left (delivery_left (Some indexed) d delivery.Applied)) t (accepted_table t indexed d c d.payload)
 applied_goes t indexed d c stands is =
     let slot : Slot = record indexed.slot { state = Established (accepted_connection t.clock indexed.config.mult d c); image = d.payload } in
     apart_goes (Left (delivery_left (Some indexed) d delivery.Applied)) t t indexed slot
-    (λ number config other apart. rw (number_flip number indexed.number apart) (calm_image config other other (record { image = refl; begun = λ is. is })))
+    (λ number config other apart. rw (other_number number indexed.number apart) (calm_image config other other (record { image = refl; begun = λ is. is })))
     (set_later t indexed.number slot) refl stands (rw (number_same indexed.number) refl)
 
 -- a datagram that was read
@@ -196,15 +184,15 @@ GoesBy t found d next = Goes (Left (λ number. cond (is_slots number found && re
 stays_by : (t : ScannerTable) (found : Option IndexedSlot) (d : DatagramFields) (what : Delivery) → is_applied what ≡ false → GoesBy t found d (delivered what t)
 stays_by t found d what is = left_nothing (delivery_left found d what) t t (λ number. none_applied found d what number is) (stays_images t)
 
-accepted_step : (b : Bool) (t : ScannerTable) (indexed : IndexedSlot) (d : DatagramFields) (c : Connection) → Stands t indexed → indexed.slot.state ≡ Established c → GoesBy t (Some indexed) d (cond b (delivered delivery.Duplicate (accepted_table t indexed d c indexed.slot.image)) (delivered delivery.Applied (accepted_table t indexed d c d.payload)))
+accepted_step : (b : Bool) (t : ScannerTable) (indexed : IndexedSlot) (d : DatagramFields) (c : SlotConnection) → Stands t indexed → indexed.slot.state ≡ Established c → GoesBy t (Some indexed) d (cond b (delivered delivery.Duplicate (accepted_table t indexed d c indexed.slot.image)) (delivered delivery.Applied (accepted_table t indexed d c d.payload)))
 accepted_step true t indexed d c stands is = left_nothing (delivery_left (Some indexed) d delivery.Duplicate) t (accepted_table t indexed d c indexed.slot.image) (λ number. none_applied (Some indexed) d delivery.Duplicate number refl) (accepted_images t indexed d c stands is)
 accepted_step false t indexed d c stands is = applied_goes t indexed d c stands is
 
-sequence_step : (b : Bool) (t : ScannerTable) (indexed : IndexedSlot) (d : DatagramFields) (c : Connection) → Stands t indexed → indexed.slot.state ≡ Established c → GoesBy t (Some indexed) d (cond b (accepted t indexed d c) (delivered delivery.Old t))
+sequence_step : (b : Bool) (t : ScannerTable) (indexed : IndexedSlot) (d : DatagramFields) (c : SlotConnection) → Stands t indexed → indexed.slot.state ≡ Established c → GoesBy t (Some indexed) d (cond b (accepted t indexed d c) (delivered delivery.Old t))
 sequence_step true t indexed d c stands is = accepted_step (is_duplicate c.last d.count) t indexed d c stands is
 sequence_step false t indexed d c stands is = stays_by t (Some indexed) d delivery.Old refl
 
-sized_step : (b : Bool) (t : ScannerTable) (indexed : IndexedSlot) (d : DatagramFields) (c : Connection) → Stands t indexed → indexed.slot.state ≡ Established c → GoesBy t (Some indexed) d (cond b (sized t indexed d c) (delivered delivery.WrongSize t))
+sized_step : (b : Bool) (t : ScannerTable) (indexed : IndexedSlot) (d : DatagramFields) (c : SlotConnection) → Stands t indexed → indexed.slot.state ≡ Established c → GoesBy t (Some indexed) d (cond b (sized t indexed d c) (delivered delivery.WrongSize t))
 sized_step true t indexed d c stands is = sequence_step (accepts_sequence c.last d.sequence) t indexed d c stands is
 sized_step false t indexed d c stands is = stays_by t (Some indexed) d delivery.WrongSize refl
 
@@ -234,7 +222,6 @@ abbrev LeavesImages : ScannerTable → Event → Result Next StepFault → Type 
 LeavesImages t event said = Leads (Goes (Left (λ number. data_left number t event))) t said
 
 pub step_images : (t : ScannerTable) (event : Event) → LeavesImages t event (scanner_step t event)
-step_images t (Request peer bytes) = tt
 step_images t (StreamOpened stream peer) = calm_leads t (scanner_step t (StreamOpened stream peer)) (streamed_leads (Goes Calm) calm_widely t stream peer)
 step_images t (Frame stream bytes) = frame_leads (Goes Calm) (Goes Images) t (or_established t) stream bytes
 step_images t (StreamCut stream) = calm_leads t (scanner_step t (StreamCut stream)) (cut_leads (Goes Calm) calm_widely t stream)
@@ -245,6 +232,7 @@ step_images t (Tick ms) = calm_leads t (scanner_step t (Tick ms)) (tick_leads (G
 step_images t (Mode run) = calm_images t (mode t run).1 (mode_leads (Goes Calm) calm_widely t run)
 step_images t (Start slot) = calm_leads t (scanner_step t (Start slot)) (start_leads (Goes Calm) calm_widely.slots t slot)
 step_images t (Stop slot) = calm_leads t (scanner_step t (Stop slot)) (stop_leads (Goes Calm) calm_widely.slots t slot)
+step_images t other = tt
 
 -- ---- outputs
 
@@ -304,7 +292,7 @@ written_goes : (t : ScannerTable) (point : ℕ) (indexed : IndexedSlot) (bytes :
 written_goes t point indexed bytes same stands =
     let slot = output_slot bytes indexed.slot in
     apart_goes (LeftOutput (write_left point bytes (Ok (output_written t indexed bytes)))) t t indexed slot
-    (λ number config other apart. rw (sym same, number_flip number indexed.number apart) refl)
+    (λ number config other apart. rw (sym same, other_number number indexed.number apart) refl)
     (set_later t indexed.number slot) refl stands (rw (sym same, number_same indexed.number) refl)
 
 length_writes : (b : Bool) (t : ScannerTable) (point : ℕ) (indexed : IndexedSlot) (bytes : List ℕ) → indexed.number ≡ point → Stands t indexed → WritesSo t point bytes (cond b (Ok (output_written t indexed bytes)) (Err fault.WrongLength))
@@ -330,7 +318,6 @@ abbrev LeavesOutputs : ScannerTable → Event → Result Next StepFault → Type
 LeavesOutputs t event said = Leads (Goes (LeftOutput (λ number. output_left number t event))) t said
 
 step_outputs : (t : ScannerTable) (event : Event) → LeavesOutputs t event (scanner_step t event)
-step_outputs t (Request peer bytes) = tt
 step_outputs t (StreamOpened stream peer) = streamed_leads (Goes Same) same_widely t stream peer
 step_outputs t (Frame stream bytes) = frame_leads (Goes Same) (Goes Same) t (same_established t) stream bytes
 step_outputs t (StreamCut stream) = cut_leads (Goes Same) same_widely t stream
@@ -341,11 +328,9 @@ step_outputs t (Tick ms) = tick_leads (Goes Same) same_widely t ms
 step_outputs t (Mode run) = mode_leads (Goes Same) same_widely t run
 step_outputs t (Start slot) = start_leads (Goes Same) same_widely.slots t slot
 step_outputs t (Stop slot) = stop_leads (Goes Same) same_widely.slots t slot
+step_outputs t other = tt
 
 -- ---- one event
-
-leads_next : (R : ScannerTable → ScannerTable → Type 0) (t : ScannerTable) (said : Result Next StepFault) (next : Next) → said ≡ Ok next → Leads R t said → R t next.1
-leads_next R t said next is leads = subst (Leads R t) is leads
 
 image_next : (t : ScannerTable) (event : Event) (next : Next) (number : ℕ) (was now : IndexedSlot) → scanner_step t event ≡ Ok next → slot_at t number ≡ Some was → slot_at next.1 number ≡ Some now → now.slot.image ≡ unwrap_or (image_left number t event next.1) was.slot.image
 image_next t event next number was now is before behind =
@@ -379,30 +364,12 @@ refused_left point number bytes said why is = rw is (either (point == number)) w
   either false = refl
 
 refused_image : (number : ℕ) (t : ScannerTable) (event : Event) (why : StepFault) → scanner_step t event ≡ Err why → data_left number t event ≡ None
-refused_image number t (Request peer bytes) why is = refl
-refused_image number t (StreamOpened stream peer) why is = refl
-refused_image number t (Frame stream bytes) why is = refl
-refused_image number t (StreamCut stream) why is = refl
 refused_image number t (Datagram peer bytes) why is = absurd cc
-refused_image number t (Write point bytes) why is = refl
-refused_image number t (Read point) why is = refl
-refused_image number t (Tick ms) why is = refl
-refused_image number t (Mode run) why is = refl
-refused_image number t (Start slot) why is = refl
-refused_image number t (Stop slot) why is = refl
+refused_image number t other why is = refl
 
 refused_output : (number : ℕ) (t : ScannerTable) (event : Event) (why : StepFault) → scanner_step t event ≡ Err why → output_left number t event ≡ None
-refused_output number t (Request peer bytes) why is = refl
-refused_output number t (StreamOpened stream peer) why is = refl
-refused_output number t (Frame stream bytes) why is = refl
-refused_output number t (StreamCut stream) why is = refl
-refused_output number t (Datagram peer bytes) why is = refl
 refused_output number t (Write point bytes) why is = refused_left point number bytes (write t point bytes) why is
-refused_output number t (Read point) why is = refl
-refused_output number t (Tick ms) why is = refl
-refused_output number t (Mode run) why is = refl
-refused_output number t (Start slot) why is = refl
-refused_output number t (Stop slot) why is = refl
+refused_output number t other why is = refl
 
 pub refusals_touch_nothing : RefusalsTouchNothing
 refusals_touch_nothing t event why number is = (rw (refused_image number t event why is, none_opens (slot_at t number)) refl, refused_output number t event why is)
@@ -438,7 +405,7 @@ unwrap_either (Some x) b bytes = refl
 
 pub bytes_from_scratch : BytesAreFromScratch
 bytes_from_scratch t [] number was now before behind =
-    let same : now ≡ was = some_is now was (sym behind ∙ before) in
+    let same : now ≡ was = same_Some now was (sym behind ∙ before) in
     (ap (λ (p : IndexedSlot). p.slot.image) same, ap (λ (p : IndexedSlot). p.slot.output) same)
 bytes_from_scratch t (event ∷ events) number was now before behind =
     let next = left_by t (scanner_step t event) in
@@ -472,7 +439,7 @@ anything_always = record {
 
 fresh_is : (configs : List SlotConfig) (k : ℕ) (config : SlotConfig) (slot : Slot) → slice_get configs k ≡ Some config → slice_get (map fresh_slot configs) k ≡ Some slot → fresh_slot config ≡ slot
 fresh_is [] k config slot at is = absurd cc
-fresh_is (first ∷ configs) zero config slot at is = ap fresh_slot (sym (some_is first config at)) ∙ some_is (fresh_slot first) slot is
+fresh_is (first ∷ configs) zero config slot at is = ap fresh_slot (sym (same_Some first config at)) ∙ same_Some (fresh_slot first) slot is
 fresh_is (first ∷ configs) (suc k) config slot at is = fresh_is configs k config slot at is
 
 pub fresh_from_scratch : FreshBytesAreFromScratch

@@ -11,7 +11,7 @@ use Rattle.cip_productions.specs.declared.production.Production.{Production}
 use Rattle.conn_state.specs.declared.names.Link.{Link}
 use Rattle.scanner_table.specs.declared.profile.ScannerProfile.{ScannerProfile}
 use Rattle.scanner_table.specs.declared.profile.SlotConfig.{SlotConfig}
-use Rattle.scanner_table.specs.declared.slot.Connection.{Connection}
+use Rattle.scanner_table.specs.declared.slot.SlotConnection.{SlotConnection}
 use Rattle.scanner_table.specs.declared.slot.PendingOpen as pending
 use Rattle.scanner_table.specs.declared.slot.Slot.{Slot}
 use Rattle.scanner_table.specs.declared.slot.SlotState.{SlotState}
@@ -87,7 +87,7 @@ production = record {
 }
 
 -- the connection that came from it, and accepted number 7 with count 3
-abbrev pub connection : Connection
+abbrev pub connection : SlotConnection
 connection = record {
   opening = 7;
   link = link;

@@ -1,5 +1,5 @@
--- Deadlines of slots: how long a slot waits for a reply, and that a tick leaves no deadline behind the clock.
-use Rattle.std.specs.Prelude.{ℕ, ◌≡◌, ◌+◌, ◌≤◌, ◌<◌, None, Ok}
+-- Deadlines of slots: a tick leaves no deadline behind the clock.
+use Rattle.std.specs.Prelude.{ℕ, ◌≡◌, ◌<◌, None, Ok}
 use Rattle.cip_events.specs.declared.event.Event.TheVariants.{Tick}
 use Rattle.scanner_table.specs.declared.slot.SlotState.{SlotState}
 use Rattle.scanner_table.specs.declared.slot.SlotState.TheVariants.{Idle, Opening, Established, TimedOut, Closing}
@@ -8,22 +8,7 @@ use Rattle.scanner_table.specs.Profiles.{profile_fault}
 use Rattle.scanner_table.specs.Slots.{IndexedSlot}
 use Rattle.scanner_table.specs.Effects.{Next}
 use Rattle.scanner_table.specs.Step.{scanner_step}
-use Rattle.scanner_laws.specs.Runs.{OfEachSlot}
-
--- the slot waits for a reply until this time at most
-abbrev pub StateWaitsTo : ℕ → SlotState → Type 0
-StateWaitsTo time Idle = Unit {0}
-StateWaitsTo time (Opening o) = o.deadline.0 ≤ time
-StateWaitsTo time (Established c) = Unit {0}
-StateWaitsTo time (TimedOut link) = Unit {0}
-StateWaitsTo time (Closing c) = c.deadline.0 ≤ time
-
-abbrev pub SlotWaits : ScannerTable → IndexedSlot → Type 0
-SlotWaits t indexed = StateWaitsTo (t.clock.0 + t.profile.open_timeout) indexed.slot.state
-
--- a slot that is opening or closing waits at most the open timeout from now on
-abbrev pub SlotsWaitInTime : ScannerTable → Type 0
-SlotsWaitInTime t = OfEachSlot (SlotWaits t) t
+use Rattle.scanner_whole.specs.Runs.{OfEachSlot}
 
 -- the deadline is still to come, if the state has one
 abbrev pub StateIsAhead : ℕ → SlotState → Type 0

@@ -1,9 +1,8 @@
-pub mod Runs
-pub mod Counters
-pub mod Drawn
-pub mod Producers
+pub mod Openings
 pub mod Deadlines
 pub mod Deliveries
 pub mod Scratch
 pub mod Newest
-pub mod Whole
+pub mod ScannerRuns
+pub mod Scanners
+pub mod Lemmas

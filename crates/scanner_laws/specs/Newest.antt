@@ -8,7 +8,7 @@ use Rattle.cip_datagram.specs.declared.datagram.DatagramFault.{DatagramFault}
 use Rattle.cip_datagram.specs.Datagram.{DatagramFields}
 use Rattle.cip_datagram.specs.Reading.{datagram_reading}
 use Rattle.cip_events.specs.declared.event.Event.{Event}
-use Rattle.cip_events.specs.declared.event.Event.TheVariants.{Request, StreamOpened, Frame, StreamCut, Datagram, Write, Read, Tick, Mode, Start, Stop}
+use Rattle.cip_events.specs.declared.event.Event.TheVariants.{Datagram}
 use Rattle.cip_events.specs.declared.event.StepFault.{StepFault}
 use Rattle.cip_events.specs.declared.event.Verdict.{Verdict}
 use Rattle.cip_productions.specs.declared.acceptance.Accepted.{Accepted}
@@ -19,8 +19,8 @@ use Rattle.scanner_table.specs.Slots.{IndexedSlot, indexed_slots, slot_at, is_nu
 use Rattle.scanner_table.specs.Effects.{Next}
 use Rattle.scanner_table.specs.Datagrams.{is_for, received}
 use Rattle.scanner_table.specs.Step.{scanner_step}
-use Rattle.scanner_table.specs.Whole.{IsWhole}
-use Rattle.scanner_laws.specs.Runs.{left_by, OfEachSlot}
+use Rattle.scanner_table.specs.Whole.{IsWellFormed}
+use Rattle.scanner_whole.specs.Runs.{left_by, OfEachSlot}
 use Rattle.scanner_laws.specs.Deliveries.{reports_applied, reports_accepted}
 
 -- ACCEPTED DATAGRAMS
@@ -57,17 +57,8 @@ accepted_read number opening t peer verdict (Ok d) = accepted_found number openi
 
 -- the datagrams that the connection of this slot and this opening accepts at an event
 abbrev pub accepted_at : ℕ → ℕ → ScannerTable → Event → List Acceptance
-accepted_at number opening t (Request peer bytes) = []
-accepted_at number opening t (StreamOpened stream peer) = []
-accepted_at number opening t (Frame stream bytes) = []
-accepted_at number opening t (StreamCut stream) = []
 accepted_at number opening t (Datagram peer bytes) = accepted_read number opening t peer (received t peer bytes).0.verdict (datagram_reading bytes)
-accepted_at number opening t (Write point bytes) = []
-accepted_at number opening t (Read point) = []
-accepted_at number opening t (Tick ms) = []
-accepted_at number opening t (Mode run) = []
-accepted_at number opening t (Start slot) = []
-accepted_at number opening t (Stop slot) = []
+accepted_at number opening t other = []
 
 -- the datagrams that it accepts over the events, in order
 abbrev pub acceptances : ℕ → ℕ → ScannerTable → List Event → List Acceptance
@@ -152,7 +143,7 @@ OpeningsAreNumbered t = OfEachSlot (SlotIsNumbered t) t
 
 -- the openings of a whole table are numbered
 abbrev pub WholeTablesNumberOpenings : Type 0
-WholeTablesNumberOpenings = (t : ScannerTable) → IsWhole t → OpeningsAreNumbered t
+WholeTablesNumberOpenings = (t : ScannerTable) → IsWellFormed t → OpeningsAreNumbered t
 
 -- LAWS
 

@@ -6,7 +6,7 @@ use Rattle.cip_datagram.specs.declared.datagram.DatagramFault.{DatagramFault}
 use Rattle.cip_datagram.specs.Datagram.{DatagramFields}
 use Rattle.cip_datagram.specs.Reading.{datagram_reading}
 use Rattle.cip_events.specs.declared.event.Event.{Event}
-use Rattle.cip_events.specs.declared.event.Event.TheVariants.{Request, StreamOpened, Frame, StreamCut, Datagram, Write, Read, Tick, Mode, Start, Stop}
+use Rattle.cip_events.specs.declared.event.Event.TheVariants.{Datagram, Write}
 use Rattle.cip_events.specs.declared.event.StepFault.{StepFault}
 use Rattle.cip_events.specs.declared.event.Verdict.{Verdict}
 use Rattle.scanner_table.specs.declared.profile.ScannerProfile.{ScannerProfile}
@@ -18,7 +18,7 @@ use Rattle.scanner_table.specs.Effects.{Next}
 use Rattle.scanner_table.specs.Datagrams.{is_for, received}
 use Rattle.scanner_table.specs.Points.{write}
 use Rattle.scanner_table.specs.Step.{scanner_step, scanner_table}
-use Rattle.scanner_laws.specs.Runs.{left_by, table_after}
+use Rattle.scanner_whole.specs.Runs.{left_by, table_after}
 use Rattle.scanner_laws.specs.Deliveries.{reports_applied, is_slots}
 
 -- the first of two if it is there, otherwise the second
@@ -36,17 +36,8 @@ datagram_left number t peer verdict (Ok d) =
 
 -- the bytes that the data of an event leave there
 abbrev pub data_left : ℕ → ScannerTable → Event → Option (List ℕ)
-data_left number t (Request peer bytes) = None
-data_left number t (StreamOpened stream peer) = None
-data_left number t (Frame stream bytes) = None
-data_left number t (StreamCut stream) = None
 data_left number t (Datagram peer bytes) = datagram_left number t peer (received t peer bytes).0.verdict (datagram_reading bytes)
-data_left number t (Write point bytes) = None
-data_left number t (Read point) = None
-data_left number t (Tick ms) = None
-data_left number t (Mode run) = None
-data_left number t (Start slot) = None
-data_left number t (Stop slot) = None
+data_left number t other = None
 
 abbrev pub is_established : SlotState → Bool
 is_established Idle = false
@@ -78,17 +69,8 @@ written (Ok next) bytes = Some bytes
 
 -- the bytes that an event leaves at the output of a slot: those that it writes there
 abbrev pub output_left : ℕ → ScannerTable → Event → Option (List ℕ)
-output_left number t (Request peer bytes) = None
-output_left number t (StreamOpened stream peer) = None
-output_left number t (Frame stream bytes) = None
-output_left number t (StreamCut stream) = None
-output_left number t (Datagram peer bytes) = None
 output_left number t (Write point bytes) = if point == number then written (write t point bytes) bytes else None
-output_left number t (Read point) = None
-output_left number t (Tick ms) = None
-output_left number t (Mode run) = None
-output_left number t (Start slot) = None
-output_left number t (Stop slot) = None
+output_left number t other = None
 
 -- ONE EVENT
 

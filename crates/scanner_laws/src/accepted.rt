@@ -2,7 +2,7 @@
 //! of the request that opened it.
 
 ghost use Rattle.scanner_laws.specs.Newest.{HasNewerNumber, IsAppliedNew, IsNotAgain, OpeningsAreNumbered, WholeTablesNumberOpenings, StepsAcceptAfter, RefusalsAcceptNothing, EventsAcceptAfter};
-ghost use Rattle.scanner_laws.specs.Runs.{IsLaw};
+ghost use Rattle.scanner_whole.specs.Runs.{IsLaw};
 
 /// The number of a pending Forward_Open, and that of the request that opened an established connection, are below the next
 /// request number.
@@ -35,7 +35,7 @@ pub fn applied_data_are_new()
 
 /// No connection applies the datagram that it accepted last once more. The laws hold, in a step and over events, of every
 /// table of which `openings_are_numbered` holds.
-pub fn no_datagram_is_applied_twice()
+pub fn the_last_datagram_is_not_applied_again()
     ensures step { StepsAcceptAfter IsNotAgain }
     ensures events { EventsAcceptAfter IsNotAgain }
 {}

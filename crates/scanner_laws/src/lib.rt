@@ -1,25 +1,23 @@
-//! Laws of a scanner's table: in each step, and over every list of events. A law call does nothing; its contract states
-//! the law. `cip_tables::laws::scanners` carries them over to runs of a device.
+//! Laws of a scanner. At the root they speak of the table: in each step, and over every list of events. `runs` has the laws
+//! of every run of a device that is a scanner. A law call does nothing; its contract states the law. The laws by which a
+//! table stays whole are those of `scanner_whole`, on which devices stand; no device stands on the laws here.
 #![tactic(auto)]
 
 mod accepted;
 mod bytes;
-mod counters;
-mod slots;
-mod whole;
+mod openings;
+pub mod runs;
+mod ticks;
 
 pub use accepted::{
-    accepted_numbers_are_newer, applied_data_are_new, no_datagram_is_applied_twice,
-    openings_are_numbered,
+    accepted_numbers_are_newer, applied_data_are_new, openings_are_numbered,
+    the_last_datagram_is_not_applied_again,
 };
 pub use bytes::bytes_are_from_scratch;
-pub use counters::{
-    counters_never_fall, ids_are_given_once, numbers_are_below_the_next,
-    openings_draw_the_next_numbers, request_numbers_rise,
+pub use openings::{ids_are_given_once, openings_draw_the_next_numbers, request_numbers_rise};
+pub use scanner_whole::{
+    answers_are_waited_for_in_time, counters_never_fall, fresh_tables_are_whole,
+    later_counters_keep_tables_whole, numbers_are_below_the_next, slots_produce_as_themselves,
+    steps_keep_tables_whole,
 };
-pub use slots::{
-    answers_are_waited_for_in_time, slots_produce_as_themselves, ticks_leave_none_late,
-};
-pub use whole::{
-    fresh_tables_are_whole, later_counters_keep_tables_whole, steps_keep_tables_whole,
-};
+pub use ticks::ticks_leave_none_late;

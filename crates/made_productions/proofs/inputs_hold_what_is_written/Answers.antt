@@ -1,4 +1,4 @@
-use Rattle.made_productions.proofs.Inputs.{fresh_zeros, steps_write}
+use Rattle.made_productions.specs.Lemmas.Inputs.{fresh_zeros, steps_write}
 use Rattle.made_productions.proofs.inputs_hold_what_is_written.Goals as goal
 
 pub returns : goal.returns

@@ -1,4 +1,4 @@
-use Rattle.made_productions.proofs.Runs.{runs_in_order, steps_whole}
+use Rattle.made_productions.specs.Lemmas.Runs.{runs_in_order, steps_whole}
 use Rattle.made_productions.proofs.runs_produce_in_order.Goals as goal
 
 pub returns : goal.returns

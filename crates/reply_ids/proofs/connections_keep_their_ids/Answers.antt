@@ -1,4 +1,4 @@
-use Rattle.reply_ids.proofs.Rows.{connections_keep}
+use Rattle.reply_ids.specs.Lemmas.Rows.{connections_keep}
 use Rattle.reply_ids.proofs.connections_keep_their_ids.Goals as goal
 
 pub returns : goal.returns

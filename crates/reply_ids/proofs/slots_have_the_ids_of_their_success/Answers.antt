@@ -1,4 +1,4 @@
-use Rattle.reply_ids.proofs.Slots.{slots_have_ids}
+use Rattle.reply_ids.specs.Lemmas.Slots.{slots_have_ids}
 use Rattle.reply_ids.proofs.slots_have_the_ids_of_their_success.Goals as goal
 
 pub returns : goal.returns

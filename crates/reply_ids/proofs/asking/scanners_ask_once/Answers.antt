@@ -1,4 +1,4 @@
-use Rattle.reply_ids.proofs.RequestedIds.{scanners_ask}
+use Rattle.reply_ids.specs.Lemmas.RequestedIds.{scanners_ask}
 use Rattle.reply_ids.proofs.asking.scanners_ask_once.Goals as goal
 
 pub returns : goal.returns

@@ -1,0 +1,421 @@
+-- A step of an adapter carries ids: those of its connections, and those that it sends, were in the table, came with the
+-- event, or were allocated.
+use Rattle.std.proofs.Common.{◌≡◌, ◌≤◌, ℕ, ◌+◌, ◌==◌, nat_lt, Bool, true, false, cond, not, List, [], ◌++◌, length, map, filter, find, Option, Some, None, Result, Ok, Err, refl, sym, ap, subst, arith, length-append}
+use Rattle.std.specs.List.{AllByRecursion, filter_map}
+use Rattle.std.specs.Option.{IfSome, option_map}
+use Rattle.std.specs.Result.{result_ok}
+use Rattle.std.specs.Str.{bytes_eq}
+use Rattle.adapter_table.specs.Lemmas.CheckLemmas.{draws_some}
+use Rattle.cip_types.specs.declared.names.Ms.{Ms}
+use Rattle.cip_types.specs.declared.names.Node.{Node}
+use Rattle.cip_types.specs.Fields.{fields_text}
+use Rattle.cip_types.specs.Order.{in_order}
+use Rattle.cip_datagram.specs.declared.datagram.DatagramFault.{DatagramFault}
+use Rattle.cip_datagram.specs.Datagram.{DatagramFields}
+use Rattle.cip_datagram.specs.Reading.{datagram_reading}
+use Rattle.cip_encap.specs.declared.message.EncapFault.{EncapFault}
+use Rattle.cip_encap.specs.declared.packet.ItemFault.{ItemFault}
+use Rattle.cip_encap.specs.declared.packet.ItemFault.TheVariants.{Bad}
+use Rattle.cip_encap.specs.declared.packet.SocketAddress.{SocketAddress}
+use Rattle.cip_encap.specs.Message.{MessageFields, header_widths, header_numbers, message_text}
+use Rattle.cip_encap.specs.Reading.{message_reading}
+use Rattle.cip_encap.specs.Packet.{PacketFields, packet_widths, packet_numbers, socket_count, socket_items, packet_text}
+use Rattle.cip_encap.specs.PacketReading.{behind_socket, are_sockets, packet_reading}
+use Rattle.cip_encap.specs.ReadsBack.{ItemsReadBack}
+use Rattle.cip_epath.specs.Path.{PathFields}
+use Rattle.cip_epath.specs.Reading.{path_reading}
+use Rattle.cip_fwdopen.specs.Open.{OpenFields}
+use Rattle.cip_fwdopen.specs.Close.{CloseFields, closed_text}
+use Rattle.cip_fwdopen.specs.Get.{got_text}
+use Rattle.cip_fwdopen.specs.Reply.{opened_text, refused_text}
+use Rattle.cip_events.specs.declared.event.Event.{Event}
+use Rattle.cip_events.specs.declared.event.Event.TheVariants as event
+use Rattle.cip_events.specs.declared.event.StepFault.{StepFault}
+use Rattle.cip_events.specs.declared.event.StepFault.TheVariants.{NotAllowedNow, TickTooLong, ClockEnd, WrongLength}
+use Rattle.cip_events.specs.declared.event.Verdict.TheVariants.{Done}
+use Rattle.cip_events.specs.Answers.{plain_answer, is_accepted}
+use Rattle.cip_events.specs.Clock.{longest_tick, clock_end}
+use Rattle.cip_productions.specs.declared.production.Producer.{Producer}
+use Rattle.cip_productions.specs.Productions.{Produced, same_producer, by_number, by_due, sent}
+use Rattle.cip_router.specs.declared.command.Command.{Command}
+use Rattle.cip_router.specs.declared.command.Command.TheVariants as command
+use Rattle.cip_router.specs.declared.command.EncapStatus.TheVariants as encap
+use Rattle.cip_router.specs.declared.refusal.Refusal.{Refusal}
+use Rattle.cip_router.specs.declared.refusal.Refusal.TheVariants as refused_as
+use Rattle.cip_router.specs.declared.refusal.Status.{Status}
+use Rattle.cip_router.specs.declared.refusal.Status.TheVariants as status
+use Rattle.cip_router.specs.Requests.{RouterRequestFields, nothing, refused, closing, assembly, opening, router_request_reading}
+use Rattle.cip_router.specs.Commands.{command_of, is_silent}
+use Rattle.cip_router.specs.Frames.{RequestHeader, request_header_of, wrong_length_of, frame_fields, FrameReply, services, registered, other_version, router_reply, services_text, protocol_text, socket_of, reply_message, frame_reading}
+use Rattle.cip_router.specs.Frames as frames
+use Rattle.cip_router.specs.Refusals.{status_fault, refusal_fault, status_code}
+use Rattle.cip_router.specs.Replies.{ReplyFields, opened, closed, got, reply_text}
+use Rattle.cip_router.specs.Replies as replies
+use Rattle.adapter_table.specs.declared.profile.InputPoint.{InputPoint}
+use Rattle.adapter_table.specs.Connections.{Row}
+use Rattle.adapter_table.specs.declared.row.State.{State}
+use Rattle.adapter_table.specs.declared.row.State.TheVariants.{Established, TimedOut}
+use Rattle.adapter_table.specs.declared.table.AdapterTable.{AdapterTable}
+use Rattle.adapter_table.specs.declared.table.Stream.{Stream}
+use Rattle.adapter_table.specs.declared.admission.ConsumedPoint.{ConsumedPoint}
+use Rattle.adapter_table.specs.Profiles.{is_at}
+use Rattle.adapter_table.specs.Points.{bytes_at}
+use Rattle.adapter_table.specs.Rows.{has_triad, is_member, written_state, written_row}
+use Rattle.adapter_table.specs.Checks.{Check, Points, Admitted, drawn_ids, group_of, joined, named_points, points_of, path_check, consumed_point_of, input_of, is_multicast, judged, view_of, verdict, admission}
+use Rattle.adapter_table.specs.Opening.{opened_t_o_id, opened_row, opened_table}
+use Rattle.adapter_table.specs.Closing.{stays, without_triad, closed_table}
+use Rattle.adapter_table.specs.Datagrams.{is_for, accepted_row, accepted_if_for, row_delivery, accepted_table, delivered, found_datagram, datagram_of, received}
+use Rattle.adapter_table.specs.Productions as productions
+use Rattle.adapter_table.specs.Productions.{state_producer, producer_in, producers, production_of, is_due, due_producers, produced_state, produced_row, produces_on_change, producers_on_change, changed_state, changed_row}
+use Rattle.adapter_table.specs.Requests.{Next, Served, judged_open, admitted_open, served_open, close_of, served_close, is_value_attribute, router_refusal, assembly_of, served_assembly, served}
+use Rattle.adapter_table.specs.Streams.{is_stream, is_taken, with_stream, without_stream, has_session, registered_table, stream_opened, cut_of, stream_cut}
+use Rattle.adapter_table.specs.Encapsulation.{Handled, refusal, unanswered, session_begun, session_ended, register_session, request_replied, packet_replied, handled, reply_frames, framed, frame_answer, frame_of, frame}
+use Rattle.adapter_table.specs.Ticks.{has_expired, expired_row, expired_rows, clocked_table, expired_table, produced_table, advanced, tick}
+use Rattle.adapter_table.specs.Step.{read_of, read, written_table, changed_table, written, write_of, write, adapter_step}
+use Rattle.device_laws.specs.Sizes.{IsShortFrame, IsSmall}
+use Rattle.device_laws.specs.Ids.{RequestIds, PayloadIds, PacketIds, MessageIds, FrameIds, HasFrameIds, HasDatagramId, AnswerIds, RowIds, FromTo, IdsFromTo, EventIds}
+use Rattle.device_laws.specs.Lemmas.Lists.{all_both, all_more, all_filtered, all_mapped, all_found, all_ordered, all_firsts, all_made}
+use Rattle.device_laws.specs.Lemmas.Texts.{either, Cuts, message_ids, packet_ids, datagram_id}
+use Rattle.device_laws.specs.Lemmas.Payloads.{opened_ids, closed_ids, got_ids, refused_ids}
+
+abbrev pub RowsHold : (P Q : ℕ → Type 0) → List Row → Type 0
+RowsHold P Q rows = AllByRecursion (RowIds P Q) rows
+
+-- ---- connections that change
+
+same_ids : (P Q : ℕ → Type 0) (b : Bool) (row : Row) (state : State) → RowIds P Q row → RowIds P Q (cond b (record row { state = state }) row)
+same_ids P Q true row state holds = record { o_t = holds.o_t; t_o = holds.t_o; opening = holds.opening }
+same_ids P Q false row state holds = holds
+
+written_holds : (P Q : ℕ → Type 0) (point : ℕ) (row : Row) → RowIds P Q row → RowIds P Q (written_row point row)
+written_holds P Q point row holds = same_ids P Q (row.produced == point) row (written_state row.state) holds
+
+changed_holds : (P Q : ℕ → Type 0) (clock : Ms) (point : ℕ) (row : Row) → RowIds P Q row → RowIds P Q (changed_row clock point row)
+changed_holds P Q clock point row holds = same_ids P Q (row.produced == point) row (changed_state clock row.t_o_api_ms row.state) holds
+
+produced_holds : (P Q : ℕ → Type 0) (clock : Ms) (row : Row) → RowIds P Q row → RowIds P Q (produced_row clock row)
+produced_holds P Q clock row holds = same_ids P Q true row (produced_state clock row.t_o_api_ms row.state) holds
+
+expired_holds : (P Q : ℕ → Type 0) (clock : Ms) (row : Row) → RowIds P Q row → RowIds P Q (expired_row clock row)
+expired_holds P Q clock row holds = same_ids P Q (has_expired clock row) row TimedOut holds
+
+accepted_holds : (P Q : ℕ → Type 0) (clock : Ms) (peer : Node) (d : DatagramFields) (row : Row) → RowIds P Q row → RowIds P Q (accepted_if_for clock peer d row)
+accepted_holds P Q clock peer d row holds =
+    either (RowIds P Q) (is_for peer d.connection row) (accepted_row clock d row) row (record { o_t = holds.o_t; t_o = holds.t_o; opening = holds.opening }) holds
+
+-- ---- an opening
+
+-- the id of the group that the connection joins, if it joins one
+abbrev GroupHolds : (ℕ → Type 0) → Option Row → Type 0
+GroupHolds P group = IfSome group (λ row. P row.t_o_id.0)
+
+joined_holds : (P : ℕ → Type 0) (b : Bool) (group : Option Row) → GroupHolds P group → GroupHolds P (joined b group)
+joined_holds P true group holds = holds
+joined_holds P false group holds = tt
+
+abbrev PointsHold : (ℕ → Type 0) → Result Points Refusal → Type 0
+PointsHold P (Ok points) = GroupHolds P points.group
+PointsHold P (Err why) = Unit {0}
+
+named_hold : (P : ℕ → Type 0) (path : PathFields) (group : Option Row) (said : Check) (consumer : Option ConsumedPoint) (input : Option InputPoint) → GroupHolds P group → PointsHold P (named_points path group said consumer input)
+named_hold P path group (Some why) consumer input holds = tt
+named_hold P path group None None input holds = tt
+named_hold P path group None (Some consumer) None holds = tt
+named_hold P path group None (Some consumer) (Some input) holds = holds
+
+points_hold : (P Q : ℕ → Type 0) (t : AdapterTable) (request : OpenFields) (path : Option PathFields) → RowsHold P Q t.rows → PointsHold P (points_of (view_of t request.triad) request path)
+points_hold P Q t request None rows = tt
+points_hold P Q t request (Some path) rows =
+    let found = all_found (λ (row : Row). P row.t_o_id.0) (is_member path.produced) t.rows (all_more (RowIds P Q) (λ (row : Row). P row.t_o_id.0) (λ row holds. holds.t_o) t.rows rows) in
+    named_hold P path (joined (is_multicast request.t_o_params.kind) (group_of t.rows path.produced)) (path_check t.profile path) (consumed_point_of t.profile path.consumed) (input_of t.profile path.produced)
+    (joined_holds P (is_multicast request.t_o_params.kind) (group_of t.rows path.produced) found)
+
+abbrev AdmittedHolds : (ℕ → Type 0) → Result Admitted Refusal → Type 0
+AdmittedHolds P (Ok admitted) = GroupHolds P admitted.group
+AdmittedHolds P (Err why) = Unit {0}
+
+judged_holds : (P : ℕ → Type 0) (request : OpenFields) (points : Result Points Refusal) (said : Check) → PointsHold P points → AdmittedHolds P (judged request points said)
+judged_holds P request points (Some why) holds = tt
+judged_holds P request (Err why) None holds = tt
+judged_holds P request (Ok points) None holds = holds
+
+admission_holds : (P Q : ℕ → Type 0) (t : AdapterTable) (request : OpenFields) → RowsHold P Q t.rows → AdmittedHolds P (admission t request)
+unfolding verdict
+admission_holds P Q t request rows =
+    judged_holds P request (points_of (view_of t request.triad) request (result_ok (path_reading request.path))) _ (points_hold P Q t request (result_ok (path_reading request.path)) rows)
+
+-- the ids of the new connection
+t_o_holds : (P : ℕ → Type 0) (t : AdapterTable) (request : OpenFields) (multicast : Bool) (group : Option Row) (to : ℕ) → GroupHolds P group → P request.t_o_id.0 → IdsFromTo P t.profile.incarnation t.next_id to → t.next_id + drawn_ids multicast group ≤ to → P (opened_t_o_id t request multicast group).0
+t_o_holds P t request true None to joins requested drawn in_range = drawn (t.next_id + 1) (omega arith) (omega (arith, in_range))
+t_o_holds P t request false None to joins requested drawn in_range = requested
+t_o_holds P t request multicast (Some member) to joins requested drawn in_range = joins
+
+-- ---- what is replied
+
+abbrev ServedHolds : (P Q : ℕ → Type 0) → Served → Type 0
+ServedHolds P Q s = PayloadIds P (reply_text s.reply) × RowsHold P Q s.table.rows
+
+pub nonzero : (why : Status) → (status_code why == 0) ≡ false
+nonzero status.PathSegment = refl
+nonzero status.PathDestination = refl
+nonzero status.Service = refl
+nonzero status.NotEnoughData = refl
+nonzero status.Attribute = refl
+nonzero status.TooMuchData = refl
+
+refusal_holds : (P Q : ℕ → Type 0) (t : AdapterTable) (service : ℕ) (why : Status) → RowsHold P Q t.rows → ServedHolds P Q (router_refusal t service why)
+refusal_holds P Q t service why rows = (refused_ids P service (status_fault why) None (nonzero why), rows)
+
+-- the ids and opening numbers that a step allocates have the properties
+abbrev pub HasDrawn : (P Q : ℕ → Type 0) → AdapterTable → ℕ → Type 0
+HasDrawn P Q t to = IdsFromTo P t.profile.incarnation t.next_id to × FromTo Q t.next_id to
+
+open_holds : (P Q : ℕ → Type 0) → Cuts P → (t : AdapterTable) (peer : Node) (large : Bool) (request : OpenFields) (said : Result Admitted Refusal) (to : ℕ) → (judged_open t peer large request said).table.next_id ≤ to → HasDrawn P Q t to → AdmittedHolds P said → P request.t_o_id.0 → RowsHold P Q t.rows → ServedHolds P Q (judged_open t peer large request said)
+unfolding admitted_open opened_table opened_row
+open_holds P Q cuts t peer large request (Err why) to below drawn joins requested rows = (refused_ids P _ (refusal_fault why) (Some request.triad) refl, rows)
+open_holds P Q cuts t peer large request (Ok admitted) to below drawn joins requested rows =
+    let one = draws_some admitted.multicast admitted.group in
+    let o_t = drawn.0 t.next_id (omega arith) (omega (arith, below, one)) in
+    let t_o = t_o_holds P t request admitted.multicast admitted.group to joins requested drawn.0 below in
+    let opening_holds = drawn.1 t.next_id (omega arith) (omega (arith, below, one)) in (
+      opened_ids P large _ (cuts _ o_t) (cuts _ t_o),
+      all_both (RowIds P Q) _ _ (all_filtered (RowIds P Q) _ t.rows rows) (record { o_t = o_t; t_o = t_o; opening = opening_holds }, tt),
+    )
+
+close_holds : (P Q : ℕ → Type 0) (t : AdapterTable) (request : CloseFields) (found : Option Row) → RowsHold P Q t.rows → ServedHolds P Q (close_of t request found)
+unfolding closed_table
+close_holds P Q t request None rows = (refused_ids P 0x4E (refusal_fault refused_as.NotFound) (Some request.triad) refl, rows)
+close_holds P Q t request (Some row) rows =
+    (closed_ids P row.triad, all_filtered (RowIds P Q) (stays (without_triad row.triad t.rows)) (without_triad row.triad t.rows) (all_filtered (RowIds P Q) _ t.rows rows))
+
+assembly_holds : (P Q : ℕ → Type 0) (t : AdapterTable) (service : ℕ) (attribute : Option ℕ) (body : List ℕ) (found : Option (List ℕ)) → RowsHold P Q t.rows → ServedHolds P Q (assembly_of t service attribute body found)
+assembly_holds P Q t service attribute body None rows = refusal_holds P Q t service status.PathDestination rows
+assembly_holds P Q t service attribute body (Some value) rows =
+    let all : Served = record { reply = got value; address = None; notices = []; table = t } in
+    either (ServedHolds P Q) (not (service == 0x0E)) _ _ (refusal_holds P Q t service status.Service rows)
+    (either (ServedHolds P Q) (not (is_value_attribute attribute)) _ _ (refusal_holds P Q t service status.Attribute rows)
+    (either (ServedHolds P Q) (not (length body == 0)) (router_refusal t service status.TooMuchData) all (refusal_holds P Q t service status.TooMuchData rows) (got_ids P value, rows)))
+
+-- the same, if something is served
+abbrev AnyHolds : (P Q : ℕ → Type 0) → Option Served → Type 0
+AnyHolds P Q s = IfSome s (ServedHolds P Q)
+
+abbrev next_of : ℕ → Option Served → ℕ
+next_of next None = next
+next_of next (Some s) = s.table.next_id
+
+served_holds : (P Q : ℕ → Type 0) → Cuts P → (t : AdapterTable) (peer : Node) (request : RouterRequestFields) (to : ℕ) → next_of to (served t peer request) ≤ to → HasDrawn P Q t to → RequestIds P request → RowsHold P Q t.rows → AnyHolds P Q (served t peer request)
+unfolding served_open served_close served_assembly
+served_holds P Q cuts t peer nothing to below drawn ids rows = tt
+served_holds P Q cuts t peer (refused service why) to below drawn ids rows = refusal_holds P Q t service why rows
+served_holds P Q cuts t peer (closing request) to below drawn ids rows = close_holds P Q t request (find (has_triad request.triad) t.rows) rows
+served_holds P Q cuts t peer (assembly service instance attribute body) to below drawn ids rows = assembly_holds P Q t service attribute body (bytes_at t.values instance) rows
+served_holds P Q cuts t peer (opening large request) to below drawn ids rows =
+    open_holds P Q cuts t peer large request (admission t request) to below drawn (admission_holds P Q t request rows) ids rows
+
+-- ---- messages
+
+abbrev SaysIds : (ℕ → Type 0) → FrameReply → Type 0
+SaysIds P (router_reply reply address) = PayloadIds P (reply_text reply)
+SaysIds P services = Unit {0}
+SaysIds P (registered session) = Unit {0}
+SaysIds P other_version = Unit {0}
+SaysIds P (frames.refused why) = Unit {0}
+
+-- the answer to a message, if the counter stays within the limit
+abbrev HandledHolds : (P Q : ℕ → Type 0) → ℕ → Handled → Type 0
+HandledHolds P Q to done = done.table.next_id ≤ to → IfSome done.reply (SaysIds P) × RowsHold P Q done.table.rows
+
+register_holds : (P Q : ℕ → Type 0) (to : ℕ) (t : AdapterTable) (stream : Stream) (body : List ℕ) → RowsHold P Q t.rows → HandledHolds P Q to (register_session t stream body)
+unfolding registered_table
+register_holds P Q to t stream body rows =
+    either (HandledHolds P Q to) (not (length body == 4)) _ _ (λ below. (tt, rows))
+    (either (HandledHolds P Q to) (not (bytes_eq body protocol_text)) _ _ (λ below. (tt, rows))
+    (either (HandledHolds P Q to) stream.registered (refusal t encap.InvalidCommand) (session_begun t stream) (λ below. (tt, rows)) (λ below. (tt, rows))))
+
+replied_holds : (P Q : ℕ → Type 0) (to : ℕ) (t : AdapterTable) (s : Option Served) → RowsHold P Q t.rows → (next_of to s ≤ to → AnyHolds P Q s) → HandledHolds P Q to (request_replied t s)
+replied_holds P Q to t None rows holds = λ below. (tt, rows)
+replied_holds P Q to t (Some s) rows holds = holds
+
+packet_holds : (P Q : ℕ → Type 0) → Cuts P → (to : ℕ) (t : AdapterTable) (peer : Node) (reading : Result PacketFields ItemFault) → HasDrawn P Q t to → PacketIds P reading → RowsHold P Q t.rows → HandledHolds P Q to (packet_replied t peer reading)
+packet_holds P Q cuts to t peer (Err fault) drawn ids rows = λ below. (tt, rows)
+packet_holds P Q cuts to t peer (Ok packet) drawn ids rows =
+    replied_holds P Q to t (served t peer (router_request_reading packet.payload)) rows (λ below. served_holds P Q cuts t peer (router_request_reading packet.payload) to below drawn ids.requested rows)
+
+handled_holds : (P Q : ℕ → Type 0) → Cuts P → (to : ℕ) (t : AdapterTable) (stream : Stream) (request_header : RequestHeader) (body : List ℕ) (kind : Command) → HasDrawn P Q t to → PacketIds P (packet_reading body) → RowsHold P Q t.rows → HandledHolds P Q to (handled t stream request_header body kind)
+unfolding handled without_stream
+handled_holds P Q cuts to t stream request_header body command.RegisterSession drawn ids rows = register_holds P Q to t stream body rows
+handled_holds P Q cuts to t stream request_header body command.UnregisterSession drawn ids rows =
+    either (HandledHolds P Q to) (has_session stream request_header.session) (session_ended t stream) (unanswered t) (λ below. (tt, rows)) (λ below. (tt, rows))
+handled_holds P Q cuts to t stream request_header body command.SendRrData drawn ids rows =
+    either (HandledHolds P Q to) (has_session stream request_header.session) _ _ (packet_holds P Q cuts to t stream.peer (packet_reading body) drawn ids rows) (λ below. (tt, rows))
+handled_holds P Q cuts to t stream request_header body _ drawn ids rows = λ below. (tt, rows)
+
+-- ---- frames
+
+pub plain_services : packet_reading services_text ≡ Err Bad
+unfolding packet_reading are_sockets behind_socket
+plain_services = refl
+
+pub plain_protocol : packet_reading protocol_text ≡ Err Bad
+unfolding packet_reading are_sockets behind_socket
+plain_protocol = refl
+
+pub plain_none : packet_reading [] ≡ Err Bad
+unfolding packet_reading are_sockets behind_socket
+plain_none = refl
+
+pub some_bytes : (reply : ReplyFields) → 1 ≤ length (reply_text reply)
+unfolding opened_text closed_text got_text refused_text
+some_bytes (opened large o) = omega arith
+some_bytes (closed triad) = omega arith
+some_bytes (got value) = omega arith
+some_bytes (replies.refused service fault triad) = omega arith
+
+pub few_bytes : (m : MessageFields) (payload : List ℕ) (socket : Option SocketAddress) → m.payload ≡ packet_text payload socket → length (message_text m) ≤ 2048 → length payload ≤ 65535
+few_bytes m payload socket is short =
+    let header = fields_text header_widths (header_numbers m) in
+    let front = fields_text packet_widths (packet_numbers (record { timeout = 0; payload = payload }) (socket_count socket)) in
+    let same : length m.payload ≡ length (packet_text payload socket) = ap length is in
+    omega (arith, short, same, length-append header m.payload, length-append front (payload ++ socket_items socket), length-append payload (socket_items socket))
+
+reply_ids : ItemsReadBack → (P : ℕ → Type 0) (request_header : RequestHeader) (reply : FrameReply) → SaysIds P reply → length (message_text (reply_message request_header reply)) ≤ 2048 → PacketIds P (packet_reading (reply_message request_header reply).payload)
+reply_ids back P request_header (router_reply reply address) ids short =
+    packet_ids back P (reply_text reply) (option_map socket_of address) (some_bytes reply) (few_bytes (reply_message request_header (router_reply reply address)) (reply_text reply) (option_map socket_of address) refl short) ids
+reply_ids back P request_header services ids short = subst (PacketIds P) (sym plain_services) tt
+reply_ids back P request_header (registered session) ids short = subst (PacketIds P) (sym plain_protocol) tt
+reply_ids back P request_header other_version ids short = subst (PacketIds P) (sym plain_protocol) tt
+reply_ids back P request_header (frames.refused why) ids short = subst (PacketIds P) (sym plain_none) tt
+
+replies_hold : ItemsReadBack → (P : ℕ → Type 0) (number : ℕ) (request_header : RequestHeader) (reply : Option FrameReply) → IfSome reply (SaysIds P) → AllByRecursion IsShortFrame (reply_frames number request_header reply) → AllByRecursion (HasFrameIds P) (reply_frames number request_header reply)
+replies_hold back P number request_header None ids short = tt
+replies_hold back P number request_header (Some reply) ids short = (message_ids P (reply_message request_header reply) (reply_ids back P request_header reply ids short.0), tt)
+
+-- ---- answers
+
+-- an answer and the next table, if the counter stays within the limit and the answer is small
+abbrev pub NextHolds : (P Q : ℕ → Type 0) → ℕ → Next → Type 0
+NextHolds P Q to next = next.1.next_id ≤ to → IsSmall next.0 → AnswerIds P next.0 × RowsHold P Q next.1.rows
+
+framed_holds : ItemsReadBack → (P Q : ℕ → Type 0) (to number : ℕ) (request_header : RequestHeader) (done : Handled) → HandledHolds P Q to done → NextHolds P Q to (framed number request_header done)
+framed_holds back P Q to number request_header done holds = λ below small.
+    let both = holds below in
+    (record { frames = replies_hold back P number request_header done.reply both.0 small.short_frames; datagrams = tt }, both.1)
+
+wrong_length_holds : ItemsReadBack → (P Q : ℕ → Type 0) (to : ℕ) (t : AdapterTable) (stream : Stream) (header : Option (List ℕ × List ℕ)) → RowsHold P Q t.rows → NextHolds P Q to (frame_answer t stream (wrong_length_of header))
+wrong_length_holds back P Q to t stream None rows = (λ below small. (record { frames = tt; datagrams = tt }, rows))
+wrong_length_holds back P Q to t stream (Some h) rows =
+    either (NextHolds P Q to) (is_silent (command_of (frames.request_header_in h.0).command)) _ _ (λ below small. (record { frames = tt; datagrams = tt }, rows))
+    (framed_holds back P Q to stream.number (frames.request_header_in h.0) (refusal t encap.InvalidLength) (λ below. (tt, rows)))
+
+message_holds : ItemsReadBack → (P Q : ℕ → Type 0) → Cuts P → (to : ℕ) (t : AdapterTable) (stream : Stream) (header : Option (List ℕ × List ℕ)) (reading : Result MessageFields EncapFault) → HasDrawn P Q t to → MessageIds P reading → RowsHold P Q t.rows → NextHolds P Q to (frame_answer t stream (frame_fields header reading))
+message_holds back P Q cuts to t stream header (Err fault) drawn ids rows = wrong_length_holds back P Q to t stream header rows
+message_holds back P Q cuts to t stream header (Ok m) drawn ids rows =
+    framed_holds back P Q to stream.number (request_header_of m) (handled t stream (request_header_of m) m.payload (command_of m.command)) (handled_holds P Q cuts to t stream (request_header_of m) m.payload (command_of m.command) drawn ids rows)
+
+-- if the step gives an answer
+abbrev pub OkHolds : (P Q : ℕ → Type 0) → ℕ → Result Next StepFault → Type 0
+OkHolds P Q to (Ok next) = NextHolds P Q to next
+OkHolds P Q to (Err fault) = Unit {0}
+
+frame_holds : ItemsReadBack → (P Q : ℕ → Type 0) → Cuts P → (to : ℕ) (t : AdapterTable) (bytes : List ℕ) (found : Option Stream) → HasDrawn P Q t to → FrameIds P bytes → RowsHold P Q t.rows → OkHolds P Q to (frame_of t bytes found)
+unfolding frame_reading
+frame_holds back P Q cuts to t bytes None drawn ids rows = tt
+frame_holds back P Q cuts to t bytes (Some stream) drawn ids rows = message_holds back P Q cuts to t stream _ (message_reading bytes) drawn ids rows
+
+-- ---- datagrams received
+
+found_holds : (P Q : ℕ → Type 0) (to : ℕ) (t : AdapterTable) (peer : Node) (d : DatagramFields) (found : Option Row) → RowsHold P Q t.rows → NextHolds P Q to (found_datagram t peer d found)
+unfolding accepted_table
+found_holds P Q to t peer d None rows = (λ below small. (record { frames = tt; datagrams = tt }, rows))
+found_holds P Q to t peer d (Some row) rows =
+    let delivery = row_delivery t.profile row d in
+    either (NextHolds P Q to) (is_accepted (row_delivery t.profile row d)) (delivered delivery (accepted_table t peer d row delivery)) (delivered delivery t)
+    (λ below small. (record { frames = tt; datagrams = tt }, (all_mapped (RowIds P Q) (RowIds P Q) (accepted_if_for t.clock peer d) (accepted_holds P Q t.clock peer d) t.rows rows))) (λ below small. (record { frames = tt; datagrams = tt }, rows))
+
+datagram_holds : (P Q : ℕ → Type 0) (to : ℕ) (t : AdapterTable) (peer : Node) (reading : Result DatagramFields DatagramFault) → RowsHold P Q t.rows → NextHolds P Q to (datagram_of t peer reading)
+datagram_holds P Q to t peer (Err fault) rows = (λ below small. (record { frames = tt; datagrams = tt }, rows))
+datagram_holds P Q to t peer (Ok d) rows = found_holds P Q to t peer d (find (is_for peer d.connection) t.rows) rows
+
+-- ---- datagrams sent
+
+abbrev ProducerHolds : (ℕ → Type 0) → Producer → Type 0
+ProducerHolds P producer = P producer.id.0
+
+abbrev ProducedHolds : (ℕ → Type 0) → Produced → Type 0
+ProducedHolds P production = P production.datagram.connection
+
+producer_holds : (P Q : ℕ → Type 0) (row : Row) (state : State) → RowIds P Q row → IfSome (state_producer row state) (ProducerHolds P)
+producer_holds P Q row (Established production) holds = holds.t_o
+producer_holds P Q row TimedOut holds = tt
+
+producers_hold : (P Q : ℕ → Type 0) (p : Row → Bool) (before : Producer → Producer → Bool) (rows : List Row) → RowsHold P Q rows → AllByRecursion (ProducerHolds P) (in_order before (producers (filter p rows)))
+producers_hold P Q p before rows holds =
+    all_ordered (ProducerHolds P) before (producers (filter p rows))
+    (all_firsts (ProducerHolds P) same_producer (filter_map producer_in (filter p rows))
+    (all_made (RowIds P Q) (ProducerHolds P) producer_in (λ row ids. producer_holds P Q row row.state ids) (filter p rows) (all_filtered (RowIds P Q) p rows holds)))
+
+sent_hold : (P Q : ℕ → Type 0) → Cuts P → (rows : List Row) (input : Producer → List ℕ) (ps : List Producer) → AllByRecursion (ProducerHolds P) ps → AllByRecursion (HasDatagramId P) (map sent (map (λ producer. production_of rows (input producer) producer) ps))
+sent_hold P Q cuts rows input ps holds =
+    all_mapped (ProducedHolds P) (HasDatagramId P) sent (λ p id. datagram_id P p.datagram (cuts _ id)) (map (λ producer. production_of rows (input producer) producer) ps)
+    (all_mapped (ProducerHolds P) (ProducedHolds P) (λ producer. production_of rows (input producer) producer) (λ producer id. id) ps holds)
+
+advanced_holds : (P Q : ℕ → Type 0) → Cuts P → (to : ℕ) (t : AdapterTable) (ms : ℕ) → RowsHold P Q t.rows → NextHolds P Q to (advanced (clocked_table t ms))
+unfolding clocked_table expired_table produced_table
+advanced_holds P Q cuts to t ms rows = λ below small.
+    let clock : Ms = record { 0 = t.clock.0 + ms } in
+    let after = expired_rows clock t.rows in
+    let left = all_filtered (RowIds P Q) (stays (expired_rows clock t.rows)) (expired_rows clock t.rows) (all_mapped (RowIds P Q) (RowIds P Q) (expired_row clock) (expired_holds P Q clock) t.rows rows) in (
+      record {
+        frames = tt;
+        datagrams = sent_hold P Q cuts (filter (stays after) after) (productions.input_of t.values) (due_producers clock (filter (stays after) after)) (producers_hold P Q (is_due clock) by_due (filter (stays after) after) left);
+      },
+      all_mapped (RowIds P Q) (RowIds P Q) (produced_row clock) (produced_holds P Q clock) (filter (stays after) after) left,
+    )
+
+tick_holds : (P Q : ℕ → Type 0) → Cuts P → (to : ℕ) (t : AdapterTable) (ms : ℕ) → RowsHold P Q t.rows → OkHolds P Q to (tick t ms)
+unfolding tick
+tick_holds P Q cuts to t ms rows =
+    either (OkHolds P Q to) (nat_lt longest_tick ms) (Err TickTooLong) _ tt
+    (either (OkHolds P Q to) (nat_lt clock_end (t.clock.0 + ms)) (Err ClockEnd) (Ok (advanced (clocked_table t ms))) tt (advanced_holds P Q cuts to t ms rows))
+
+write_holds : (P Q : ℕ → Type 0) → Cuts P → (to : ℕ) (t : AdapterTable) (point : ℕ) (bytes : List ℕ) → RowsHold P Q t.rows → NextHolds P Q to (written (written_table t point bytes) point bytes)
+unfolding written_table changed_table
+write_holds P Q cuts to t point bytes rows = λ below small.
+    let was = map (written_row point) t.rows in
+    let now = all_mapped (RowIds P Q) (RowIds P Q) (written_row point) (written_holds P Q point) t.rows rows in (
+      record {
+        frames = tt;
+        datagrams = sent_hold P Q cuts was (λ producer. bytes) (producers_on_change t.clock point was) (producers_hold P Q (produces_on_change t.clock point) by_number was now);
+      },
+      all_mapped (RowIds P Q) (RowIds P Q) (changed_row t.clock point) (changed_holds P Q t.clock point) was now,
+    )
+
+found_write : (P Q : ℕ → Type 0) → Cuts P → (to : ℕ) (t : AdapterTable) (point : ℕ) (bytes : List ℕ) (found : Option InputPoint) → RowsHold P Q t.rows → OkHolds P Q to (write_of t point bytes found)
+found_write P Q cuts to t point bytes None rows = tt
+found_write P Q cuts to t point bytes (Some input) rows =
+    either (OkHolds P Q to) (length bytes == input.len) (Ok (written (written_table t point bytes) point bytes)) (Err WrongLength) (write_holds P Q cuts to t point bytes rows) tt
+
+-- ---- the step
+
+cut_holds : (P Q : ℕ → Type 0) (to : ℕ) (t : AdapterTable) (found : Option Stream) → RowsHold P Q t.rows → OkHolds P Q to (cut_of t found)
+unfolding without_stream
+cut_holds P Q to t None rows = tt
+cut_holds P Q to t (Some stream) rows = (λ below small. (record { frames = tt; datagrams = tt }, rows))
+
+reads_hold : (P Q : ℕ → Type 0) (to : ℕ) (t : AdapterTable) (found : Option (List ℕ)) → RowsHold P Q t.rows → OkHolds P Q to (read_of t found)
+reads_hold P Q to t None rows = tt
+reads_hold P Q to t (Some bytes) rows = (λ below small. (record { frames = tt; datagrams = tt }, rows))
+
+pub adapter_holds : ItemsReadBack → (P Q : ℕ → Type 0) → Cuts P → (to : ℕ) (t : AdapterTable) (happens : Event) → HasDrawn P Q t to → EventIds P happens → RowsHold P Q t.rows → OkHolds P Q to (adapter_step t happens)
+unfolding received read write frame stream_cut stream_opened with_stream
+adapter_holds back P Q cuts to t (event.Request peer bytes) drawn ids rows = absurd ids
+adapter_holds back P Q cuts to t (event.StreamOpened number peer) drawn ids rows =
+    either (OkHolds P Q to) (is_taken t.streams number) (Err NotAllowedNow) (Ok (plain_answer Done, with_stream t number peer)) tt (λ below small. (record { frames = tt; datagrams = tt }, rows))
+adapter_holds back P Q cuts to t (event.Frame number bytes) drawn ids rows = frame_holds back P Q cuts to t bytes (find (is_stream number) t.streams) drawn ids rows
+adapter_holds back P Q cuts to t (event.StreamCut number) drawn ids rows = cut_holds P Q to t (find (is_stream number) t.streams) rows
+adapter_holds back P Q cuts to t (event.Datagram peer bytes) drawn ids rows = datagram_holds P Q to t peer (datagram_reading bytes) rows
+adapter_holds back P Q cuts to t (event.Write point bytes) drawn ids rows = found_write P Q cuts to t point bytes (find (is_at point) t.profile.inputs) rows
+adapter_holds back P Q cuts to t (event.Read point) drawn ids rows = reads_hold P Q to t (bytes_at t.values point) rows
+adapter_holds back P Q cuts to t (event.Tick ms) drawn ids rows = tick_holds P Q cuts to t ms rows
+adapter_holds back P Q cuts to t other drawn ids rows = tt

@@ -1,5 +1,0 @@
-use Rattle.scanner_laws.proofs.ProducerSteps.{producers_law}
-use Rattle.scanner_laws.proofs.slots.slots_produce_as_themselves.Goals as goal
-
-pub returns : goal.returns
-returns c = producers_law
