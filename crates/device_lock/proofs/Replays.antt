@@ -16,10 +16,6 @@ after_one_more t (x ∷ xs) event = after_one_more (table_of t (step t x)) xs ev
 pub after_answered : (t : DeviceTable) (events : List Event) (event : Event) (answer : Answer) (next : DeviceTable) → step (table_after t events) event ≡ Ok (answer, next) → next ≡ table_after t (events ++ event ∷ [])
 after_answered t events event answer next is = sym (after_one_more t events event ∙ ap (table_of (table_after t events)) is)
 
--- .. so that its answer is that of the step to it
-pub answered : (t : DeviceTable) (events : List Event) (event : Event) (answer : Answer) (next : DeviceTable) → step (table_after t events) event ≡ Ok (answer, next) → step (table_after t events) event ≡ Ok (answer, table_after t (events ++ event ∷ []))
-answered t events event answer next is = is ∙ ap (λ (n : DeviceTable). Ok (answer, n)) (after_answered t events event answer next is)
-
 -- the run from the i-th event on
 pub replay_drop : (t u : DeviceTable) (events : List Event) (i : ℕ) (event : Event) → i < length events → event ≡ get_or events i event → u ≡ table_after t (event ∷ []) → table_after u (drop (i + 1) events) ≡ table_after t (drop i events)
 replay_drop t u events i event lt is next = rw (next, drop_more events i event lt, ← is) refl

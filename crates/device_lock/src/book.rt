@@ -107,7 +107,8 @@ impl<D: Device + Drop> Book<D> {
     /// book is as it was.
     pub fn rotate(&mut self) -> Result<Segment, OutOfMemory>
         requires { self.old.segment < 65535 }
-        ensures segment { IfOk result (λ segment. segment ≡ record { opening = self.old.opening; events = self.old.events }) }
+        ensures segment { IfOk result
+            (λ segment. segment ≡ record { opening = self.old.opening; events = self.old.events }) }
         ensures begun { OnOk result (self.new ≡ rotated self.old) }
         ensures kept { OnErr result (self.new ≡ self.old) }
     {

@@ -1,7 +1,7 @@
 //! All segments of one device.
 
 ghost use Rattle.std.specs.Prelude.{◌≡◌, ◌↔◌, ◌<◌, ◌^◌, [], ◌∷◌, true, None, sum, IfOk, IfSome, IsTrue, slice_get, option_copied};
-ghost use Rattle.cip_tables.specs.Step.{opening_table, config_fault, makes_adapter, same_kind, step};
+ghost use Rattle.cip_tables.specs.Step.{opening_table, config_fault, step};
 ghost use Rattle.cip_tables.specs.Run.{outcome_of, outcomes_of, table_after, table_of};
 ghost use Rattle.device_lock.specs.Histories.{history_of, place_in, Follow};
 
@@ -41,7 +41,7 @@ impl History {
         segments: Vec<Segment>,
     ) -> Option<History>
         requires valid { config_fault config ≡ None }
-        requires kind { same_kind D.ADAPTER (makes_adapter config) ≡ true }
+        requires accepts { D.accepts config ≡ true }
         ensures history { IfSome result (λ history. history ≡ history_of config segments.items) }
         ensures follow { IfSome result (λ _. Follow (opening_table config) segments.items) }
     {
@@ -59,7 +59,7 @@ impl History {
         segments: &[Segment],
     ) -> Result<bool, OutOfMemory>
         requires valid { config_fault config.now ≡ None }
-        requires kind { same_kind D.ADAPTER (makes_adapter config.now) ≡ true }
+        requires accepts { D.accepts config.now ≡ true }
         ensures { IfOk result (λ answer. IsTrue answer ↔ Follow (opening_table config.now) segments.now) }
     {
         let mut device = fresh::<D>(alloc, config)?;
@@ -96,8 +96,9 @@ impl History {
     /// What the device answered to each of the events, in order: a fresh device is run over them.
     pub fn outcomes<D: Device + Drop>(&self, alloc: Global) -> Result<Vec<Outcome>, OutOfMemory>
         requires valid { config_fault self.now.config ≡ None }
-        requires kind { same_kind D.ADAPTER (makes_adapter self.now.config) ≡ true }
-        ensures { IfOk result (λ outcomes. outcomes.items ≡ outcomes_of (opening_table self.now.config) self.now.events) }
+        requires accepts { D.accepts self.now.config ≡ true }
+        ensures { IfOk result
+            (λ outcomes. outcomes.items ≡ outcomes_of (opening_table self.now.config) self.now.events) }
     {
         outcomes_at(
             alloc,
@@ -125,13 +126,13 @@ impl History {
 // A fresh device.
 fn fresh<D: Device + Drop>(alloc: Global, config: &Config) -> Result<D, OutOfMemory>
     requires valid { config_fault config.now ≡ None }
-    requires kind { same_kind D.ADAPTER (makes_adapter config.now) ≡ true }
+    requires accepts { D.accepts config.now ≡ true }
     ensures { IfOk result (λ device. D.table device ≡ opening_table config.now) }
 {
     match D::new(alloc, config.copy(alloc)?) {
         Ok(device) => Ok(device),
         Err(NewFault::OutOfMemory) => Err(OutOfMemory),
-        // (a valid configuration of the device's kind is refused for lack of memory alone)
+        // (a valid configuration that is accepted is refused for lack of memory alone)
         Err(_) => unreachable!(),
     }
 }
@@ -177,7 +178,8 @@ fn outcomes_at<D: Device + Drop>(
 // What a device answers to an event. Want of memory is a fault of the call, and no outcome.
 fn outcome_at<D: Device>(device: &mut D, event: &Event) -> Result<Outcome, OutOfMemory>
     ensures outcome { IfOk result (λ outcome. outcome ≡ outcome_of (step (D.table device.old) event.now)) }
-    ensures table { IfOk result (λ _. D.table device.new ≡ table_of (D.table device.old) (step (D.table device.old) event.now)) }
+    ensures table { IfOk result
+        (λ _. D.table device.new ≡ table_of (D.table device.old) (step (D.table device.old) event.now)) }
 {
     match device.step(event) {
         Ok(answer) => Ok(Ok(answer)),

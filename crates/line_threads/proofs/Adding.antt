@@ -5,7 +5,10 @@ use Rattle.std.proofs.lemmas.List.{map-append}
 use Rattle.std.proofs.lemmas.List.Elements.{All-push, filter-append}
 use Rattle.device_lock.specs.declared.receipt.Receipt.{Receipt}
 use Rattle.device_lock.specs.Locked.{IsReceiptOf}
-use Rattle.line_threads.specs.Accounts.{AddsItems, IsAccount, event_of, own_events}
+use Rattle.line_threads.specs.Accounts.{AddsArrivals, IsAccount, event_of, own_events}
+use Rattle.cip_events.specs.Arrivals.{arrival_event}
+use Rattle.cip_events.specs.declared.arrival.Arrival.{Arrival}
+use Rattle.cip_events.specs.declared.arrival.Arrival.TheVariants as arrival
 use Rattle.cip_events.specs.declared.event.Event.{Event}
 use Rattle.line_threads.specs.Scripts.{is_own}
 
@@ -18,17 +21,25 @@ own_none r is = rw is refl
 own_append : (xs ys : List Receipt) → own_events (xs ++ ys) ≡ own_events xs ++ own_events ys
 own_append xs ys = ap (filter is_own) (map-append event_of xs ys) ∙ filter-append is_own (map event_of xs) (map event_of ys)
 
-pub adds_none : (k : ℕ) (rs : List Receipt) → AddsItems k rs rs
+pub adds_none : (k : ℕ) (rs : List Receipt) → AddsArrivals k rs rs
 adds_none k rs = record { own = refl; of = λ h. h }
 
-pub adds_item : (k : ℕ) (old mid : List Receipt) (e : Event) (r : Receipt) → AddsItems k old mid → IsReceiptOf k e r → is_own e ≡ false → AddsItems k old (mid ++ r ∷ [])
-adds_item k old mid e r adds of none =
+-- what arrives is no call of the application, and no time
+arrivals_are_not_own : (arrival : Arrival) → is_own (arrival_event arrival) ≡ false
+arrivals_are_not_own (arrival.Opened stream peer) = refl
+arrivals_are_not_own (arrival.Frame stream bytes) = refl
+arrivals_are_not_own (arrival.Cut stream) = refl
+arrivals_are_not_own (arrival.Datagram peer bytes) = refl
+
+pub adds_arrival : (k : ℕ) (old mid : List Receipt) (arrival : Arrival) (e : Event) (r : Receipt) → AddsArrivals k old mid → IsReceiptOf k e r → e ≡ arrival_event arrival → AddsArrivals k old (mid ++ r ∷ [])
+adds_arrival k old mid arrival e r adds of is =
+    let none : is_own r.event ≡ false = ap is_own (of.event_is ∙ is) ∙ arrivals_are_not_own arrival in
     record {
-      own = own_append mid (r ∷ []) ∙ ap (λ xs. own_events mid ++ xs) (own_none r (ap is_own of.event_is ∙ none)) ∙ append-nil (own_events mid) ∙ adds.own;
+      own = own_append mid (r ∷ []) ∙ ap (λ xs. own_events mid ++ xs) (own_none r none) ∙ append-nil (own_events mid) ∙ adds.own;
       of = λ h. All-push (λ r. r.device ≡ k) mid r (adds.of h) of.device_is;
     }
 
-pub account_more : (k : ℕ) (script : List Event) (old mid : List Receipt) (e : Event) (r : Receipt) → IsAccount k script old → AddsItems k old mid → IsReceiptOf k e r → is_own e ≡ true → IsAccount k (script ++ e ∷ []) (mid ++ r ∷ [])
+pub account_more : (k : ℕ) (script : List Event) (old mid : List Receipt) (e : Event) (r : Receipt) → IsAccount k script old → AddsArrivals k old mid → IsReceiptOf k e r → is_own e ≡ true → IsAccount k (script ++ e ∷ []) (mid ++ r ∷ [])
 account_more k script old mid e r account adds of is =
     record {
       own =

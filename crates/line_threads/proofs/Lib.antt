@@ -4,3 +4,4 @@ pub mod Gathering
 pub mod Incarnations
 pub mod Reaching
 pub mod Reporting
+pub mod Comparing

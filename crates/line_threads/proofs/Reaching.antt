@@ -4,7 +4,7 @@ use Rattle.std.proofs.lemmas.List.{at_drop_more}
 use Rattle.cip_types.specs.declared.names.Node.{Node}
 use Rattle.cip_tables.specs.declared.table.Config.{Config}
 use Rattle.scanner_table.specs.declared.profile.SlotConfig.{SlotConfig}
-use Rattle.line_threads.specs.declared.openings.Opening.{Opening}
+use Rattle.line_threads.specs.declared.openings.StreamPlaces.{StreamPlaces}
 use Rattle.line_threads.specs.Openings.{distinct, opening, openings_from, other_than, others_at, place_of, reached, target_of, without}
 use Rattle.line_threads.proofs.Distinct.{adds, without_none}
 
@@ -29,19 +29,19 @@ reaches_more nodes own slots i slot place seen new all lt is at pushed so_far =
 -- DEVICES
 
 -- these streams, and those of the devices from a place on
-abbrev pub opening_on : List Node → ℕ → List Opening → List Config → List Opening
+abbrev pub opening_on : List Node → ℕ → List StreamPlaces → List Config → List StreamPlaces
 opening_on nodes place opened configs = opened ++ openings_from nodes place configs
 
 from_more : (nodes : List Node) (place : ℕ) (config : Config) (configs : List Config) → openings_from nodes place (config ∷ configs) ≡ map (opening place) (reached nodes place config) ++ openings_from nodes (place + 1) configs
 from_more nodes place config configs = refl
 
-pub opens_more : (nodes : List Node) (configs : List Config) (i : ℕ) (config : Config) (places : List ℕ) (opened new all : List Opening) → i < length configs → config ≡ get_or configs i config → places ≡ reached nodes i config → new ≡ opened ++ map (opening i) places → opening_on nodes i opened (drop i configs) ≡ all → opening_on nodes (i + 1) new (drop (i + 1) configs) ≡ all
+pub opens_more : (nodes : List Node) (configs : List Config) (i : ℕ) (config : Config) (places : List ℕ) (opened new all : List StreamPlaces) → i < length configs → config ≡ get_or configs i config → places ≡ reached nodes i config → new ≡ opened ++ map (opening i) places → opening_on nodes i opened (drop i configs) ≡ all → opening_on nodes (i + 1) new (drop (i + 1) configs) ≡ all
 opens_more nodes configs i config places opened new all lt is found pushed so_far =
     let rest = openings_from nodes (i + 1) (drop (i + 1) configs) in
-    ap (λ (l : List Opening). l ++ rest) pushed
+    ap (λ (l : List StreamPlaces). l ++ rest) pushed
     ∙ append_assoc opened (map (opening i) places) rest
     ∙ ap (λ (ps : List ℕ). opened ++ (map (opening i) ps ++ rest)) found
-    ∙ ap (λ (l : List Opening). opened ++ l) (sym (from_more nodes i config (drop (i + 1) configs)))
+    ∙ ap (λ (l : List StreamPlaces). opened ++ l) (sym (from_more nodes i config (drop (i + 1) configs)))
     ∙ ap (λ (c : Config). opening_on nodes i opened (c ∷ drop (i + 1) configs)) is
     ∙ sym (at_drop_more (opening_on nodes i opened) configs i config lt)
     ∙ so_far

@@ -9,7 +9,7 @@ use Rattle.std.proofs.lemmas.List.Elements.{All-get_or, All-head, All-tail, filt
 use Rattle.device_lock.specs.declared.receipt.Receipt.{Receipt}
 use Rattle.line_threads.specs.Accounts.{IsAccount, of_device, own_events}
 use Rattle.line_threads.specs.Lines.{Account, Apart, all_receipts, first_fault, job_of, IsJob, ReportsScripts}
-use Rattle.line_threads.specs.Scripts.{is_own, IsOwn}
+use Rattle.line_threads.specs.Scripts.{IsOwn}
 use Rattle.line_threads.specs.declared.line.Job.{Job}
 use Rattle.cip_events.specs.declared.event.Event.{Event}
 

@@ -9,19 +9,12 @@ use Rattle.line_threads.specs.Accounts.{of_device, own_events}
 use Rattle.line_threads.specs.Scripts.{IsOwn}
 use Rattle.line_threads.specs.declared.fault.LineFault.{LineFault}
 use Rattle.line_threads.specs.declared.line.Job.{Job}
-use Rattle.line_threads.specs.declared.line_device.Either.{Either}
-use Rattle.line_threads.specs.declared.line_device.Either.TheVariants.{Adapter, Scanner}
 
 -- DEVICES
 
 -- the incarnation byte of a device that is made of this configuration
 abbrev pub byte_of : Config → ℕ
 byte_of config = incarnation_of (opening_table config)
-
--- a locked device of either kind is seen as its incarnation byte
-abbrev pub byte_in : Either ℕ ℕ → ℕ
-byte_in (Adapter byte) = byte
-byte_in (Scanner byte) = byte
 
 -- no two of these numbers are equal
 abbrev pub Apart : List ℕ → Type 0

@@ -5,7 +5,7 @@ use Rattle.cip_types.specs.declared.names.Node.{Node}
 use Rattle.cip_tables.specs.declared.table.Config.{Config}
 use Rattle.cip_tables.specs.declared.table.Config.TheVariants as config
 use Rattle.scanner_table.specs.declared.profile.SlotConfig.{SlotConfig}
-use Rattle.line_threads.specs.declared.openings.Opening.{Opening}
+use Rattle.line_threads.specs.declared.openings.StreamPlaces.{StreamPlaces}
 
 abbrev pub target_of : SlotConfig → Node
 target_of slot = slot.target
@@ -48,14 +48,14 @@ without seen ns = filter (λ n. not (has n seen)) ns
 abbrev pub reached : List Node → ℕ → Config → List ℕ
 reached nodes own config = distinct (others_at nodes own (targets_of config))
 
-abbrev pub opening : ℕ → ℕ → Opening
+abbrev pub opening : ℕ → ℕ → StreamPlaces
 opening from to = record { from = from; to = to }
 
 -- the streams of these devices, of which the first has this place
-abbrev pub openings_from : List Node → ℕ → List Config → List Opening
+abbrev pub openings_from : List Node → ℕ → List Config → List StreamPlaces
 openings_from nodes place [] = []
 openings_from nodes place (config ∷ configs) = map (opening place) (reached nodes place config) ++ openings_from nodes (place + 1) configs
 
 -- the streams of a line, in the order of their numbers
-abbrev pub openings : List Node → List Config → List Opening
+abbrev pub openings : List Node → List Config → List StreamPlaces
 openings nodes configs = openings_from nodes 0 configs

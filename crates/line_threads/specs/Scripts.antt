@@ -1,5 +1,6 @@
 -- What the application of a device does, and the passing of time.
-use Rattle.std.specs.Prelude.{◌≡◌, Bool, true, false, List, All}
+use Rattle.std.specs.Prelude.{◌≡◌, Bool, true, false, List, All, Vec}
+use Rattle.std.specs.Global.{Global}
 use Rattle.cip_events.specs.declared.event.Event.{Event}
 use Rattle.cip_events.specs.declared.event.Event.TheVariants.{Request, StreamOpened, Frame, StreamCut, Datagram, Write, Read, Tick, Mode, Start, Stop}
 
@@ -20,3 +21,7 @@ is_own (Stop slot) = true
 -- all events of a script are such
 abbrev pub IsOwn : List Event → Type 0
 IsOwn es = All (λ e. is_own e ≡ true) es
+
+-- the events of a script
+abbrev pub events_in : Vec Event Global → List Event
+events_in script = script.items

@@ -14,7 +14,7 @@ mod worker;
 
 pub use fault::LineFault;
 pub use gate::{Gate, Open};
-pub use inbox::{Inbox, Item};
+pub use inbox::Inbox;
 pub use line::{Line, LineRun, run_line};
 pub use line_stream::LineStream;
 pub use sending::Network;

@@ -1,12 +1,13 @@
 //! A line of devices, one thread each.
 
-ghost use Rattle.std.specs.Prelude.{◌≡◌, ◌<◌, ◌≤◌, ℕ, true, false, None, All, IfOk, map, length, slice_index_or};
+ghost use Rattle.std.specs.Prelude.{◌≡◌, ◌<◌, ◌≤◌, ℕ, None, All, IfOk, map, length, slice_index_or};
 ghost use Rattle.std.specs.List.{enumerate_from};
+ghost use Rattle.cip_tables.specs.Step.{AcceptsAll};
 ghost use Rattle.segment_world.specs.Configs.{world_fault};
 ghost use Rattle.settling.specs.Histories.{configs_of};
-ghost use Rattle.line_threads.specs.Accounts.{IsAccount};
+ghost use Rattle.line_threads.specs.Accounts.{own_in, IsAccount, HasItsReceipts};
 ghost use Rattle.line_threads.specs.Lines.{byte_of, job_of, Apart, IsJob, ReportsScripts};
-ghost use Rattle.line_threads.specs.Scripts.{IsOwn};
+ghost use Rattle.line_threads.specs.Scripts.{events_in, IsOwn};
 
 use crate::fault::LineFault;
 use crate::gate::Gate;
@@ -53,41 +54,38 @@ pub struct Job {
 /// Performs a script at each device, one thread a device, and returns histories and receipts once all threads have ended.
 ///
 /// Before a device's first event, each scanner has a stream to each of its targets that is another device of the line.
-/// Before each event of a script the device receives what waits for it, at most 64 items. What is sent over a stream
+/// Before each event of a script the device receives what waits for it, at most 64 arrivals. What is sent over a stream
 /// arrives, in order; a datagram is lost where the inbox of its receiver is full. What waits when a script ends is not
 /// delivered. Which of two devices comes first is up to the threads.
 ///
 /// The errors, in order: `World` if no world can be made of the configurations; the fault of the first device whose worker
 /// has one; `TraceFull` and `OutOfMemory` of the histories. `OutOfMemory` also comes wherever memory is refused before.
-pub fn run_line<
-    A: Device + Drop + Send,
-    S: Device + Drop + Send,
-    G: Gate + Sync,
-    R: Threads + Wait + Sync,
->(
+pub fn run_line<D: Device + Drop + Send, G: Gate + Sync, R: Threads + Wait + Sync>(
     rt: &R,
     alloc: Global,
     line: Line,
     scripts: Vec<Vec<Event>>,
     gate: &G,
 ) -> Result<LineRun, LineFault>
-    requires adapter { A.ADAPTER ≡ true }
-    requires scanner { S.ADAPTER ≡ false }
+    requires accepts { AcceptsAll D.accepts }
     requires inbox { 0 < line.inbox }
     requires inbox_fits { line.inbox ≤ 65536 }
     requires scripts { length scripts.items ≡ length line.configs.items }
     requires own { All (λ script. IsOwn script.items) scripts.items }
     ensures configs { IfOk result (λ run. configs_of run.histories.items ≡ line.configs.items) }
     ensures valid { IfOk result (λ run. world_fault (configs_of run.histories.items) ≡ None) }
-    ensures scripts { IfOk result (λ run. ReportsScripts (map byte_of line.configs.items) scripts.items run.receipts.items) }
+    ensures scripts { IfOk result
+        (λ run. ReportsScripts (map byte_of line.configs.items) scripts.items run.receipts.items) }
+    ensures receipts { IfOk result (λ run. All (HasItsReceipts run.receipts.items) run.histories.items) }
+    ensures own { IfOk result (λ run. map own_in run.histories.items ≡ map events_in scripts.items) }
 {
     let Line { configs, inbox } = line;
     if let Some(_) = world_fault(&configs) {
         return Err(LineFault::World);
     }
-    let devices = open_devices::<A, S>(alloc, &configs)?;
+    let devices = open_devices::<D>(alloc, &configs)?;
     let receipts = run_devices(rt, alloc, &configs, inbox, &devices, scripts, gate)?;
-    let histories = close_devices(alloc, devices)?;
+    let histories = close_devices(alloc, devices, &receipts)?;
     Ok(LineRun {
         histories,
         receipts,
@@ -155,14 +153,18 @@ fn run_jobs<L: Locked + Sync, G: Gate + Sync, R: Threads + Wait + Sync>(
     requires { All (IsJob (length devices.now)) jobs.items }
     ensures len { IfOk result (λ v. length v.items ≡ length jobs.items) }
     ensures each { IfOk result (λ v. (i : ℕ) (d : L) (j : Job) (a : _) → i < length jobs.items
-        → IfOk (slice_index_or v.items i a) (λ rs. IsAccount (L.device (slice_index_or devices.now (slice_index_or jobs.items i j).place d)) (slice_index_or jobs.items i j).script.items rs.items)) }
+        → IfOk (slice_index_or v.items i a)
+        (λ rs. IsAccount (L.device (slice_index_or devices.now (slice_index_or jobs.items i j).place d))
+        (slice_index_or jobs.items i j).script.items rs.items)) }
 {
     thread::map_vec(
         rt,
         jobs,
         &|job: Job| -> Result<Vec<Receipt>, LineFault>
             requires { IsJob (length devices.now) job }
-            ensures { IfOk result (λ rs. (d : L) → IsAccount (L.device (slice_index_or devices.entry.now job.place d)) job.script.items rs.items) }
+            ensures { IfOk result
+                (λ rs. (d : L) → IsAccount
+                (L.device (slice_index_or devices.entry.now job.place d)) job.script.items rs.items) }
         {
             work(
                 rt,

@@ -3,8 +3,9 @@
 ghost use Rattle.std.specs.Prelude.{◌≡◌, IfOk};
 ghost use Rattle.line_threads.specs.Openings.{opening, openings};
 
-use crate::inbox::{Inbox, Item};
-use crate::openings::{Opening, openings_of};
+use crate::inbox::Inbox;
+use crate::openings::{StreamPlaces, openings_of};
+use cip_events::Arrival;
 use cip_tables::Config;
 use cip_types::{Node, OutOfMemory};
 use std::alloc::Global;
@@ -12,12 +13,12 @@ use std::marker::Model;
 use std::sync::Wait;
 use std::sync::atomic::{AtomicBool, Ordering};
 
-/// How many items wait at most in a direction of a stream.
+/// How many arrivals wait at most in a direction of a stream.
 const MOST_WAITING: usize = 1_024;
 
 /// A device at an end of a stream, what waits for it there, and whether it has closed the stream.
 #[derive(Drop)]
-struct StreamEnd {
+struct LineEnd {
     device: usize,
     inbox: Inbox,
     is_closed: AtomicBool,
@@ -27,27 +28,27 @@ struct StreamEnd {
 /// opened, then what the other end sends. Contracts see the places.
 #[derive(Drop)]
 pub struct LineStream {
-    from: StreamEnd,
-    to: StreamEnd,
+    from: LineEnd,
+    to: LineEnd,
 }
 
 impl Model for LineStream {
-    ghost use Rattle.line_threads.specs.declared.openings.Opening.{Opening};
+    ghost use Rattle.line_threads.specs.declared.openings.StreamPlaces.{StreamPlaces};
     ghost use Rattle.line_threads.specs.Openings.{opening};
 
-    ghost Value = { Opening };
+    ghost Value = { StreamPlaces };
 
     ghost view = { λ s. opening s.from.device s.to.device };
 }
 
-impl StreamEnd {
+impl LineEnd {
     // An end for which the mark waits that a stream has opened.
-    fn open(alloc: Global, stream: u16, device: usize, peer: Node) -> Result<StreamEnd, OutOfMemory>
+    fn open(alloc: Global, stream: u16, device: usize, peer: Node) -> Result<LineEnd, OutOfMemory>
         ensures { IfOk result (λ end. end.device ≡ device) }
     {
-        Ok(StreamEnd {
+        Ok(LineEnd {
             device,
-            inbox: Inbox::with_first(alloc, MOST_WAITING, Item::Opened { stream, peer })?,
+            inbox: Inbox::with_first(alloc, MOST_WAITING, Arrival::Opened { stream, peer })?,
             is_closed: AtomicBool::new(false),
         })
     }
@@ -65,13 +66,13 @@ impl LineStream {
         ensures { IfOk result (λ stream. stream ≡ opening from.0 to.0) }
     {
         Ok(LineStream {
-            from: StreamEnd::open(alloc, stream, from.0, to.1)?,
-            to: StreamEnd::open(alloc, stream, to.0, from.1)?,
+            from: LineEnd::open(alloc, stream, from.0, to.1)?,
+            to: LineEnd::open(alloc, stream, to.0, from.1)?,
         })
     }
 
     // The end of a device, and the other end. None for a device at neither end.
-    fn ends_of(&self, device: usize) -> Option<(&StreamEnd, &StreamEnd)> {
+    fn ends_of(&self, device: usize) -> Option<(&LineEnd, &LineEnd)> {
         if self.from.device == device {
             Some((&self.from, &self.to))
         } else if self.to.device == device {
@@ -83,7 +84,7 @@ impl LineStream {
 
     /// Takes what waits first for a device. None for a device at neither end, and for one that closed the stream. May
     /// wait; takes no memory.
-    pub fn take<R: Wait>(&self, rt: &R, device: usize) -> Option<Item> {
+    pub fn take<R: Wait>(&self, rt: &R, device: usize) -> Option<Arrival> {
         let (own, _) = self.ends_of(device)?;
         if own.is_closed.load(Ordering::SeqCst) {
             return None;
@@ -91,15 +92,15 @@ impl LineStream {
         own.inbox.take(rt)
     }
 
-    /// Puts what a device sends into the inbox of the other end, and returns what that full inbox lost. The item of a
-    /// device at neither end is dropped, and so is every item once an end has closed the stream. May wait; takes no
+    /// Puts what a device sends into the inbox of the other end, and returns what that full inbox lost. An arrival of a
+    /// device at neither end is dropped, and so is every arrival once an end has closed the stream. May wait; takes no
     /// memory.
-    pub fn send<R: Wait>(&self, rt: &R, device: usize, item: Item) -> Option<Item> {
+    pub fn send<R: Wait>(&self, rt: &R, device: usize, arrival: Arrival) -> Option<Arrival> {
         let (own, other) = self.ends_of(device)?;
         if own.is_closed.load(Ordering::SeqCst) || other.is_closed.load(Ordering::SeqCst) {
             return None;
         }
-        other.inbox.put(rt, item)
+        other.inbox.put(rt, arrival)
     }
 
     /// Closes the end of a device, which then neither takes nor sends.
@@ -127,7 +128,7 @@ pub fn open_streams(
 fn streams_of(
     alloc: Global,
     nodes: &[Node],
-    openings: &[Opening],
+    openings: &[StreamPlaces],
 ) -> Result<Vec<LineStream>, OutOfMemory>
     ensures { IfOk result (λ streams. streams.items ≡ openings.now) }
 {
@@ -144,11 +145,11 @@ fn opened(
     alloc: Global,
     number: u16,
     nodes: &[Node],
-    opening: Opening,
+    opening: StreamPlaces,
 ) -> Result<LineStream, OutOfMemory>
     ensures { IfOk result (λ stream. stream ≡ opening) }
 {
-    let Opening { from, to } = opening;
+    let StreamPlaces { from, to } = opening;
     LineStream::open(
         alloc,
         number,

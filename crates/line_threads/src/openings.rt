@@ -1,6 +1,6 @@
 //! Which streams a line opens.
 
-ghost use Rattle.std.specs.Prelude.{◌≡◌, ◌++◌, [], map, IfOk, OnOk};
+ghost use Rattle.std.specs.Prelude.{◌≡◌, ◌++◌, map, IfOk, OnOk};
 ghost use Rattle.segment_world.specs.Configs.{node_of_config};
 ghost use Rattle.line_threads.specs.Openings.{distinct, has, opening, openings, other_than, others_at, place_of, reached, target_of, without};
 
@@ -10,7 +10,7 @@ use std::alloc::Global;
 
 /// The places of the devices at the two ends of a stream.
 #[derive(Clone, Copy)]
-pub struct Opening {
+pub struct StreamPlaces {
     pub from: usize,
     pub to: usize,
 }
@@ -48,7 +48,7 @@ pub fn openings_of(
     alloc: Global,
     nodes: &[Node],
     configs: &[Config],
-) -> Result<Vec<Opening>, OutOfMemory>
+) -> Result<Vec<StreamPlaces>, OutOfMemory>
     ensures { IfOk result (λ v. v.items ≡ openings nodes.now configs.now) }
 {
     let mut openings = Vec::new(alloc);
@@ -61,14 +61,14 @@ pub fn openings_of(
 
 // Adds the streams that the device of this place opens.
 fn add_openings(
-    openings: &mut Vec<Opening>,
+    openings: &mut Vec<StreamPlaces>,
     from: usize,
     reached: &[usize],
 ) -> Result<(), OutOfMemory>
     ensures { OnOk result (openings.new.items ≡ openings.old.items ++ map (opening from) reached.now) }
 {
     for to in reached {
-        openings.push(Opening { from, to: *to })?;
+        openings.push(StreamPlaces { from, to: *to })?;
     }
     Ok(())
 }

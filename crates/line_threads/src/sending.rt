@@ -1,11 +1,12 @@
-//! What a device of a line sends.
+//! The answers of a device of a line.
 
 use crate::fault::LineFault;
-use crate::inbox::{Inbox, Item};
+use crate::inbox::Inbox;
 use crate::line_stream::LineStream;
 use crate::openings::place_of;
-use cip_events::{Answer, Notice, OutgoingDatagram, Recipient};
-use cip_types::{Items, Node, OutOfMemory};
+use answer_outlet::Outlet;
+use cip_events::{Arrival, OutgoingDatagram};
+use cip_types::{Items, Node};
 use std::alloc::Global;
 use std::sync::Wait;
 
@@ -18,81 +19,83 @@ pub struct Network<'a> {
     pub inboxes: &'a [Inbox],
 }
 
-/// Sends the frames of a device's answer, then its datagrams, and then closes the streams that its notices report closed.
-/// May wait; holds one lock at a time.
+/// Sends the outputs of the answers of one device, which is named by its place. May wait; holds one lock at a time.
 ///
-/// The errors: `OutOfMemory`, and `StreamFull` if the other end of a stream has not taken 1,024 items.
-pub fn send_answer<R: Wait>(
-    rt: &R,
-    alloc: Global,
-    network: &Network<'_>,
-    device: usize,
-    answer: &Answer,
-) -> Result<(), LineFault> {
-    for frame in answer.frames.as_slice() {
-        if let Recipient::Stream(number) = frame.to {
-            let item = Item::Frame {
-                stream: number,
-                bytes: Items::copy_of(alloc, frame.bytes.as_slice())?,
-            };
-            send_over(rt, network, device, number, item)?;
-        }
-    }
-    for datagram in answer.datagrams.as_slice() {
-        send_datagram(rt, alloc, network, device, datagram)?;
-    }
-    for notice in answer.notices.as_slice() {
-        if let Notice::StreamClosed(number) = *notice {
-            send_over(rt, network, device, number, Item::Cut { stream: number })?;
-            close(network, device, number);
-        }
-    }
-    Ok(())
+/// The errors: `OutOfMemory`, and `StreamFull` if the other end of a stream has not taken 1,024 arrivals. Contracts say
+/// that the network keeps its devices and streams, and nothing of what waits in it.
+#[derive_where(Clone, Copy)]
+pub struct LineOutlet<'a, R> {
+    pub rt: &'a R,
+    pub alloc: Global,
+    pub place: usize,
 }
 
-// Sends an item over a stream. `StreamFull` is the only error.
-fn send_over<R: Wait>(
-    rt: &R,
-    network: &Network<'_>,
-    device: usize,
-    number: u16,
-    item: Item,
-) -> Result<(), LineFault> {
-    let Some(stream) = network.streams.get(usize::from(number)) else {
-        return Ok(());
-    };
-    match stream.send(rt, device, item) {
-        None => Ok(()),
-        Some(_) => Err(LineFault::StreamFull),
-    }
-}
+impl<'n, R: Wait> Outlet<Network<'n>> for LineOutlet<'_, R> {
+    ghost use Rattle.std.specs.Prelude.{◌≡◌};
 
-fn close(network: &Network<'_>, device: usize, number: u16) {
-    if let Some(stream) = network.streams.get(usize::from(number)) {
-        stream.close(device);
-    }
-}
+    type Fault = LineFault;
 
-// Sends a copy of a datagram, in the name of its sender, to each of its nodes that is a device of the line. What a full
-// inbox loses is a datagram that is not delivered. `OutOfMemory` is the only error.
-fn send_datagram<R: Wait>(
-    rt: &R,
-    alloc: Global,
-    network: &Network<'_>,
-    device: usize,
-    datagram: &OutgoingDatagram,
-) -> Result<(), OutOfMemory> {
-    let Some(peer) = network.nodes.get(device) else {
-        return Ok(());
-    };
-    for node in datagram.nodes.as_slice() {
-        let Some(place) = place_of(network.nodes, *node) else {
-            continue;
+    ghost is_ready = { λ network. Unit {0} };
+
+    ghost sends = { λ outlet old output new. new ≡ old };
+
+    ghost fails = { λ outlet old output new. new ≡ old };
+
+    fn message(
+        &self,
+        network: &mut Network<'n>,
+        stream: u16,
+        bytes: &[u8],
+    ) -> Result<(), LineFault> {
+        let bytes = Items::copy_of(self.alloc, bytes)?;
+        self.send_over(network, stream, Arrival::Frame { stream, bytes })
+    }
+
+    // Sends a copy of the datagram, in the name of its sender, to each of its nodes that is a device of the line. What a
+    // full inbox loses is a datagram that is not delivered.
+    fn datagram(
+        &self,
+        network: &mut Network<'n>,
+        datagram: &OutgoingDatagram,
+    ) -> Result<(), LineFault> {
+        let Some(peer) = network.nodes.get(self.place) else {
+            return Ok(());
         };
-        if let Some(inbox) = network.inboxes.get(place) {
-            let bytes = Items::copy_of(alloc, datagram.bytes.as_slice())?;
-            let _lost = inbox.put(rt, Item::Datagram { peer: *peer, bytes });
+        for node in datagram.nodes.as_slice() {
+            let Some(place) = place_of(network.nodes, *node) else {
+                continue;
+            };
+            if let Some(inbox) = network.inboxes.get(place) {
+                let bytes = Items::copy_of(self.alloc, datagram.bytes.as_slice())?;
+                let _lost = inbox.put(self.rt, Arrival::Datagram { peer: *peer, bytes });
+            }
+        }
+        Ok(())
+    }
+
+    fn close(&self, network: &mut Network<'n>, stream: u16) -> Result<(), LineFault> {
+        self.send_over(network, stream, Arrival::Cut { stream })?;
+        if let Some(stream) = network.streams.get(usize::from(stream)) {
+            stream.close(self.place);
+        }
+        Ok(())
+    }
+}
+
+impl<R: Wait> LineOutlet<'_, R> {
+    // Sends what arrives at the other end of a stream. `StreamFull` is the only error.
+    fn send_over(
+        &self,
+        network: &Network<'_>,
+        stream: u16,
+        arrival: Arrival,
+    ) -> Result<(), LineFault> {
+        let Some(stream) = network.streams.get(usize::from(stream)) else {
+            return Ok(());
+        };
+        match stream.send(self.rt, self.place, arrival) {
+            None => Ok(()),
+            Some(_) => Err(LineFault::StreamFull),
         }
     }
-    Ok(())
 }

@@ -1,21 +1,21 @@
 //! What one thread does.
 
-ghost use Rattle.std.specs.Prelude.{◌≡◌, ℕ, true, false, IfOk, IfSome, IfNone, OnOk};
+ghost use Rattle.std.specs.Prelude.{ℕ, true, false, IfOk, IfSome, IfNone, OnOk};
 ghost use Rattle.device_lock.specs.Locked.{IsReceiptOf};
-ghost use Rattle.line_threads.specs.Accounts.{AddsItems, IsAccount};
+ghost use Rattle.line_threads.specs.Accounts.{AddsArrivals, IsAccount};
 ghost use Rattle.line_threads.specs.Scripts.{IsOwn};
 
 use crate::fault::LineFault;
 use crate::gate::Gate;
-use crate::inbox::Item;
-use crate::sending::{Network, send_answer};
-use cip_events::Event;
+use crate::sending::{LineOutlet, Network};
+use answer_outlet::send_answer;
+use cip_events::{Arrival, Event};
 use device_lock::{BookFault, Receipt};
 use std::alloc::Global;
 use std::sync::Wait;
 
-/// How many waiting items a worker takes at most before each event of its script.
-const MOST_ITEMS: usize = 64;
+/// How many waiting arrivals a worker takes at most before each event of its script.
+const MOST_ARRIVALS: usize = 64;
 
 /// A device that threads share.
 pub trait Locked {
@@ -37,7 +37,7 @@ pub trait Locked {
 }
 
 /// Performs the events of a script at the device of this place, in order and each once. Before each of them the device
-/// receives what waits for it, at most 64 items: those on streams first, in the order of the streams, then datagrams.
+/// receives what waits for it, at most 64 arrivals: those on streams first, in the order of the streams, then datagrams.
 /// What the device answers is sent once its lock is released. What waits at the end of the script is not delivered.
 ///
 /// The first fault ends the worker: `Gate` where the gate answers no, the faults of the book, and those of sending.
@@ -53,41 +53,40 @@ pub fn work<L: Locked, G: Gate, R: Wait>(
     requires { IsOwn script.items }
     ensures { IfOk result (λ v. IsAccount (L.device device.now) script.items v.items) }
 {
+    let outlet = LineOutlet { rt, alloc, place };
     let mut receipts = Vec::new(alloc);
     for event in script {
-        take_items(rt, alloc, network, gate, place, device, &mut receipts)?;
-        receipts.push(step(rt, alloc, network, gate, place, device, event)?)?;
+        take_arrivals(&outlet, network, gate, device, &mut receipts)?;
+        receipts.push(step(&outlet, network, gate, device, event)?)?;
     }
     Ok(receipts)
 }
 
-// Performs what waits for the device, at most 64 items.
-fn take_items<L: Locked, G: Gate, R: Wait>(
-    rt: &R,
-    alloc: Global,
+// Performs what waits for the device, at most 64 arrivals.
+fn take_arrivals<L: Locked, G: Gate, R: Wait>(
+    outlet: &LineOutlet<'_, R>,
     network: &Network<'_>,
     gate: &G,
-    place: usize,
     device: &L,
     receipts: &mut Vec<Receipt>,
 ) -> Result<(), LineFault>
-    ensures { OnOk result (AddsItems (L.device device.now) receipts.old.items receipts.new.items) }
+    ensures { OnOk result (AddsArrivals (L.device device.now) receipts.old.items receipts.new.items) }
 {
-    for _ in 0..MOST_ITEMS {
-        let Some(item) = first_waiting(rt, network, place) else {
+    for _ in 0..MOST_ARRIVALS {
+        let Some(arrival) = first_waiting(outlet.rt, network, outlet.place) else {
             break;
         };
-        let event = item.into_event();
-        receipts.push(step(rt, alloc, network, gate, place, device, event)?)?;
+        let event = arrival.into_event();
+        receipts.push(step(outlet, network, gate, device, event)?)?;
     }
     Ok(())
 }
 
 // Takes what waits first for the device: on the first stream that has something for it, or else a datagram.
-fn first_waiting<R: Wait>(rt: &R, network: &Network<'_>, place: usize) -> Option<Item> {
+fn first_waiting<R: Wait>(rt: &R, network: &Network<'_>, place: usize) -> Option<Arrival> {
     for stream in network.streams {
-        if let Some(item) = stream.take(rt, place) {
-            return Some(item);
+        if let Some(arrival) = stream.take(rt, place) {
+            return Some(arrival);
         }
     }
     network.inboxes.get(place)?.take(rt)
@@ -95,25 +94,24 @@ fn first_waiting<R: Wait>(rt: &R, network: &Network<'_>, place: usize) -> Option
 
 // Performs one event, and sends what the device answers.
 fn step<L: Locked, G: Gate, R: Wait>(
-    rt: &R,
-    alloc: Global,
+    outlet: &LineOutlet<'_, R>,
     network: &Network<'_>,
     gate: &G,
-    place: usize,
     device: &L,
     event: Event,
 ) -> Result<Receipt, LineFault>
     ensures { IfOk result (IsReceiptOf (L.device device.now) event) }
 {
+    let place = outlet.place;
     if !gate.before(place) {
         return Err(LineFault::Gate);
     }
-    let Some(receipt) = device.step_if(rt, event, || gate.inside(place))? else {
+    let Some(receipt) = device.step_if(outlet.rt, event, || gate.inside(place))? else {
         return Err(LineFault::Gate);
     };
     if !gate.after(place) {
         return Err(LineFault::Gate);
     }
-    send_answer(rt, alloc, network, place, &receipt.answer)?;
+    send_answer(outlet, &mut { *network }, &receipt.answer)?;
     Ok(receipt)
 }

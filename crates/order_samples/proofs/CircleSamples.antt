@@ -11,8 +11,8 @@ use Rattle.schedule_order.specs.Chronicle.{Acceptance, Chronicle, chronicles}
 use Rattle.schedule_order.specs.Order.{AreNear, HalfCircle, KeepsHalfCircle}
 use Rattle.order_samples.specs.Oracle.{is_in_order}
 use Rattle.order_samples.specs.Schedules.{owned, played, observed, taken, writes, ticks}
-use Rattle.order_samples.proofs.Playing.{playing}
-use Rattle.order_samples.proofs.OwnerSamples.{begins, twice_written}
+use Rattle.order_samples.specs.Stories.{begins, twice_written}
+use Rattle.order_samples.specs.Playing.{playing}
 
 -- the first delivery has no condition; the next ones are one index from the one before
 it_is_kept : KeepsHalfCircle owned twice_written
@@ -46,11 +46,11 @@ it_is_kept = (
                           (
                             tt,
                             (
-                              record { index = record { first = omega arith; second = omega arith }; news = λ accepted. record { first = omega arith; second = omega arith } },
+                              record { index = record { first = omega arith; second = omega arith }; new_data = λ accepted. record { first = omega arith; second = omega arith } },
                               (
                                 tt,
                                 (
-                                  record { index = record { first = omega arith; second = omega arith }; news = λ accepted. record { first = omega arith; second = omega arith } },
+                                  record { index = record { first = omega arith; second = omega arith }; new_data = λ accepted. record { first = omega arith; second = omega arith } },
                                   tt,
                                 ),
                               ),
@@ -84,7 +84,7 @@ late_table (Adapter t) = Adapter (record t { rows = map late_row t.rows })
 late_table (Scanner t) = Scanner t
 
 abbrev late_production : Production → Production
-late_production p = record p { index = long_after; news = 2 }
+late_production p = record p { index = long_after; new_data = 2 }
 
 abbrev late_acceptances : List Production → List Acceptance
 late_acceptances [] = []

@@ -1,17 +1,11 @@
 -- Two scanners that gather one input from its group.
-use Rattle.std.proofs.Common.{◌≡◌, true, false, List, [], ◌∷◌, ◌++◌, map, Some, refl}
+use Rattle.std.proofs.Common.{◌≡◌, true, false, [], ◌∷◌, ◌++◌, map, Some, refl}
 use Rattle.cip_events.specs.declared.event.Delivery.TheVariants.{Applied}
-use Rattle.segment_world.specs.declared.act.Act.{Act}
-use Rattle.segment_world.specs.declared.act.Act.TheVariants.{Deliver}
 use Rattle.made_productions.specs.Productions.{end_at}
 use Rattle.order_samples.specs.Oracle.{has_connection}
-use Rattle.order_samples.specs.Schedules.{shared, meets, opens, closes, writes, ticks, played, observed, seen, accepted_at}
-use Rattle.order_samples.proofs.Playing.{playing}
-
--- The first scanner opens a connection, and its producer makes 7. The second joins the group after that, and the producer
--- makes 9. The joiner gets 7 as its first datagram, then 9.
-abbrev pub joined : List Act
-joined = meets 1 0 ++ opens 1 0 ++ writes 0 100 7 ∷ ticks 0 ∷ [] ++ meets 2 1 ++ opens 2 1 ++ writes 0 100 9 ∷ ticks 0 ∷ Deliver 0 2 ∷ Deliver 1 2 ∷ Deliver 1 1 ∷ []
+use Rattle.order_samples.specs.Schedules.{shared, closes, played, observed, seen, accepted_at}
+use Rattle.order_samples.specs.Stories.{joined}
+use Rattle.order_samples.specs.Playing.{playing}
 
 -- both connections have the producer of the first, and its id
 one_producer : observed (λ c. c.opened) (played shared joined)

@@ -1,4 +1,3 @@
-mod Playing
 mod OwnerSamples
 mod GroupSamples
 mod OrderSamples

@@ -8,7 +8,7 @@ use Rattle.reply_ids.specs.Requests.{asks_id}
 use Rattle.schedule_order.specs.Chronicle.{Chronicle}
 use Rattle.schedule_order.specs.MadeOnce.{has_id, waiting_count}
 use Rattle.order_samples.specs.Schedules.{owned, shared, meets, opens, closes, played, observed}
-use Rattle.order_samples.proofs.Playing.{playing}
+use Rattle.order_samples.specs.Playing.{playing}
 
 -- the frames that wait and ask for the id, and the connections that were opened with it
 abbrev used : ℕ → Chronicle → ℕ × ℕ

@@ -2,19 +2,17 @@
 use Rattle.std.proofs.Common.{◌≡◌, Bool, true, false, List, [], ◌∷◌, ◌++◌, map, Some, Result, Ok, Err, refl}
 use Rattle.cip_events.specs.declared.event.Delivery.TheVariants.{Applied, Idle}
 use Rattle.segment_world.specs.declared.act.Act.{Act}
-use Rattle.segment_world.specs.declared.act.Act.TheVariants.{Deliver, Local, CutStream, NextFrame}
+use Rattle.segment_world.specs.declared.act.Act.TheVariants.{Deliver, Local}
 use Rattle.segment_world.specs.declared.act.ActFault.{ActFault}
 use Rattle.segment_world.specs.declared.act.Call.TheVariants as call
 use Rattle.segment_world.specs.Configs.{opening_world}
-use Rattle.stream_queues.specs.declared.direction.Direction.TheVariants.{Forth, Back}
 use Rattle.cip_tables.specs.declared.table.Config.{Config}
 use Rattle.made_productions.specs.Productions.{end_at, Production}
 use Rattle.schedule_order.specs.Chronicle.{Acceptance, Chronicle, blank, then_act}
 use Rattle.order_samples.specs.Oracle.{is_in_order}
-use Rattle.order_samples.specs.Schedules.{owned, rivals, shared, meets, opens, closes, runs_mode, writes, ticks, played, observed, accepted_at}
-use Rattle.order_samples.proofs.Playing.{playing}
-use Rattle.order_samples.proofs.OwnerSamples.{begins, twice_written, reopened}
-use Rattle.order_samples.proofs.GroupSamples.{joined}
+use Rattle.order_samples.specs.Schedules.{owned, rivals, shared, runs_mode, writes, ticks, played, observed, accepted_at}
+use Rattle.order_samples.specs.Stories.{again, begins, followed, gathered, joined, lost, reopened, twice_written}
+use Rattle.order_samples.specs.Playing.{playing}
 
 -- what the tests say after each act
 abbrev tested : Result Chronicle ActFault → List Bool
@@ -72,17 +70,6 @@ swapping_in_order : stays_in_order owned swapped ≡ true
 unfolding playing
 swapping_in_order = refl
 
--- The slot gathers 7. The stream is cut, both ends time out, and the slot opens again over another stream. A datagram of the first
--- connection is then delivered again, and a new one holds 9.
-abbrev lost : List Act
-lost = begins ++ writes 0 100 7 ∷ ticks 0 ∷ Deliver 0 1 ∷ CutStream 0 ∷ NextFrame 0 Back ∷ NextFrame 0 Forth ∷ []
-
-abbrev pub again : List Act
-again = lost ++ Local 0 (call.Tick 10000) ∷ [] ++ meets 1 1 ++ Local 1 (call.Tick 3000) ∷ Local 1 (call.Tick 3000) ∷ NextFrame 1 Forth ∷ NextFrame 1 Back ∷ []
-
-abbrev gathered : List Act
-gathered = again ++ Deliver 0 1 ∷ writes 0 100 9 ∷ ticks 0 ∷ Deliver 1 1 ∷ []
-
 losing : observed (accepted_at 1 0) (played owned lost) ≡ Some ((1, 0, 1, 1, Applied) ∷ [], Some (7 ∷ 7 ∷ 7 ∷ 7 ∷ []))
 unfolding playing
 losing = refl
@@ -98,13 +85,6 @@ gathering = refl
 gathering_in_order : stays_in_order owned gathered ≡ true
 unfolding playing
 gathering_in_order = refl
-
--- The first scanner owns the output, and the second is refused. The first closes, and the second opens. What the first
--- produced is delivered again after that.
-abbrev followed : List Act
-followed =
-    begins ++ writes 1 0 7 ∷ ticks 1 ∷ Deliver 0 0 ∷ [] ++ meets 2 1 ++ opens 2 1 ++ closes 1 0
-    ++ Local 2 (call.Tick 3000) ∷ NextFrame 1 Forth ∷ NextFrame 1 Back ∷ runs_mode 2 ∷ writes 2 0 5 ∷ ticks 2 ∷ Deliver 0 0 ∷ Deliver 1 0 ∷ Deliver 0 0 ∷ []
 
 another_owner : observed (accepted_at 0 150) (played rivals followed) ≡ Some ((2, 2, 2, 1, Applied) ∷ (1, 1, 1, 1, Applied) ∷ [], Some (5 ∷ 5 ∷ 5 ∷ 5 ∷ []))
 unfolding playing

@@ -1,19 +1,10 @@
 -- A scanner that owns an output: what it produces, and what the adapter accepts of it.
-use Rattle.std.proofs.Common.{◌≡◌, List, [], ◌∷◌, ◌++◌, map, Some, refl}
+use Rattle.std.proofs.Common.{◌≡◌, [], ◌∷◌, map, Some, refl}
 use Rattle.cip_events.specs.declared.event.Delivery.TheVariants.{Applied, Duplicate}
-use Rattle.segment_world.specs.declared.act.Act.{Act}
-use Rattle.segment_world.specs.declared.act.Act.TheVariants.{Deliver}
 use Rattle.made_productions.specs.Productions.{end_at}
-use Rattle.order_samples.specs.Schedules.{owned, meets, opens, closes, runs_mode, writes, ticks, played, observed, seen, numbers, accepted_at, produced_by_openings}
-use Rattle.order_samples.proofs.Playing.{playing}
-
--- the slot of the scanner opens its connection, in run mode
-abbrev pub begins : List Act
-begins = meets 1 0 ++ opens 1 0 ++ runs_mode 1 ∷ []
-
--- it produces 7, then 8 and again 8, with a write before each new value; each is delivered as it is produced
-abbrev pub twice_written : List Act
-twice_written = begins ++ writes 1 0 7 ∷ ticks 1 ∷ Deliver 0 0 ∷ writes 1 0 8 ∷ ticks 1 ∷ Deliver 1 0 ∷ ticks 1 ∷ Deliver 2 0 ∷ []
+use Rattle.order_samples.specs.Schedules.{owned, played, observed, seen, numbers, accepted_at, produced_by_openings}
+use Rattle.order_samples.specs.Stories.{begins, twice_written, reopened}
+use Rattle.order_samples.specs.Playing.{playing}
 
 -- the opening is the first request of the scanner, and the first connection of the adapter
 a_connection_opens : observed (λ c. c.opened) (played owned begins)
@@ -37,10 +28,6 @@ a_repeated_count_is_a_duplicate : observed (accepted_at 0 150) (played owned twi
     ≡ Some ((1, 1, 1, 3, Duplicate) ∷ (1, 1, 1, 2, Applied) ∷ (1, 1, 1, 1, Applied) ∷ [], Some (8 ∷ 8 ∷ 8 ∷ 8 ∷ []))
 unfolding playing
 a_repeated_count_is_a_duplicate = refl
-
--- the slot opens, closes and opens again; what the first opening produced is delivered after that
-abbrev pub reopened : List Act
-reopened = begins ++ writes 1 0 7 ∷ ticks 1 ∷ [] ++ closes 1 0 ++ opens 1 0 ++ writes 1 0 8 ∷ ticks 1 ∷ Deliver 0 0 ∷ Deliver 1 0 ∷ []
 
 -- the requests are the first and the third; the second opening begins its own indexes
 an_opening_counts_from_one : observed produced_by_openings (played owned reopened)

@@ -1,2 +1,4 @@
+pub mod Playing
 pub mod Schedules
+pub mod Stories
 pub mod Oracle

@@ -108,7 +108,7 @@ abbrev pub Seen : Type 0
 Seen = ℕ × ℕ × ℕ × ℕ × List ℕ
 
 abbrev pub seen : Production → Seen
-seen p = (p.producer.device, p.producer.number, p.index, p.news, p.made.value)
+seen p = (p.producer.device, p.producer.number, p.index, p.new_data, p.made.value)
 
 -- and of its datagram: the sequence number and the count
 abbrev pub numbers : Production → ℕ × ℕ

@@ -1,8 +1,10 @@
 -- A connection that begins after a moment accepts nothing that was sent by then.
-use Rattle.std.proofs.Common.{◌≡◌, ◌≢◌, ◌≤◌, ◌<◌, inl, inr, ℕ, zero, suc, ◌+◌, ◌*◌, ◌^◌, ◌==◌, ◌&&◌, ◌||◌, nat_le, Bool, true, false, cond, List, [], ◌∷◌, length, set, slice_get, slice_index_or, find, Option, Some, None, Result, Ok, Err, IfOk, refl, sym, ◌∙◌, ap, subst, arith}
+use Rattle.std.proofs.Common.{◌≡◌, ◌≢◌, ◌≤◌, ◌<◌, inl, inr, ℕ, zero, suc, ◌+◌, ◌*◌, ◌^◌, ◌==◌, ◌&&◌, ◌||◌, nat_le, Bool, true, false, cond, List, [], ◌∷◌, length, set, slice_get, slice_index_or, find, Option, Some, None, Result, Ok, Err, IfOk, refl, sym, ◌∙◌, ap, subst, arith, eqb-true, eq-eqb, leb-true, le-leb}
 use Rattle.std.specs.List.{AllByRecursion, Contains, list_any}
-use Rattle.std.proofs.lemmas.Bool.{and_parts}
-use Rattle.std.proofs.lemmas.Bool.Decides.{nat_tests}
+use Rattle.std.proofs.lemmas.Bool.{and_parts, false_from_ne_true, or_right}
+use Rattle.std.proofs.lemmas.Option.{same_Some}
+use Rattle.base_lemmas.specs.Lists.{found_passes}
+use Rattle.base_lemmas.specs.Numbers.{number_same}
 use Rattle.cip_types.specs.declared.names.ConnId.{ConnId}
 use Rattle.cip_types.specs.declared.names.Node.{Node}
 use Rattle.cip_datagram.specs.declared.datagram.DatagramFault.{DatagramFault}
@@ -31,10 +33,9 @@ use Rattle.segment_world.specs.Story.{Story, goes_on, runs}
 use Rattle.device_laws.specs.Ids.{FrameIds, ReadId, RowIds}
 use Rattle.device_laws.specs.Carrying.{Passes, TableIds}
 use Rattle.schedule_laws.specs.Ids.{is_to_come, is_drawn, any_opening, SentHolds, IdsAreDrawn, Moments, IdsToComeAreUnsent, LaterConnectionsAcceptNoneOfIt, LaterGroupsSentNoneOfIt}
-use Rattle.schedule_laws.proofs.Lists.{some_is}
-use Rattle.schedule_laws.proofs.Moves.{Moves, act_moves, runs_keep}
-use Rattle.schedule_laws.proofs.Tests.{false_unless, not_both, so_comes, drawn_parts, none_at, set_cases}
-use Rattle.schedule_laws.proofs.Drawing.{StepLaws, Openings, Drawn, step_same, moved_drawn, runs_drawn, all_drawn}
+use Rattle.schedule_laws.specs.Lemmas.Moves.{Moves, act_moves, runs_keep}
+use Rattle.schedule_laws.specs.Lemmas.Tests.{not_both, so_comes, drawn_parts, none_at, set_cases}
+use Rattle.schedule_laws.specs.Lemmas.Drawing.{StepLaws, Openings, Drawn, step_same, moved_drawn, runs_drawn, all_drawn}
 
 -- ---- what a list contains
 
@@ -78,21 +79,6 @@ opened_or_later t opening false = true
 abbrev opened_from : ℕ → AdapterTable → Openings
 opened_from device t e opening = opened_or_later t opening (e == device)
 
-equal_is : (n : ℕ) → (n == n) ≡ true
-equal_is n = grind (arith, nat_tests)
-
-same_is : (a b : ℕ) → (a == b) ≡ true → a ≡ b
-same_is a b is = grind (arith, nat_tests)
-
-is_same : (a b : ℕ) → a ≡ b → (a == b) ≡ true
-is_same a b is = grind (arith, nat_tests)
-
-le_is : (a b : ℕ) → nat_le a b ≡ true → a ≤ b
-le_is a b is = grind (arith, nat_tests)
-
-is_le : (a b : ℕ) → a ≤ b → nat_le a b ≡ true
-is_le a b is = grind (arith, nat_tests)
-
 adapter_same : (a b : AdapterTable) → Adapter a ≡ Adapter b → a ≡ b
 adapter_same a b is = ap (λ (x : DeviceTable). adapter_or x) is where
   adapter_or : DeviceTable → AdapterTable
@@ -114,14 +100,6 @@ rows_found p profile next (first ∷ rows) row is drawn =
 all_found : (P : Row → Type 0) (p : Row → Bool) (rows : List Row) (row : Row) → find p rows ≡ Some row → AllByRecursion P rows → P row
 all_found P p [] row is all = absurd (let e = is in cc)
 all_found P p (first ∷ rows) row is all = found_step P (p first) first row (find p rows) is all.0 (λ later. all_found P p rows row later all.1)
-
-passes_step : (b : Bool) (p : Row → Bool) (first row : Row) (rest : Option Row) → p first ≡ b → cond b (Some first) rest ≡ Some row → (rest ≡ Some row → p row ≡ true) → p row ≡ true
-passes_step true p first row rest passes is more = let same : first ≡ row = cc in subst (λ (r : Row). p r ≡ true) same passes
-passes_step false p first row rest passes is more = more is
-
-found_passes : (p : Row → Bool) (rows : List Row) (row : Row) → find p rows ≡ Some row → p row ≡ true
-found_passes p [] row is = absurd (let e = is in cc)
-found_passes p (first ∷ rows) row is = passes_step (p first) p first row (find p rows) refl is (λ later. found_passes p rows row later)
 
 -- ---- one device from a moment on
 
@@ -165,7 +143,7 @@ HasByte byte t = incarnation_of t ≡ byte
 pub byte_kept : StepLaws → (q : Openings) (device : ℕ) (t u : DeviceTable) (was now : Story) (acts : List Act) → runs (Ok was) acts ≡ Ok now → Drawn q was.world → slice_get was.world.tables device ≡ Some t → slice_get now.world.tables device ≡ Some u → incarnation_of u ≡ incarnation_of t
 byte_kept laws q device t u was now acts ran drawn at_was at_now =
     (runs_kept laws (HasByte (incarnation_of t)) (λ x happens a y stepped whole whole_y same. step_same laws x happens a y stepped ∙ same) q device was now acts ran
-    (record { drawn = drawn; holds = λ x at. ap incarnation_of (some_is x t (sym at ∙ at_was)) })).holds u at_now
+    (record { drawn = drawn; holds = λ x at. ap incarnation_of (same_Some x t (sym at ∙ at_was)) })).holds u at_now
 
 -- ---- the moment
 
@@ -173,23 +151,16 @@ byte_kept laws q device t u was now acts ran drawn at_was at_now =
 pub at_moment : StepLaws → (start : World) (was now : Story) → IdsAreDrawn start → Moments start was now → Drawn (λ device opening. true) was.world
 at_moment laws start was now ids moments = runs_drawn laws (λ device opening. true) (record { world = start; reported = [] }) was moments.early moments.first (all_drawn start ids)
 
-own_from : (device : ℕ) (t : AdapterTable) (n : ℕ) → t.next_id ≤ n → opened_from device t device n ≡ true
-own_from device t n from = ap (λ (b : Bool). opened_or_later t n b) (equal_is device) ∙ ap (λ (b : Bool). b || list_any (was_opened_as n) t.rows) (is_le t.next_id n from)
-
 opens_step : (b : Bool) (device e n : ℕ) (t : AdapterTable) (x : DeviceTable) (tables : List DeviceTable) → (e == device) ≡ b → slice_get tables device ≡ Some (Adapter t) → slice_get tables e ≡ Some x → next_id_of x ≤ n → opened_or_later t n b ≡ true
 opens_step true device e n t x tables is at there from =
-    let same = same_is e device is in
-    let table : x ≡ Adapter t = some_is x (Adapter t) (sym there ∙ ap (slice_get tables) same ∙ at) in
+    let same = eqb-true e device is in
+    let table : x ≡ Adapter t = same_Some x (Adapter t) (sym there ∙ ap (slice_get tables) same ∙ at) in
     let counts : next_id_of x ≡ t.next_id = ap next_id_of table in
-    ap (λ (b : Bool). b || list_any (was_opened_as n) t.rows) (is_le t.next_id n (omega (arith, counts, from)))
+    ap (λ (b : Bool). b || list_any (was_opened_as n) t.rows) (le-leb t.next_id n (omega (arith, counts, from)))
 opens_step false device e n t x tables is at there from = refl
 
 row_itself : (n : ℕ) (row : Row) (rows : List Row) → row.opening ≡ n → list_any (was_opened_as n) (row ∷ rows) ≡ true
-row_itself n row rows same = ap (λ (b : Bool). b || list_any (was_opened_as n) rows) (is_same row.opening n same)
-
-or_right : (a b : Bool) → b ≡ true → (a || b) ≡ true
-or_right true b is = refl
-or_right false b is = is
+row_itself n row rows same = ap (λ (b : Bool). b || list_any (was_opened_as n) rows) (eq-eqb row.opening n same)
 
 marked : (P : ℕ → Type 0) (q : ℕ → Bool) (rows : List Row) → ((row : Row) → list_any (was_opened_as row.opening) rows ≡ true → q row.opening ≡ true) → AllByRecursion (RowIds P (Passes any_opening)) rows → AllByRecursion (RowIds P (Passes q)) rows
 marked P q [] each all = tt
@@ -204,8 +175,8 @@ mark_table ids q (Scanner s) each table = table
 
 mark_step : (b : Bool) (device e n : ℕ) (t a : AdapterTable) (x : DeviceTable) (tables : List DeviceTable) → (e == device) ≡ b → slice_get tables device ≡ Some (Adapter t) → slice_get tables e ≡ Some x → x ≡ Adapter a → list_any (was_opened_as n) a.rows ≡ true → opened_or_later t n b ≡ true
 mark_step true device e n t a x tables is at there table stands =
-    let same = same_is e device is in
-    let own : a ≡ t = adapter_same a t (sym table ∙ some_is x (Adapter t) (sym there ∙ ap (slice_get tables) same ∙ at)) in
+    let same = eqb-true e device is in
+    let own : a ≡ t = adapter_same a t (sym table ∙ same_Some x (Adapter t) (sym there ∙ ap (slice_get tables) same ∙ at)) in
     or_right (nat_le t.next_id n) (list_any (was_opened_as n) t.rows) (subst (λ (y : AdapterTable). list_any (was_opened_as n) y.rows ≡ true) own stands)
 mark_step false device e n t a x tables is at there table stands = refl
 
@@ -232,18 +203,18 @@ left_is false b is none = not_both b is none
 
 later_row : (was : World) (device : ℕ) (t u : AdapterTable) (opening : ℕ) (peer : Node) (s : Sent) (d : DatagramFields) (row : Row) (ids : ℕ → Bool) → AllByRecursion (SentHolds (Passes (is_drawn was.tables))) was.sent → slice_get was.tables device ≡ Some (Adapter t) → u.profile.incarnation ≡ t.profile.incarnation → IsWholeDevice (Adapter u) → TableIds ids (opened_from device t device) (Adapter u) → list_any (was_opened_as opening) t.rows ≡ false → Contains was.sent s → datagram_reading s.bytes ≡ Ok d → find (is_for peer d.connection) u.rows ≡ Some row → was_opened_as opening row ≡ false
 later_row was device t u opening peer s d row ids all at byte whole table none there reads found =
-    false_unless (was_opened_as opening row) (λ is.
-    let same = same_is row.opening opening is in
+    false_from_ne_true (was_opened_as opening row) (λ is.
+    let same = eqb-true row.opening opening is in
     let passes = found_passes (is_for peer d.connection) u.rows row found in
     let parts = and_parts (is_established row) ((row.peer.0 == peer.0) && (row.o_t_id.0 == d.connection)) passes in
     let own = and_parts (row.peer.0 == peer.0) (row.o_t_id.0 == d.connection) parts.1 in
-    let id = same_is row.o_t_id.0 d.connection own.1 in
+    let id = eqb-true row.o_t_id.0 d.connection own.1 in
     let drawn_id = rows_found (is_for peer d.connection) u.profile u.next_id u.rows row found whole.sound.ids_are_drawn in
     let value : row.o_t_id.0 ≡ u.profile.incarnation * 2 ^ 24 + row.opening = ap (λ (i : ConnId). i.0) drawn_id.0 in
     let marks = (all_found (RowIds (Passes ids) (Passes (opened_from device t device))) (is_for peer d.connection) u.rows row found table).opening in
-    let test_passes : opened_or_later t row.opening true ≡ true = ap (λ (b : Bool). opened_or_later t row.opening b) (sym (equal_is device)) ∙ marks in
+    let test_passes : opened_or_later t row.opening true ≡ true = ap (λ (b : Bool). opened_or_later t row.opening b) (sym (number_same device)) ∙ marks in
     let stood : list_any (was_opened_as row.opening) t.rows ≡ false = ap (λ (n : ℕ). list_any (was_opened_as n) t.rows) same ∙ none in
-    let from = le_is t.next_id row.opening (left_is (nat_le t.next_id row.opening) (list_any (was_opened_as row.opening) t.rows) test_passes stood) in
+    let from = leb-true t.next_id row.opening (left_is (nat_le t.next_id row.opening) (list_any (was_opened_as row.opening) t.rows) test_passes stood) in
     let in_range = whole.sound.ids_are_left in
     let below = drawn_id.1 in
     unsent was device (Adapter t) row.opening s d all at from (omega (arith, in_range, below)) there reads (omega (arith, id, value, byte)))

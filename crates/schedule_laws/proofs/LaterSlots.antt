@@ -1,9 +1,10 @@
 -- A point to point slot that opens after a moment receives nothing that was sent by then; and only the reply to its own
 -- request establishes a slot.
-use Rattle.std.proofs.Common.{◌≡◌, ◌≢◌, ◌≤◌, ℕ, suc, ◌+◌, ◌*◌, ◌^◌, ◌==◌, Bool, true, false, List, [], ◌∷◌, ◌++◌, Result, Ok, Err, refl, sym, ◌∙◌, ap, subst, arith}
+use Rattle.std.proofs.Common.{◌≡◌, ◌≢◌, ◌≤◌, ℕ, suc, ◌+◌, ◌*◌, ◌^◌, ◌==◌, Bool, true, false, List, [], ◌∷◌, ◌++◌, Result, Ok, Err, refl, sym, ◌∙◌, ap, subst, arith, eq-eqb, eqb-true}
 use Rattle.std.specs.List.{AllByRecursion}
-use Rattle.std.proofs.lemmas.Bool.{and_parts}
-use Rattle.std.proofs.lemmas.Bool.Decides.{nat_tests}
+use Rattle.std.proofs.lemmas.Bool.{and_parts, false_from_ne_true}
+use Rattle.std.proofs.lemmas.Option.{same_Some}
+use Rattle.scanner_laws.specs.Lemmas.Stepping.{device_stepped}
 use Rattle.cip_types.specs.declared.names.ConnId.{ConnId}
 use Rattle.cip_types.specs.declared.names.Node.{Node}
 use Rattle.cip_events.specs.declared.event.Answer.{Answer}
@@ -11,13 +12,12 @@ use Rattle.cip_events.specs.declared.event.Event.{Event}
 use Rattle.cip_events.specs.declared.event.StepFault.{StepFault}
 use Rattle.scanner_table.specs.declared.profile.ScannerProfile.{ScannerProfile}
 use Rattle.scanner_table.specs.declared.profile.SlotConfig.{SlotConfig}
-use Rattle.scanner_table.specs.declared.slot.Connection.{Connection}
+use Rattle.scanner_table.specs.declared.slot.SlotConnection.{SlotConnection}
 use Rattle.scanner_table.specs.declared.slot.Slot.{Slot}
 use Rattle.scanner_table.specs.declared.slot.SlotState.{SlotState}
 use Rattle.scanner_table.specs.declared.slot.SlotState.TheVariants.{Idle, Opening, Established, TimedOut, Closing}
 use Rattle.scanner_table.specs.declared.table.ScannerTable.{ScannerTable}
 use Rattle.scanner_table.specs.Datagrams.{is_for}
-use Rattle.scanner_table.specs.Effects.{Next as ScannerNext}
 use Rattle.scanner_table.specs.Replies.{state_consumes}
 use Rattle.scanner_table.specs.Slots.{IndexedSlot, indexed_from, indexed_slots, is_with}
 use Rattle.scanner_table.specs.Step.{scanner_step}
@@ -28,16 +28,14 @@ use Rattle.cip_tables.specs.Run.{table_of}
 use Rattle.adapter_table.specs.declared.table.AdapterTable.{AdapterTable}
 use Rattle.adapter_table.specs.Requests.{Next}
 use Rattle.adapter_table.specs.Step.{adapter_step}
-use Rattle.cip_tables.specs.Step.{DeviceNext, as_adapter, as_scanner, step}
+use Rattle.cip_tables.specs.Step.{DeviceNext, as_adapter, step}
 use Rattle.cip_tables.specs.Whole.{IsWholeDevice, next_id_of, RunsKeepWhole}
 use Rattle.segment_world.specs.Story.{is_of}
 use Rattle.device_laws.specs.Carrying.{IsFrom, StateFrom, SlotFrom, SlotsFrom, StepsKeepFrom, RepliesEstablish}
 use Rattle.schedule_laws.specs.Stories.{led_by, led_to}
 use Rattle.schedule_laws.specs.Ids.{LaterSlotsTakeNoneOfIt, RepliesEstablishTheirOwn}
-use Rattle.schedule_laws.proofs.Lists.{some_is}
-use Rattle.schedule_laws.proofs.Tests.{false_unless}
-use Rattle.schedule_laws.proofs.Reporting.{Answers, AnswersIf, Reports, led_both, reports_rest, reports_first, is_run, outcomes_of, same_slot, story_leads}
-use Rattle.schedule_laws.proofs.Drawing.{StepLaws}
+use Rattle.schedule_laws.proofs.Reporting.{Answers, AnswersIf, Reports, led_both, reports_rest, reports_first, is_run, outcomes_of, story_leads}
+use Rattle.schedule_laws.specs.Lemmas.Drawing.{StepLaws}
 use Rattle.schedule_laws.proofs.Later.{all_contains, unsent, StepsKeepIt, runs_kept, at_moment}
 
 -- ---- the scanner's step
@@ -47,25 +45,6 @@ ok_of n = Ok n
 
 ok_inside : (x y : DeviceNext) → ok_of x ≡ ok_of y → x ≡ y
 ok_inside x y e = cc
-
-scanner_inside : (x y : ScannerTable) → Scanner x ≡ Scanner y → x ≡ y
-scanner_inside x y e = ap (λ (t : DeviceTable). scanner_or t) e where
-  scanner_or : DeviceTable → ScannerTable
-  scanner_or (Scanner t) = t
-  scanner_or (Adapter t) = x
-
--- if a scanner's device gives an answer, so does the step of its table
-stepped_so : (a : Answer) (v : ScannerTable) (said : Result ScannerNext StepFault) → as_scanner said ≡ Ok (a, Scanner v) → said ≡ Ok (a, v)
-stepped_so a v (Err fault) is = absurd (let e = is in cc)
-stepped_so a v (Ok n) is =
-    let e = ok_inside (n.0, Scanner n.1) (a, Scanner v) is in
-    let answer : n.0 ≡ a = ap (λ (p : DeviceNext). p.0) e in
-    let table : n.1 ≡ v = scanner_inside n.1 v (ap (λ (p : DeviceNext). p.1) e) in
-    ap (λ (x : Answer). Ok (x, n.1)) answer ∙ ap (λ (x : ScannerTable). Ok (a, x)) table
-
-device_stepped : (u v : ScannerTable) (happens : Event) (a : Answer) → step (Scanner u) happens ≡ Ok (a, Scanner v) → scanner_step u happens ≡ Ok (a, v)
-unfolding step
-device_stepped u v happens a is = stepped_so a v (scanner_step u happens) is
 
 -- ---- slots that are opened later
 
@@ -115,14 +94,14 @@ goes_device laws keeps profile request first (Adapter t) happens a (Adapter u) i
 goes_device laws keeps profile request first (Scanner t) happens a (Adapter u) is whole whole_u goes = tt
 goes_device laws keeps profile request first (Adapter t) happens a (Scanner u) is whole whole_u goes = absurd (stays_adapter t u happens a is)
 
-takes_none : (peer : Node) (id : ℕ) (indexed : IndexedSlot) (c : Connection) → indexed.slot.state ≡ Established c → id ≢ c.link.t_o_id.0 → is_for peer id indexed ≡ false
+takes_none : (peer : Node) (id : ℕ) (indexed : IndexedSlot) (c : SlotConnection) → indexed.slot.state ≡ Established c → id ≢ c.link.t_o_id.0 → is_for peer id indexed ≡ false
 takes_none peer id indexed c is other =
-    false_unless (is_for peer id indexed) (λ takes.
+    false_from_ne_true (is_for peer id indexed) (λ takes.
     let parts = and_parts (is_with peer indexed) (state_consumes (record { 0 = id }) indexed.slot.state) takes in
     let consumes : (c.link.t_o_id.0 == id) ≡ true = sym (ap (state_consumes (record { 0 = id })) is) ∙ parts.1 in
-    other (sym (same_slot c.link.t_o_id.0 id consumes)))
+    other (sym (eqb-true c.link.t_o_id.0 id consumes)))
 
-established_from : (profile : ScannerProfile) (request first : ℕ) (indexed : IndexedSlot) (c : Connection) → SlotFrom profile request first indexed → indexed.config.multicast ≡ false → indexed.slot.state ≡ Established c → request ≤ c.opening → IsFrom profile first c.link.t_o_id
+established_from : (profile : ScannerProfile) (request first : ℕ) (indexed : IndexedSlot) (c : SlotConnection) → SlotFrom profile request first indexed → indexed.config.multicast ≡ false → indexed.slot.state ≡ Established c → request ≤ c.opening → IsFrom profile first c.link.t_o_id
 established_from profile request first indexed c from single is over = (subst (StateFrom profile request first) is (from single)) over
 
 pub later_slots : StepLaws → StepsKeepFrom → LaterSlotsTakeNoneOfIt
@@ -131,7 +110,7 @@ later_slots laws keeps start was now device t u indexed c s d ids moments at_was
     let whole = drawn.whole device (Scanner t) at_was in
     let first : GoesOn t.profile t.next_request t.next_id (Scanner t) = (refl, omega arith, fits_from t.profile t.next_request t.next_id t.clock.0 0 t.profile.slots t.slots whole.table.slots) in
     let kept = runs_kept laws (GoesOn t.profile t.next_request t.next_id) (goes_device laws keeps t.profile t.next_request t.next_id) (λ e o. true) device was now moments.late moments.rest
-    (record { drawn = drawn; holds = λ x at. subst (GoesOn t.profile t.next_request t.next_id) (some_is (Scanner t) x (sym at_was ∙ at)) first }) in
+    (record { drawn = drawn; holds = λ x at. subst (GoesOn t.profile t.next_request t.next_id) (same_Some (Scanner t) x (sym at_was ∙ at)) first }) in
     let goes = kept.holds (Scanner u) at_now in
     let from = established_from t.profile t.next_request t.next_id indexed c (all_contains (SlotFrom t.profile t.next_request t.next_id) (indexed_slots u) indexed goes.2 among) single is over in
     let value : c.link.t_o_id.0 ≡ t.profile.incarnation * 2 ^ 24 + from.counter = ap (λ (i : ConnId). i.0) from.is in
@@ -141,15 +120,12 @@ later_slots laws keeps start was now device t u indexed c s d ids moments at_was
 
 -- ---- replies
 
-same_is : (a b : ℕ) → a ≡ b → (a == b) ≡ true
-same_is a b is = grind (arith, nat_tests)
-
 pub replies_establish_their_own : RunsKeepWhole → RepliesEstablish → RepliesEstablishTheirOwn
 replies_establish_their_own runs_whole law start acts story device t u v before after reported ran at whole parts own there then_there =
     let leads = story_leads start acts story device t ran at in
     let reports : Reports t device (before ++ reported ∷ after) = subst (Reports t device) parts leads.reports in
     let rest = reports_rest t device before (reported ∷ after) reports in
-    let mine : is_of device reported ≡ true = same_is reported.device device own in
+    let mine : is_of device reported ≡ true = eq-eqb reported.device device own in
     let answers : Answers (led_to t device before) reported = subst (λ (b : Bool). AnswersIf b (led_to t device before) reported) mine rest.0 in
     let stepped : step (Scanner u) reported.event ≡ Ok (reported.answer, answers.next) = subst (λ (x : DeviceTable). step x reported.event ≡ Ok (reported.answer, answers.next)) there answers.is in
     let left : led_to t device (before ++ reported ∷ []) ≡ answers.next =

@@ -1,8 +1,9 @@
 -- A world that begins from configurations without a fault has no ids anywhere.
 use Rattle.std.proofs.Common.{◌≡◌, ◌≢◌, ◌≤◌, ℕ, zero, suc, ◌==◌, Bool, false, List, [], ◌∷◌, map, slice_get, Some, None, refl, sym, ◌∙◌, ap, subst, arith}
 use Rattle.std.specs.List.{AllByRecursion, list_any}
-use Rattle.std.proofs.lemmas.Bool.{or_parts}
+use Rattle.std.proofs.lemmas.Bool.{or_parts, eqb-false}
 use Rattle.std.proofs.lemmas.Bool.Decides.{nat_tests}
+use Rattle.std.proofs.lemmas.Option.{same_Some}
 use Rattle.adapter_table.specs.Profiles as adapter_profiles
 use Rattle.adapter_table.specs.Shaping.{all_pass}
 use Rattle.scanner_table.specs.declared.profile.SlotConfig.{SlotConfig}
@@ -18,7 +19,6 @@ use Rattle.segment_world.specs.declared.configs.DeviceKey.TheVariants.{Incarnati
 use Rattle.segment_world.specs.Configs.{key_in, any_twice, first_fault}
 use Rattle.device_laws.specs.Carrying.{Passes, SlotIds, TableIds}
 use Rattle.schedule_laws.specs.Ids.{is_drawn, any_opening, AreBytes, OpeningWorldsHaveIdsDrawn}
-use Rattle.schedule_laws.proofs.Lists.{some_is}
 use Rattle.schedule_laws.proofs.Openings.{faultless, both_none, opens_whole}
 
 -- ---- incarnations
@@ -35,23 +35,20 @@ begins_all : (configs : List Config) (device : ℕ) (t : DeviceTable) → first_
 unfolding first_fault
 begins_all [] device t none at = absurd (let e = at in cc)
 begins_all (made ∷ configs) zero t none at =
-    subst (λ (x : DeviceTable). 1 ≤ incarnation_of x) (some_is (opening_table made) t at) (begins_one made (both_none (config_fault made) (first_fault configs) none).0)
+    subst (λ (x : DeviceTable). 1 ≤ incarnation_of x) (same_Some (opening_table made) t at) (begins_one made (both_none (config_fault made) (first_fault configs) none).0)
 begins_all (made ∷ configs) (suc device) t none at = begins_all configs device t (both_none (config_fault made) (first_fault configs) none).1 at
 
 ends_all : (configs : List Config) (device : ℕ) (t : DeviceTable) → AreBytes configs → slice_get (map opening_table configs) device ≡ Some t → incarnation_of t ≤ 255
 ends_all [] device t bytes at = absurd (let e = at in cc)
-ends_all (made ∷ configs) zero t bytes at = subst (λ (x : DeviceTable). incarnation_of x ≤ 255) (some_is (opening_table made) t at) bytes.0
+ends_all (made ∷ configs) zero t bytes at = subst (λ (x : DeviceTable). incarnation_of x ≤ 255) (same_Some (opening_table made) t at) bytes.0
 ends_all (made ∷ configs) (suc device) t bytes at = ends_all configs device t bytes.1 at
-
-other_key : (n m : ℕ) → (n == m) ≡ false → n ≢ m
-other_key n m is = grind (arith, nat_tests)
 
 -- no later configuration has the incarnation of this one
 none_later : (made : Config) (configs : List Config) (device : ℕ) (t : DeviceTable) → list_any (λ other. key_in Incarnation other == key_in Incarnation made) configs ≡ false → slice_get (map opening_table configs) device ≡ Some t → incarnation_of t ≢ incarnation_of (opening_table made)
 none_later made [] device t none at = absurd (let e = at in cc)
 none_later made (other ∷ configs) zero t none at =
     let parts = or_parts (key_in Incarnation other == key_in Incarnation made) (list_any (λ x. key_in Incarnation x == key_in Incarnation made) configs) none in
-    subst (λ (x : DeviceTable). incarnation_of x ≢ incarnation_of (opening_table made)) (some_is (opening_table other) t at) (other_key _ _ parts.0)
+    subst (λ (x : DeviceTable). incarnation_of x ≢ incarnation_of (opening_table made)) (same_Some (opening_table other) t at) (eqb-false _ _ parts.0)
 none_later made (other ∷ configs) (suc device) t none at =
     none_later made configs device t (or_parts (key_in Incarnation other == key_in Incarnation made) (list_any (λ x. key_in Incarnation x == key_in Incarnation made) configs) none).1 at
 
@@ -61,10 +58,10 @@ differ_all [] a b t u once at_a at_b same = absurd (let e = at_a in cc)
 differ_all (made ∷ configs) zero zero t u once at_a at_b same = refl
 differ_all (made ∷ configs) zero (suc b) t u once at_a at_b same =
     let parts = or_parts (list_any (λ other. key_in Incarnation other == key_in Incarnation made) configs) (any_twice Incarnation configs) once in
-    absurd (none_later made configs b u parts.0 at_b (sym same ∙ sym (ap incarnation_of (some_is (opening_table made) t at_a))))
+    absurd (none_later made configs b u parts.0 at_b (sym same ∙ sym (ap incarnation_of (same_Some (opening_table made) t at_a))))
 differ_all (made ∷ configs) (suc a) zero t u once at_a at_b same =
     let parts = or_parts (list_any (λ other. key_in Incarnation other == key_in Incarnation made) configs) (any_twice Incarnation configs) once in
-    absurd (none_later made configs a t parts.0 at_a (same ∙ sym (ap incarnation_of (some_is (opening_table made) u at_b))))
+    absurd (none_later made configs a t parts.0 at_a (same ∙ sym (ap incarnation_of (same_Some (opening_table made) u at_b))))
 differ_all (made ∷ configs) (suc a) (suc b) t u once at_a at_b same =
     let parts = or_parts (list_any (λ other. key_in Incarnation other == key_in Incarnation made) configs) (any_twice Incarnation configs) once in
     ap suc (differ_all configs a b t u parts.1 at_a at_b same)
@@ -81,7 +78,7 @@ fresh_ids test (config.Scanner profile) = fresh_slots (Passes test) 0 profile.sl
 
 fresh_all : (test : ℕ → Bool) (configs : List Config) (device : ℕ) (t : DeviceTable) → slice_get (map opening_table configs) device ≡ Some t → TableIds test any_opening t
 fresh_all test [] device t at = absurd (let e = at in cc)
-fresh_all test (made ∷ configs) zero t at = subst (TableIds test any_opening) (some_is (opening_table made) t at) (fresh_ids test made)
+fresh_all test (made ∷ configs) zero t at = subst (TableIds test any_opening) (same_Some (opening_table made) t at) (fresh_ids test made)
 fresh_all test (made ∷ configs) (suc device) t at = fresh_all test configs device t at
 
 pub opening_worlds : FreshDevicesAreWhole → OpeningWorldsHaveIdsDrawn

@@ -1,5 +1,6 @@
 -- A world that begins from configurations without a fault has whole tables.
 use Rattle.std.proofs.Common.{◌≡◌, ℕ, zero, suc, Bool, true, false, cond, List, [], ◌∷◌, map, slice_get, Option, Some, None, refl, subst}
+use Rattle.std.proofs.lemmas.Option.{same_Some}
 use Rattle.cip_events.specs.declared.profile_fault.ProfileFault.{ProfileFault}
 use Rattle.cip_tables.specs.declared.table.Config.{Config}
 use Rattle.cip_tables.specs.declared.table.DeviceTable.{DeviceTable}
@@ -9,7 +10,6 @@ use Rattle.segment_world.specs.declared.configs.DeviceKey.TheVariants.{Incarnati
 use Rattle.segment_world.specs.declared.fault.WorldFault.{WorldFault}
 use Rattle.segment_world.specs.declared.fault.WorldFault.TheVariants.{SameIncarnation, SameNode}
 use Rattle.segment_world.specs.Configs.{any_twice, fault_or, first_fault, profile_fault_of, world_fault}
-use Rattle.schedule_laws.proofs.Lists.{some_is}
 
 no_fault : (wrong : Option ProfileFault) → profile_fault_of wrong ≡ None → wrong ≡ None
 no_fault None is = refl
@@ -38,7 +38,7 @@ unfolding first_fault
 opens_whole fresh [] device t none at = absurd (let e = at in cc)
 opens_whole fresh (config ∷ configs) zero t none at =
     let parts = both_none (config_fault config) (first_fault configs) none in
-    subst IsWholeDevice (some_is (opening_table config) t at) (fresh config parts.0)
+    subst IsWholeDevice (same_Some (opening_table config) t at) (fresh config parts.0)
 opens_whole fresh (config ∷ configs) (suc device) t none at =
     let parts = both_none (config_fault config) (first_fault configs) none in
     opens_whole fresh configs device t parts.1 at

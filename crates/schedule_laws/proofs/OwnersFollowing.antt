@@ -1,7 +1,6 @@
 -- Owners follow one another in every schedule, since they do over every run of a device.
-use Rattle.std.proofs.Common.{◌≡◌, ◌<◌, ℕ, zero, suc, ◌==◌, ◌&&◌, find, slice_index_or, Bool, true, false, cond, List, [], ◌∷◌, ◌++◌, map, filter, Option, Some, None, Result, Ok, Err, refl, sym, ◌∙◌, ap, subst, inl, inr, append_assoc, arith}
+use Rattle.std.proofs.Common.{◌≡◌, ◌<◌, ℕ, zero, suc, ◌==◌, ◌&&◌, find, slice_index_or, Bool, true, false, cond, List, [], ◌∷◌, ◌++◌, map, filter, Option, Some, None, Result, Ok, Err, refl, sym, ◌∙◌, ap, subst, inl, inr, append_assoc, arith, eq-eqb, eqb-true}
 use Rattle.std.specs.List.{Contains}
-use Rattle.std.proofs.lemmas.Bool.Decides.{nat_tests}
 use Rattle.std.proofs.lemmas.List.Elements.{Contains-append_cases}
 use Rattle.cip_types.specs.declared.names.Node.{Node}
 use Rattle.cip_datagram.specs.declared.datagram.DatagramFault.{DatagramFault}
@@ -29,7 +28,7 @@ use Rattle.segment_world.specs.World.{ReportedEvent}
 use Rattle.segment_world.specs.Story.{is_of, events_of}
 use Rattle.schedule_laws.specs.Stories.{led_by, led_to}
 use Rattle.schedule_laws.specs.Owners.{Brings, Ends, EndsWithin, EndsBetween, OwnersFollow, OpenedOwnersFollow}
-use Rattle.schedule_laws.proofs.Reporting.{Answers, AnswersIf, Reports, led_both, reports_rest, reports_first, is_run, is_performed, outcomes_of, same_slot, story_leads}
+use Rattle.schedule_laws.proofs.Reporting.{Answers, AnswersIf, Reports, led_both, reports_rest, reports_first, is_run, is_performed, outcomes_of, story_leads}
 use Rattle.schedule_laws.proofs.Openings.{faultless, opens_whole}
 
 -- TURNS OF REPORTED EVENTS
@@ -98,12 +97,9 @@ alone point t (Datagram peer bytes) opening is =
     ap (λ (l : List Turn). brought_at point t (Datagram peer bytes) ++ l) none ∙ ap (λ (l : List Turn). l ++ []) is
 alone point t event opening is = absurd cc
 
-same_is : (a b : ℕ) → a ≡ b → (a == b) ≡ true
-same_is a b is = grind (arith, nat_tests)
-
 brings_turn : (point : ℕ) (t : DeviceTable) (device opening : ℕ) (x : ReportedEvent) (adapter : AdapterTable) → x.device ≡ device → t ≡ Adapter adapter → brought_at point adapter x.event ≡ brought opening ∷ [] → turns_if (is_of device x) point t x ≡ brought opening ∷ []
 brings_turn point t device opening x adapter own there brings =
-    ap (λ (b : Bool). turns_if b point t x) (same_is x.device device own)
+    ap (λ (b : Bool). turns_if b point t x) (eq-eqb x.device device own)
     ∙ ap (λ (y : DeviceTable). turns_at point y x.event) there
     ∙ alone point adapter x.event opening brings
 
@@ -159,7 +155,7 @@ record Located (t : DeviceTable) (device point opening : ℕ) (xs : List Reporte
 
 here : (b : Bool) (point : ℕ) (t : DeviceTable) (device opening : ℕ) (x : ReportedEvent) (rest : List ReportedEvent) → is_of device x ≡ b → AnswersIf b t x → Contains (turns_if b point t x) (ended opening) → Located t device point opening (x ∷ rest)
 here true point t device opening x rest is answers there =
-    record { front = []; last = x; back = rest; parts = refl; ends = device_end point t x device opening (same_slot x.device device is) answers there }
+    record { front = []; last = x; back = rest; parts = refl; ends = device_end point t x device opening (eqb-true x.device device is) answers there }
 here false point t device opening x rest is answers there = nothing_there (ended opening) there
 
 behind : (t : DeviceTable) (device point opening : ℕ) (x : ReportedEvent) (rest : List ReportedEvent) → Located (led_by (is_of device x) t x) device point opening rest → Located t device point opening (x ∷ rest)

@@ -1,7 +1,8 @@
 -- The events that a schedule reports of a device make a run of that device.
-use Rattle.std.proofs.Common.{◌≡◌, ◌≢◌, ℕ, ◌==◌, Bool, true, false, cond, List, [], ◌∷◌, ◌++◌, map, filter, set, slice_get, Option, Some, None, Result, Ok, Err, IfOk, refl, sym, ◌∙◌, ap, subst, arith}
+use Rattle.std.proofs.Common.{◌≡◌, ◌≢◌, ℕ, ◌==◌, Bool, true, false, cond, List, [], ◌∷◌, ◌++◌, map, filter, set, slice_get, Option, Some, None, Result, Ok, Err, IfOk, refl, sym, ◌∙◌, ap, subst, arith, eqb-true}
 use Rattle.std.specs.List.{AllByRecursion}
 use Rattle.std.proofs.lemmas.Bool.Decides.{nat_tests}
+use Rattle.base_lemmas.specs.Lists.{set_own, set_other}
 use Rattle.cip_events.specs.declared.event.Answer.{Answer}
 use Rattle.cip_events.specs.declared.event.Event.{Event}
 use Rattle.cip_events.specs.Outcomes.{Outcome}
@@ -14,9 +15,8 @@ use Rattle.segment_world.specs.declared.act.ActFault.{ActFault}
 use Rattle.segment_world.specs.World.{World, ReportedEvent, Happened, happens}
 use Rattle.segment_world.specs.Story.{Story, reported_more, goes_on, runs, begins, is_of, event_reported, events_of}
 use Rattle.schedule_laws.specs.Stories.{led_by, led_to}
-use Rattle.schedule_laws.proofs.Lists.{set_own, set_other}
 use Rattle.schedule_laws.specs.Ids.{ItemHolds, StreamsHold}
-use Rattle.schedule_laws.proofs.Moves.{Came, Moves, act_moves, runs_keep}
+use Rattle.schedule_laws.specs.Lemmas.Moves.{Came, Moves, act_moves, runs_keep}
 
 -- the event, if it is the device's, was answered as its step says
 pub record Answers (t : DeviceTable) (reported : ReportedEvent) : Type 0 where
@@ -96,9 +96,6 @@ pub record Leads (t : DeviceTable) (device : ℕ) (story : Story) : Type 0 where
 abbrev Any : List ℕ → Type 0
 Any bytes = Unit {0}
 
-pub same_slot : (a b : ℕ) → (a == b) ≡ true → a ≡ b
-same_slot a b is = grind (arith, nat_tests)
-
 pub other_slot : (a b : ℕ) → (a == b) ≡ false → b ≢ a
 other_slot a b is = grind (arith, nat_tests)
 
@@ -109,7 +106,7 @@ own_now w new t device reported same at after leaves =
 
 leads_step : (b : Bool) (Q : List ℕ → Type 0) (w new : World) (t : DeviceTable) (device : ℕ) (reported : ReportedEvent) → is_of device reported ≡ b → slice_get w.tables device ≡ Some t → Came Q w reported new → AnswersIf b t reported × (slice_get new.tables device ≡ Some (led_by b t reported))
 leads_step true Q w new t device reported is at came =
-    let same : reported.device ≡ device = same_slot reported.device device is in
+    let same : reported.device ≡ device = eqb-true reported.device device is in
     let same_table : Some came.before ≡ Some t = sym came.is ∙ ap (slice_get w.tables) same ∙ at in
     let before : came.before ≡ t = let e = same_table in cc in
     let stepped : step t reported.event ≡ Ok (reported.answer, came.after) = subst (λ (x : DeviceTable). step x reported.event ≡ Ok (reported.answer, came.after)) before came.stepped in

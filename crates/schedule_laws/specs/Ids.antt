@@ -10,7 +10,7 @@ use Rattle.adapter_table.specs.declared.table.AdapterTable.{AdapterTable}
 use Rattle.adapter_table.specs.Newest.{was_opened_as, accepted_at}
 use Rattle.adapter_table.specs.Productions.{producer_of}
 use Rattle.adapter_table.specs.Rows.{is_established}
-use Rattle.scanner_table.specs.declared.slot.Connection.{Connection}
+use Rattle.scanner_table.specs.declared.slot.SlotConnection.{SlotConnection}
 use Rattle.scanner_table.specs.declared.slot.SlotState.TheVariants.{Established}
 use Rattle.scanner_table.specs.declared.table.ScannerTable.{ScannerTable}
 use Rattle.scanner_table.specs.Datagrams.{is_for}
@@ -123,7 +123,7 @@ LaterConnectionsAcceptNoneOfIt =
 -- numbered after it.
 abbrev pub LaterSlotsTakeNoneOfIt : Type 0
 LaterSlotsTakeNoneOfIt =
-    (start : World) (was now : Story) (device : ℕ) (t u : ScannerTable) (indexed : IndexedSlot) (c : Connection) (s : Sent) (d : DatagramFields) →
+    (start : World) (was now : Story) (device : ℕ) (t u : ScannerTable) (indexed : IndexedSlot) (c : SlotConnection) (s : Sent) (d : DatagramFields) →
     IdsAreDrawn start → Moments start was now →
     slice_get was.world.tables device ≡ Some (Scanner t) → slice_get now.world.tables device ≡ Some (Scanner u) →
     Contains (indexed_slots u) indexed → indexed.config.multicast ≡ false → indexed.slot.state ≡ Established c → t.next_request ≤ c.opening →

@@ -1,3 +1,4 @@
 pub mod Stories
 pub mod Owners
 pub mod Ids
+pub mod Lemmas

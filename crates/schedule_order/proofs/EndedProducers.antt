@@ -1,6 +1,9 @@
 -- A producer without a connection never has one again: no connection is opened with it later.
-use Rattle.std.proofs.Common.{◌≡◌, ◌≢◌, ◌<◌, inl, inr, ℕ, ◌==◌, Bool, true, false, List, ◌++◌, find, set, slice_get, Option, Some, None, Ok, Err, IfOk, refl, sym, ◌∙◌, ap, subst, arith}
+use Rattle.std.proofs.Common.{◌≡◌, ◌≢◌, ◌<◌, inl, inr, ℕ, ◌==◌, Bool, true, false, List, ◌++◌, find, set, slice_get, Option, Some, None, Ok, Err, IfOk, refl, sym, ◌∙◌, ap, subst, arith, eqb-true, eq-eqb}
 use Rattle.std.specs.List.{AllByRecursion, Contains}
+use Rattle.std.proofs.lemmas.Option.{same_Some}
+use Rattle.std.proofs.lemmas.Bool.{eqb-false}
+use Rattle.base_lemmas.specs.Lists.{set_own, found_passes, set_other}
 use Rattle.cip_encap.specs.Reading.{message_reading}
 use Rattle.cip_events.specs.declared.event.Answer.{Answer}
 use Rattle.cip_events.specs.declared.event.Event.{Event}
@@ -21,18 +24,16 @@ use Rattle.cip_tables.specs.Run.{table_of}
 use Rattle.cip_tables.specs.Step.{step}
 use Rattle.segment_world.specs.declared.act.Act.{Act}
 use Rattle.segment_world.specs.World.{World, ReportedEvent, Happened, happens}
-use Rattle.device_laws.proofs.Lists.{all_both, all_more}
+use Rattle.device_laws.specs.Lemmas.Lists.{all_both, all_more}
 use Rattle.reply_ids.specs.Rows.{IsSameRow, IsProduced, RowCame}
 use Rattle.schedule_laws.specs.Ids.{IdsAreDrawn}
-use Rattle.schedule_laws.proofs.Lists.{some_is, set_own, set_other}
 use Rattle.made_productions.specs.Productions.{End, end_at}
-use Rattle.made_productions.proofs.Lists.{is_equal, equal_is, not_equal}
-use Rattle.schedule_order.specs.Chronicle.{Opened, opened_so, requester, frame_opens, Chronicle, with_event_at, recorded}
-use Rattle.schedule_order.proofs.AdapterNames.{requested_by}
-use Rattle.schedule_order.proofs.Entries.{DeviceStays, step_stays, Waits}
-use Rattle.schedule_order.proofs.Found.{found_passes, found_holds, all_contains}
-use Rattle.schedule_order.proofs.NameActs.{NameLaws, adapter_result}
-use Rattle.schedule_order.proofs.StreamActs.{EventArrives, OneEvent, ActCases}
+use Rattle.schedule_order.specs.Chronicle.{Opened, opened_for, requester, frame_opens, Chronicle, with_event_at, recorded}
+use Rattle.schedule_order.specs.Lemmas.AdapterNames.{requested_by}
+use Rattle.schedule_order.specs.Lemmas.Entries.{DeviceStays, step_stays, Waits}
+use Rattle.schedule_order.specs.Lemmas.Found.{found_holds, all_contains}
+use Rattle.schedule_order.specs.Lemmas.NameActs.{NameLaws, adapter_result}
+use Rattle.schedule_order.specs.Lemmas.StreamActs.{EventArrives, OneEvent, ActCases}
 
 -- ---- a connection and its producer
 
@@ -41,11 +42,11 @@ abbrev pub IsNotBy : ℕ → Row → Type 0
 IsNotBy n row = is_produced_by n row ≡ true → ⊥
 
 state_is : (n : ℕ) (state : State) → lives state ≡ true → producer_of state ≡ n → has_number n state ≡ true
-state_is n (Established p) living is = equal_is p.producer n is
+state_is n (Established p) living is = eq-eqb p.producer n is
 state_is n TimedOut living is = absurd (let e = living in cc)
 
 state_by : (n : ℕ) (state : State) → has_number n state ≡ true → (lives state ≡ true) × (producer_of state ≡ n)
-state_by n (Established p) is = (refl, is_equal p.producer n is)
+state_by n (Established p) is = (refl, eqb-true p.producer n is)
 state_by n TimedOut is = absurd (let e = is in cc)
 
 still_not : (n : ℕ) (old row : Row) → IsSameRow old row → IsNotBy n old → IsNotBy n row
@@ -64,15 +65,7 @@ row_not : (w : World) (opened : List Opened) (device : ℕ) (t u : AdapterTable)
 row_not w opened device t u happens row n none past comes (inl was) = still_not n was.old row was.same (all_contains (IsNotBy n) t.rows was.old none was.there)
 row_not w opened device t u (event.Request peer bytes) row n none past comes (inr new) = absurd comes
 row_not w opened device t u (event.Frame k bytes) row n none past comes (inr new) = λ is. let s = state_by n row.state is in new_not t u new.request row n none past new.produced s.1
-row_not w opened device t u (event.StreamOpened k peer) row n none past comes (inr new) = absurd new
-row_not w opened device t u (event.StreamCut k) row n none past comes (inr new) = absurd new
-row_not w opened device t u (event.Datagram peer bytes) row n none past comes (inr new) = absurd new
-row_not w opened device t u (event.Write point bytes) row n none past comes (inr new) = absurd new
-row_not w opened device t u (event.Read point) row n none past comes (inr new) = absurd new
-row_not w opened device t u (event.Tick ms) row n none past comes (inr new) = absurd new
-row_not w opened device t u (event.Mode run) row n none past comes (inr new) = absurd new
-row_not w opened device t u (event.Start slot) row n none past comes (inr new) = absurd new
-row_not w opened device t u (event.Stop slot) row n none past comes (inr new) = absurd new
+row_not w opened device t u other row n none past comes (inr new) = absurd new
 
 -- ---- entries
 
@@ -80,32 +73,23 @@ row_not w opened device t u (event.Stop slot) row n none past comes (inr new) = 
 abbrev pub IsOld : List Opened → End → Opened → Type 0
 IsOld base producer e = e.producer ≡ producer → Contains base e
 
-opened_old : (base : List Opened) (producer : End) (device : ℕ) (found : Option Row) (slot : Option End) → ((row : Row) → found ≡ Some row → end_at device (producer_of row.state) ≢ producer) → AllByRecursion (IsOld base producer) (opened_so device found slot)
+opened_old : (base : List Opened) (producer : End) (device : ℕ) (found : Option Row) (slot : Option End) → ((row : Row) → found ≡ Some row → end_at device (producer_of row.state) ≢ producer) → AllByRecursion (IsOld base producer) (opened_for device found slot)
 opened_old base producer device None slot never = tt
 opened_old base producer device (Some row) None never = tt
 opened_old base producer device (Some row) (Some slot) never = ((λ same. absurd (never row refl same)), tt)
 
 opens_old : (w : World) (base : List Opened) (producer : End) (device : ℕ) (t u : AdapterTable) (happens : Event) → RowIdsAreDrawn t.profile t.next_id t.rows → AllByRecursion (RowCame t u happens) u.rows → ((request : OpenFields) (row : Row) → IsProduced t u request row → end_at device (producer_of row.state) ≢ producer) → AllByRecursion (IsOld base producer) (frame_opens w device (Adapter t) happens (Adapter u))
 opens_old w base producer device t u (event.Frame k bytes) drawn came never =
-    opened_old base producer device (find (was_opened_as t.next_id) u.rows) (requester_of k bytes) news
+    opened_old base producer device (find (was_opened_as t.next_id) u.rows) (requester_of k bytes) new_data
   where
     requester_of : ℕ → List ℕ → Option End
     requester_of k bytes = requester device (slice_get w.streams k) (message_reading bytes)
 
-    news : (row : Row) → find (was_opened_as t.next_id) u.rows ≡ Some row → end_at device (producer_of row.state) ≢ producer
-    news row found =
+    new_data : (row : Row) → find (was_opened_as t.next_id) u.rows ≡ Some row → end_at device (producer_of row.state) ≢ producer
+    new_data row found =
         let new = requested_by t u k bytes row drawn (found_passes (was_opened_as t.next_id) u.rows row found) (found_holds (RowCame t u (event.Frame k bytes)) (was_opened_as t.next_id) u.rows row came found) in
         never new.request row new.produced
-opens_old w base producer device t u (event.Request peer bytes) drawn came never = tt
-opens_old w base producer device t u (event.StreamOpened k peer) drawn came never = tt
-opens_old w base producer device t u (event.StreamCut k) drawn came never = tt
-opens_old w base producer device t u (event.Datagram peer bytes) drawn came never = tt
-opens_old w base producer device t u (event.Write point bytes) drawn came never = tt
-opens_old w base producer device t u (event.Read point) drawn came never = tt
-opens_old w base producer device t u (event.Tick ms) drawn came never = tt
-opens_old w base producer device t u (event.Mode run) drawn came never = tt
-opens_old w base producer device t u (event.Start slot) drawn came never = tt
-opens_old w base producer device t u (event.Stop slot) drawn came never = tt
+opens_old w base producer device t u other drawn came never = tt
 
 -- ---- a producer that has ended
 
@@ -116,9 +100,6 @@ pub record Ended (base : List Opened) (device n : ℕ) (w : World) (opened : Lis
   pub past : n < table.next_id
   pub none : AllByRecursion (IsNotBy n) table.rows
   pub old : AllByRecursion (IsOld base (end_at device n)) opened
-
-adapter_of : (a b : AdapterTable) → Some (Adapter a) ≡ Some (Adapter b) → a ≡ b
-adapter_of a b e = cc
 
 -- its own adapter's event
 own_ended : NameLaws → (base : List Opened) (device n : ℕ) (w new : World) (opened : List Opened) (t : AdapterTable) (u : DeviceTable) (happens : Event) (answer : Answer) → IdsAreDrawn w → EventArrives (Waits w opened) w device happens → step (Adapter t) happens ≡ Ok (answer, u) → DeviceStays (Adapter t) u → slice_get w.tables device ≡ Some (Adapter t) → slice_get new.tables device ≡ Some u → n < t.next_id → AllByRecursion (IsNotBy n) t.rows → AllByRecursion (IsOld base (end_at device n)) opened → Ended base device n new (opened ++ frame_opens w device (Adapter t) happens u)
@@ -161,7 +142,7 @@ event_ended laws base device n w new opened reported m drawn ended = by_device (
   own : reported.device ≡ device → Ended base reported.device n new (opened ++ frame_opens w reported.device m.before reported.event m.after)
   own same =
       let at : slice_get w.tables reported.device ≡ Some (Adapter ended.table) = ap (slice_get w.tables) same ∙ ended.there in
-      let before : m.before ≡ Adapter ended.table = some_is m.before (Adapter ended.table) (sym m.is ∙ at) in
+      let before : m.before ≡ Adapter ended.table = same_Some m.before (Adapter ended.table) (sym m.is ∙ at) in
       subst (λ (x : DeviceTable). Ended base reported.device n new (opened ++ frame_opens w reported.device x reported.event m.after)) (sym before)
       (own_ended laws base reported.device n w new opened ended.table m.after reported.event reported.answer drawn m.event
       (subst (λ (x : DeviceTable). step x reported.event ≡ Ok (reported.answer, m.after)) before m.stepped) (subst (λ (x : DeviceTable). DeviceStays x m.after) before stays) at after ended.past ended.none
@@ -169,10 +150,10 @@ event_ended laws base device n w new opened reported m drawn ended = by_device (
 
   by_device : (b : Bool) → (reported.device == device) ≡ b → Ended base device n new (opened ++ frame_opens w reported.device m.before reported.event m.after)
   by_device true is =
-      let same = is_equal reported.device device is in
+      let same = eqb-true reported.device device is in
       subst (λ (d : ℕ). Ended base d n new (opened ++ frame_opens w reported.device m.before reported.event m.after)) same (own same)
   by_device false is =
-      let ne = not_equal reported.device device is in
+      let ne = eqb-false reported.device device is in
       record {
         table = ended.table;
         there = ap (λ (ts : List DeviceTable). slice_get ts device) tables ∙ set_other w.tables reported.device device m.after (λ same. ne (sym same)) ∙ ended.there;

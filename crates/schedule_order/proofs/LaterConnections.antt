@@ -3,6 +3,7 @@
 use Rattle.std.proofs.Common.{◌≡◌, ◌<◌, ◌⊎◌, inl, inr, ℕ, Bool, true, false, cond, List, [], ◌∷◌, ◌++◌, find, slice_get, Option, Some, None, Result, Ok, Err, IfOk, refl, sym, ◌∙◌, ap, subst, arith}
 use Rattle.std.specs.List.{AllByRecursion, Contains}
 use Rattle.std.proofs.lemmas.List.Elements.{Contains-append_left}
+use Rattle.std.proofs.lemmas.Option.{same_Some}
 use Rattle.adapter_table.specs.Connections.{Row}
 use Rattle.adapter_table.specs.declared.table.AdapterTable.{AdapterTable}
 use Rattle.adapter_table.specs.Productions.{is_produced_by}
@@ -15,8 +16,8 @@ use Rattle.segment_world.specs.declared.act.ActFault.{ActFault}
 use Rattle.segment_world.specs.Configs.{opening_world}
 use Rattle.segment_world.specs.World.{World, ReportedEvent, Happened, happens}
 use Rattle.schedule_laws.specs.Ids.{SchedulesKeepIdsDrawn, OpeningWorldsHaveIdsDrawn}
-use Rattle.reply_ids.proofs.Rows.{all_contained}
-use Rattle.device_laws.proofs.Lists.{all_more}
+use Rattle.reply_ids.specs.Lemmas.Rows.{all_contained}
+use Rattle.device_laws.specs.Lemmas.Lists.{all_more}
 use Rattle.made_productions.specs.Made.{AnswersSendWhatIsMade, makes}
 use Rattle.made_productions.specs.Productions.{End, end_at, Production}
 use Rattle.schedule_order.specs.Chronicle.{Opened, opens_row, frame_opens, Chronicle, with_event_at, recorded, after_act, then_act, chronicles, blank}
@@ -24,16 +25,16 @@ use Rattle.schedule_order.specs.MadeOnce.{AnIdOpensOneConnection}
 use Rattle.schedule_order.specs.Names.{IsScannerIn, IsAdapterIn, IsOfGroup, IsOwn, IsEntry, IsOpenedFor, IsMadeBy, ProductionHasEntry, ProducerHasEntry, IsOfItsOpening, IsOfItsEntry}
 use Rattle.schedule_order.specs.Order.{IsChronicle}
 use Rattle.schedule_order.specs.Producers.{SchedulesNameOneProducer, WasOpenedLater, HasConnection, RowsAcceptNothingOlder, SlotsAcceptOfTheLiving, LaterConnectionsAcceptNothingOlder}
-use Rattle.schedule_order.proofs.AcceptedOpenings.{IsAccepted, entries_same}
-use Rattle.schedule_order.proofs.ApartIds.{Differ, DifferFromAll}
+use Rattle.schedule_order.specs.Lemmas.AcceptedOpenings.{IsAccepted, entries_same}
+use Rattle.schedule_order.specs.Lemmas.ApartIds.{Differ, DifferFromAll}
 use Rattle.schedule_order.proofs.EndedProducers.{IsOld, EndedIn, act_ended}
-use Rattle.schedule_order.proofs.Entries.{IsDeviceIn, Waits}
-use Rattle.schedule_order.proofs.Found.{all_contains}
-use Rattle.schedule_order.proofs.NameActs.{NameLaws}
-use Rattle.schedule_order.proofs.OneProducer.{OpenedOnce, opened_once, one_producer, adapters_made, slot_producer}
-use Rattle.schedule_order.proofs.OpeningActs.{OpeningsIn, acts_keep, grows, schedule_openings}
-use Rattle.schedule_order.proofs.ProducedActs.{ActsKeep, chronicles_keep}
-use Rattle.schedule_order.proofs.StreamActs.{act_acts}
+use Rattle.schedule_order.specs.Lemmas.Entries.{IsDeviceIn, Waits}
+use Rattle.schedule_order.specs.Lemmas.Found.{all_contains}
+use Rattle.schedule_order.specs.Lemmas.NameActs.{NameLaws}
+use Rattle.schedule_order.specs.Lemmas.OneProducer.{OpenedOnce, opened_once, one_producer, adapters_made, slot_producer}
+use Rattle.schedule_order.specs.Lemmas.OpeningActs.{OpeningsIn, acts_keep, grows, schedule_openings}
+use Rattle.schedule_order.specs.Lemmas.ProducedActs.{ActsKeep, chronicles_keep}
+use Rattle.schedule_order.specs.Lemmas.StreamActs.{act_acts}
 
 -- ---- two moments
 
@@ -90,9 +91,6 @@ ended_later sends keep laws base device n was now late is openings ended =
 
 -- ---- devices keep their kind
 
-some_opened : (a b : Opened) → Some a ≡ Some b → a ≡ b
-some_opened a b e = cc
-
 table_same : (w : World) (device : ℕ) (a b : DeviceTable) → slice_get w.tables device ≡ Some a → slice_get w.tables device ≡ Some b → a ≡ b
 table_same w device a b one two = is a b (sym one ∙ two) where
   is : (a b : DeviceTable) → Some a ≡ Some b → a ≡ b
@@ -146,7 +144,7 @@ rows_later was now before after more e a later there consumer older =
     let entry : IsEntry now.story.world now.opened e = all_contains (IsEntry now.story.world now.opened) now.opened e new_named.entries later.there in
     let accepted : IsAccepted now.story.world now.opened now.produced a = all_contains (IsAccepted now.story.world now.opened now.produced) now.accepted a new.of_openings there in
     let x : IsOfItsOpening now.opened a = accepted.of_opening (record { table = entry.table; is = ap (λ (r : End). slice_get now.story.world.tables r.device) consumer ∙ entry.there }) in
-    let same : x.entry ≡ e = some_opened x.entry e (sym x.found ∙ ap (λ (r : End). find (opens_row r) now.opened) consumer ∙ entry.first) in
+    let same : x.entry ≡ e = same_Some x.entry e (sym x.found ∙ ap (λ (r : End). find (opens_row r) now.opened) consumer ∙ entry.first) in
     let scanner : IsScannerIn now.story.world a.production.producer.device =
     subst (λ (r : End). IsScannerIn now.story.world r.device) (sym (x.producer ∙ ap (λ (o : Opened). o.slot) same)) entry.scanner in
     let maker = maker_of was a.production before older in

@@ -1,7 +1,9 @@
 -- Over every schedule the streams of a device's table, and what it sends over streams, follow the marks that it received.
-use Rattle.std.proofs.Common.{◌≡◌, ◌≢◌, ◌⊎◌, inl, inr, ℕ, zero, suc, ◌==◌, ◌&&◌, ◌||◌, Bool, true, false, List, [], ◌∷◌, ◌++◌, map, set, slice_get, Option, Some, None, Result, Ok, Err, IfOk, refl, sym, ◌∙◌, ap, subst, arith}
+use Rattle.std.proofs.Common.{◌≡◌, ◌≢◌, ◌⊎◌, inl, inr, ℕ, zero, suc, ◌==◌, ◌||◌, Bool, true, false, List, [], ◌∷◌, ◌++◌, map, set, slice_get, Option, Some, None, Result, Ok, Err, IfOk, refl, sym, ◌∙◌, ap, subst, eqb-true}
 use Rattle.std.specs.List.{AllByRecursion, Contains, list_any}
-use Rattle.std.proofs.lemmas.Bool.Decides.{nat_tests}
+use Rattle.std.proofs.lemmas.Option.{same_Some}
+use Rattle.std.proofs.lemmas.Bool.{or_cases, or_left, or_right, and_from}
+use Rattle.base_lemmas.specs.Numbers.{number_same}
 use Rattle.cip_events.specs.declared.event.Answer.{Answer}
 use Rattle.cip_events.specs.declared.event.Event.{Event}
 use Rattle.cip_events.specs.declared.event.Event.TheVariants as event
@@ -31,17 +33,16 @@ use Rattle.reply_ids.specs.OwnStreams.{has_stream, opens_stream, GoesOverItsOwn,
 use Rattle.reply_ids.specs.TargetStreams as targets
 use Rattle.reply_ids.specs.TargetStreams.{StreamsComeWithEvents}
 use Rattle.schedule_laws.specs.Ids.{IdsAreDrawn, SchedulesKeepIdsDrawn, OpeningWorldsHaveIdsDrawn}
-use Rattle.schedule_laws.proofs.Drawing.{StepLaws}
-use Rattle.schedule_laws.proofs.Lists.{some_is}
-use Rattle.schedule_laws.proofs.Tests.{set_cases}
-use Rattle.device_laws.proofs.Lists.{all_more}
+use Rattle.schedule_laws.specs.Lemmas.Drawing.{StepLaws}
+use Rattle.schedule_laws.specs.Lemmas.Tests.{set_cases}
+use Rattle.device_laws.specs.Lemmas.Lists.{all_more}
 use Rattle.schedule_order.specs.Chronicle.{Chronicle, with_event_at, recorded, blank}
 use Rattle.schedule_order.specs.Marks.{is_mark, WasMarked, FollowsMark, SchedulesFollowMarks}
 use Rattle.schedule_order.specs.Order.{IsChronicle}
-use Rattle.schedule_order.proofs.Entries.{DeviceStays, step_stays}
-use Rattle.schedule_order.proofs.NameActs.{adapter_result, scanner_result}
+use Rattle.schedule_order.specs.Lemmas.Entries.{DeviceStays, step_stays}
+use Rattle.schedule_order.specs.Lemmas.NameActs.{adapter_result, scanner_result}
 use Rattle.schedule_order.proofs.OneConnection.{first_or_rest, none_in}
-use Rattle.schedule_order.proofs.ProducedActs.{ActsKeep, chronicles_keep, drawn_on}
+use Rattle.schedule_order.specs.Lemmas.ProducedActs.{ActsKeep, chronicles_keep, drawn_on}
 use Rattle.schedule_order.proofs.UsedOnce.{event_counts, rest_counts, no_test}
 
 -- what is known of the steps of devices
@@ -53,26 +54,6 @@ pub record MarkLaws : Type 0 where
 
 -- ---- tests of lists
 
-or_cases : (a b : Bool) → (a || b) ≡ true → (a ≡ true) ⊎ (b ≡ true)
-or_cases true b is = inl refl
-or_cases false b is = inr is
-
-left_or : (a b : Bool) → a ≡ true → (a || b) ≡ true
-left_or a b is = rw is refl
-
-right_or : (a b : Bool) → b ≡ true → (a || b) ≡ true
-right_or true b is = refl
-right_or false b is = is
-
-both_and : (a b : Bool) → a ≡ true → b ≡ true → (a && b) ≡ true
-both_and a b one other = rw (one, other) refl
-
-own_number : (n : ℕ) → (n == n) ≡ true
-own_number n = grind (arith, nat_tests)
-
-same_number : (a b : ℕ) → (a == b) ≡ true → a ≡ b
-same_number a b is = grind (arith, nat_tests)
-
 any_left : {X : Type 0} (p : X → Bool) (xs ys : List X) → list_any p xs ≡ true → list_any p (xs ++ ys) ≡ true
 any_left p [] ys is = absurd (let e = is in cc)
 any_left p (x ∷ xs) ys is = first (p x) (list_any p xs) (list_any p (xs ++ ys)) is (any_left p xs ys) where
@@ -82,15 +63,15 @@ any_left p (x ∷ xs) ys is = first (p x) (list_any p xs) (list_any p (xs ++ ys)
 
 any_last : {X : Type 0} (p : X → Bool) (xs : List X) (x : X) → p x ≡ true → list_any p (xs ++ x ∷ []) ≡ true
 any_last p [] x is = rw is refl
-any_last p (y ∷ xs) x is = right_or (p y) (list_any p (xs ++ x ∷ [])) (any_last p xs x is)
+any_last p (y ∷ xs) x is = or_right (p y) (list_any p (xs ++ x ∷ [])) (any_last p xs x is)
 
 -- an element that passes
 contained : {X : Type 0} (p : X → Bool) (xs : List X) (x : X) → Contains xs x → p x ≡ true → list_any p xs ≡ true
 contained p [] x there passes = none_in x there
 contained p (z ∷ xs) x there passes = by_case (first_or_rest z x xs there) (λ rest. contained p xs x rest passes) where
   by_case : (z ≡ x) ⊎ Contains xs x → (Contains xs x → list_any p xs ≡ true) → list_any p (z ∷ xs) ≡ true
-  by_case (inl is) on = left_or (p z) (list_any p xs) (ap p is ∙ passes)
-  by_case (inr rest) on = right_or (p z) (list_any p xs) (on rest)
+  by_case (inl is) on = or_left (p z) (list_any p xs) (ap p is ∙ passes)
+  by_case (inr rest) on = or_right (p z) (list_any p xs) (on rest)
 
 -- what holds of each holds of one that passes
 all_passing : {X : Type 0} (P : X → Type 0) (p : X → Bool) (G : Type 0) (xs : List X) → ((x : X) → P x → p x ≡ true → G) → AllByRecursion P xs → list_any p xs ≡ true → G
@@ -107,17 +88,17 @@ abbrev StreamCame : DeviceTable → Event → ℕ → Type 0
 StreamCame t happens number = (has_stream t number ≡ true) ⊎ (opens_stream number happens ≡ true)
 
 opens_it : (happens : Event) (number stream : ℕ) (peer : Node) → happens ≡ event.StreamOpened stream peer → stream ≡ number → opens_stream number happens ≡ true
-opens_it happens number stream peer is same = ap (opens_stream number) is ∙ ap (λ (n : ℕ). n == number) same ∙ own_number number
+opens_it happens number stream peer is same = ap (opens_stream number) is ∙ ap (λ (n : ℕ). n == number) same ∙ number_same number
 
 adapter_came : (t : AdapterTable) (happens : Event) (number : ℕ) (s : adapter_stream.Stream) → rows.StreamCame t happens s → adapters.is_stream number s ≡ true → StreamCame (Adapter t) happens number
 adapter_came t happens number s (inl was) is =
     inl (contained (adapters.is_stream number) t.streams was.old was.there (ap (λ (n : ℕ). n == number) (sym was.number) ∙ is))
-adapter_came t happens number s (inr by) is = inr (opens_it happens number s.number s.peer by (same_number s.number number is))
+adapter_came t happens number s (inr by) is = inr (opens_it happens number s.number s.peer by (eqb-true s.number number is))
 
 scanner_came : (t : ScannerTable) (happens : Event) (number : ℕ) (s : TargetStream) → targets.StreamCame t happens s → scanners.is_stream number s ≡ true → StreamCame (Scanner t) happens number
 scanner_came t happens number s (inl was) is =
     inl (contained (scanners.is_stream number) t.streams was.old was.there (ap (λ (n : ℕ). n == number) (sym was.number) ∙ is))
-scanner_came t happens number s (inr by) is = inr (opens_it happens number s.number s.peer by (same_number s.number number is))
+scanner_came t happens number s (inr by) is = inr (opens_it happens number s.number s.peer by (eqb-true s.number number is))
 
 came_by : MarkLaws → (t u : DeviceTable) (happens : Event) (answer : Answer) (number : ℕ) → step t happens ≡ Ok (answer, u) → DeviceStays t u → IsWholeDevice t → has_stream u number ≡ true → StreamCame t happens number
 unfolding step
@@ -137,7 +118,7 @@ marked_later events device number reported is = any_left (is_mark device number)
 
 marked_now : (events : List ReportedEvent) (number : ℕ) (reported : ReportedEvent) → opens_stream number reported.event ≡ true → WasMarked (events ++ reported ∷ []) reported.device number
 marked_now events number reported is =
-    any_last (is_mark reported.device number) events reported (both_and (reported.device == reported.device) (opens_stream number reported.event) (own_number reported.device) is)
+    any_last (is_mark reported.device number) events reported (and_from (reported.device == reported.device) (opens_stream number reported.event) (number_same reported.device) is)
 
 marked_so : (t : DeviceTable) (events : List ReportedEvent) (number : ℕ) (reported : ReportedEvent) → (has_stream t number ≡ true → WasMarked events reported.device number) → StreamCame t reported.event number → WasMarked (events ++ reported ∷ []) reported.device number
 marked_so t events number reported marked (inl has) = marked_later events reported.device number reported (marked has)
@@ -196,7 +177,7 @@ fresh_none (config.Scanner profile) number = refl
 begins_marked : (configs : List Config) (n device number : ℕ) (t : DeviceTable) → slice_get (map opening_table configs) n ≡ Some t → has_stream t number ≡ true → WasMarked [] device number
 begins_marked [] n device number t at has = absurd (let e = at in cc)
 begins_marked (made ∷ configs) zero device number t at has =
-    absurd (let none : has_stream t number ≡ false = ap (λ (x : DeviceTable). has_stream x number) (sym (some_is (opening_table made) t at)) ∙ fresh_none made number in let e = sym none ∙ has in cc)
+    absurd (let none : has_stream t number ≡ false = ap (λ (x : DeviceTable). has_stream x number) (sym (same_Some (opening_table made) t at)) ∙ fresh_none made number in let e = sym none ∙ has in cc)
 begins_marked (made ∷ configs) (suc n) device number t at has = begins_marked configs n device number t at has
 
 schedule_marked : MarkLaws → SchedulesKeepIdsDrawn → OpeningWorldsHaveIdsDrawn → (configs : List Config) (acts : List Act) (c : Chronicle) → IsChronicle configs acts c → MarkedIn c

@@ -1,12 +1,11 @@
 -- Two entries of the chronicle with one T->O id of a scanner are one entry, since the id is used once at most.
-use Rattle.std.proofs.Common.{◌≡◌, ◌≤◌, ◌⊎◌, inl, inr, ℕ, ◌+◌, ◌==◌, Bool, true, cond, List, [], ◌∷◌, sym, ◌∙◌, ap, arith}
+use Rattle.std.proofs.Common.{◌≡◌, ◌≤◌, ◌⊎◌, inl, inr, ℕ, ◌+◌, Bool, true, cond, List, [], ◌∷◌, sym, ◌∙◌, ap, arith, eq-eqb}
 use Rattle.std.specs.List.{Contains, count_by}
-use Rattle.std.proofs.lemmas.Bool.Decides.{nat_tests}
 use Rattle.std.proofs.lemmas.List.Elements.{Contains-append_cases, Contains-push_cases}
+use Rattle.base_lemmas.specs.Lists.{count_cons}
 use Rattle.scanner_table.specs.Requests.{connection_id}
 use Rattle.schedule_order.specs.Chronicle.{Chronicle}
 use Rattle.schedule_order.specs.MadeOnce.{has_id, uses, SchedulesUseIdsOnce, AnIdOpensOneConnection}
-use Rattle.schedule_order.proofs.WaitingCounts.{count_cons}
 
 -- ---- a list in which one element at most passes a test
 
@@ -57,14 +56,11 @@ opened_at_most : (id n : ℕ) (w : Chronicle) → uses id w.story.world.streams 
 unfolding uses
 opened_at_most id n w is = omega (arith, is)
 
-has_its_own : (a b : ℕ) → a ≡ b → (a == b) ≡ true
-has_its_own a b is = grind (arith, nat_tests)
-
 pub one_connection : SchedulesUseIdsOnce → AnIdOpensOneConnection
 one_connection once configs acts c is e f there other scanner same =
     let used = once configs acts c is in
     let id = (connection_id scanner.table.profile scanner.counter).0 in
     let few = opened_at_most (connection_id scanner.table.profile scanner.counter).0 1 c (used.once scanner.device scanner.table scanner.counter scanner.there scanner.below) in
     only_one (has_id (connection_id scanner.table.profile scanner.counter).0) c.opened e f there other
-    (has_its_own e.t_o_id.0 (connection_id scanner.table.profile scanner.counter).0 scanner.is)
-    (has_its_own f.t_o_id.0 (connection_id scanner.table.profile scanner.counter).0 (sym same ∙ scanner.is)) few
+    (eq-eqb e.t_o_id.0 (connection_id scanner.table.profile scanner.counter).0 scanner.is)
+    (eq-eqb f.t_o_id.0 (connection_id scanner.table.profile scanner.counter).0 (sym same ∙ scanner.is)) few

@@ -1,20 +1,20 @@
 -- What a slot's output holds is what its application last wrote there, in every schedule.
 use Rattle.std.proofs.Common.{◌≡◌, ℕ, zero, suc, List, [], ◌∷◌, ◌++◌, map, replicate, slice_get, unwrap_or, Option, Some, None, Result, Ok, Err, refl, sym, ◌∙◌, ap, subst}
+use Rattle.std.proofs.lemmas.Option.{same_Some}
+use Rattle.scanner_laws.specs.Lemmas.Folds.{scanner_is, fold_of}
 use Rattle.cip_events.specs.declared.event.Event.{Event}
-use Rattle.cip_events.specs.declared.event.StepFault.{StepFault}
 use Rattle.scanner_table.specs.declared.profile.ScannerProfile.{ScannerProfile}
 use Rattle.scanner_table.specs.declared.table.ScannerTable.{ScannerTable}
-use Rattle.scanner_table.specs.Effects.{Next}
 use Rattle.scanner_table.specs.Slots.{IndexedSlot, slot_at}
-use Rattle.scanner_table.specs.Step.{scanner_step, scanner_table}
-use Rattle.scanner_laws.specs.Runs.{left_by, table_after as scanner_after}
+use Rattle.scanner_table.specs.Step.{scanner_table}
+use Rattle.scanner_whole.specs.Runs.{table_after as scanner_after}
 use Rattle.scanner_laws.specs.Scratch.{last_output, FreshBytesAreFromScratch}
 use Rattle.cip_tables.specs.declared.table.Config.{Config}
 use Rattle.cip_tables.specs.declared.table.Config.TheVariants as config
 use Rattle.cip_tables.specs.declared.table.DeviceTable.{DeviceTable}
 use Rattle.cip_tables.specs.declared.table.DeviceTable.TheVariants.{Scanner}
-use Rattle.cip_tables.specs.Run.{table_of, table_after}
-use Rattle.cip_tables.specs.Step.{as_scanner, step, opening_table}
+use Rattle.cip_tables.specs.Run.{table_after}
+use Rattle.cip_tables.specs.Step.{opening_table}
 use Rattle.segment_world.specs.Configs.{opening_world}
 use Rattle.segment_world.specs.declared.act.Act.{Act}
 use Rattle.segment_world.specs.declared.act.ActFault.{ActFault}
@@ -52,24 +52,6 @@ story_runs configs acts c is = sym (chronicle_runs acts (Ok (blank (opening_worl
 
 -- ---- a scanner's run
 
-left_scanner : (t : ScannerTable) (said : Result Next StepFault) → table_of (Scanner t) (as_scanner said) ≡ Scanner (left_by t said)
-left_scanner t (Ok next) = refl
-left_scanner t (Err why) = refl
-
-step_left : (t : ScannerTable) (e : Event) → table_of (Scanner t) (step (Scanner t) e) ≡ Scanner (left_by t (scanner_step t e))
-unfolding step
-step_left t e = left_scanner t (scanner_step t e)
-
-after_scanner : (t : ScannerTable) (events : List Event) → table_after (Scanner t) events ≡ Scanner (scanner_after t events)
-after_scanner t [] = refl
-after_scanner t (e ∷ events) = ap (λ (x : DeviceTable). table_after x events) (step_left t e) ∙ after_scanner (left_by t (scanner_step t e)) events
-
-scanner_is : (a b : ScannerTable) → Scanner a ≡ Scanner b → a ≡ b
-scanner_is a b is = cc
-
-some_table : (a b : DeviceTable) → Some a ≡ Some b → a ≡ b
-some_table a b is = cc
-
 -- a scanner of the opening world is a fresh one
 pub record IsFresh (first : ScannerTable) : Type 0 where
   pub profile : ScannerProfile
@@ -81,7 +63,7 @@ made_fresh (config.Scanner profile) first is = record { profile = profile; is = 
 
 opens_fresh : (configs : List Config) (device : ℕ) (first : ScannerTable) → slice_get (map opening_table configs) device ≡ Some (Scanner first) → IsFresh first
 opens_fresh [] device first at = absurd (let e = at in cc)
-opens_fresh (made ∷ configs) zero first at = made_fresh made first (some_table (opening_table made) (Scanner first) at)
+opens_fresh (made ∷ configs) zero first at = made_fresh made first (same_Some (opening_table made) (Scanner first) at)
 opens_fresh (made ∷ configs) (suc device) first at = opens_fresh configs device first at
 
 written_of : FreshBytesAreFromScratch → (profile : ScannerProfile) (events : List Event) (now : ScannerTable) (place : IndexedSlot) → scanner_after (scanner_table profile) events ≡ now → slot_at now place.number ≡ Some place → place.slot.output ≡ unwrap_or (last_output place.number (scanner_table profile) events) (replicate place.config.out_len 0)
@@ -92,6 +74,6 @@ as_written projections fresh configs acts c is device first now place opened the
     let events = events_of device c.story.reported in
     let ran : slice_get c.story.world.tables device ≡ Some (table_after (Scanner first) events) = projections (opening_world configs) acts c.story device (Scanner first) (story_runs configs acts c is) opened in
     let f = opens_fresh configs device first opened in
-    let table : scanner_after first events ≡ now = scanner_is (scanner_after first events) now (sym (after_scanner first events) ∙ some_table (table_after (Scanner first) events) (Scanner now) (sym ran ∙ there)) in
+    let table : scanner_after first events ≡ now = scanner_is (scanner_after first events) now (sym (fold_of first events) ∙ same_Some (table_after (Scanner first) events) (Scanner now) (sym ran ∙ there)) in
     subst (λ (t : ScannerTable). place.slot.output ≡ unwrap_or (last_output place.number t events) (replicate place.config.out_len 0)) (sym f.is)
     (written_of fresh f.profile events now place (subst (λ (t : ScannerTable). scanner_after t events ≡ now) f.is table) at)

@@ -19,12 +19,12 @@ use Rattle.schedule_order.specs.Chronicle.{Chronicle, with_event_at, recorded, b
 use Rattle.schedule_order.specs.Devices.{SchedulesKeepDevices}
 use Rattle.schedule_order.specs.Streams.{IsOpenTo}
 use Rattle.schedule_order.specs.Order.{IsChronicle}
-use Rattle.schedule_order.proofs.Entries.{IsKnown, IsKnownTo, AdapterIsNamed, ScannerIsNamed}
-use Rattle.schedule_order.proofs.Found.{all_contains}
-use Rattle.schedule_order.proofs.NameActs.{NameLaws}
-use Rattle.schedule_order.proofs.OpeningActs.{schedule_openings}
-use Rattle.schedule_order.proofs.ProducedActs.{ActsKeep, chronicles_keep}
-use Rattle.schedule_order.proofs.SentTexts.{nodes_stay}
+use Rattle.schedule_order.specs.Lemmas.Entries.{IsKnown, IsKnownTo, AdapterIsNamed, ScannerIsNamed}
+use Rattle.schedule_order.specs.Lemmas.Found.{all_contains}
+use Rattle.schedule_order.specs.Lemmas.NameActs.{NameLaws}
+use Rattle.schedule_order.specs.Lemmas.OpeningActs.{schedule_openings}
+use Rattle.schedule_order.specs.Lemmas.ProducedActs.{ActsKeep, chronicles_keep}
+use Rattle.schedule_order.specs.Lemmas.SentTexts.{nodes_stay}
 
 -- ---- addresses
 

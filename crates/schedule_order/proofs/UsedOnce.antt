@@ -1,7 +1,9 @@
 -- Each act keeps that an id of a scanner is used once at most.
-use Rattle.std.proofs.Common.{◌≡◌, ◌≢◌, ◌≤◌, ◌<◌, ◌⊎◌, inl, inr, ℕ, ◌+◌, ◌*◌, ◌==◌, ◌&&◌, nat_le, nat_lt, Bool, true, false, cond, List, [], ◌∷◌, ◌++◌, find, set, slice_get, Option, Some, None, Result, Ok, Err, IfOk, refl, sym, ◌∙◌, ap, subst, arith}
+use Rattle.std.proofs.Common.{◌≡◌, ◌≢◌, ◌≤◌, ◌<◌, ◌⊎◌, inl, inr, ℕ, ◌+◌, ◌*◌, ◌==◌, ◌&&◌, nat_le, nat_lt, Bool, true, false, cond, List, [], ◌∷◌, ◌++◌, find, set, slice_get, Option, Some, None, Result, Ok, Err, IfOk, refl, sym, ◌∙◌, ap, subst, arith, eqb-true}
 use Rattle.std.specs.List.{AllByRecursion, count_by}
 use Rattle.std.proofs.lemmas.Bool.Decides.{nat_tests}
+use Rattle.scanner_laws.specs.Lemmas.Stepping.{device_stepped}
+use Rattle.base_lemmas.specs.Lists.{count_cons, set_own, count_both, found_passes}
 use Rattle.cip_types.specs.declared.names.ConnId.{ConnId}
 use Rattle.cip_encap.specs.Reading.{message_reading}
 use Rattle.cip_events.specs.declared.event.Answer.{Answer}
@@ -15,7 +17,6 @@ use Rattle.adapter_table.specs.Step.{adapter_step}
 use Rattle.scanner_table.specs.declared.profile.ScannerProfile.{ScannerProfile}
 use Rattle.scanner_table.specs.declared.table.ScannerTable.{ScannerTable}
 use Rattle.scanner_table.specs.Requests.{connection_id}
-use Rattle.scanner_table.specs.Step.{scanner_step}
 use Rattle.cip_tables.specs.declared.table.Config.{Config}
 use Rattle.cip_tables.specs.declared.table.DeviceTable.{DeviceTable}
 use Rattle.cip_tables.specs.declared.table.DeviceTable.TheVariants.{Adapter, Scanner}
@@ -25,23 +26,22 @@ use Rattle.segment_world.specs.World.{World, ReportedEvent, Happened, happens}
 use Rattle.segment_world.specs.Configs.{opening_world}
 use Rattle.segment_world.specs.declared.act.Act.{Act}
 use Rattle.segment_world.specs.declared.act.ActFault.{ActFault}
-use Rattle.device_laws.proofs.Lists.{all_more}
+use Rattle.device_laws.specs.Lemmas.Lists.{all_more}
 use Rattle.reply_ids.specs.Frames.{IsNoOpening}
 use Rattle.reply_ids.specs.Replies.{IsAnswerTo, RepliesCarryOpenedIds}
 use Rattle.reply_ids.specs.Requests.{asks_id, frame_asks, is_between, ScannersAskOnce, IsOldOrRequested, NewConnectionsAreRequested}
-use Rattle.reply_ids.proofs.RequestedIds.{none_requested, one_at_most}
+use Rattle.reply_ids.specs.Lemmas.RequestedIds.{none_requested, one_at_most}
 use Rattle.schedule_laws.specs.Ids.{AreApart, IdsAreDrawn, SchedulesKeepIdsDrawn, OpeningWorldsHaveIdsDrawn}
-use Rattle.schedule_laws.proofs.Drawing.{StepLaws}
-use Rattle.schedule_laws.proofs.Lists.{set_own}
-use Rattle.schedule_laws.proofs.Tests.{set_cases}
+use Rattle.schedule_laws.specs.Lemmas.Drawing.{StepLaws}
+use Rattle.schedule_laws.specs.Lemmas.Tests.{set_cases}
 use Rattle.made_productions.specs.Productions.{End}
-use Rattle.schedule_order.specs.Chronicle.{Opened, requester, opened_so, frame_opens, Chronicle, with_event_at, recorded, blank}
+use Rattle.schedule_order.specs.Chronicle.{Opened, requester, opened_for, frame_opens, Chronicle, with_event_at, recorded, blank}
 use Rattle.schedule_order.specs.MadeOnce.{waiting_count, has_id, uses, IdsAreUsedOnce, SchedulesUseIdsOnce}
-use Rattle.schedule_order.proofs.Entries.{DeviceStays, step_stays}
-use Rattle.schedule_order.proofs.Found.{found_passes, found_holds}
-use Rattle.schedule_order.proofs.NameActs.{adapter_result, scanner_result}
-use Rattle.schedule_order.proofs.ProducedActs.{ActsKeep, chronicles_keep, drawn_on}
-use Rattle.schedule_order.proofs.WaitingCounts.{Test, count_cons, count_both, none_waits, passes, event_count, IsInSchedule, EventCounts, RestCounts, ActCounts, act_counts}
+use Rattle.schedule_order.specs.Lemmas.Entries.{DeviceStays, step_stays}
+use Rattle.schedule_order.specs.Lemmas.Found.{found_holds}
+use Rattle.schedule_order.specs.Lemmas.NameActs.{adapter_result}
+use Rattle.schedule_order.specs.Lemmas.ProducedActs.{ActsKeep, chronicles_keep, drawn_on}
+use Rattle.schedule_order.proofs.WaitingCounts.{Test, none_waits, passes, event_count, IsInSchedule, EventCounts, RestCounts, ActCounts, act_counts}
 
 -- what is known of the steps of devices
 pub record OnceLaws : Type 0 where
@@ -51,9 +51,6 @@ pub record OnceLaws : Type 0 where
   pub requested : NewConnectionsAreRequested
 
 -- ---- numbers
-
-is_same : (a b : ℕ) → (a == b) ≡ true → a ≡ b
-is_same a b is = grind (arith, nat_tests)
 
 below_or_not : (k n : ℕ) → (k < n) ⊎ (n ≤ k)
 below_or_not k n = split (nat_lt k n) refl where
@@ -131,10 +128,6 @@ was_so w opened device t k used at below = record { once = used.once device t k 
 
 -- ---- an event of a scanner
 
-scanner_stepped : (t u : ScannerTable) (happens : Event) (answer : Answer) → step (Scanner t) happens ≡ Ok (answer, Scanner u) → scanner_step t happens ≡ Ok (answer, u)
-unfolding step
-scanner_stepped t u happens answer is = scanner_result (scanner_step t happens) answer u is
-
 scanner_frames : OnceLaws → (w new : World) (device : ℕ) (t u : ScannerTable) (happens : Event) (answer : Answer) → OneStep w new device (Scanner t) (Scanner u) happens answer → slice_get new.tables device ≡ Some (Scanner u) → (id : ℕ) → id ≢ 0 → count_by (frame_asks id) answer.frames ≤ cond (is_between t.profile t.next_id u.next_id id) 1 0
 scanner_frames laws w new device t u happens answer s after id some =
     let drawn = s.drawn in
@@ -142,7 +135,7 @@ scanner_frames laws w new device t u happens answer s after id some =
     let apart = drawn.apart in
     let whole = next_drawn.whole device (Scanner u) after in
     let table = whole.table in
-    laws.asks t happens answer u id (scanner_stepped t u happens answer s.stepped) (drawn.whole device (Scanner t) s.at) (apart.ends device (Scanner t) s.at) table.ids some
+    laws.asks t happens answer u id (device_stepped t u happens answer s.stepped) (drawn.whole device (Scanner t) s.at) (apart.ends device (Scanner t) s.at) table.ids some
 
 own_uses : OnceLaws → (w new : World) (device : ℕ) (t u : ScannerTable) (happens : Event) (answer : Answer) (opened more : List Opened) (k : ℕ) → OneStep w new device (Scanner t) (Scanner u) happens answer → slice_get new.tables device ≡ Some (Scanner u) → more ≡ [] → IdsAreUsedOnce w opened → k < 16777216 → UsedSo new (opened ++ more) u k
 own_uses laws w new device t u happens answer opened more k s after none used below =
@@ -155,7 +148,7 @@ own_uses laws w new device t u happens answer opened more k s after none used be
     let grows = uses_more w new device (Scanner t) (Scanner u) happens answer (connection_id t.profile k).0 opened more s empty in
     let was = was_so w opened device t k used s.at below in
     let steps = laws.steps in
-    let counts = steps.scanners t happens (answer, u) (scanner_stepped t u happens answer s.stepped) in
+    let counts = steps.scanners t happens (answer, u) (device_stepped t u happens answer s.stepped) in
     let now : UsedSo new (opened ++ more) (record u { profile = t.profile }) k = record { once = at_most (below_or_not k t.next_id) frames grows was; unused = λ from. still (omega (arith, from, counts.ids)) from frames grows was } in
     subst (λ (p : ScannerProfile). UsedSo new (opened ++ more) (record u { profile = p }) k) (sym s.stays) now
   where
@@ -209,25 +202,17 @@ none_of id (frame ∷ frames) none =
 
 answers_open_none : (t u : AdapterTable) (happens : Event) (frame : Frame) → IsInSchedule happens → IsAnswerTo t u happens frame → IsNoOpening frame.bytes
 answers_open_none t u (event.Request peer bytes) frame possible is = absurd possible
-answers_open_none t u (event.StreamOpened stream peer) frame possible is = absurd is
 answers_open_none t u (event.Frame number bytes) frame possible is = is.opens_nothing
-answers_open_none t u (event.StreamCut stream) frame possible is = absurd is
-answers_open_none t u (event.Datagram peer bytes) frame possible is = absurd is
-answers_open_none t u (event.Write point bytes) frame possible is = absurd is
-answers_open_none t u (event.Read point) frame possible is = absurd is
-answers_open_none t u (event.Tick ms) frame possible is = absurd is
-answers_open_none t u (event.Mode run) frame possible is = absurd is
-answers_open_none t u (event.Start slot) frame possible is = absurd is
-answers_open_none t u (event.Stop slot) frame possible is = absurd is
+answers_open_none t u other frame possible is = absurd is
 
 -- the new connection's T->O id is this one only where the frame asked for it
 row_requested : (t : AdapterTable) (bytes : List ℕ) (row : Row) (profile : ScannerProfile) (k : ℕ) → t.profile.incarnation ≢ profile.incarnation → k < 16777216 → was_opened_as t.next_id row ≡ true → IsOldOrRequested t bytes row → (row.t_o_id.0 == (connection_id profile k).0) ≡ true → asks_id (connection_id profile k).0 bytes ≡ true
-row_requested t bytes row profile k differ below new (inl old) is = let same = is_same row.opening t.next_id new in absurd (omega (arith, old, same))
-row_requested t bytes row profile k differ below new (inr (inl asks)) is = subst (λ (id : ℕ). asks_id id bytes ≡ true) (is_same row.t_o_id.0 (connection_id profile k).0 is) asks
+row_requested t bytes row profile k differ below new (inl old) is = let same = eqb-true row.opening t.next_id new in absurd (omega (arith, old, same))
+row_requested t bytes row profile k differ below new (inr (inl asks)) is = subst (λ (id : ℕ). asks_id id bytes ≡ true) (eqb-true row.t_o_id.0 (connection_id profile k).0 is) asks
 row_requested t bytes row profile k differ below new (inr (inr own)) is =
-    absurd (ids_apart t.profile.incarnation profile.incarnation own.counter k differ own.below below (sym (ap (λ (id : ConnId). id.0) own.is) ∙ is_same row.t_o_id.0 (connection_id profile k).0 is))
+    absurd (ids_apart t.profile.incarnation profile.incarnation own.counter k differ own.below below (sym (ap (λ (id : ConnId). id.0) own.is) ∙ eqb-true row.t_o_id.0 (connection_id profile k).0 is))
 
-opened_count : (device : ℕ) (id : ℕ) (bytes : List ℕ) (found : Option Row) (slot : Option End) → ((row : Row) → found ≡ Some row → (row.t_o_id.0 == id) ≡ true → asks_id id bytes ≡ true) → count_by (has_id id) (opened_so device found slot) ≤ cond (asks_id id bytes) 1 0
+opened_count : (device : ℕ) (id : ℕ) (bytes : List ℕ) (found : Option Row) (slot : Option End) → ((row : Row) → found ≡ Some row → (row.t_o_id.0 == id) ≡ true → asks_id id bytes ≡ true) → count_by (has_id id) (opened_for device found slot) ≤ cond (asks_id id bytes) 1 0
 opened_count device id bytes None slot requested = omega arith
 opened_count device id bytes (Some row) None requested = omega arith
 opened_count device id bytes (Some row) (Some slot) requested = let one = one_at_most (row.t_o_id.0 == id) (asks_id id bytes) (requested row refl) in omega (arith, one)
@@ -239,16 +224,7 @@ new_counts laws w new device t u (event.Frame n bytes) answer profile k s differ
     let rows = laws.requested t n bytes answer u (adapter_result (adapter_step t (event.Frame n bytes)) answer u s.stepped) (drawn.whole device (Adapter t) s.at) in
     opened_count device (connection_id profile k).0 bytes (find (was_opened_as t.next_id) u.rows) (requester device (slice_get w.streams n) (message_reading bytes))
     (λ row found is. row_requested t bytes row profile k differ below (found_passes (was_opened_as t.next_id) u.rows row found) (found_holds (IsOldOrRequested t bytes) (was_opened_as t.next_id) u.rows row rows found) is)
-new_counts laws w new device t u (event.Request peer bytes) answer profile k s differ below = omega arith
-new_counts laws w new device t u (event.StreamOpened stream peer) answer profile k s differ below = omega arith
-new_counts laws w new device t u (event.StreamCut stream) answer profile k s differ below = omega arith
-new_counts laws w new device t u (event.Datagram peer bytes) answer profile k s differ below = omega arith
-new_counts laws w new device t u (event.Write point bytes) answer profile k s differ below = omega arith
-new_counts laws w new device t u (event.Read point) answer profile k s differ below = omega arith
-new_counts laws w new device t u (event.Tick ms) answer profile k s differ below = omega arith
-new_counts laws w new device t u (event.Mode run) answer profile k s differ below = omega arith
-new_counts laws w new device t u (event.Start slot) answer profile k s differ below = omega arith
-new_counts laws w new device t u (event.Stop slot) answer profile k s differ below = omega arith
+new_counts laws w new device t u other answer profile k s differ below = omega arith
 
 adapter_uses : OnceLaws → (w new : World) (device : ℕ) (t u : AdapterTable) (happens : Event) (answer : Answer) (opened : List Opened) → OneStep w new device (Adapter t) (Adapter u) happens answer → IdsAreUsedOnce w opened → (e : ℕ) (x : ScannerTable) (k : ℕ) → k < 16777216 → ((e ≡ device) × (Scanner x ≡ Adapter u)) ⊎ ((e ≢ device) × (slice_get w.tables e ≡ Some (Scanner x))) → UsedSo new (opened ++ frame_opens w device (Adapter t) happens (Adapter u)) x k
 unfolding step

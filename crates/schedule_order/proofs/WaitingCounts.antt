@@ -2,9 +2,11 @@
 use Rattle.std.proofs.Common.{◌≡◌, ◌≤◌, ℕ, zero, suc, ◌+◌, Bool, true, false, cond, List, [], ◌∷◌, ◌++◌, set, slice_get, Option, Some, None, Result, Ok, Err, IfOk, refl, ap, arith}
 use Rattle.std.specs.List.{count_by}
 use Rattle.std.proofs.lemmas.List.Sums.{sum_by-append, sum_by-cons}
+use Rattle.std.proofs.lemmas.Option.{same_Some}
+use Rattle.base_lemmas.specs.Lists.{count_cons, count_both}
 use Rattle.cip_events.specs.declared.event.Answer.{Answer}
 use Rattle.cip_events.specs.declared.event.Event.{Event}
-use Rattle.cip_events.specs.declared.event.Event.TheVariants.{Request, StreamOpened, Frame, StreamCut, Datagram, Write, Read, Tick, Mode, Start, Stop}
+use Rattle.cip_events.specs.declared.event.Event.TheVariants.{Request, Frame, Datagram, Write, Read, Tick, Mode, Start, Stop}
 use Rattle.cip_events.specs.declared.event.Frame.{Frame as SentFrame}
 use Rattle.cip_events.specs.declared.event.Notice.{Notice}
 use Rattle.cip_events.specs.declared.event.Notice.TheVariants as notice
@@ -17,25 +19,18 @@ use Rattle.cip_tables.specs.Step.{DeviceNext, step}
 use Rattle.sent_log.specs.Log.{Sent}
 use Rattle.stream_queues.specs.declared.direction.Direction.{Direction}
 use Rattle.stream_queues.specs.declared.direction.Direction.TheVariants.{Forth, Back}
-use Rattle.stream_queues.specs.Streams.{QueueItem, Opening, Queued, Ending, Side, Stream, side_of, receiver, sender, way_from, changed, with_stream, queued, sent_so, sent_over, frame_sent, frames_sent, ended_side, cut_stream, closed_so, closed_by, notice_applied, notices_applied, answered, without_first, taken_from, fresh_stream}
+use Rattle.stream_queues.specs.Streams.{QueueItem, Opening, Queued, Ending, Side, Stream, side_of, receiver, sender, way_from, changed, with_stream, queued, sent_along, sent_over, frame_sent, frames_sent, ended_side, cut_stream, closed_along, closed_by, notice_applied, notices_applied, answered, without_first, taken_from, fresh_stream}
 use Rattle.segment_world.specs.declared.act.Act.{Act}
 use Rattle.segment_world.specs.declared.act.Act.TheVariants.{Local, Deliver, NextFrame, OpenStream, CutStream}
 use Rattle.segment_world.specs.declared.act.Call.{Call}
 use Rattle.segment_world.specs.declared.act.Call.TheVariants as call
-use Rattle.segment_world.specs.World.{World, ReportedEvent, comes, comes_to, comes_so, event_of_call, delivered, event_of_item, node_at, taken, taken_at, are_two, opened_if, cut_if, cut_at, happens}
-use Rattle.schedule_laws.proofs.Lists.{some_is}
+use Rattle.segment_world.specs.World.{World, ReportedEvent, event_at_device, event_at_table, after_device_step, event_of_call, delivered, event_of_item, node_at, taken, taken_at, are_two, opened_if, cut_if, cut_at, happens}
 use Rattle.schedule_order.specs.MadeOnce.{item_passes, side_count, stream_count, waiting_count}
 
 abbrev pub Test : Type 0
 Test = List ℕ → Bool
 
 -- ---- lists
-
-pub count_cons : {X : Type 0} (p : X → Bool) (x : X) (xs : List X) → count_by p (x ∷ xs) ≡ cond (p x) 1 0 + count_by p xs
-count_cons p x xs = sum_by-cons (λ y. cond (p y) 1 0) x xs
-
-pub count_both : {X : Type 0} (p : X → Bool) (xs ys : List X) → count_by p (xs ++ ys) ≡ count_by p xs + count_by p ys
-count_both p xs ys = sum_by-append (λ y. cond (p y) 1 0) xs ys
 
 waiting_cons : (p : Test) (s : Stream) (streams : List Stream) → waiting_count p (s ∷ streams) ≡ stream_count p s + waiting_count p streams
 unfolding waiting_count
@@ -53,7 +48,7 @@ none_waits p = refl
 waiting_set : (p : Test) (streams : List Stream) (n : ℕ) (s new : Stream) → slice_get streams n ≡ Some s → waiting_count p (set streams n new) + stream_count p s ≡ waiting_count p streams + stream_count p new
 waiting_set p [] n s new at = absurd (let e = at in cc)
 waiting_set p (x ∷ streams) zero s new at =
-    let same : stream_count p x ≡ stream_count p s = ap (stream_count p) (some_is x s at) in
+    let same : stream_count p x ≡ stream_count p s = ap (stream_count p) (same_Some x s at) in
     let a = waiting_cons p x streams in
     let b = waiting_cons p new streams in
     omega (arith, same, a, b)
@@ -82,7 +77,7 @@ ended_count p side = mark side.taken where
 cut_count : (p : Test) (s : Stream) → stream_count p (cut_stream s) ≤ stream_count p s + 0
 cut_count p s = let a = ended_count p s.forth in let b = ended_count p s.back in omega (arith, a, b)
 
-closed_count : (p : Test) (s : Stream) (way : Option Direction) → stream_count p (closed_so s way) ≤ stream_count p s + 0
+closed_count : (p : Test) (s : Stream) (way : Option Direction) → stream_count p (closed_along s way) ≤ stream_count p s + 0
 closed_count p s None = omega arith
 closed_count p s (Some Forth) = let a = ended_count p s.forth in omega (arith, a)
 closed_count p s (Some Back) = let b = ended_count p s.back in omega (arith, b)
@@ -92,7 +87,7 @@ closed_count p s (Some Back) = let b = ended_count p s.back in omega (arith, b)
 queued_count : (p : Test) (bytes : List ℕ) (side : Side) → side_count p (queued (Queued bytes) side) ≡ side_count p side + cond (p bytes) 1 0
 queued_count p bytes side = let both = count_both (item_passes p) side.queue (Queued bytes ∷ []) in omega (arith, both)
 
-sent_count : (p : Test) (bytes : List ℕ) (s : Stream) (way : Option Direction) → stream_count p (sent_so bytes s way) ≤ stream_count p s + cond (p bytes) 1 0
+sent_count : (p : Test) (bytes : List ℕ) (s : Stream) (way : Option Direction) → stream_count p (sent_along bytes s way) ≤ stream_count p s + cond (p bytes) 1 0
 sent_count p bytes s None = omega arith
 sent_count p bytes s (Some Forth) = let one = queued_count p bytes s.forth in omega (arith, one)
 sent_count p bytes s (Some Back) = let one = queued_count p bytes s.back in omega (arith, one)
@@ -144,31 +139,13 @@ answered_count p device answer streams =
 
 -- 1 where the event is a frame that passes the test
 abbrev pub event_count : Test → Event → ℕ
-event_count p (Request peer bytes) = 0
-event_count p (StreamOpened stream peer) = 0
 event_count p (Frame stream bytes) = cond (p bytes) 1 0
-event_count p (StreamCut stream) = 0
-event_count p (Datagram peer bytes) = 0
-event_count p (Write point bytes) = 0
-event_count p (Read point) = 0
-event_count p (Tick ms) = 0
-event_count p (Mode run) = 0
-event_count p (Start slot) = 0
-event_count p (Stop slot) = 0
+event_count p other = 0
 
 -- requests without a stream do not come in a schedule
 abbrev pub IsInSchedule : Event → Type 0
 IsInSchedule (Request peer bytes) = ⊥
-IsInSchedule (StreamOpened stream peer) = Unit {0}
-IsInSchedule (Frame stream bytes) = Unit {0}
-IsInSchedule (StreamCut stream) = Unit {0}
-IsInSchedule (Datagram peer bytes) = Unit {0}
-IsInSchedule (Write point bytes) = Unit {0}
-IsInSchedule (Read point) = Unit {0}
-IsInSchedule (Tick ms) = Unit {0}
-IsInSchedule (Mode run) = Unit {0}
-IsInSchedule (Start slot) = Unit {0}
-IsInSchedule (Stop slot) = Unit {0}
+IsInSchedule other = Unit {0}
 
 -- An event of a device, which answers it. Of the frames that pass the test, those that wait afterwards, and the one that the
 -- event is, waited before or are of the answer.
@@ -189,20 +166,20 @@ abbrev pub ActCounts : Test → World → Option ReportedEvent × World → Type
 ActCounts p w (None, new) = RestCounts p w new
 ActCounts p w (Some reported, new) = EventCounts p w reported new
 
-so_counts : (p : Test) (w : World) (streams : List Stream) (device : ℕ) (event : Event) (t : DeviceTable) (said : Result DeviceNext StepFault) → slice_get w.tables device ≡ Some t → step t event ≡ said → IsInSchedule event → waiting_count p streams + event_count p event ≤ waiting_count p w.streams → IfOk (comes_so device event (record w { streams = streams }) said) (ActCounts p w)
+so_counts : (p : Test) (w : World) (streams : List Stream) (device : ℕ) (event : Event) (t : DeviceTable) (said : Result DeviceNext StepFault) → slice_get w.tables device ≡ Some t → step t event ≡ said → IsInSchedule event → waiting_count p streams + event_count p event ≤ waiting_count p w.streams → IfOk (after_device_step device event (record w { streams = streams }) said) (ActCounts p w)
 so_counts p w streams device event t (Err why) at is possible count = tt
 so_counts p w streams device event t (Ok next) at is possible count =
     let sent = answered_count p device next.0 streams in
     record { before = t; after = next.1; is = at; stepped = is; tables = refl; possible = possible; count = omega (arith, sent, count) }
 
-to_counts : (p : Test) (w : World) (streams : List Stream) (device : ℕ) (event : Event) (o : Option DeviceTable) → slice_get w.tables device ≡ o → IsInSchedule event → waiting_count p streams + event_count p event ≤ waiting_count p w.streams → IfOk (comes_to device event (record w { streams = streams }) o) (ActCounts p w)
+to_counts : (p : Test) (w : World) (streams : List Stream) (device : ℕ) (event : Event) (o : Option DeviceTable) → slice_get w.tables device ≡ o → IsInSchedule event → waiting_count p streams + event_count p event ≤ waiting_count p w.streams → IfOk (event_at_table device event (record w { streams = streams }) o) (ActCounts p w)
 to_counts p w streams device event None at possible count = tt
 to_counts p w streams device event (Some t) at possible count = so_counts p w streams device event t (step t event) at refl possible count
 
-comes_counts : (p : Test) (w : World) (streams : List Stream) (device : ℕ) (event : Event) → IsInSchedule event → waiting_count p streams + event_count p event ≤ waiting_count p w.streams → IfOk (comes device event (record w { streams = streams })) (ActCounts p w)
+comes_counts : (p : Test) (w : World) (streams : List Stream) (device : ℕ) (event : Event) → IsInSchedule event → waiting_count p streams + event_count p event ≤ waiting_count p w.streams → IfOk (event_at_device device event (record w { streams = streams })) (ActCounts p w)
 comes_counts p w streams device event possible count = to_counts p w streams device event (slice_get w.tables device) refl possible count
 
-local_counts : (p : Test) (w : World) (device : ℕ) (c : Call) → IfOk (comes device (event_of_call c) w) (ActCounts p w)
+local_counts : (p : Test) (w : World) (device : ℕ) (c : Call) → IfOk (event_at_device device (event_of_call c) w) (ActCounts p w)
 local_counts p w device (call.Write point bytes) = comes_counts p w w.streams device (Write point bytes) tt (omega arith)
 local_counts p w device (call.Read point) = comes_counts p w w.streams device (Read point) tt (omega arith)
 local_counts p w device (call.Mode run) = comes_counts p w w.streams device (Mode run) tt (omega arith)

@@ -23,7 +23,7 @@ use Rattle.adapter_table.specs.declared.table.AdapterTable.{AdapterTable}
 use Rattle.adapter_table.specs.Datagrams.{is_for}
 use Rattle.adapter_table.specs.Newest.{was_opened_as}
 use Rattle.adapter_table.specs.Productions.{producer_of}
-use Rattle.scanner_table.specs.declared.slot.Connection.{Connection}
+use Rattle.scanner_table.specs.declared.slot.SlotConnection.{SlotConnection}
 use Rattle.scanner_table.specs.declared.slot.SlotState.{SlotState}
 use Rattle.scanner_table.specs.declared.slot.SlotState.TheVariants.{Idle, Opening, Established, TimedOut, Closing}
 use Rattle.scanner_table.specs.declared.table.ScannerTable.{ScannerTable}
@@ -65,10 +65,10 @@ requester device None reading = None
 requester device (Some s) (Err fault) = None
 requester device (Some s) (Ok m) = Some (end_at (other_end device s) m.context)
 
-abbrev pub opened_so : ℕ → Option Row → Option End → List Opened
-opened_so device None slot = []
-opened_so device (Some row) None = []
-opened_so device (Some row) (Some slot) = record {
+abbrev pub opened_for : ℕ → Option Row → Option End → List Opened
+opened_for device None slot = []
+opened_for device (Some row) None = []
+opened_for device (Some row) (Some slot) = record {
   row = end_at device row.opening;
   slot = slot;
   o_t_id = row.o_t_id;
@@ -83,7 +83,7 @@ new_row t (Scanner next) = None
 
 -- what an event opens: a Forward_Open arrives in a frame, over a stream
 abbrev pub frame_opens : World → ℕ → DeviceTable → Event → DeviceTable → List Opened
-frame_opens w device (Adapter t) (Frame stream bytes) next = opened_so device (new_row t next) (requester device (slice_get w.streams stream) (message_reading bytes))
+frame_opens w device (Adapter t) (Frame stream bytes) next = opened_for device (new_row t next) (requester device (slice_get w.streams stream) (message_reading bytes))
 frame_opens w device t event next = []
 
 -- the entry of this connection, or of this slot's opening
@@ -110,7 +110,7 @@ abbrev pub came_before : ℕ → Option IndexedSlot → Bool
 came_before request None = false
 came_before request (Some place) = came_from request place.slot.state
 
-abbrev pub establishment : ℕ → ℕ → Connection → Establishment
+abbrev pub establishment : ℕ → ℕ → SlotConnection → Establishment
 establishment device number c = record { device = device; slot = number; request = c.opening; t_o_id = c.link.t_o_id }
 
 abbrev pub state_establishes : ℕ → ScannerTable → ℕ → SlotState → Option Establishment

@@ -7,3 +7,4 @@ pub mod Producers
 pub mod MadeOnce
 pub mod Devices
 pub mod Marks
+pub mod Lemmas

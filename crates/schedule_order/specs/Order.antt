@@ -35,7 +35,7 @@ pub record AreWithin (bound a b : ℕ) : Type 0 where
 -- sequence numbers; and where it is accepted, their new-data indexes by less than half of the circle of counts.
 pub record AreNear (is_accepted : Bool) (p last : Production) : Type 0 where
   pub index : AreWithin (2 ^ 31) p.index last.index
-  pub news : is_accepted ≡ true → AreWithin (2 ^ 15) p.news last.news
+  pub new_data : is_accepted ≡ true → AreWithin (2 ^ 15) p.new_data last.new_data
 
 -- where none was accepted, there is no condition
 abbrev pub IsNear : Bool → Production → Option Acceptance → Type 0

@@ -5,7 +5,7 @@ use Rattle.std.specs.List.{AllByRecursion}
 use Rattle.std.specs.Option.{IfSome}
 use Rattle.cip_datagram.specs.Header.{mode_header}
 use Rattle.cip_events.specs.declared.event.Event.{Event}
-use Rattle.cip_events.specs.declared.event.Event.TheVariants.{Request, StreamOpened, Frame, StreamCut, Datagram, Write, Read, Tick, Mode, Start, Stop}
+use Rattle.cip_events.specs.declared.event.Event.TheVariants.{Tick}
 use Rattle.cip_productions.specs.Kinds.{is_owner}
 use Rattle.scanner_table.specs.declared.slot.SlotState.{SlotState}
 use Rattle.scanner_table.specs.declared.slot.SlotState.TheVariants.{Idle, Opening, Established, TimedOut, Closing}
@@ -13,7 +13,7 @@ use Rattle.scanner_table.specs.declared.table.ScannerTable.{ScannerTable}
 use Rattle.scanner_table.specs.Productions.{due_slots}
 use Rattle.scanner_table.specs.Slots.{IndexedSlot}
 use Rattle.scanner_table.specs.Ticks.{clocked_table, advanced}
-use Rattle.device_laws.proofs.Lists.{all_made}
+use Rattle.device_laws.specs.Lemmas.Lists.{all_made}
 use Rattle.made_productions.specs.Made.{Made, state_made, slot_made, places_made, scanner_makes}
 
 -- the payload is the mode and the value, or nothing
@@ -42,14 +42,5 @@ slots_form : (t : ScannerTable) → AllByRecursion HasForm (places_made t)
 slots_form t = all_made AnySlot HasForm (slot_made t.run) (λ place any. state_form t.run place place.slot.state) (due_slots t) (all_any (due_slots t))
 
 pub scanner_forms : (t : ScannerTable) (event : Event) → AllByRecursion HasForm (scanner_makes t event)
-scanner_forms t (Request peer bytes) = tt
-scanner_forms t (StreamOpened stream peer) = tt
-scanner_forms t (Frame stream bytes) = tt
-scanner_forms t (StreamCut stream) = tt
-scanner_forms t (Datagram peer bytes) = tt
-scanner_forms t (Write point bytes) = tt
-scanner_forms t (Read point) = tt
 scanner_forms t (Tick ms) = slots_form (advanced (clocked_table t ms)).table
-scanner_forms t (Mode run) = tt
-scanner_forms t (Start slot) = tt
-scanner_forms t (Stop slot) = tt
+scanner_forms t other = tt

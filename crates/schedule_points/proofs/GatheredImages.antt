@@ -1,6 +1,10 @@
 -- Over every schedule the image of a slot is zeros, or the data of a production that the slot accepted since it was last
 -- established.
-use Rattle.std.proofs.Common.{◌≡◌, ◌≢◌, ℕ, zero, suc, ◌==◌, Bool, true, false, List, [], ◌∷◌, ◌++◌, find, map, set, slice_get, Option, Some, None, Result, Ok, Err, IfOk, ◌⊎◌, inl, inr, refl, sym, ◌∙◌, ap, subst}
+use Rattle.std.proofs.Common.{◌≡◌, ◌≢◌, ℕ, zero, suc, ◌==◌, Bool, true, false, List, [], ◌∷◌, ◌++◌, find, map, set, slice_get, Option, Some, None, Result, Ok, Err, IfOk, ◌⊎◌, inl, inr, refl, sym, ◌∙◌, ap, subst, eqb-true}
+use Rattle.std.proofs.lemmas.Option.{same_Some}
+use Rattle.std.proofs.lemmas.Bool.{eqb-false}
+use Rattle.scanner_laws.specs.Lemmas.Folds.{scanner_is}
+use Rattle.base_lemmas.specs.Lists.{set_own, set_other}
 use Rattle.cip_datagram.specs.Datagram.{datagram_text}
 use Rattle.cip_events.specs.declared.event.Answer.{Answer}
 use Rattle.cip_events.specs.declared.event.Event.TheVariants as event
@@ -17,7 +21,7 @@ use Rattle.scanner_table.specs.Datagrams.{received}
 use Rattle.scanner_table.specs.Effects.{Next}
 use Rattle.scanner_table.specs.Slots.{IndexedSlot}
 use Rattle.scanner_table.specs.Step.{fresh_slot, scanner_step, scanner_table}
-use Rattle.scanner_laws.proofs.SlotLookups.{slot_is}
+use Rattle.scanner_whole.specs.Lemmas.SlotLookups.{slot_is}
 use Rattle.cip_tables.specs.declared.table.Config.{Config}
 use Rattle.cip_tables.specs.declared.table.Config.TheVariants as config
 use Rattle.cip_tables.specs.declared.table.DeviceTable.{DeviceTable}
@@ -32,19 +36,17 @@ use Rattle.segment_world.specs.declared.act.ActFault.{ActFault}
 use Rattle.segment_world.specs.Configs.{opening_world}
 use Rattle.segment_world.specs.World.{World, ReportedEvent, happens, node_at}
 use Rattle.schedule_laws.specs.Ids.{SchedulesKeepIdsDrawn, OpeningWorldsHaveIdsDrawn}
-use Rattle.schedule_laws.proofs.Lists.{set_other, set_own, some_is}
-use Rattle.schedule_laws.proofs.Moves.{Came}
+use Rattle.schedule_laws.specs.Lemmas.Moves.{Came}
 use Rattle.made_productions.specs.Made.{AnswersSendWhatIsMade}
 use Rattle.made_productions.specs.Productions.{Production}
-use Rattle.made_productions.proofs.Lists.{is_equal, not_equal}
 use Rattle.schedule_order.specs.Chronicle.{Acceptance, Chronicle, Establishment, accepted_by_act, accepted_by_verdict, accepted_sent, blank, establishes, is_slot, names, with_event}
 use Rattle.schedule_order.specs.Indexes.{sent_of}
 use Rattle.schedule_order.specs.Order.{IsChronicle, IsScannerAt}
-use Rattle.schedule_order.proofs.Beginning.{blank_produced, fresh_idle}
-use Rattle.schedule_order.proofs.Deliveries.{IsDelivery, IsOther, act_kind}
-use Rattle.schedule_order.proofs.NewestActs.{IsSentAs, sent_as}
-use Rattle.schedule_order.proofs.NewestSteps.{scanner_stepped}
-use Rattle.schedule_order.proofs.ProducedActs.{Any, Cases, Produced, cases_keep, chronicles_keep, produced_cases}
+use Rattle.schedule_order.specs.Lemmas.Beginning.{blank_produced, fresh_idle}
+use Rattle.schedule_order.specs.Lemmas.Deliveries.{IsDelivery, IsOther, act_kind}
+use Rattle.schedule_order.specs.Lemmas.NewestActs.{IsSentAs, sent_as}
+use Rattle.schedule_order.specs.Lemmas.NewestSteps.{scanner_stepped}
+use Rattle.schedule_order.specs.Lemmas.ProducedActs.{Any, Cases, Produced, cases_keep, chronicles_keep, produced_cases}
 use Rattle.schedule_points.specs.Images.{ImageIs, SchedulesGatherImages}
 use Rattle.schedule_points.proofs.ImageActs.{ImageOf, IsLast, TableGathers, datagram_gathers, found_elsewhere, gathers_more, quiet_gathers, steps_keep_links}
 use Rattle.schedule_points.proofs.ImageSteps.{zeros_of}
@@ -62,9 +64,6 @@ pub record ScannerBefore (w : World) (reported : ReportedEvent) (u : ScannerTabl
   pub answer_is : next.0 ≡ reported.answer
   pub table_is : next.1 ≡ u
 
-scanner_same : (a b : ScannerTable) → Scanner a ≡ Scanner b → a ≡ b
-scanner_same a b is = cc
-
 abbrev scanner_of : DeviceTable → Option ScannerTable
 scanner_of (Adapter x) = None
 scanner_of (Scanner x) = Some x
@@ -77,7 +76,7 @@ scanner_was : (w : World) (reported : ReportedEvent) (u : ScannerTable) (t : Dev
 unfolding step
 scanner_was w reported u (Scanner t) at is =
     let s = scanner_stepped t reported.event reported.answer (Scanner u) is in
-    record { table = t; there = at; next = s.next; is = s.is; answer_is = s.answer_is; table_is = scanner_same s.next.1 u s.table_is }
+    record { table = t; there = at; next = s.next; is = s.is; answer_is = s.answer_is; table_is = scanner_is s.next.1 u s.table_is }
 scanner_was w reported u (Adapter t) at is = absurd (no_scanner (adapter_step t reported.event) is) where
   no_scanner : (said : Result AdapterNext StepFault) → as_adapter said ≡ Ok (reported.answer, Scanner u) → ⊥
   no_scanner (Err why) is = absurd (let h = is in cc)
@@ -96,12 +95,12 @@ scanner_cases w new reported m device u at = by_device (device == reported.devic
 
   by_device : (b : Bool) → (device == reported.device) ≡ b → ScannerCases w reported device u
   by_device true is =
-      let one = is_equal device reported.device is in
+      let one = eqb-true device reported.device is in
       let here : slice_get (set w.tables reported.device m.after) reported.device ≡ Some (Scanner u) = subst (λ (n : ℕ). slice_get (set w.tables reported.device m.after) n ≡ Some (Scanner u)) one now in
-      let same : m.after ≡ Scanner u = some_is m.after (Scanner u) (sym (set_own w.tables reported.device m.before m.after m.is) ∙ here) in
+      let same : m.after ≡ Scanner u = same_Some m.after (Scanner u) (sym (set_own w.tables reported.device m.before m.after m.is) ∙ here) in
       inr (one, scanner_was w reported u m.before m.is (m.stepped ∙ ap (λ (x : DeviceTable). stepped_to reported.answer x) same))
   by_device false is =
-      let ne = not_equal device reported.device is in
+      let ne = eqb-false device reported.device is in
       inl ((λ same. ne (sym same)), sym (set_other w.tables reported.device device m.after ne) ∙ now)
 
 -- ---- an act
@@ -157,10 +156,10 @@ came_images ids c act reported new is m ok device u at = by_case (act_kind c.sto
 
   -- the tables of the scanner that the event came to
   before_is : (b : ScannerBefore w reported u) → m.before ≡ Scanner b.table
-  before_is b = some_is m.before (Scanner b.table) (sym m.is ∙ b.there)
+  before_is b = same_Some m.before (Scanner b.table) (sym m.is ∙ b.there)
 
   after_is : (b : ScannerBefore w reported u) → d ≡ device → after ≡ Scanner u
-  after_is b same = ap (table_of m.before) m.stepped ∙ some_is m.after (Scanner u) (sym (set_own w.tables d m.before m.after m.is) ∙ subst (λ (n : ℕ). slice_get (set w.tables d m.after) n ≡ Some (Scanner u)) (sym same) (ap (λ (ts : List DeviceTable). slice_get ts device) (sym (ap (λ (x : World). x.tables) m.leaves)) ∙ at))
+  after_is b same = ap (table_of m.before) m.stepped ∙ same_Some m.after (Scanner u) (sym (set_own w.tables d m.before m.after m.is) ∙ subst (λ (n : ℕ). slice_get (set w.tables d m.after) n ≡ Some (Scanner u)) (sym same) (ap (λ (ts : List DeviceTable). slice_get ts device) (sym (ap (λ (x : World). x.tables) m.leaves)) ∙ at))
 
   here : (b : ScannerBefore w reported u) → d ≡ device → (accepted : List Acceptance) → TableGathers accepted (establishes d (Scanner b.table) (Scanner u) ++ c.established) d u → TableGathers accepted established d u
   here b same accepted gathers =
@@ -213,7 +212,7 @@ gathering_cases sends keep ids = record {
 
 fresh_image : (configs : List SlotConfig) (n : ℕ) (slot : Slot) (conf : SlotConfig) → slice_get (map fresh_slot configs) n ≡ Some slot → slice_get configs n ≡ Some conf → slot.image ≡ zeros_of conf
 fresh_image [] n slot conf is at = absurd (let e = is in cc)
-fresh_image (x ∷ configs) zero slot conf is at = ap (λ (s : Slot). s.image) (sym (some_is (fresh_slot x) slot is)) ∙ ap zeros_of (some_is x conf at)
+fresh_image (x ∷ configs) zero slot conf is at = ap (λ (s : Slot). s.image) (sym (same_Some (fresh_slot x) slot is)) ∙ ap zeros_of (same_Some x conf at)
 fresh_image (x ∷ configs) (suc n) slot conf is at = fresh_image configs n slot conf is at
 
 scanner_begins : (device : ℕ) (profile : ScannerProfile) → TableGathers [] [] device (scanner_table profile)
@@ -224,11 +223,11 @@ scanner_begins device profile place stands = record {
 
 device_begins : (device : ℕ) (made : Config) (t : ScannerTable) → opening_table made ≡ Scanner t → TableGathers [] [] device t
 device_begins device (config.Adapter profile) t is = absurd (let e = is in cc)
-device_begins device (config.Scanner profile) t is = subst (TableGathers [] [] device) (scanner_same (scanner_table profile) t is) (scanner_begins device profile)
+device_begins device (config.Scanner profile) t is = subst (TableGathers [] [] device) (scanner_is (scanner_table profile) t is) (scanner_begins device profile)
 
 all_begin : (configs : List Config) (n device : ℕ) (t : ScannerTable) → slice_get (map opening_table configs) n ≡ Some (Scanner t) → TableGathers [] [] device t
 all_begin [] n device t at = absurd (let e = at in cc)
-all_begin (made ∷ configs) zero device t at = device_begins device made t (some_is (opening_table made) (Scanner t) at)
+all_begin (made ∷ configs) zero device t at = device_begins device made t (same_Some (opening_table made) (Scanner t) at)
 all_begin (made ∷ configs) (suc n) device t at = all_begin configs n device t at
 
 image_is : (c : Chronicle) (device : ℕ) (place : IndexedSlot) (found : Option Establishment) → ImageOf c.accepted device place.config place.slot.image found → ImageIs c device place found

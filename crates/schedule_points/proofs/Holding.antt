@@ -1,9 +1,12 @@
 -- What the output of an owner holds: one step of an adapter keeps that it is the value of the newest accepted production in
 -- run mode.
-use Rattle.std.proofs.Common.{◌≡◌, ◌≢◌, ◌≤◌, ℕ, ◌+◌, ◌==◌, ◌||◌, Bool, true, false, cond, List, [], ◌∷◌, ◌++◌, map, find, length, is_some, Option, Some, None, Result, Ok, Err, ◌⊎◌, inl, inr, refl, sym, ◌∙◌, ap, subst, arith}
-use Rattle.std.proofs.lemmas.Bool.{and_parts}
+use Rattle.std.proofs.Common.{◌≡◌, ◌≢◌, ◌≤◌, ℕ, ◌+◌, ◌==◌, ◌||◌, Bool, true, false, cond, List, [], ◌∷◌, ◌++◌, map, find, length, is_some, Option, Some, None, Result, Ok, Err, ◌⊎◌, inl, inr, refl, sym, ◌∙◌, ap, subst, arith, eqb-true, eq-eqb}
+use Rattle.std.proofs.lemmas.Bool.{and_parts, eqb-false}
 use Rattle.std.specs.List.{list_any}
 use Rattle.std.specs.Option.{option_map}
+use Rattle.std.proofs.lemmas.Option.{same_Some}
+use Rattle.schedule_order.specs.Lemmas.Deliveries.{same_delivery}
+use Rattle.base_lemmas.specs.Lists.{found_passes}
 use Rattle.cip_types.specs.declared.names.Node.{Node}
 use Rattle.cip_datagram.specs.declared.datagram.DatagramFault.{DatagramFault}
 use Rattle.cip_datagram.specs.Datagram.{DatagramFields, datagram_text}
@@ -36,17 +39,17 @@ use Rattle.adapter_table.specs.Rows.{is_established, drives, drivers, Each}
 use Rattle.adapter_table.specs.Scratch.{or_else, data_left, lost, left_at}
 use Rattle.adapter_table.specs.Step.{adapter_step}
 use Rattle.adapter_table.specs.Whole.{ConsumesOutput, IsWhole}
-use Rattle.adapter_table.proofs.DriverLemmas.{kept_owner, row_passes}
-use Rattle.adapter_table.proofs.LikeLemmas.{IsLike, fed_keeps}
-use Rattle.adapter_table.proofs.ValueLemmas.{put_at, put_beside, idle_beside}
+use Rattle.adapter_table.specs.Lemmas.DriverLemmas.{kept_owner}
+use Rattle.adapter_table.specs.Lemmas.LikeLemmas.{IsLike, fed_keeps}
+use Rattle.adapter_table.specs.Lemmas.ValueLemmas.{put_at, put_beside, idle_beside}
 use Rattle.scanner_laws.specs.Deliveries.{reports_accepted}
 use Rattle.cip_tables.specs.declared.table.DeviceTable.TheVariants.{Adapter}
 use Rattle.cip_tables.specs.Step.{is_datagram}
 use Rattle.made_productions.specs.Productions.{end_at, End, Production, IsNumbered}
-use Rattle.made_productions.proofs.Lists.{Has, all_has, has_filter, is_equal, equal_is, not_equal}
-use Rattle.made_productions.proofs.Reading.{ComesBack, read_as, count_back}
+use Rattle.made_productions.specs.Lemmas.Lists.{Has, all_has, has_filter}
+use Rattle.made_productions.specs.Lemmas.Reading.{ComesBack, read_as, count_back}
 use Rattle.schedule_order.specs.Chronicle.{Acceptance, accepted_by_verdict, names, names_in, newest, row_number}
-use Rattle.schedule_order.proofs.AdapterNewest.{pair_of, Entry, newest_here, newest_past}
+use Rattle.schedule_order.specs.Lemmas.AdapterNewest.{pair_of, Entry, newest_here, newest_past}
 use Rattle.schedule_points.proofs.Forms.{HasForm}
 use Rattle.schedule_points.proofs.OwnerRows.{WasOpen, IsOldOrNew, rows_from, one_row}
 
@@ -106,20 +109,11 @@ was_mapped f (row ∷ rows) now (inr has) = let more = was_mapped f rows now has
 -- ---- an event that is no datagram
 
 data_none : (point : ℕ) (t : AdapterTable) (e : Event) → is_datagram e ≡ false → data_left point t e ≡ None
-data_none point t (event.Request peer bytes) none = refl
-data_none point t (event.StreamOpened stream peer) none = refl
-data_none point t (event.Frame stream bytes) none = refl
-data_none point t (event.StreamCut stream) none = refl
 data_none point t (event.Datagram peer bytes) none = absurd (let e = none in cc)
-data_none point t (event.Write other bytes) none = refl
-data_none point t (event.Read other) none = refl
-data_none point t (event.Tick ms) none = refl
-data_none point t (event.Mode run) none = refl
-data_none point t (event.Start slot) none = refl
-data_none point t (event.Stop slot) none = refl
+data_none point t other none = refl
 
 drives_so : (row : Row) (point : ℕ) → is_established row ≡ true → is_owner row.kind ≡ true → row.consumed ≡ point → drives point row ≡ true
-drives_so row point lives owns same = rw (lives, owns, equal_is row.consumed point same) refl
+drives_so row point lives owns same = rw (lives, owns, eq-eqb row.consumed point same) refl
 
 some_output : (found : Option OutputPoint) → is_some found ≡ true → (output : OutputPoint) × (found ≡ Some output)
 some_output None some = absurd (let e = some in cc)
@@ -151,19 +145,19 @@ quiet_holds leaves accepted device t e next is whole none remembers ok row has l
 -- ---- a datagram for the owner
 
 -- an accepted datagram has the connection's size
-sized_of : (sized news owns repeated : Bool) (header : Option (Bool × List ℕ)) → is_accepted (cond sized (cond news (cond owns (cond repeated Duplicate (moded header)) Heartbeat) Old) WrongSize) ≡ true → sized ≡ true
-sized_of true news owns repeated header so = refl
-sized_of false news owns repeated header so = absurd (let e = so in cc)
+sized_of : (sized new_data owns repeated : Bool) (header : Option (Bool × List ℕ)) → is_accepted (cond sized (cond new_data (cond owns (cond repeated Duplicate (moded header)) Heartbeat) Old) WrongSize) ≡ true → sized ≡ true
+sized_of true new_data owns repeated header so = refl
+sized_of false new_data owns repeated header so = absurd (let e = so in cc)
 
 -- of an owner in run mode it is applied, where it is not repeated
-owned_of : (sized news repeated : Bool) (header : Option (Bool × List ℕ)) (delivery : Delivery) → run_bit header ≡ true → cond sized (cond news (cond repeated Duplicate (moded header)) Old) WrongSize ≡ delivery → is_accepted delivery ≡ true → (delivery ≡ Applied) ⊎ ((delivery ≡ Duplicate) × (repeated ≡ true))
+owned_of : (sized new_data repeated : Bool) (header : Option (Bool × List ℕ)) (delivery : Delivery) → run_bit header ≡ true → cond sized (cond new_data (cond repeated Duplicate (moded header)) Old) WrongSize ≡ delivery → is_accepted delivery ≡ true → (delivery ≡ Applied) ⊎ ((delivery ≡ Duplicate) × (repeated ≡ true))
 owned_of true true true header delivery runs is so = inr (sym is, refl)
 owned_of true true false header delivery runs is so = inl (sym is ∙ (rw runs refl))
 owned_of true false repeated header delivery runs is so = absurd (let e : is_accepted Old ≡ true = ap is_accepted is ∙ so in cc)
-owned_of false news repeated header delivery runs is so = absurd (let e : is_accepted WrongSize ≡ true = ap is_accepted is ∙ so in cc)
+owned_of false new_data repeated header delivery runs is so = absurd (let e : is_accepted WrongSize ≡ true = ap is_accepted is ∙ so in cc)
 
 not_empty : (n : ℕ) → (0 == n + 4) ≡ true → ⊥
-not_empty n is = absurd (let e = is_equal 0 (n + 4) is in omega (arith, e))
+not_empty n is = absurd (let e = eqb-true 0 (n + 4) is in omega (arith, e))
 
 -- its header gives the mode, and behind it stands the value
 headed : HeaderReadsBack → (profile : Profile) (row : Row) (d : DatagramFields) (p : Production) → HasForm p.made → d.payload ≡ p.made.datagram.payload → is_owner row.kind ≡ true → (length d.payload == expected_len profile row) ≡ true → header_at d.payload ≡ Some (p.made.run, p.made.value)
@@ -190,7 +184,7 @@ Repeats accepted device p n = (a : Acceptance) → newest (end_at device n) acce
 repeated_by : (o : Option Acceptance) (last : Option Accepted) (count : ℕ) → last ≡ pair_of o → is_duplicate last count ≡ true → (a : Acceptance) × (o ≡ Some a) × (count ≡ a.production.made.datagram.count)
 repeated_by None last count is so = absurd (let e : is_duplicate None count ≡ true = ap (λ (l : Option Accepted). is_duplicate l count) (sym is) ∙ so in cc)
 repeated_by (Some a) last count is so =
-    (a, refl, is_equal count a.production.made.datagram.count (ap (λ (l : Option Accepted). is_duplicate l count) (sym is) ∙ so))
+    (a, refl, eqb-true count a.production.made.datagram.count (ap (λ (l : Option Accepted). is_duplicate l count) (sym is) ∙ so))
 
 some_header : (a b : Bool) (xs ys : List ℕ) → ◌≡◌ {A = Option (Bool × List ℕ)} (Some (a, xs)) (Some (b, ys)) → (a ≡ b) × (xs ≡ ys)
 some_header a b xs ys is = (ap (λ (o : Option (Bool × List ℕ)). bit o) is, ap (λ (o : Option (Bool × List ℕ)). run_data o) is)
@@ -228,14 +222,14 @@ own_value reads accepted device p t row d delivery said so back numbered form ha
 -- ---- a datagram for another connection
 
 -- what an owner alone does
-owner_of : (sized news owns repeated : Bool) (header : Option (Bool × List ℕ)) → (cond sized (cond news (cond owns (cond repeated Duplicate (moded header)) Heartbeat) Old) WrongSize ≡ Applied) ⊎ (cond sized (cond news (cond owns (cond repeated Duplicate (moded header)) Heartbeat) Old) WrongSize ≡ Idle) → owns ≡ true
+owner_of : (sized new_data owns repeated : Bool) (header : Option (Bool × List ℕ)) → (cond sized (cond new_data (cond owns (cond repeated Duplicate (moded header)) Heartbeat) Old) WrongSize ≡ Applied) ⊎ (cond sized (cond new_data (cond owns (cond repeated Duplicate (moded header)) Heartbeat) Old) WrongSize ≡ Idle) → owns ≡ true
 owner_of true true true repeated header is = refl
 owner_of true true false repeated header (inl is) = absurd (let e = is in cc)
 owner_of true true false repeated header (inr is) = absurd (let e = is in cc)
 owner_of true false owns repeated header (inl is) = absurd (let e = is in cc)
 owner_of true false owns repeated header (inr is) = absurd (let e = is in cc)
-owner_of false news owns repeated header (inl is) = absurd (let e = is in cc)
-owner_of false news owns repeated header (inr is) = absurd (let e = is in cc)
+owner_of false new_data owns repeated header (inl is) = absurd (let e = is in cc)
+owner_of false new_data owns repeated header (inr is) = absurd (let e = is in cc)
 
 -- where it is an owner's, its output is another one
 other_values : (profile : Profile) (point other : ℕ) (d : DatagramFields) (delivery : Delivery) (values : List PointValue) (kept : List ℕ) → ((delivery ≡ Applied) ⊎ (delivery ≡ Idle) → (other == point) ≡ false) → bytes_at values point ≡ Some kept → bytes_at (accepted_values profile other d delivery values) point ≡ Some kept
@@ -258,7 +252,7 @@ one_owner t point a b whole has_a has_b one two =
 
 apart_by : (b : Bool) (t : AdapterTable) (found row : Row) → (found.consumed == row.consumed) ≡ b → IsWhole t → Has found t.rows → Has row t.rows → found.opening ≢ row.opening → is_established found ≡ true → is_owner found.kind ≡ true → is_established row ≡ true → is_owner row.kind ≡ true → b ≡ false
 apart_by true t found row same whole has_found has ne lives owns living owning =
-    let one = one_owner t row.consumed found row whole has_found has (drives_so found row.consumed lives owns (is_equal found.consumed row.consumed same)) (drives_so row row.consumed living owning refl) in
+    let one = one_owner t row.consumed found row whole has_found has (drives_so found row.consumed lives owns (eqb-true found.consumed row.consumed same)) (drives_so row row.consumed living owning refl) in
     absurd (ne (ap (λ (r : Row). r.opening) one))
 apart_by false t found row same whole has_found has ne lives owns living owning = refl
 
@@ -271,9 +265,6 @@ other_apart t peer d found row delivery said whole has_found for_it has ne lives
     acted (inr is) = inr (said ∙ is)
 
 -- ---- a datagram
-
-some_a : (x y : Acceptance) → Some x ≡ Some y → x ≡ y
-some_a x y is = cc
 
 -- the output of an owner holds some bytes
 pub record OutputBytes (t : AdapterTable) (point : ℕ) : Type 0 where
@@ -318,20 +309,20 @@ fed_holds reads accepted device p t peer d found delivery there said so back num
 
     by_opening : (b : Bool) → (found.opening == row.opening) ≡ b → bytes_at (accepted_values t.profile found.consumed d delivery t.values) row.consumed ≡ Some a.production.made.value
     by_opening true same =
-        let opens = is_equal found.opening row.opening same in
+        let opens = eqb-true found.opening row.opening same in
         let one : m.was ≡ found = one_row t.rows m.was found whole.sound.producers.openings_rise m.there (found_has (is_for peer d.connection) t.rows found there) (sym like.opening ∙ sym opens) in
-        let mine : a ≡ e = some_a a e (sym newest_is ∙ newest_here e accepted (end_at device row.opening) (ap (end_at device) opens)) in
+        let mine : a ≡ e = same_Some a e (sym newest_is ∙ newest_here e accepted (end_at device row.opening) (ap (end_at device) opens)) in
         let runs : p.made.run ≡ true = ap (λ (x : Acceptance). x.production.made.run) (sym mine) ∙ run in
         let owned : is_owner found.kind ≡ true = ap (λ (r : Row). is_owner r.kind) (sym one) ∙ owning in
         let bytes = output_kept t found whole (found_has (is_for peer d.connection) t.rows found there) owned in
         let value = own_value reads accepted device p t found d delivery said so back numbered form (found_has (is_for peer d.connection) t.rows found there) (ap is_established (sym one) ∙ living) owned runs bytes.kept bytes.holds remembers repeats ok in
         ap (bytes_at (accepted_values t.profile found.consumed d delivery t.values)) (like.consumed ∙ ap (λ (r : Row). r.consumed) one) ∙ value ∙ ap (λ (x : Acceptance). Some x.production.made.value) (sym mine)
     by_opening false other =
-        let ne = not_equal found.opening row.opening other in
+        let ne = eqb-false found.opening row.opening other in
         let old : newest (end_at device m.was.opening) accepted ≡ Some a =
         ap (λ (n : ℕ). newest (end_at device n) accepted) (sym like.opening) ∙ sym (newest_past e accepted (end_at device row.opening) (λ same. ne (ap (λ (x : End). x.number) same))) ∙ newest_is in
         let holds = ok m.was m.there living owning a old run in
-        let apart = other_apart t peer d found m.was delivery said whole (found_has (is_for peer d.connection) t.rows found there) (row_passes (is_for peer d.connection) t.rows found there) m.there (λ same. ne (same ∙ sym like.opening)) living owning in
+        let apart = other_apart t peer d found m.was delivery said whole (found_has (is_for peer d.connection) t.rows found there) (found_passes (is_for peer d.connection) t.rows found there) m.there (λ same. ne (same ∙ sym like.opening)) living owning in
         ap (bytes_at (accepted_values t.profile found.consumed d delivery t.values)) like.consumed ∙ other_values t.profile m.was.consumed found.consumed d delivery t.values a.production.made.value apart holds
 
 judged_verdict : (b : Bool) (t u : AdapterTable) (delivery : Delivery) → (cond b (delivered delivery u) (delivered delivery t)).0.verdict ≡ Delivered delivery
@@ -375,14 +366,11 @@ runs_by : (b : Bool) → cond b Applied Idle ≡ Applied → b ≡ true
 runs_by true is = refl
 runs_by false is = absurd (let e = is in cc)
 
-runs_of : (sized news repeated : Bool) (header : Option (Bool × List ℕ)) → cond sized (cond news (cond repeated Duplicate (moded header)) Old) WrongSize ≡ Applied → run_bit header ≡ true
+runs_of : (sized new_data repeated : Bool) (header : Option (Bool × List ℕ)) → cond sized (cond new_data (cond repeated Duplicate (moded header)) Old) WrongSize ≡ Applied → run_bit header ≡ true
 runs_of true true true header is = absurd (let e = is in cc)
 runs_of true true false header is = runs_by (run_bit header) is
 runs_of true false repeated header is = absurd (let e = is in cc)
-runs_of false news repeated header is = absurd (let e = is in cc)
-
-same_delivery : (a b : Delivery) → Delivered a ≡ Delivered b → a ≡ b
-same_delivery a b is = cc
+runs_of false new_data repeated header is = absurd (let e = is in cc)
 
 found_runs : HeaderReadsBack → (accepted : List Acceptance) (device : ℕ) (p : Production) (t : AdapterTable) (peer : Node) (d : DatagramFields) (found : Option Row) → ComesBack p.made.datagram d → FactsAt accepted device p (row_number found) (found_datagram t peer d found).0.verdict → (n : ℕ) → row_number found ≡ Some n → (found_datagram t peer d found).0.verdict ≡ Delivered Applied → p.made.run ≡ true
 found_runs reads accepted device p t peer d None back facts n named said = absurd (let e = named in cc)

@@ -2,10 +2,10 @@
 use Rattle.std.proofs.Common.{◌≡◌, ℕ, Bool, true, false, cond, List, replicate, ◌⊎◌, inl, inr, refl, sym, ◌∙◌, ap, subst}
 use Rattle.cip_types.specs.declared.names.Ms.{Ms}
 use Rattle.cip_events.specs.declared.event.Event.{Event}
-use Rattle.cip_events.specs.declared.event.Event.TheVariants.{Request, StreamOpened, Frame, StreamCut, Datagram, Write, Read, Tick, Mode, Start, Stop}
+use Rattle.cip_events.specs.declared.event.Event.TheVariants.{StreamOpened, Frame, StreamCut, Datagram, Write, Read, Tick, Mode, Start, Stop}
 use Rattle.cip_productions.specs.Kinds.{is_owner}
 use Rattle.scanner_table.specs.declared.profile.SlotConfig.{SlotConfig}
-use Rattle.scanner_table.specs.declared.slot.Connection.{Connection}
+use Rattle.scanner_table.specs.declared.slot.SlotConnection.{SlotConnection}
 use Rattle.scanner_table.specs.declared.slot.Slot.{Slot}
 use Rattle.scanner_table.specs.declared.slot.SlotState.{SlotState}
 use Rattle.scanner_table.specs.declared.slot.SlotState.TheVariants.{Idle, Opening, Established, TimedOut, Closing}
@@ -17,15 +17,15 @@ use Rattle.scanner_table.specs.Productions.{produced_state, state_is_due, writte
 use Rattle.scanner_table.specs.Replies.{established_slot, failed_slot, new_connection}
 use Rattle.scanner_table.specs.Slots.{IndexedSlot, with_slot}
 use Rattle.scanner_table.specs.Step.{scanner_step}
-use Rattle.scanner_laws.proofs.Moves.{Leads, cut_leads, mode_leads, read_leads, start_leads, stop_leads, streamed_leads, tick_leads, write_leads}
-use Rattle.scanner_laws.proofs.SlotLookups.{Stands}
-use Rattle.scanner_laws.proofs.Slotwise.{Goes, Relation, Slotwise, goes_kept, goes_widely, set_goes, set_later}
+use Rattle.scanner_whole.specs.Lemmas.Moves.{Leads, cut_leads, mode_leads, read_leads, start_leads, stop_leads, streamed_leads, tick_leads, write_leads}
+use Rattle.scanner_whole.specs.Lemmas.SlotLookups.{Stands}
+use Rattle.scanner_whole.specs.Lemmas.Slotwise.{Goes, Relation, Slotwise, goes_kept, goes_widely, set_goes, set_later}
 use Rattle.cip_tables.specs.Step.{is_datagram}
-use Rattle.made_productions.proofs.Quietly.{KeptQuietly, frame_leads}
+use Rattle.made_productions.specs.Lemmas.Quietly.{KeptQuietly, frame_leads}
 
 -- the slot was established by the connection's opening, with the same ids
-pub record WasSame (was : SlotState) (c : Connection) : Type 0 where
-  pub before : Connection
+pub record WasSame (was : SlotState) (c : SlotConnection) : Type 0 where
+  pub before : SlotConnection
   pub state : was ≡ Established before
   pub opening : before.opening ≡ c.opening
   pub link : before.link ≡ c.link
@@ -36,12 +36,12 @@ zeros_of config = replicate config.in_len 0
 -- The image of a slot is what it was, or zeros. Where it is established, it was so by the same opening, or the image is zeros.
 pub record Continues (config : SlotConfig) (was now : Slot) : Type 0 where
   pub image : (now.image ≡ was.image) ⊎ (now.image ≡ zeros_of config)
-  pub state : (c : Connection) → now.state ≡ Established c → WasSame was.state c ⊎ (now.image ≡ zeros_of config)
+  pub state : (c : SlotConnection) → now.state ≡ Established c → WasSame was.state c ⊎ (now.image ≡ zeros_of config)
 
 abbrev pub Images : Relation
 Images t u number config was now = Continues config was now
 
-same_state : (slot : Slot) (c : Connection) → slot.state ≡ Established c → WasSame slot.state c
+same_state : (slot : Slot) (c : SlotConnection) → slot.state ≡ Established c → WasSame slot.state c
 same_state slot c is = record { before = c; state = is; opening = refl; link = refl }
 
 stays_on : (config : SlotConfig) (slot : Slot) → Continues config slot slot
@@ -58,38 +58,38 @@ goes_after config a b c first next = record { image = image first.image next.ima
   zeros (inl same) is = same ∙ is
   zeros (inr is) before = is
 
-  earlier : (d : Connection) → (m : WasSame b.state d) → WasSame a.state m.before ⊎ (b.image ≡ zeros_of config) → WasSame a.state d ⊎ (c.image ≡ zeros_of config)
+  earlier : (d : SlotConnection) → (m : WasSame b.state d) → WasSame a.state m.before ⊎ (b.image ≡ zeros_of config) → WasSame a.state d ⊎ (c.image ≡ zeros_of config)
   earlier d m (inl w) = inl (record { before = w.before; state = w.state; opening = w.opening ∙ m.opening; link = w.link ∙ m.link })
   earlier d m (inr is) = inr (zeros next.image is)
 
-  state : (d : Connection) → WasSame b.state d ⊎ (c.image ≡ zeros_of config) → WasSame a.state d ⊎ (c.image ≡ zeros_of config)
+  state : (d : SlotConnection) → WasSame b.state d ⊎ (c.image ≡ zeros_of config) → WasSame a.state d ⊎ (c.image ≡ zeros_of config)
   state d (inr is) = inr is
   state d (inl m) = earlier d m (first.state m.before m.state)
 
 -- a slot that is not established
-not_established : (config : SlotConfig) (was now : Slot) (state : SlotState) → now.state ≡ state → ((c : Connection) → state ≡ Established c → ⊥) → now.image ≡ was.image → Continues config was now
+not_established : (config : SlotConfig) (was now : Slot) (state : SlotState) → now.state ≡ state → ((c : SlotConnection) → state ≡ Established c → ⊥) → now.image ≡ was.image → Continues config was now
 not_established config was now state is never image = record { image = inl image; state = λ c established. absurd (never c (sym is ∙ established)) }
 
-produced_on : (b : Bool) (config : SlotConfig) (was : Slot) (state : SlotState) (next : SlotState → SlotState) → was.state ≡ state → ((c : Connection) → next state ≡ Established c → WasSame state c) → Continues config was (cond b (record was { state = next was.state }) was)
+produced_on : (b : Bool) (config : SlotConfig) (was : Slot) (state : SlotState) (next : SlotState → SlotState) → was.state ≡ state → ((c : SlotConnection) → next state ≡ Established c → WasSame state c) → Continues config was (cond b (record was { state = next was.state }) was)
 produced_on true config was state next is same = record { image = inl refl; state = λ c established. inl (subst (λ (s : SlotState). WasSame s c) (sym is) (same c (ap next (sym is) ∙ established))) }
 produced_on false config was state next is same = stays_on config was
 
-kept_state : (next : SlotState → SlotState) (state : SlotState) (a : Connection) (b : Connection) → next state ≡ Established b → state ≡ Established a → b.opening ≡ a.opening → b.link ≡ a.link → (c : Connection) → next state ≡ Established c → WasSame state c
+kept_state : (next : SlotState → SlotState) (state : SlotState) (a : SlotConnection) (b : SlotConnection) → next state ≡ Established b → state ≡ Established a → b.opening ≡ a.opening → b.link ≡ a.link → (c : SlotConnection) → next state ≡ Established c → WasSame state c
 kept_state next state a b is was opening link c now =
     let same : b ≡ c = connection_is b c (sym is ∙ now) in
-    record { before = a; state = was; opening = sym opening ∙ ap (λ (x : Connection). x.opening) same; link = sym link ∙ ap (λ (x : Connection). x.link) same }
+    record { before = a; state = was; opening = sym opening ∙ ap (λ (x : SlotConnection). x.opening) same; link = sym link ∙ ap (λ (x : SlotConnection). x.link) same }
   where
-    connection_is : (x y : Connection) → Established x ≡ Established y → x ≡ y
+    connection_is : (x y : SlotConnection) → Established x ≡ Established y → x ≡ y
     connection_is x y is = cc
 
-written_same : (state : SlotState) (c : Connection) → written_state state ≡ Established c → WasSame state c
+written_same : (state : SlotState) (c : SlotConnection) → written_state state ≡ Established c → WasSame state c
 written_same Idle c is = absurd (let e = is in cc)
 written_same (Opening o) c is = absurd (let e = is in cc)
 written_same (Established a) c is = kept_state written_state (Established a) a _ refl refl refl refl c is
 written_same (TimedOut link) c is = absurd (let e = is in cc)
 written_same (Closing a) c is = absurd (let e = is in cc)
 
-made_same : (clock : Ms) (state : SlotState) (c : Connection) → produced_state clock state ≡ Established c → WasSame state c
+made_same : (clock : Ms) (state : SlotState) (c : SlotConnection) → produced_state clock state ≡ Established c → WasSame state c
 made_same clock Idle c is = absurd (let e = is in cc)
 made_same clock (Opening o) c is = absurd (let e = is in cc)
 made_same clock (Established a) c is = kept_state (produced_state clock) (Established a) a _ refl refl refl refl c is
@@ -127,7 +127,6 @@ images_write t place bytes stands =
     (record { image = inl refl; state = λ c is. inl (written_same place.slot.state c is) })
 
 pub images_lead : (t : ScannerTable) (event : Event) → is_datagram event ≡ false → Leads (Goes Images) t (scanner_step t event)
-images_lead t (Request peer bytes) none = tt
 images_lead t (StreamOpened stream peer) none = streamed_leads (Goes Images) (goes_widely Images images_slotwise) t stream peer
 images_lead t (Frame stream bytes) none = frame_leads (Goes Images) t images_quietly stream bytes
 images_lead t (StreamCut stream) none = cut_leads (Goes Images) (goes_widely Images images_slotwise) t stream
@@ -138,3 +137,4 @@ images_lead t (Tick ms) none = tick_leads (Goes Images) (goes_widely Images imag
 images_lead t (Mode run) none = mode_leads (Goes Images) (goes_widely Images images_slotwise) t run
 images_lead t (Start slot) none = start_leads (Goes Images) (goes_kept Images images_slotwise) t slot
 images_lead t (Stop slot) none = stop_leads (Goes Images) (goes_kept Images images_slotwise) t slot
+images_lead t other none = tt

@@ -7,3 +7,5 @@ pub mod ImageSteps
 pub mod ImageActs
 pub mod GatheredImages
 pub mod ProducedImages
+pub mod InputsMade
+pub mod Makings

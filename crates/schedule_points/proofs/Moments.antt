@@ -1,7 +1,11 @@
 -- At each moment of a schedule: the chronicle is one of a schedule, what was accepted was produced, and outputs hold the
 -- values of what was produced.
-use Rattle.std.proofs.Common.{◌≡◌, ◌≢◌, ◌<◌, ℕ, ◌+◌, ◌%◌, ◌^◌, ◌==◌, Bool, true, false, List, [], ◌∷◌, ◌++◌, set, slice_get, Option, Some, None, Result, Ok, Err, IfOk, ◌⊎◌, inl, inr, refl, sym, ◌∙◌, ap, subst, arith}
+use Rattle.std.proofs.Common.{◌≡◌, ◌≢◌, ◌<◌, ℕ, ◌+◌, ◌%◌, ◌^◌, ◌==◌, Bool, true, false, List, [], ◌∷◌, ◌++◌, set, slice_get, Option, Some, None, Result, Ok, Err, IfOk, ◌⊎◌, inl, inr, refl, sym, ◌∙◌, ap, subst, arith, eqb-true}
 use Rattle.std.specs.List.{AllByRecursion, Contains}
+use Rattle.std.proofs.lemmas.Option.{same_Some}
+use Rattle.std.proofs.lemmas.Bool.{eqb-false}
+use Rattle.schedule_order.specs.Lemmas.Acts.{acts_after, one_act}
+use Rattle.base_lemmas.specs.Lists.{set_own, set_other}
 use Rattle.cip_datagram.specs.ReadsBack.{HeaderReadsBack}
 use Rattle.cip_events.specs.Answers.{is_accepted}
 use Rattle.cip_events.specs.declared.event.Answer.{Answer}
@@ -28,20 +32,19 @@ use Rattle.segment_world.specs.declared.act.ActFault.{ActFault}
 use Rattle.segment_world.specs.Configs.{opening_world}
 use Rattle.segment_world.specs.World.{World, ReportedEvent, happens}
 use Rattle.schedule_laws.specs.Ids.{SchedulesKeepIdsDrawn, OpeningWorldsHaveIdsDrawn}
-use Rattle.schedule_laws.proofs.Lists.{set_own, set_other, some_is}
-use Rattle.schedule_laws.proofs.Moves.{Came}
+use Rattle.schedule_laws.specs.Lemmas.Moves.{Came}
 use Rattle.made_productions.specs.Made.{Made, AnswersSendWhatIsMade, makes}
-use Rattle.made_productions.specs.Productions.{End, end_at, Production, IsNumbered, numbered, produced_more}
-use Rattle.made_productions.proofs.Lists.{Has, is_equal, not_equal}
+use Rattle.made_productions.specs.Productions.{end_at, Production, IsNumbered, numbered, produced_more}
+use Rattle.made_productions.specs.Lemmas.Lists.{Has}
 use Rattle.schedule_order.specs.Chronicle.{Acceptance, accepted_by_verdict, blank, chronicles, Chronicle, after_act, newest, then_act, with_event_at, with_event, recorded}
 use Rattle.schedule_order.specs.Names.{IsAdapterIn, IsScannerIn, SchedulesNameOpenings, SchedulesAcceptOneOpening}
 use Rattle.schedule_order.specs.Order.{AreWithin, IsAdapterAt, IsChronicle}
-use Rattle.schedule_order.proofs.AdapterNewest.{Entry, newest_past}
-use Rattle.schedule_order.proofs.Found.{all_contains}
-use Rattle.schedule_order.proofs.ProducedActs.{Any}
-use Rattle.schedule_order.proofs.NewestSteps.{AcceptLaws, adapter_stepped}
-use Rattle.schedule_order.proofs.NewestActs.{TakenIn}
-use Rattle.schedule_order.proofs.Deliveries.{IsNoted, verdict_noted}
+use Rattle.schedule_order.specs.Lemmas.AdapterNewest.{Entry}
+use Rattle.schedule_order.specs.Lemmas.Found.{all_contains}
+use Rattle.schedule_order.specs.Lemmas.ProducedActs.{Any}
+use Rattle.schedule_order.specs.Lemmas.NewestSteps.{AcceptLaws, adapter_stepped}
+use Rattle.schedule_order.specs.Lemmas.NewestActs.{TakenIn}
+use Rattle.schedule_order.specs.Lemmas.Deliveries.{IsNoted, verdict_noted}
 use Rattle.schedule_points.proofs.Forms.{HasForm, scanner_forms}
 use Rattle.schedule_points.proofs.OwnerRows.{all_of_has}
 use Rattle.schedule_points.proofs.Holding.{TableHolds}
@@ -53,22 +56,13 @@ pub record Reached (configs : List Config) (c : Chronicle) : Type 0 where
   pub acts : List Act
   pub is : IsChronicle configs acts c
 
-chronicles_after : (so_far : Result Chronicle ActFault) (acts more : List Act) → chronicles so_far (acts ++ more) ≡ chronicles (chronicles so_far acts) more
-unfolding chronicles
-chronicles_after so_far [] more = refl
-chronicles_after so_far (act ∷ acts) more = chronicles_after (then_act so_far act) acts more
-
-one_more : (so_far : Result Chronicle ActFault) (act : Act) → chronicles so_far (act ∷ []) ≡ then_act so_far act
-unfolding chronicles
-one_more so_far act = refl
-
 pub reached_by : (configs : List Config) (c c' : Chronicle) (act : Act) → Reached configs c → after_act c act ≡ Ok c' → Reached configs c'
 reached_by configs c c' act r goes = record {
   acts = r.acts ++ act ∷ [];
   is = record {
     faultless = r.is.faultless;
     bytes = r.is.bytes;
-    ran = chronicles_after (Ok (blank (opening_world configs))) r.acts (act ∷ []) ∙ ap (λ (s : Result Chronicle ActFault). chronicles s (act ∷ [])) r.is.ran ∙ one_more (Ok c) act ∙ goes;
+    ran = acts_after (Ok (blank (opening_world configs))) r.acts (act ∷ []) ∙ ap (λ (s : Result Chronicle ActFault). chronicles s (act ∷ [])) r.is.ran ∙ one_act (Ok c) act ∙ goes;
   };
 }
 
@@ -138,14 +132,14 @@ scanner_before w new reported m device now = by_device (device == reported.devic
 
   by_device : (b : Bool) → (device == reported.device) ≡ b → IsScannerIn w device
   by_device true is =
-      let one = is_equal device reported.device is in
+      let one = eqb-true device reported.device is in
       let here : slice_get (set w.tables reported.device m.after) reported.device ≡ Some (Scanner now.table) =
       subst (λ (n : ℕ). slice_get (set w.tables reported.device m.after) n ≡ Some (Scanner now.table)) one (ap (λ (ts : List DeviceTable). slice_get ts device) (sym tables) ∙ now.is) in
-      let same : m.after ≡ Scanner now.table = some_is m.after (Scanner now.table) (sym (set_own w.tables reported.device m.before m.after m.is) ∙ here) in
+      let same : m.after ≡ Scanner now.table = same_Some m.after (Scanner now.table) (sym (set_own w.tables reported.device m.before m.after m.is) ∙ here) in
       let was = was_scanner m.before reported.event reported.answer now.table (m.stepped ∙ ap (λ (u : DeviceTable). stepped_to reported.answer u) same) in
       record { table = was.0; is = ap (slice_get w.tables) one ∙ m.is ∙ ap (λ (u : DeviceTable). Some u) was.1 }
   by_device false is =
-      let ne = not_equal device reported.device is in
+      let ne = eqb-false device reported.device is in
       record { table = now.table; is = sym (set_other w.tables reported.device device m.after ne) ∙ ap (λ (ts : List DeviceTable). slice_get ts device) (sym tables) ∙ now.is }
 
 pub made_formed : (w : World) (device : ℕ) (ms : List Made) (produced : List Production) → (IsScannerIn w device → AllByRecursion HasForm ms) → AllByRecursion (IsFormed w) produced → AllByRecursion (IsFormed w) (produced_more device produced ms)
@@ -154,7 +148,7 @@ made_formed w device (m ∷ ms) produced forms ok =
     made_formed w device ms (produced ++ numbered device produced m ∷ []) (λ scanner. (forms scanner).1) (all_front (IsFormed w) produced (numbered device produced m ∷ []) ok ((λ scanner. (forms scanner).0), tt))
 
 pub makes_formed : (w : World) (device : ℕ) (t : DeviceTable) (e : Event) → slice_get w.tables device ≡ Some t → IsScannerIn w device → AllByRecursion HasForm (makes t e)
-makes_formed w device (Adapter t) e at scanner = absurd (let one : Some (Adapter t) ≡ Some (Scanner scanner.table) = sym at ∙ scanner.is in adapter_no_scanner t scanner.table (some_is (Adapter t) (Scanner scanner.table) one)) where
+makes_formed w device (Adapter t) e at scanner = absurd (let one : Some (Adapter t) ≡ Some (Scanner scanner.table) = sym at ∙ scanner.is in adapter_no_scanner t scanner.table (same_Some (Adapter t) (Scanner scanner.table) one)) where
   adapter_no_scanner : (t : AdapterTable) (s : ScannerTable) → Adapter t ≡ Scanner s → ⊥
   adapter_no_scanner t s is = absurd (let h = is in cc)
 makes_formed w device (Scanner t) e at scanner = scanner_forms t e
@@ -199,14 +193,6 @@ was_accepted device p n Ignored so = absurd (let e = so in cc)
 was_accepted device p n (Value bytes) so = absurd (let e = so in cc)
 was_accepted device p n (Delivered delivery) so = record { delivery = delivery; is = accepted_one device p n delivery so }
 
-pub newest_elsewhere : (device other n : ℕ) (p : Production) (number : Option ℕ) (verdict : Verdict) (old : List Acceptance) → device ≢ other → newest (end_at other n) (accepted_by_verdict device p number verdict ++ old) ≡ newest (end_at other n) old
-newest_elsewhere device other n p number verdict old ne = step (verdict_noted device p number verdict) where
-  step : (accepted_by_verdict device p number verdict ≡ []) ⊎ IsNoted device p number verdict (accepted_by_verdict device p number verdict) → newest (end_at other n) (accepted_by_verdict device p number verdict ++ old) ≡ newest (end_at other n) old
-  step (inl none) = ap (λ (xs : List Acceptance). newest (end_at other n) (xs ++ old)) none
-  step (inr noted) =
-      ap (λ (xs : List Acceptance). newest (end_at other n) (xs ++ old)) noted.mine_is
-      ∙ newest_past (Entry device p noted.request noted.delivery) old (end_at other n) (λ e. ne (ap (λ (x : End). x.device) e))
-
 pub noted_produced : (device : ℕ) (p : Production) (number : Option ℕ) (verdict : Verdict) (produced : List Production) → Has p produced → AllByRecursion (λ (a : Acceptance). Has a.production produced) (accepted_by_verdict device p number verdict)
 noted_produced device p number verdict produced has = step (verdict_noted device p number verdict) where
   step : (accepted_by_verdict device p number verdict ≡ []) ⊎ IsNoted device p number verdict (accepted_by_verdict device p number verdict) → AllByRecursion (λ (a : Acceptance). Has a.production produced) (accepted_by_verdict device p number verdict)
@@ -219,11 +205,11 @@ other_holds old more device t same ok row has lives owns a newest_is run = ok ro
 
 -- ---- equal counts
 
-same_news : (x y c d : ℕ) → x < y + 32768 → y < x + 32768 → c ≡ x % 65536 → d ≡ y % 65536 → c ≡ d → x ≡ y
-same_news x y c d near far one two same = omega arith
+same_new_data : (x y c d : ℕ) → x < y + 32768 → y < x + 32768 → c ≡ x % 65536 → d ≡ y % 65536 → c ≡ d → x ≡ y
+same_new_data x y c d near far one two same = omega arith
 
-pub near_news : (p q : Production) → AreWithin (2 ^ 15) p.news q.news → IsNumbered p → IsNumbered q → p.made.datagram.count ≡ q.made.datagram.count → p.news ≡ q.news
-near_news p q near one two same = same_news p.news q.news p.made.datagram.count q.made.datagram.count near.first near.second one.count two.count same
+pub near_new_data : (p q : Production) → AreWithin (2 ^ 15) p.new_data q.new_data → IsNumbered p → IsNumbered q → p.made.datagram.count ≡ q.made.datagram.count → p.new_data ≡ q.new_data
+near_new_data p q near one two same = same_new_data p.new_data q.new_data p.made.datagram.count q.made.datagram.count near.first near.second one.count two.count same
 
 -- ---- an event
 
@@ -271,12 +257,12 @@ table_cases w new reported m device u at = by_device (device == reported.device)
 
   by_device : (b : Bool) → (device == reported.device) ≡ b → TableCases w reported device u
   by_device true is =
-      let one = is_equal device reported.device is in
+      let one = eqb-true device reported.device is in
       let here : slice_get (set w.tables reported.device m.after) reported.device ≡ Some (Adapter u) = subst (λ (n : ℕ). slice_get (set w.tables reported.device m.after) n ≡ Some (Adapter u)) one now in
-      let same : m.after ≡ Adapter u = some_is m.after (Adapter u) (sym (set_own w.tables reported.device m.before m.after m.is) ∙ here) in
+      let same : m.after ≡ Adapter u = same_Some m.after (Adapter u) (sym (set_own w.tables reported.device m.before m.after m.is) ∙ here) in
       inr (one, adapter_before w reported u m.before m.is (m.stepped ∙ ap (λ (x : DeviceTable). stepped_to reported.answer x) same))
   by_device false is =
-      let ne = not_equal device reported.device is in
+      let ne = eqb-false device reported.device is in
       inl ((λ same. ne (sym same)), sym (set_other w.tables reported.device device m.after ne) ∙ now)
 
 -- an adapter after an event was one before it

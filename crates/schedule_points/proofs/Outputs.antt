@@ -2,6 +2,8 @@
 -- production in run mode.
 use Rattle.std.proofs.Common.{◌≡◌, ◌≢◌, ℕ, suc, Bool, true, false, cond, List, [], ◌∷◌, ◌++◌, map, find, slice_get, Option, Some, None, Result, Ok, IfOk, ◌⊎◌, inl, inr, refl, sym, ◌∙◌, ap, subst, arith}
 use Rattle.std.specs.List.{AllByRecursion, Contains}
+use Rattle.std.proofs.lemmas.Option.{same_Some}
+use Rattle.base_lemmas.specs.Lists.{found_passes}
 use Rattle.cip_types.specs.declared.names.Node.{Node}
 use Rattle.cip_datagram.specs.Datagram.{datagram_text}
 use Rattle.cip_events.specs.declared.event.Answer.{Answer}
@@ -15,7 +17,7 @@ use Rattle.adapter_table.specs.declared.table.AdapterTable.{AdapterTable}
 use Rattle.adapter_table.specs.Datagrams.{received}
 use Rattle.adapter_table.specs.Requests.{Next}
 use Rattle.adapter_table.specs.Step.{adapter_step}
-use Rattle.adapter_table.proofs.RequestLemmas.{next_is}
+use Rattle.adapter_table.specs.Lemmas.RequestLemmas.{next_is}
 use Rattle.scanner_laws.specs.Deliveries.{reports_accepted}
 use Rattle.cip_tables.specs.declared.table.Config.{Config}
 use Rattle.cip_tables.specs.declared.table.DeviceTable.{DeviceTable}
@@ -26,30 +28,30 @@ use Rattle.segment_world.specs.declared.act.Act.{Act}
 use Rattle.segment_world.specs.declared.act.ActFault.{ActFault}
 use Rattle.segment_world.specs.Configs.{opening_world}
 use Rattle.segment_world.specs.World.{World, ReportedEvent, node_at, happens}
-use Rattle.schedule_laws.proofs.Lists.{all_get, some_is}
-use Rattle.schedule_laws.proofs.Moves.{Came, Rests}
-use Rattle.device_laws.proofs.Lists.{all_more}
+use Rattle.schedule_laws.specs.Lemmas.Lists.{all_get}
+use Rattle.schedule_laws.specs.Lemmas.Moves.{Came, Rests}
+use Rattle.device_laws.specs.Lemmas.Lists.{all_more}
 use Rattle.made_productions.specs.Made.{makes}
 use Rattle.made_productions.specs.Productions.{End, end_at, is_end, Production, IsNumbered}
-use Rattle.made_productions.proofs.Books.{end_is}
-use Rattle.made_productions.proofs.Lists.{Has, all_has, get_has}
+use Rattle.made_productions.specs.Lemmas.Books.{end_is}
+use Rattle.made_productions.specs.Lemmas.Lists.{Has, all_has, get_has}
 use Rattle.schedule_order.specs.Chronicle.{Acceptance, accepted_by_verdict, accepted_sent, accepted_by_act, blank, chronicles, Chronicle, has_consumer, names, newest, opens_row, Opened, with_event}
 use Rattle.schedule_order.specs.Indexes.{sent_of}
 use Rattle.schedule_order.specs.Names.{IsAdapterIn, IsEntry, IsScannerIn}
 use Rattle.schedule_order.specs.Order.{AreNear, HalfCircle, IsAdapterAt, IsChronicle, IsNear, IsNearAct, IsNearNamed, IsNearSent, KeepsHalfCircle, step_accepts}
-use Rattle.schedule_order.proofs.AdapterNewest.{Entry}
-use Rattle.schedule_order.proofs.Found.{found_holds, found_passes}
-use Rattle.schedule_order.proofs.Beginning.{schedule_produced}
-use Rattle.schedule_order.proofs.ProducedActs.{Any, Produced}
-use Rattle.schedule_order.proofs.RisingIndexes.{schedule_taken}
-use Rattle.schedule_order.proofs.NewestSteps.{Known}
-use Rattle.schedule_order.proofs.NewestActs.{NearCases, TakenIn, IsSentAs, near_keep, sent_as, taken_cases}
-use Rattle.schedule_order.proofs.Deliveries.{IsDelivery, IsNoted, IsOther, act_kind, verdict_noted}
+use Rattle.schedule_order.specs.Lemmas.AdapterNewest.{Entry}
+use Rattle.schedule_order.specs.Lemmas.Found.{found_holds}
+use Rattle.schedule_order.specs.Lemmas.Beginning.{schedule_produced}
+use Rattle.schedule_order.specs.Lemmas.ProducedActs.{Any, Produced}
+use Rattle.schedule_order.specs.Lemmas.RisingIndexes.{schedule_taken}
+use Rattle.schedule_order.specs.Lemmas.NewestSteps.{Known, other_event}
+use Rattle.schedule_order.specs.Lemmas.NewestActs.{NearCases, TakenIn, IsSentAs, near_keep, sent_as, taken_cases}
+use Rattle.schedule_order.specs.Lemmas.Deliveries.{IsDelivery, IsNoted, IsOther, act_kind, verdict_noted}
 use Rattle.schedule_points.specs.Outputs as law
 use Rattle.schedule_points.specs.Outputs.{AppliedInOrder, OutputsHold}
 use Rattle.schedule_points.proofs.Forms.{HasForm}
 use Rattle.schedule_points.proofs.Holding.{AcceptFacts, FactsAt, IsSame, TableHolds, applied_runs, datagram_holds, quiet_holds}
-use Rattle.schedule_points.proofs.Moments.{AdapterBefore, Holds, IsFormed, PointLaws, Reached, TableCases, WasAccepted, WasRunning, adapter_back, all_front, contains_has, goes_on_to, has_more, made_formed, makes_formed, near_news, other_holds, reached_by, reached_keeps, scanner_before, table_cases, newest_elsewhere, noted_produced, was_accepted}
+use Rattle.schedule_points.proofs.Moments.{AdapterBefore, Holds, IsFormed, PointLaws, Reached, TableCases, WasAccepted, WasRunning, adapter_back, all_front, contains_has, goes_on_to, has_more, made_formed, makes_formed, near_new_data, other_holds, reached_by, reached_keeps, scanner_before, table_cases, noted_produced, was_accepted}
 
 -- ---- a production that is accepted
 
@@ -65,9 +67,6 @@ newest_contains (b ∷ accepted) e a is = step (is_end e b.consumer) is (newest_
   step true is more = inl (let h = is in cc)
   step false is more = inr (more is)
 
-some_opened : (x y : Opened) → Some x ≡ Some y → x ≡ y
-some_opened x y is = cc
-
 -- of one connection the new acceptance and the newest before it have one producer, a scanner
 record OneProducer (c' : Chronicle) (p q : Production) : Type 0 where
   same : p.producer ≡ q.producer
@@ -77,7 +76,7 @@ one_producer : PointLaws → (configs : List Config) (c' : Chronicle) (d n : ℕ
 one_producer laws configs c' d n u a b reached at has_a has_b one two =
     let x = laws.openings configs reached.acts c' reached.is a u (contains_by c'.accepted a has_a) (subst (λ (e : End). IsAdapterAt c' e.device u) (sym one) at) in
     let y = laws.openings configs reached.acts c' reached.is b u (contains_by c'.accepted b has_b) (subst (λ (e : End). IsAdapterAt c' e.device u) (sym two) at) in
-    let same : x.entry ≡ y.entry = some_opened x.entry y.entry (sym x.found ∙ ap (λ (e : End). find (opens_row e) c'.opened) (one ∙ sym two) ∙ y.found) in
+    let same : x.entry ≡ y.entry = same_Some x.entry y.entry (sym x.found ∙ ap (λ (e : End). find (opens_row e) c'.opened) (one ∙ sym two) ∙ y.found) in
     let entry = found_holds (IsEntry c'.story.world c'.opened) (opens_row a.consumer) c'.opened x.entry (laws.names configs reached.acts c' reached.is).entries x.found in
     record {
       same = x.producer ∙ ap (λ (o : Opened). o.slot) same ∙ sym y.producer;
@@ -118,7 +117,7 @@ facts_of laws configs c c' d p u verdict n reached at accepted so has more forme
         let numbered_a : IsNumbered a.production = found_holds Known (has_consumer (end_at d n)) c.accepted a taken.known newest_is in
         let has_a = all_has (λ (x : Acceptance). Has x.production c.produced) c.accepted a known (newest_contains c.accepted (end_at d n) a newest_is) in
         record {
-          payload = produced.well.agree p a.production has has_a both.same (near_news p a.production (close.news refl) numbered numbered_a same);
+          payload = produced.well.agree p a.production has has_a both.same (near_new_data p a.production (close.new_data refl) numbered numbered_a same);
           form = form a.production has_a (subst (λ (x : End). IsScannerIn c'.story.world x.device) both.same both.scanner);
         }
 
@@ -212,7 +211,7 @@ came_holds laws configs c act reported new is m near reached ok = record {
         let p = production del in
         let e : Event = event.Datagram (peer_of del) (datagram_text p.made.datagram) in
         let true_so : reports_accepted reported.answer.verdict ≡ true = ap reports_accepted (sym (verdict del u b)) ∙ so in
-        let one : m.before ≡ Adapter b.table = some_is m.before (Adapter b.table) (sym m.is ∙ b.there) in
+        let one : m.before ≡ Adapter b.table = same_Some m.before (Adapter b.table) (sym m.is ∙ b.there) in
         let accepts : step_accepts (step (Adapter b.table) e) ≡ reports_accepted reported.answer.verdict =
         ap step_accepts (ap (λ (t : DeviceTable). step t e) (sym one) ∙ ap (step m.before) (sym (event_is del)) ∙ m.stepped) in
         let near_p : IsNear true p (newest (end_at d n) c.accepted) =
@@ -240,7 +239,7 @@ came_holds laws configs c act reported new is m near reached ok = record {
         by_case here (inl other) = absurd (other.0 refl)
         by_case here (inr own) =
             let b = own.1 in
-            let one : m.before ≡ Adapter b.table = some_is m.before (Adapter b.table) (sym m.is ∙ b.there) in
+            let one : m.before ≡ Adapter b.table = same_Some m.before (Adapter b.table) (sym m.is ∙ b.there) in
             let named_so : names (Adapter b.table) (sent_of w (production del)) ≡ Some n = ap (λ (t : DeviceTable). names t (sent_of w (production del))) (sym one) ∙ sym number_is ∙ named in
             let so : delivery ≡ Applied = ap (λ (x : Acceptance). x.delivery) (sym is) ∙ applied in
             ap (λ (x : Acceptance). x.production.made.run) is
@@ -268,7 +267,7 @@ came_holds laws configs c act reported new is m near reached ok = record {
     elsewhere : IsDelivery w act reported ⊎ IsOther w c.produced act reported → (device : ℕ) → d ≢ device → (n : ℕ) → newest (end_at device n) c'.accepted ≡ newest (end_at device n) c.accepted
     elsewhere (inl del) device ne n =
         ap (λ (xs : List Acceptance). newest (end_at device n) (xs ++ c.accepted)) (noted del m.before m.is)
-        ∙ newest_elsewhere d device n (sent del).production (names m.before (sent_of w (sent del).production)) reported.answer.verdict c.accepted ne
+        ∙ other_event d device n (sent del).production (names m.before (sent_of w (sent del).production)) reported.answer.verdict c.accepted ne
     elsewhere (inr other) device ne n = ap (λ (xs : List Acceptance). newest (end_at device n) (xs ++ c.accepted)) (other.none reported.answer.verdict)
 
     by_kind : IsDelivery w act reported ⊎ IsOther w c.produced act reported → (device : ℕ) (u : AdapterTable) → IsAdapterAt c' device u → TableCases w reported device u → TableHolds c'.accepted device u

@@ -7,7 +7,7 @@ use Rattle.cip_datagram.specs.declared.datagram.DatagramFault.{DatagramFault}
 use Rattle.cip_datagram.specs.Datagram.{DatagramFields}
 use Rattle.cip_datagram.specs.Reading.{datagram_reading}
 use Rattle.cip_events.specs.declared.event.Event.{Event}
-use Rattle.cip_events.specs.declared.event.Event.TheVariants.{Request, StreamOpened, Frame, StreamCut, Datagram, Write, Read, Tick, Mode, Start, Stop}
+use Rattle.cip_events.specs.declared.event.Event.TheVariants.{Request, StreamOpened, Frame, StreamCut, Datagram, Write, Read, Tick}
 use Rattle.cip_events.specs.Answers.{is_accepted}
 use Rattle.cip_fwdopen.specs.Open.{OpenFields}
 use Rattle.cip_router.specs.Requests.{router_request_reading}
@@ -26,12 +26,12 @@ use Rattle.adapter_table.specs.Sound.{OpensBefore, OpeningsRise}
 use Rattle.adapter_table.specs.Step.{adapter_step, read, read_of, written_table, changed_table}
 use Rattle.adapter_table.specs.Streams.{with_stream, without_stream, registered_table}
 use Rattle.adapter_table.specs.Ticks.{has_expired, expired_row, expired_rows, clocked_table, expired_table, produced_table}
-use Rattle.adapter_table.proofs.EffectLemmas.{write_is, tick_is}
-use Rattle.adapter_table.proofs.LikeLemmas.{Keeps, written_keeps, changed_keeps, fed_keeps, due_keeps}
-use Rattle.adapter_table.proofs.RequestLemmas.{RequestsDo, answered_does, frame_does, next_is, streamed_is, cut_does}
-use Rattle.device_laws.proofs.Lists.{all_both, all_filtered, all_mapped}
-use Rattle.device_laws.proofs.Texts.{either}
-use Rattle.made_productions.proofs.Lists.{Has}
+use Rattle.adapter_table.specs.Lemmas.EffectLemmas.{write_is, tick_is}
+use Rattle.adapter_table.specs.Lemmas.LikeLemmas.{Keeps, written_keeps, changed_keeps, fed_keeps, due_keeps}
+use Rattle.adapter_table.specs.Lemmas.RequestLemmas.{RequestsDo, answered_does, frame_does, next_is, streamed_is, cut_does}
+use Rattle.device_laws.specs.Lemmas.Lists.{all_both, all_filtered, all_mapped}
+use Rattle.device_laws.specs.Lemmas.Texts.{either}
+use Rattle.made_productions.specs.Lemmas.Lists.{Has}
 
 -- the connection was established before, by the same opening, with the same kind and output
 pub record WasOpen (t : AdapterTable) (row : Row) : Type 0 where
@@ -155,9 +155,7 @@ rows_from t (Datagram peer bytes) next is = subst (λ (n : Next). RowsFrom t n.1
 rows_from t (Write point bytes) next is = subst (λ (n : Next). RowsFrom t n.1) (write_is t point bytes next is).said (written_from t point bytes)
 rows_from t (Read point) next is = read_from t (bytes_at t.values point) next is
 rows_from t (Tick ms) next is = subst (λ (n : Next). RowsFrom t n.1) (tick_is t ms next is).said (advanced_from t ms)
-rows_from t (Mode run) next is = absurd (let e = is in cc)
-rows_from t (Start slot) next is = absurd (let e = is in cc)
-rows_from t (Stop slot) next is = absurd (let e = is in cc)
+rows_from t other next is = absurd (let e = is in cc)
 
 -- ---- one opening, one connection
 

@@ -3,8 +3,8 @@ use Rattle.std.proofs.Common.{inl, inr, ℕ, ◌<◌, ◌^◌, find, Option, Som
 use Rattle.std.specs.List.{Contains}
 use Rattle.scanner_table.specs.declared.table.ScannerTable.{ScannerTable}
 use Rattle.scanner_table.specs.Slots.{IndexedSlot}
-use Rattle.scanner_laws.proofs.SlotLookups.{slot_is}
-use Rattle.device_laws.proofs.Texts.{same_again}
+use Rattle.scanner_whole.specs.Lemmas.SlotLookups.{slot_is}
+use Rattle.device_laws.specs.Lemmas.Texts.{same_again}
 use Rattle.reply_ids.specs.Slots.{SlotsHaveTheIdsOfTheirSuccess}
 use Rattle.schedule_laws.specs.Ids.{IdsAreDrawn, SchedulesKeepIdsDrawn, OpeningWorldsHaveIdsDrawn}
 use Rattle.made_productions.specs.Made.{AnswersSendWhatIsMade}
@@ -13,9 +13,9 @@ use Rattle.schedule_order.specs.Chronicle.{Acceptance, Chronicle, Establishment,
 use Rattle.schedule_order.specs.MadeOnce.{AnIdOpensOneConnection}
 use Rattle.schedule_order.specs.Names.{IsScannerIn, IsEntry, IdsNameOpenings, IsOfItsEntry, SlotAcceptsByEntry, WasProduced as IsProduced, SchedulesNameOpenings}
 use Rattle.schedule_order.specs.Order.{AcceptedIndexesRise, IsScannerAt}
-use Rattle.schedule_order.proofs.AcceptedOpenings.{t_o_fits}
-use Rattle.schedule_order.proofs.Found.{all_contains}
-use Rattle.schedule_order.proofs.OneProducer.{OpenedOnce, opened_once, IsOfProducer, slot_producer}
+use Rattle.schedule_order.specs.Lemmas.AcceptedOpenings.{t_o_fits}
+use Rattle.schedule_order.specs.Lemmas.Found.{all_contains}
+use Rattle.schedule_order.specs.Lemmas.OneProducer.{OpenedOnce, opened_once, IsOfProducer, slot_producer}
 use Rattle.schedule_points.specs.Images.{ScannersAccept, ImageWasProduced, GatheredInOrder}
 use Rattle.schedule_points.proofs.GatheredImages.{schedule_gathers}
 use Rattle.schedule_points.proofs.ImageActs.{ImageOf}

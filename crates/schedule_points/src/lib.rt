@@ -3,15 +3,17 @@
 
 ghost use Rattle.schedule_points.specs.Images.{GatheredInOrder, SchedulesGatherImages};
 ghost use Rattle.schedule_points.specs.Outputs.{AppliedInOrder};
+ghost use Rattle.schedule_points.specs.Written.{AcceptedDataWereWritten, GatheredDataWereInput};
 
 use adapter_table::laws::{accepted_datagrams_are_newer, outputs_hold_what_is_left};
 use cip_datagram::reads_back;
-use made_productions::answers_send_what_is_made;
+use made_productions::{answers_send_what_is_made, slots_produce_their_outputs};
 use reply_ids::slots_have_the_ids_of_their_success;
 use scanner_laws::{accepted_numbers_are_newer, openings_are_numbered};
 use schedule_laws::ids_are_drawn;
 use schedule_order::{
     accepted_indexes_rise, an_id_opens_one_connection, ids_name_openings, one_opening_is_accepted,
+    outputs_are_as_written,
 };
 
 /// What an adapter accepts through one connection are productions of the one slot opening whose Forward_Open opened it, with
@@ -67,4 +69,24 @@ pub fn images_are_in_order()
     accepted_indexes_rise();
     ids_name_openings();
     an_id_opens_one_connection();
+}
+
+/// What is accepted was written before, at a moment of the schedule.
+///
+/// - `outputs`: of a production that an adapter accepts. The slot whose opening made it held its value as its output, and this is
+///   what the slot's application had last written there, or zeros if it had written nothing. The production's datagram has the
+///   mode and that value, or no data.
+/// - `inputs`: of a production that a scanner accepts. The input of the producer held its value, or the adapter's application
+///   wrote it there by the next act. The production's datagram has that value.
+///
+/// This holds at every moment of every schedule; it needs no premise.
+///
+/// Volume 1, chapter 3, class 1 transport, real time formats.
+pub fn accepted_data_were_written()
+    ensures outputs { AcceptedDataWereWritten }
+    ensures inputs { GatheredDataWereInput }
+{
+    ids_name_openings();
+    slots_produce_their_outputs();
+    outputs_are_as_written();
 }

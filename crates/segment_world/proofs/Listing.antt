@@ -1,7 +1,7 @@
 -- Configurations, one after another.
 use Rattle.std.proofs.Common.{◌≡◌, ◌<◌, ◌≤◌, ℕ, ◌+◌, ◌==◌, ◌||◌, Bool, true, false, List, [], ◌∷◌, ◌++◌, map, drop, length, get_or, Option, Some, None, refl, sym, ◌∙◌, ap}
 use Rattle.std.specs.List.{list_any}
-use Rattle.std.proofs.lemmas.List.{at_drop_more, at_drop_all, append_assoc}
+use Rattle.std.proofs.lemmas.List.{at_drop_more, at_drop_all, append_assoc, map-append}
 use Rattle.cip_events.specs.declared.profile_fault.ProfileFault.{ProfileFault}
 use Rattle.cip_tables.specs.declared.table.Config.{Config}
 use Rattle.cip_tables.specs.declared.table.DeviceTable.{DeviceTable}
@@ -59,10 +59,10 @@ pub first_good : (left rest : List Config) (config : Config) → left ≡ config
 unfolding first_fault
 first_good left rest config is none = none_or (config_fault config) (first_fault rest) (sym (ap first_fault is) ∙ none)
 
-pub made_more : (made new : List DeviceTable) (all : List DeviceTable) (left rest : List Config) (config : Config) (table : DeviceTable) → left ≡ config ∷ rest → table ≡ opening_table config → made ++ map opening_table left ≡ all → new ≡ made ++ table ∷ [] → new ++ map opening_table rest ≡ all
-made_more made new all left rest config table is fresh so_far pushed =
-    ap (λ l. l ++ map opening_table rest) pushed
-    ∙ append_assoc made (table ∷ []) (map opening_table rest)
-    ∙ ap (λ (t : DeviceTable). made ++ t ∷ map opening_table rest) fresh
-    ∙ sym (ap (λ (l : List Config). made ++ map opening_table l) is)
+pub made_more : {D : Type 0} (table : D → DeviceTable) (made new : List D) (all : List DeviceTable) (left rest : List Config) (config : Config) (device : D) → left ≡ config ∷ rest → table device ≡ opening_table config → map table made ++ map opening_table left ≡ all → new ≡ made ++ device ∷ [] → map table new ++ map opening_table rest ≡ all
+made_more table made new all left rest config device is fresh so_far pushed =
+    ap (λ l. l ++ map opening_table rest) (ap (map table) pushed ∙ map-append table made (device ∷ []))
+    ∙ append_assoc (map table made) (table device ∷ []) (map opening_table rest)
+    ∙ ap (λ (t : DeviceTable). map table made ++ t ∷ map opening_table rest) fresh
+    ∙ sym (ap (λ (l : List Config). map table made ++ map opening_table l) is)
     ∙ so_far

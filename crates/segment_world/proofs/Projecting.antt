@@ -1,7 +1,8 @@
 -- Each device's table is the one to which its own events lead.
-use Rattle.std.proofs.Common.{◌≡◌, ◌≢◌, ℕ, zero, suc, ◌==◌, Bool, true, false, cond, List, [], ◌∷◌, ◌++◌, map, filter, set, slice_get, Option, Some, None, Result, Ok, Err, IfOk, refl, sym, ◌∙◌, ap, subst, arith}
+use Rattle.std.proofs.Common.{◌≡◌, ◌≢◌, ℕ, ◌==◌, Bool, true, false, cond, List, [], ◌∷◌, ◌++◌, map, filter, set, slice_get, Option, Some, None, Result, Ok, Err, IfOk, refl, sym, ◌∙◌, ap, subst, arith}
 use Rattle.std.proofs.lemmas.List.{append-nil, map-append}
 use Rattle.std.proofs.lemmas.Bool.Decides.{nat_tests}
+use Rattle.base_lemmas.specs.Lists.{set_own, set_other}
 use Rattle.cip_events.specs.declared.event.Event.{Event}
 use Rattle.cip_events.specs.declared.event.Event.TheVariants.{Datagram}
 use Rattle.cip_events.specs.declared.event.StepFault.{StepFault}
@@ -14,7 +15,7 @@ use Rattle.stream_queues.specs.Streams.{QueueItem, Stream, side_of, receiver, se
 use Rattle.segment_world.specs.declared.act.Act.{Act}
 use Rattle.segment_world.specs.declared.act.Act.TheVariants.{Local, Deliver, NextFrame, OpenStream, CutStream}
 use Rattle.segment_world.specs.declared.act.ActFault.{ActFault}
-use Rattle.segment_world.specs.World.{World, ReportedEvent, Happened, comes, comes_to, comes_so, event_of_call, delivered, event_of_item, node_at, without_front, taken, taken_at, are_two, opened_if, cut_if, cut_at, happens}
+use Rattle.segment_world.specs.World.{World, ReportedEvent, Happened, event_at_device, event_at_table, after_device_step, event_of_call, delivered, event_of_item, node_at, without_front, taken, taken_at, are_two, opened_if, cut_if, cut_at, happens}
 use Rattle.segment_world.specs.Story.{Story, reported_more, goes_on, reports, runs, begins, is_of, event_reported, events_of, ProjectionsAreRuns}
 
 -- WHAT ONE ACT DOES TO TABLES
@@ -31,15 +32,15 @@ abbrev pub Moves : List DeviceTable → Option ReportedEvent × World → Type 0
 Moves old (None, w) = w.tables ≡ old
 Moves old (Some reported, w) = Steps old reported w.tables
 
-so_moves : (device : ℕ) (event : Event) (w : World) (t : DeviceTable) (said : Result DeviceNext StepFault) → slice_get w.tables device ≡ Some t → step t event ≡ said → IfOk (comes_so device event w said) (Moves w.tables)
+so_moves : (device : ℕ) (event : Event) (w : World) (t : DeviceTable) (said : Result DeviceNext StepFault) → slice_get w.tables device ≡ Some t → step t event ≡ said → IfOk (after_device_step device event w said) (Moves w.tables)
 so_moves device event w t (Err fault) at is = tt
 so_moves device event w t (Ok next) at is = record { before = t; after = next.1; is = at; stepped = is; leaves = refl }
 
-to_moves : (device : ℕ) (event : Event) (w : World) (o : Option DeviceTable) → slice_get w.tables device ≡ o → IfOk (comes_to device event w o) (Moves w.tables)
+to_moves : (device : ℕ) (event : Event) (w : World) (o : Option DeviceTable) → slice_get w.tables device ≡ o → IfOk (event_at_table device event w o) (Moves w.tables)
 to_moves device event w None at = tt
 to_moves device event w (Some t) at = so_moves device event w t (step t event) at refl
 
-comes_moves : (device : ℕ) (event : Event) (w : World) → IfOk (comes device event w) (Moves w.tables)
+comes_moves : (device : ℕ) (event : Event) (w : World) → IfOk (event_at_device device event w) (Moves w.tables)
 comes_moves device event w = to_moves device event w (slice_get w.tables device) refl
 
 delivered_moves : (device : ℕ) (w : World) (t : Option DeviceTable) (sent : Option Sent) → IfOk (delivered device w t sent) (Moves w.tables)
@@ -100,18 +101,6 @@ after_push t [] event = refl
 after_push t (first ∷ events) event = after_push (table_of t (step t first)) events event
 
 -- INDICES
-
-set_own : {X : Type 0} (xs : List X) (i : ℕ) (x y : X) → slice_get xs i ≡ Some x → slice_get (set xs i y) i ≡ Some y
-set_own [] i x y is = absurd (let e = is in cc)
-set_own (z ∷ xs) zero x y is = refl
-set_own (z ∷ xs) (suc i) x y is = set_own xs i x y is
-
-set_other : {X : Type 0} (xs : List X) (i j : ℕ) (y : X) → j ≢ i → slice_get (set xs i y) j ≡ slice_get xs j
-set_other [] i j y ne = refl
-set_other (z ∷ xs) zero zero y ne = absurd (ne refl)
-set_other (z ∷ xs) zero (suc j) y ne = refl
-set_other (z ∷ xs) (suc i) zero y ne = refl
-set_other (z ∷ xs) (suc i) (suc j) y ne = set_other xs i j y (λ e. ne (ap suc e))
 
 -- THE LAW
 

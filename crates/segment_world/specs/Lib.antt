@@ -1,7 +1,6 @@
-pub mod Devices
 pub mod World
 pub mod Follows
 pub mod AnswerSpace
-pub mod Arrivals
+pub mod Receptions
 pub mod Configs
 pub mod Story

@@ -55,16 +55,16 @@ fan_out device answer w = record w {
   streams = answered device answer w.streams;
 }
 
-abbrev pub comes_so : ℕ → Event → World → Result DeviceNext StepFault → Happened
-comes_so device event w (Err fault) = Err (Step fault)
-comes_so device event w (Ok next) = Ok (Some (record { device = device; event = event; answer = next.0 }), fan_out device next.0 (record w { tables = set w.tables device next.1 }))
+abbrev pub after_device_step : ℕ → Event → World → Result DeviceNext StepFault → Happened
+after_device_step device event w (Err fault) = Err (Step fault)
+after_device_step device event w (Ok next) = Ok (Some (record { device = device; event = event; answer = next.0 }), fan_out device next.0 (record w { tables = set w.tables device next.1 }))
 
-abbrev pub comes_to : ℕ → Event → World → Option DeviceTable → Happened
-comes_to device event w None = Err NoSuchDevice
-comes_to device event w (Some t) = comes_so device event w (step t event)
+abbrev pub event_at_table : ℕ → Event → World → Option DeviceTable → Happened
+event_at_table device event w None = Err NoSuchDevice
+event_at_table device event w (Some t) = after_device_step device event w (step t event)
 
-abbrev pub comes : ℕ → Event → World → Happened
-comes device event w = comes_to device event w (slice_get w.tables device)
+abbrev pub event_at_device : ℕ → Event → World → Happened
+event_at_device device event w = event_at_table device event w (slice_get w.tables device)
 
 -- EVENTS OF A DEVICE
 
@@ -79,7 +79,7 @@ event_of_call (call.Tick ms) = event.Tick ms
 abbrev pub delivered : ℕ → World → Option DeviceTable → Option Sent → Happened
 delivered device w None sent = Err NoSuchDevice
 delivered device w (Some t) None = Err NeverSent
-delivered device w (Some t) (Some sent) = comes device (event.Datagram sent.from sent.bytes) w
+delivered device w (Some t) (Some sent) = event_at_device device (event.Datagram sent.from sent.bytes) w
 
 -- the event of the end that receives this item
 abbrev pub event_of_item : ℕ → Node → QueueItem → Event
@@ -93,7 +93,7 @@ without_front n direction w = record w { streams = with_stream (taken_from direc
 -- the end receives the front of its queue; the front stays if the device refuses the event
 abbrev pub taken : ℕ → Direction → World → Stream → List QueueItem → Happened
 taken n direction w s [] = Err StreamEmpty
-taken n direction w s (item ∷ rest) = comes (receiver direction s) (event_of_item n (node_at w (sender direction s)) item) (without_front n direction w)
+taken n direction w s (item ∷ rest) = event_at_device (receiver direction s) (event_of_item n (node_at w (sender direction s)) item) (without_front n direction w)
 
 abbrev pub taken_at : ℕ → Direction → World → Option Stream → Happened
 taken_at n direction w None = Err NoSuchStream
@@ -125,7 +125,7 @@ cut_at n w (Some s) = cut_if n w s.ended
 -- ACTS
 
 abbrev pub happens : World → Act → Happened
-happens w (Local device call) = comes device (event_of_call call) w
+happens w (Local device call) = event_at_device device (event_of_call call) w
 happens w (Deliver index device) = delivered device w (slice_get w.tables device) (slice_get w.sent index)
 happens w (NextFrame stream direction) = taken_at stream direction w (slice_get w.streams stream)
 happens w (OpenStream from to) = opened_if from to w (are_two from to w) (nat_lt (length w.streams) most_stream_numbers)

@@ -1,6 +1,11 @@
 //! Acts in a world, and their faults.
 
-use cip_events::StepFault;
+ghost use Rattle.cip_events.specs.Outcomes.{Follows};
+ghost use Rattle.cip_tables.specs.Step.{step};
+ghost use Rattle.segment_world.specs.World.{event_of_call};
+
+use cip_events::{Event, Outcome, StepFault};
+use cip_tables::Device;
 use cip_types::{Items, OutOfMemory};
 use stream_queues::Direction;
 use thiserror::Error;
@@ -20,6 +25,23 @@ pub enum Call {
     Stop { slot: u32 },
     /// A number of milliseconds passes, at most 60,000.
     Tick { ms: u32 },
+}
+
+impl Call {
+    /// Performs the call at a device.
+    pub fn perform<D: Device>(&self, device: &mut D) -> Outcome
+        ensures { Follows (step (D.table device.old) (event_of_call self.now))
+            (D.table device.old) result (D.table device.new) }
+    {
+        match self {
+            Call::Write { point, bytes } => device.write_point(*point, bytes.as_slice()),
+            Call::Read { point } => device.step(&Event::Read { point: *point }),
+            Call::Mode { run } => device.step(&Event::Mode { run: *run }),
+            Call::Start { slot } => device.step(&Event::Start { slot: *slot }),
+            Call::Stop { slot } => device.step(&Event::Stop { slot: *slot }),
+            Call::Tick { ms } => device.step(&Event::Tick { ms: *ms }),
+        }
+    }
 }
 
 /// One act. A device is given by its index among the configurations of the world, a stream by its number: streams

@@ -1,13 +1,12 @@
 //! The configurations of a world: their check, and the devices made from them.
 
-ghost use Rattle.std.specs.Prelude.{◌≡◌, ◌<◌, ◌+◌, ◌==◌, true, false, None, Some, IfOk, IfErr, drop, length, map};
+ghost use Rattle.std.specs.Prelude.{◌≡◌, ◌<◌, ◌+◌, ◌==◌, true, false, None, Some, IfOk, drop, length, map};
 ghost use Rattle.std.specs.List.{list_any};
-ghost use Rattle.cip_tables.specs.Step.{opening_table, config_fault};
+ghost use Rattle.cip_tables.specs.Step.{AcceptsAll, opening_table, config_fault};
 ghost use Rattle.segment_world.specs.Configs.{key_in, any_twice, first_fault, world_fault, node_of_config};
 
 use crate::fault::WorldFault;
-use crate::world_device::WorldDevice;
-use cip_events::ProfileFault;
+use cip_events::{NewFault, ProfileFault};
 use cip_tables::{Config, Device};
 use cip_types::{Node, OutOfMemory};
 use std::alloc::Global;
@@ -117,19 +116,31 @@ pub fn nodes_of(alloc: Global, configs: &[Config]) -> Result<Vec<Node>, OutOfMem
 }
 
 /// Makes fresh devices of configurations without a fault, in order. `OutOfMemory` is the only error.
-pub fn devices_of<A: Device + Drop, S: Device + Drop>(
+pub fn devices_of<D: Device + Drop>(
     alloc: Global,
     configs: Vec<Config>,
-) -> Result<Vec<WorldDevice<A, S>>, OutOfMemory>
-    requires adapter { A.ADAPTER ≡ true }
-    requires scanner { S.ADAPTER ≡ false }
+) -> Result<Vec<D>, OutOfMemory>
+    requires accepts { AcceptsAll D.accepts }
     requires good { first_fault configs.items ≡ None }
-    ensures { IfOk result (λ devices. devices.items ≡ map opening_table configs.items) }
+    ensures { IfOk result (λ devices. map D.table devices.items ≡ map opening_table configs.items) }
 {
     let mut devices = Vec::new(alloc);
     for config in configs {
-        let world_device = WorldDevice::new(alloc, config)?;
-        devices.push(world_device)?;
+        devices.push(device_of(alloc, config)?)?;
     }
     Ok(devices)
+}
+
+// The fresh device of a configuration without a fault.
+fn device_of<D: Device>(alloc: Global, config: Config) -> Result<D, OutOfMemory>
+    requires accepts { D.accepts config ≡ true }
+    requires good { config_fault config ≡ None }
+    ensures { IfOk result (λ device. D.table device ≡ opening_table config) }
+{
+    match D::new(alloc, config) {
+        Ok(device) => Ok(device),
+        Err(NewFault::OutOfMemory) => Err(OutOfMemory),
+        // (a valid configuration that is accepted is refused for lack of memory alone)
+        Err(_) => unreachable!(),
+    }
 }

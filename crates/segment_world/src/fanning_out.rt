@@ -11,7 +11,6 @@ use cip_events::{Answer, OutgoingDatagram};
 use cip_types::limits::LONGEST_MESSAGE;
 use cip_types::{Node, OutOfMemory};
 use sent_log::SentLog;
-use std::alloc::Global;
 use stream_queues::Streams;
 
 /// The most datagrams of an answer.

@@ -3,14 +3,13 @@
 #![tactic(auto)]
 
 mod act;
-mod arrival;
 mod configs;
 mod devices;
 mod fanning_out;
 mod fault;
 pub mod laws;
+mod reception;
 mod world;
-mod world_device;
 
 pub use act::{Act, ActFault, Call};
 pub use configs::world_fault;

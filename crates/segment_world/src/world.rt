@@ -1,20 +1,22 @@
 //! A world: the simulated network, and one act in it.
 
-ghost use Rattle.std.specs.Prelude.{◌≡◌, true, false, Err, None, Some, IfOk, IfErr, IfSome, IfNone, length, slice_get, nat_lt};
-ghost use Rattle.segment_world.specs.World.{World as Segment, comes, event_of_call, delivered, taken_at, happens, are_two, opened_if, cut_at, most_stream_numbers};
+ghost use Rattle.std.specs.Prelude.{◌≡◌, true, Err, None, Some, IfOk, IfErr, IfSome, IfNone, length, slice_get, nat_lt};
+ghost use Rattle.cip_tables.specs.Step.{AcceptsAll};
+ghost use Rattle.segment_world.specs.World.{World as Segment, event_at_device, event_of_call, delivered, taken_at, happens, are_two, opened_if, cut_at, most_stream_numbers};
 ghost use Rattle.segment_world.specs.Follows.{ActFollows, takes_no_memory, NeverOutOfMemory};
 ghost use Rattle.std.specs.Option.{option_map};
 ghost use Rattle.stream_queues.specs.Fronts.{endpoints_of, view_front, front_of, has_taken};
-ghost use Rattle.segment_world.specs.Arrivals.{IsArrival};
+ghost use Rattle.segment_world.specs.Receptions.{IsReception};
 ghost use Rattle.segment_world.specs.Configs.{opening_world, world_fault, IsRefused};
 
 use crate::act::{Act, ActFault, Call};
-use crate::arrival::{Arrival, event_of_front, node_of, node_or_zero, receiver_of, sender_of};
 use crate::configs::{devices_of, nodes_of, world_fault};
 use crate::devices::{call_at, deliver_at, step_at};
 use crate::fanning_out::{fan_out, reserve_answer};
 use crate::fault::WorldFault;
-use crate::world_device::WorldDevice;
+use crate::reception::{
+    Reception, arrival_of_front, node_of, node_or_zero, receiver_of, sender_of,
+};
 use cip_events::{Answer, Verdict};
 use cip_tables::{Config, Device, TableCopy};
 use cip_types::{Node, OutOfMemory};
@@ -30,23 +32,23 @@ const MOST_STREAM_NUMBERS: usize = 65_536;
 ///
 /// It keeps the allocator that it was made with.
 #[derive(Drop)]
-pub struct World<A: Device, S: Device> {
+pub struct World<D: Device> {
     alloc: Global,
-    devices: Vec<WorldDevice<A, S>>,
+    devices: Vec<D>,
     nodes: Vec<Node>,
     log: SentLog,
     streams: Streams,
 }
 
-impl<A: Device, S: Device> Model for World<A, S> {
-    ghost use Rattle.std.specs.Prelude.{◌≡◌, length};
+impl<D: Device> Model for World<D> {
+    ghost use Rattle.std.specs.Prelude.{◌≡◌, length, map};
     ghost use Rattle.segment_world.specs.World.{World as Segment};
 
     ghost Value = { Segment };
 
     ghost view = { λ w. record {
       nodes = w.nodes.items;
-      tables = w.devices.items;
+      tables = map D.table w.devices.items;
       sent = w.log.sent;
       streams = w.streams.streams;
     } };
@@ -54,15 +56,14 @@ impl<A: Device, S: Device> Model for World<A, S> {
     ghost invariant = { λ w. length w.nodes.items ≡ length w.devices.items };
 }
 
-impl<A: Device + Drop, S: Device + Drop> World<A, S> {
+impl<D: Device + Drop> World<D> {
     /// Makes a world of fresh devices, in the order of their configurations, with an empty log and no stream. An error
     /// drops the configurations.
     ///
     /// The errors, in order, over the whole list: `SameIncarnation`; `SameNode`; `Profile` with the first fault of the
     /// first device that has one; `OutOfMemory`.
-    pub fn new(alloc: Global, configs: Vec<Config>) -> Result<World<A, S>, WorldFault>
-        requires adapter { A.ADAPTER ≡ true }
-        requires scanner { S.ADAPTER ≡ false }
+    pub fn new(alloc: Global, configs: Vec<Config>) -> Result<World<D>, WorldFault>
+        requires accepts { AcceptsAll D.accepts }
         ensures opening { IfOk result (λ world. world ≡ opening_world configs.items) }
         ensures good { IfOk result (λ _. world_fault configs.items ≡ None) }
         ensures fault { IfErr result (IsRefused (world_fault configs.items)) }
@@ -86,7 +87,7 @@ impl<A: Device + Drop, S: Device + Drop> World<A, S> {
     }
 }
 
-impl<A: Device, S: Device> World<A, S> {
+impl<D: Device> World<D> {
     /// Performs one act, and returns the answer of the device whose event it is, if it is an event. An act that fails
     /// leaves the world unchanged.
     ///
@@ -114,7 +115,7 @@ impl<A: Device, S: Device> World<A, S> {
     }
 
     fn local(&mut self, device: u32, call: &Call) -> Result<Option<Answer>, ActFault>
-        ensures { ActFollows (comes device (event_of_call call.now) self.old) self.old result self.new }
+        ensures { ActFollows (event_at_device device (event_of_call call.now) self.old) self.old result self.new }
     {
         let Some(node) = node_of(&self.nodes, device) else {
             return Err(ActFault::NoSuchDevice);
@@ -148,8 +149,8 @@ impl<A: Device, S: Device> World<A, S> {
     }
 
     /// Returns the event that the front of a direction of a stream makes, and the device that receives it.
-    fn arrival(&self, stream: u16, direction: Direction) -> Result<Arrival, ActFault>
-        ensures arrival { IfOk result (IsArrival self.now stream direction) }
+    fn reception(&self, stream: u16, direction: Direction) -> Result<Reception, ActFault>
+        ensures reception { IfOk result (IsReception self.now stream direction) }
         ensures fault { IfErr result (λ fault. ActFollows
             (taken_at stream direction self.now (slice_get self.now.streams stream))
             self.now (Err fault) self.now) }
@@ -165,11 +166,11 @@ impl<A: Device, S: Device> World<A, S> {
             return Err(ActFault::NoSuchDevice);
         };
         let peer = node_or_zero(&self.nodes, sender_of(endpoints, direction));
-        match event_of_front(self.alloc, stream, peer, front) {
-            Ok(event) => Ok(Arrival {
+        match arrival_of_front(self.alloc, stream, peer, front) {
+            Ok(arrival) => Ok(Reception {
                 device,
                 node,
-                event,
+                event: arrival.into_event(),
             }),
             Err(_) => Err(ActFault::OutOfMemory),
         }
@@ -180,22 +181,22 @@ impl<A: Device, S: Device> World<A, S> {
             (taken_at stream direction self.old (slice_get self.old.streams stream))
             self.old result self.new }
     {
-        let arrival = match self.arrival(stream, direction) {
-            Ok(arrival) => arrival,
+        let reception = match self.reception(stream, direction) {
+            Ok(reception) => reception,
             Err(fault) => return Err(fault),
         };
         let Ok(()) = reserve_answer(&mut self.log, &mut self.streams) else {
             return Err(ActFault::OutOfMemory);
         };
-        let device = arrival.device;
-        match step_at(&mut self.devices, device as usize, &arrival.event) {
+        let device = reception.device;
+        match step_at(&mut self.devices, device as usize, &reception.event) {
             Ok(answer) => {
                 self.streams.take_front(stream, direction);
                 fan_out(
                     &mut self.log,
                     &mut self.streams,
                     device,
-                    arrival.node,
+                    reception.node,
                     &answer,
                 );
                 Ok(Some(answer))
@@ -206,7 +207,8 @@ impl<A: Device, S: Device> World<A, S> {
 
     fn open_stream(&mut self, from: u32, to: u32) -> Result<Option<Answer>, ActFault>
         ensures { ActFollows
-            (opened_if from to self.old (are_two from to self.old) (nat_lt (length self.old.streams) most_stream_numbers))
+            (opened_if from to self.old (are_two from to self.old)
+            (nat_lt (length self.old.streams) most_stream_numbers))
             self.old result self.new }
     {
         let count = self.devices.len();
@@ -223,7 +225,8 @@ impl<A: Device, S: Device> World<A, S> {
     }
 
     fn cut_stream(&mut self, stream: u16) -> Result<Option<Answer>, ActFault>
-        ensures follows { ActFollows (cut_at stream self.old (slice_get self.old.streams stream)) self.old result self.new }
+        ensures follows { ActFollows
+            (cut_at stream self.old (slice_get self.old.streams stream)) self.old result self.new }
         ensures no_memory { NeverOutOfMemory result }
     {
         if self.streams.cut(stream) {
@@ -235,7 +238,7 @@ impl<A: Device, S: Device> World<A, S> {
 
 // LOOK-UPS
 
-impl<A: Device, S: Device> World<A, S> {
+impl<D: Device> World<D> {
     /// Returns the number of devices.
     pub fn len(&self) -> usize
         ensures { result ≡ length self.now.tables }
@@ -255,10 +258,10 @@ impl<A: Device, S: Device> World<A, S> {
         ensures none { IfNone result (slice_get self.now.tables device ≡ None) }
         ensures table { IfSome result (λ copied. IfOk copied (λ copy. slice_get self.now.tables device ≡ Some copy)) }
     {
-        let Some(world_device) = self.devices.get(device as usize) else {
+        let Some(found) = self.devices.get(device as usize) else {
             return None;
         };
-        Some(world_device.copy())
+        Some(found.copy())
     }
 
     /// Returns how many datagrams were ever sent.

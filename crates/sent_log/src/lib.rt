@@ -25,7 +25,7 @@ pub struct SentLog {
 }
 
 impl Model for SentLog {
-    ghost use Rattle.std.specs.Prelude.{◌-◌, map, length};
+    ghost use Rattle.std.specs.Prelude.{◌-◌, length};
     ghost use Rattle.std.specs.Vec.{vec_len, vec_capacity};
     ghost use Rattle.sent_log.specs.Log.{Log};
 

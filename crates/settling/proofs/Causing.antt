@@ -9,13 +9,13 @@ use Rattle.cip_tables.specs.Step.{DeviceNext, step}
 use Rattle.sent_log.specs.Log.{Sent}
 use Rattle.stream_queues.specs.declared.direction.Direction.{Direction}
 use Rattle.stream_queues.specs.declared.direction.Direction.TheVariants.{Forth, Back}
-use Rattle.stream_queues.specs.Streams.{QueueItem, Opening, Queued, Ending, Stream, side_of, receiver, sender, with_stream, cut_stream, changed}
+use Rattle.stream_queues.specs.Streams.{QueueItem, Opening, Queued, Ending, Stream, side_of, receiver, sender, cut_stream, changed}
 use Rattle.segment_world.specs.declared.act.Act.{Act}
 use Rattle.segment_world.specs.declared.act.Act.TheVariants.{Local, Deliver, NextFrame, OpenStream, CutStream}
 use Rattle.segment_world.specs.declared.act.Call.{Call}
 use Rattle.segment_world.specs.declared.act.Call.TheVariants as call
-use Rattle.segment_world.specs.World.{World, ReportedEvent, happens, comes, comes_to, comes_so, delivered, taken, taken_at, without_front, event_of_item, event_of_call, node_at, opened_if, are_two, cut_if, cut_at}
-use Rattle.settling.specs.Schedules.{GivesEvent, NoWay, IsPermitted, NoCutReaches, WaysAreAll}
+use Rattle.segment_world.specs.World.{World, ReportedEvent, happens, event_at_device, event_at_table, after_device_step, delivered, taken, taken_at, without_front, event_of_item, event_of_call, node_at, opened_if, are_two, cut_if, cut_at}
+use Rattle.settling.specs.Schedules.{GivesEvent, WaysAreAll}
 use Rattle.settling.specs.Causes.{IsFrontOf, IsFrontAt, IsFront, WaitsFirst, CanCome, Causes, CutReachesAt, CutReaches}
 
 pub ok_is : {X E : Type 0} (x y : X) → ◌≡◌ {A = Result X E} (Ok x) (Ok y) → x ≡ y
@@ -32,16 +32,16 @@ err_ok f x h = absurd (let e = h in cc)
 
 -- ACTS THAT CAUSE
 
-took_front : (n : ℕ) (d : Direction) (w : World) (s : Stream) (q : List QueueItem) (e : Event) → IsFrontOf n (node_at w (sender d s)) e q → (at : World) × (at.tables ≡ w.tables) × (taken n d w s q ≡ comes (receiver d s) e at)
+took_front : (n : ℕ) (d : Direction) (w : World) (s : Stream) (q : List QueueItem) (e : Event) → IsFrontOf n (node_at w (sender d s)) e q → (at : World) × (at.tables ≡ w.tables) × (taken n d w s q ≡ event_at_device (receiver d s) e at)
 took_front n d w s [] e front = absurd front
 took_front n d w s (x ∷ xs) e front =
-    (without_front n d w, refl, ap (λ (v : Event). comes (receiver d s) v (without_front n d w)) front)
+    (without_front n d w, refl, ap (λ (v : Event). event_at_device (receiver d s) v (without_front n d w)) front)
 
-taken_front : (n : ℕ) (d : Direction) (w : World) (i : ℕ) (e : Event) (o : Option Stream) → IsFrontAt w n d i e o → (at : World) × (at.tables ≡ w.tables) × (taken_at n d w o ≡ comes i e at)
+taken_front : (n : ℕ) (d : Direction) (w : World) (i : ℕ) (e : Event) (o : Option Stream) → IsFrontAt w n d i e o → (at : World) × (at.tables ≡ w.tables) × (taken_at n d w o ≡ event_at_device i e at)
 taken_front n d w i e None front = absurd front
 taken_front n d w i e (Some s) front =
     let t = took_front n d w s (side_of d s).queue e front.1 in
-    (t.0, t.1, t.2 ∙ ap (λ (k : ℕ). comes k e t.0) front.0)
+    (t.0, t.1, t.2 ∙ ap (λ (k : ℕ). event_at_device k e t.0) front.0)
 
 pub front_causes : (w : World) (n : ℕ) (d : Direction) (i : ℕ) (e : Event) → IsFront w n d i e → Causes w i e (NextFrame n d)
 front_causes w n d i e front =
@@ -60,13 +60,13 @@ pub record Reports (i : ℕ) (e : Event) (t : ReportedEvent) : Type 0 where
   pub device : t.device ≡ i
   pub event : t.event ≡ e
 
-after_reports : (i : ℕ) (e : Event) (w : World) (r : Result DeviceNext StepFault) (t : ReportedEvent) (v : World) → comes_so i e w r ≡ Ok (Some t, v) → Reports i e t
+after_reports : (i : ℕ) (e : Event) (w : World) (r : Result DeviceNext StepFault) (t : ReportedEvent) (v : World) → after_device_step i e w r ≡ Ok (Some t, v) → Reports i e t
 after_reports i e w (Err f) t v h = err_ok _ _ h
 after_reports i e w (Ok n) t v h =
     let s = some_is _ _ (ap (λ (p : Option ReportedEvent × World). p.0) (ok_is _ _ h)) in
     record { device = ap (λ (x : ReportedEvent). x.device) (sym s); event = ap (λ (x : ReportedEvent). x.event) (sym s) }
 
-comes_reports : (i : ℕ) (e : Event) (w : World) (o : Option DeviceTable) (t : ReportedEvent) (v : World) → comes_to i e w o ≡ Ok (Some t, v) → Reports i e t
+comes_reports : (i : ℕ) (e : Event) (w : World) (o : Option DeviceTable) (t : ReportedEvent) (v : World) → event_at_table i e w o ≡ Ok (Some t, v) → Reports i e t
 comes_reports i e w None t v h = err_ok _ _ h
 comes_reports i e w (Some x) t v h = after_reports i e w (step x e) t v h
 

@@ -3,19 +3,8 @@ use Rattle.std.proofs.Common.{◌≡◌, ◌<◌, ◌≤◌, ℕ, zero, suc, Lis
 use Rattle.std.proofs.lemmas.Bool.{cases_lt}
 use Rattle.std.proofs.lemmas.List.{append-nil, get_or_past, length-replicate}
 use Rattle.std.proofs.lemmas.Option.{slice_get_within}
-use Rattle.cip_types.specs.declared.names.Node.{Node}
-use Rattle.cip_events.specs.declared.event.Answer.{Answer}
 use Rattle.cip_events.specs.declared.event.Event.{Event}
-use Rattle.cip_events.specs.declared.event.StepFault.{StepFault}
-use Rattle.cip_events.specs.Outcomes.{Outcome}
-use Rattle.cip_tables.specs.declared.table.DeviceTable.{DeviceTable}
-use Rattle.cip_tables.specs.Step.{DeviceNext, step}
-use Rattle.cip_tables.specs.Run.{outcome_of, table_of}
-use Rattle.stream_queues.specs.declared.direction.Direction.{Direction}
-use Rattle.stream_queues.specs.Streams.{Stream}
-use Rattle.segment_world.specs.declared.act.Act.{Act}
-use Rattle.segment_world.specs.declared.act.ActFault.{ActFault}
-use Rattle.segment_world.specs.Story.{Story, goes_on, reports, runs, begins, is_of, event_reported, events_of}
+use Rattle.segment_world.specs.Story.{reports, runs, events_of}
 use Rattle.segment_world.specs.World.{World, ReportedEvent}
 use Rattle.settling.specs.Replays.{replay}
 use Rattle.settling.specs.Schedules.{outcomes_of, history, remaining, StuckAt, Settles, IsStuck}

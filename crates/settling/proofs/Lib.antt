@@ -11,3 +11,4 @@ pub mod Lowering
 pub mod Receiving
 pub mod Counting
 pub mod Samples
+pub mod WaySamples

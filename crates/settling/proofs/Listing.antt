@@ -1,13 +1,11 @@
 -- What is known of one history among several.
-use Rattle.std.proofs.Common.{◌≡◌, ℕ, zero, suc, Bool, true, false, cond, List, [], ◌∷◌, map, length, position, slice_get, slice_index, slice_index_or, get_or, not, nat_lt, ◌+◌, ◌<◌, Option, Some, None, refl, sym, ◌∙◌, ap, arith}
+use Rattle.std.proofs.Common.{◌≡◌, ℕ, zero, suc, cond, List, [], ◌∷◌, map, length, position, slice_get, slice_index, get_or, not, nat_lt, ◌+◌, ◌<◌, Option, Some, None, refl, sym, ◌∙◌, ap, arith}
 use Rattle.std.specs.List.{prefix_len}
-use Rattle.cip_types.specs.declared.names.Node.{Node}
-use Rattle.cip_events.specs.declared.event.Event.{Event}
 use Rattle.device_lock.specs.Histories.{HistoryValue}
 use Rattle.cip_events.specs.declared.profile_fault.ProfileFault.{ProfileFault}
 use Rattle.cip_tables.specs.Step.{config_fault}
 use Rattle.segment_world.specs.Configs.{fault_or, first_fault}
-use Rattle.settling.specs.Histories.{byte_in, bytes_of, configs_of, events_in, events_of_all, has_node, node_in, nodes_of}
+use Rattle.settling.specs.Histories.{byte_in, bytes_of, configs_of, events_in, events_of_all, has_node, nodes_of}
 use Rattle.settling.specs.Openings.{has_address}
 use Rattle.settling.specs.Schedules.{history}
 use Rattle.settling.proofs.Causing.{some_is, none_some}

@@ -1,5 +1,5 @@
 -- One device more is looked at.
-use Rattle.std.proofs.Common.{◌≡◌, ◌<◌, ◌+◌, nat_lt, ℕ, Bool, true, false, cond, List, slice_index, Option, Some, None, refl, sym, arith, below_more}
+use Rattle.std.proofs.Common.{◌≡◌, ◌<◌, ◌+◌, nat_lt, ℕ, Bool, true, false, cond, List, slice_index, Option, Some, None, refl, arith, below_more}
 use Rattle.std.proofs.lemmas.Bool.Decides.{nat_tests}
 use Rattle.settling.specs.Lowest.{IsLowest, lower_of}
 

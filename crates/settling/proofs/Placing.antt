@@ -2,8 +2,6 @@
 use Rattle.std.proofs.Common.{◌≡◌, ◌≢◌, ℕ, zero, suc, ◌+◌, ◌<◌, ◌==◌, Bool, true, false, cond, List, [], ◌∷◌, ◌++◌, map, filter, set, length, drop, slice_get, slice_index, Option, Some, None, Result, Ok, IfOk, IsOk, refl, sym, ◌∙◌, ap, subst, arith, add-one}
 use Rattle.std.proofs.lemmas.List.{append_assoc, append-nil, length_push}
 use Rattle.std.proofs.lemmas.Bool.Decides.{nat_tests}
-use Rattle.cip_types.specs.declared.names.Node.{Node}
-use Rattle.cip_events.specs.declared.event.Answer.{Answer}
 use Rattle.cip_events.specs.declared.event.Event.{Event}
 use Rattle.cip_events.specs.declared.event.StepFault.{StepFault}
 use Rattle.cip_events.specs.Outcomes.{Outcome}
@@ -17,7 +15,7 @@ use Rattle.segment_world.specs.declared.act.ActFault.{ActFault}
 use Rattle.segment_world.specs.Story.{Story, goes_on, reports, runs, begins, is_of, event_reported, events_of}
 use Rattle.cip_events.specs.declared.event.Event.TheVariants.{StreamCut}
 use Rattle.segment_world.specs.declared.act.Act.TheVariants.{Local, Deliver, NextFrame, OpenStream, CutStream}
-use Rattle.segment_world.specs.World.{World, ReportedEvent, happens, comes_to, comes_so, fan_out}
+use Rattle.segment_world.specs.World.{World, ReportedEvent, happens, event_at_table, after_device_step, fan_out}
 use Rattle.settling.specs.Replays.{AreAnswered, replay}
 use Rattle.settling.specs.Schedules.{history, remaining, IsPermitted, IsPermittedNext, Orderly, is_unused, outcome_in, outcomes_of}
 use Rattle.settling.specs.Causes.{Causes, IsOfDevice, CutReaches}
@@ -123,7 +121,7 @@ causes_bring w i e a t n c at step =
     let at2 : slice_get c.at.tables i ≡ Some t = ap (λ (ts : List DeviceTable). slice_get ts i) c.tables ∙ at in
     record {
       after = fan_out i n.0 (record c.at { tables = set c.at.tables i n.1 });
-      is = c.is ∙ ap (comes_to i e c.at) at2 ∙ ap (comes_so i e c.at) step;
+      is = c.is ∙ ap (event_at_table i e c.at) at2 ∙ ap (after_device_step i e c.at) step;
       tables = ap (λ (ts : List DeviceTable). set ts i n.1) c.tables;
     }
 

@@ -1,9 +1,9 @@
 -- What good receipts say of the histories.
-use Rattle.std.proofs.Common.{◌≡◌, ◌≢◌, ◌↔◌, ◌<◌, ◌≤◌, ◌+◌, ◌==◌, ◌&&◌, ◌||◌, ℕ, zero, suc, Bool, true, false, List, [], ◌∷◌, ◌++◌, length, map, set, replicate, get_or, take, drop, slice_get, slice_index, slice_index_or, Option, Some, None, Result, Ok, Err, refl, sym, ◌∙◌, ap, subst, arith, inl, inr}
+use Rattle.std.proofs.Common.{◌≡◌, ◌≢◌, ◌↔◌, ◌<◌, ◌≤◌, ◌+◌, ◌==◌, ◌&&◌, ◌||◌, ℕ, zero, suc, Bool, true, false, List, [], ◌∷◌, ◌++◌, length, map, set, replicate, get_or, take, drop, slice_get, slice_index, slice_index_or, Option, Some, Result, Ok, Err, refl, sym, ◌∙◌, ap, subst, arith, inl, inr}
 use Rattle.std.specs.List.{list_any}
 use Rattle.std.proofs.lemmas.Bool.{cases_lt}
 use Rattle.std.proofs.lemmas.Bool.Decides.{nat_tests}
-use Rattle.std.proofs.lemmas.List.{get_or_past, length-replicate, append-nil, append_assoc, take_more, drop_more, take-append-drop}
+use Rattle.std.proofs.lemmas.List.{length-replicate, append-nil, append_assoc, take_more, drop_more, take-append-drop}
 use Rattle.cip_events.specs.declared.event.Answer.{Answer}
 use Rattle.cip_events.specs.declared.event.Event.{Event}
 use Rattle.cip_events.specs.declared.event.StepFault.{StepFault}
@@ -15,15 +15,14 @@ use Rattle.cip_tables.specs.Run.{outcomes_of as outcomes_from}
 use Rattle.device_lock.specs.declared.receipt.Receipt.{Receipt}
 use Rattle.device_lock.specs.Histories.{HistoryValue}
 use Rattle.segment_world.specs.declared.act.Act.{Act}
-use Rattle.segment_world.specs.Story.{Story}
-use Rattle.settling.specs.Histories.{bytes_of, config_in, configs_of, events_of_all, has_receipt, is_for, is_place, place_of, replay_at, replay_of, start_of}
+use Rattle.settling.specs.Histories.{bytes_of, configs_of, events_of_all, has_receipt, is_for, is_place, place_of, replay_of, start_of}
 use Rattle.settling.specs.Lowest.{IsLowest}
 use Rattle.settling.specs.Receipts.{AllGood, AreMarks, Covered, FitsAt, HasItsMarks, HasRoomForMarks, IsForeign, IsGood, IsMarked, IsMissing, IsUnmarked, LacksItsMark, mark_at, outcomes_of_all, unmarked, with_mark}
 use Rattle.settling.specs.Replays.{AreAnswered, replay}
-use Rattle.settling.specs.Schedules.{Settles, history, outcomes_of}
+use Rattle.settling.specs.Schedules.{Settles, history}
 use Rattle.settling.specs.Settlings.{AllAnswered, AllStand, OpensFirst, SettlesAll, Stands}
-use Rattle.settling.proofs.Causing.{ok_is, some_is, none_some, same_or_not}
-use Rattle.settling.proofs.Listing.{get_all, length_all}
+use Rattle.settling.proofs.Causing.{some_is, none_some, same_or_not}
+use Rattle.settling.proofs.Listing.{length_all}
 use Rattle.settling.proofs.Placing.{eq_false, eq_true}
 
 -- A REPLAY IS EVENTS AND OUTCOMES

@@ -1,11 +1,10 @@
 -- What the definitions give at worked values.
-use Rattle.std.proofs.Common.{◌≡◌, ℕ, Bool, true, false, List, [], ◌∷◌, Some, None, refl}
+use Rattle.std.proofs.Common.{◌≡◌, ℕ, true, false, List, [], ◌∷◌, Some, None, refl}
 use Rattle.cip_types.specs.declared.names.Node.{Node}
 use Rattle.cip_events.specs.declared.event.Event.{Event}
 use Rattle.cip_events.specs.declared.event.Event.TheVariants.{StreamOpened, Frame, StreamCut, Tick}
-use Rattle.segment_world.specs.declared.act.Act.{Act}
 use Rattle.segment_world.specs.declared.act.Act.TheVariants.{OpenStream}
-use Rattle.stream_queues.specs.Streams.{Stream, fresh_stream}
+use Rattle.stream_queues.specs.Streams.{fresh_stream}
 use Rattle.settling.specs.Lowest.{lower_of}
 use Rattle.settling.specs.Openings.{named_by, opens, pair_of}
 use Rattle.settling.specs.Receipts.{mark_at, with_mark}

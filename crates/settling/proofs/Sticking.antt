@@ -1,21 +1,10 @@
 -- A device that can't go on.
-use Rattle.std.proofs.Common.{◌≡◌, ℕ, List, [], ◌∷◌, Bool, sym, ◌∙◌, subst}
-use Rattle.cip_types.specs.declared.names.Node.{Node}
-use Rattle.cip_events.specs.declared.event.Answer.{Answer}
+use Rattle.std.proofs.Common.{◌≡◌, ℕ, List, [], ◌∷◌, sym, ◌∙◌, subst}
 use Rattle.cip_events.specs.declared.event.Event.{Event}
-use Rattle.cip_events.specs.declared.event.StepFault.{StepFault}
-use Rattle.cip_events.specs.Outcomes.{Outcome}
-use Rattle.cip_tables.specs.declared.table.DeviceTable.{DeviceTable}
-use Rattle.cip_tables.specs.Step.{DeviceNext, step}
-use Rattle.cip_tables.specs.Run.{outcome_of, table_of}
 use Rattle.stream_queues.specs.declared.direction.Direction.{Direction}
-use Rattle.stream_queues.specs.Streams.{Stream}
 use Rattle.segment_world.specs.declared.act.Act.{Act}
-use Rattle.segment_world.specs.declared.act.ActFault.{ActFault}
-use Rattle.segment_world.specs.Story.{Story, goes_on, reports, runs, begins, is_of, event_reported, events_of}
 use Rattle.cip_events.specs.declared.event.Event.TheVariants.{StreamCut}
 use Rattle.segment_world.specs.declared.act.Act.TheVariants as Act
-use Rattle.segment_world.specs.World.{World}
 use Rattle.settling.specs.Schedules.{IsPermitted, NoWay, NoCutReaches}
 use Rattle.settling.specs.Causes.{CanCome, CutReaches}
 use Rattle.settling.specs.Placements.{Placement, rest, StuckHere}

@@ -13,7 +13,7 @@ use Rattle.stream_queues.specs.Streams.{QueueItem, Stream, side_of, receiver, se
 use Rattle.segment_world.specs.declared.act.Act.TheVariants.{Local, Deliver}
 use Rattle.segment_world.specs.declared.act.Call.{Call}
 use Rattle.segment_world.specs.World.{World, event_of_call, event_of_item, node_at}
-use Rattle.settling.specs.Causes.{Causes, CutReachesAt, IsFront, IsFrontAt, IsFrontOf}
+use Rattle.settling.specs.Causes.{Causes, CutReachesAt, IsFrontAt, IsFrontOf}
 use Rattle.settling.specs.Endpoints.{sender_in, receiver_in}
 use Rattle.settling.specs.Schedules.{is_unused, uses}
 use Rattle.settling.proofs.Causing.{call_causes, none_some, sent_causes, some_is}

@@ -1,5 +1,5 @@
 -- How an event can come to a device now.
-use Rattle.std.specs.Prelude.{◌≡◌, ◌⊎◌, ℕ, Bool, true, false, List, [], ◌∷◌, slice_get, Option, Some, None}
+use Rattle.std.specs.Prelude.{◌≡◌, ◌⊎◌, ℕ, true, false, List, [], ◌∷◌, slice_get, Option, Some, None}
 use Rattle.cip_types.specs.declared.names.Node.{Node}
 use Rattle.cip_events.specs.declared.event.Event.{Event}
 use Rattle.cip_events.specs.declared.event.Event.TheVariants.{Request, StreamOpened, Frame, StreamCut, Datagram, Write, Read, Tick, Mode, Start, Stop}
@@ -9,7 +9,7 @@ use Rattle.stream_queues.specs.declared.direction.Direction.TheVariants.{Forth, 
 use Rattle.stream_queues.specs.Streams.{QueueItem, Stream, side_of, receiver, sender}
 use Rattle.segment_world.specs.declared.act.Act.{Act}
 use Rattle.segment_world.specs.declared.act.Act.TheVariants.{Local, Deliver, NextFrame, OpenStream, CutStream}
-use Rattle.segment_world.specs.World.{World, happens, comes, node_at, event_of_item}
+use Rattle.segment_world.specs.World.{World, happens, event_at_device, node_at, event_of_item}
 
 -- the first of a queue is this event
 abbrev pub IsFrontOf : ℕ → Node → Event → List QueueItem → Type 0
@@ -58,7 +58,7 @@ IsOfDevice (CutStream stream) = ⊥
 pub record Causes (w : World) (i : ℕ) (e : Event) (a : Act) : Type 0 where
   pub at : World
   pub tables : at.tables ≡ w.tables
-  pub is : happens w a ≡ comes i e at
+  pub is : happens w a ≡ event_at_device i e at
   pub plain : IsOfDevice a
 
 -- a cut of this stream would reach this device, which takes from this direction

@@ -1,5 +1,5 @@
 -- The find at the device with the lowest incarnation byte.
-use Rattle.std.specs.Prelude.{◌≡◌, ◌<◌, ℕ, nat_lt, if◌then◌else◌, List, slice_index, Option, Some, None}
+use Rattle.std.specs.Prelude.{◌<◌, ℕ, nat_lt, if◌then◌else◌, List, slice_index, Option, Some, None}
 
 -- of two finds, each a device and a place in its history, the one whose device has the lower byte
 abbrev pub lower_of : List ℕ → Option (ℕ × ℕ) → ℕ × ℕ → ℕ × ℕ

@@ -1,15 +1,13 @@
 -- How far the placing of events has come.
-use Rattle.std.specs.Prelude.{◌≡◌, ℕ, ◌+◌, ◌-◌, ◌<◌, List, [], ◌∷◌, ◌++◌, drop, length, set, slice_get, slice_index, replicate, Option, Some, Ok}
+use Rattle.std.specs.Prelude.{◌≡◌, ℕ, ◌+◌, ◌-◌, List, [], ◌∷◌, ◌++◌, drop, length, slice_get, slice_index, replicate, Some, Ok}
 use Rattle.cip_events.specs.declared.event.Event.{Event}
 use Rattle.cip_tables.specs.declared.table.DeviceTable.{DeviceTable}
-use Rattle.stream_queues.specs.declared.direction.Direction.{Direction}
 use Rattle.segment_world.specs.declared.act.Act.{Act}
-use Rattle.segment_world.specs.declared.act.Act.TheVariants.{CutStream}
-use Rattle.segment_world.specs.World.{World, ReportedEvent, happens}
+use Rattle.segment_world.specs.World.{World, ReportedEvent}
 use Rattle.segment_world.specs.Story.{runs, begins, events_of}
 use Rattle.settling.specs.Replays.{AreAnswered, replay}
-use Rattle.settling.specs.Causes.{Causes, CutReaches}
-use Rattle.settling.specs.Schedules.{history, Orderly, StuckAt, outcomes_of, IsPermitted, Settles, IsStuck}
+use Rattle.settling.specs.Causes.{Causes}
+use Rattle.settling.specs.Schedules.{history, Orderly, StuckAt, outcomes_of}
 
 -- a world, the acts that led to it, and how many events of each device are placed
 pub record Placement : Type 0 where

@@ -1,5 +1,5 @@
 -- Receipts against histories.
-use Rattle.std.specs.Prelude.{◌≡◌, ◌<◌, ℕ, true, false, Bool, List, [], ◌∷◌, ◌++◌, length, replicate, map, set, slice_get, slice_index, slice_index_or, Option, Some, None, Ok}
+use Rattle.std.specs.Prelude.{◌≡◌, ◌<◌, ℕ, true, false, Bool, List, [], ◌∷◌, ◌++◌, length, replicate, map, set, slice_get, slice_index, slice_index_or, Some, Ok}
 use Rattle.cip_events.specs.declared.event.Event.{Event}
 use Rattle.cip_events.specs.Outcomes.{Outcome}
 use Rattle.cip_tables.specs.Step.{opening_table}

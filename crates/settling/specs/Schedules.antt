@@ -1,5 +1,5 @@
 -- Schedules for the events of several devices, and when an orderly one cannot continue.
-use Rattle.std.specs.Prelude.{◌≡◌, ℕ, ◌<◌, ◌==◌, ◌&&◌, not, Bool, true, false, List, [], ◌∷◌, ◌++◌, drop, length, map, filter, slice_get, slice_index, slice_index_or, Option, Some, None, Result, Ok, Err, IfOk}
+use Rattle.std.specs.Prelude.{◌≡◌, ℕ, ◌<◌, ◌==◌, ◌&&◌, not, Bool, true, false, List, [], ◌∷◌, ◌++◌, drop, length, map, filter, slice_get, slice_index, slice_index_or, Option, Some, None, Result, Ok, IfOk}
 use Rattle.std.specs.List.{list_any}
 use Rattle.cip_events.specs.declared.event.Event.{Event}
 use Rattle.cip_events.specs.declared.event.Event.TheVariants.{Request, StreamOpened, Frame, StreamCut, Datagram, Write, Read, Tick, Mode, Start, Stop}
@@ -10,7 +10,7 @@ use Rattle.stream_queues.specs.Streams.{Stream}
 use Rattle.segment_world.specs.declared.act.Act.{Act}
 use Rattle.segment_world.specs.declared.act.Act.TheVariants.{Local, Deliver, NextFrame, OpenStream, CutStream}
 use Rattle.segment_world.specs.declared.act.ActFault.{ActFault}
-use Rattle.segment_world.specs.World.{World, ReportedEvent, Happened, happens}
+use Rattle.segment_world.specs.World.{World, ReportedEvent, happens}
 use Rattle.segment_world.specs.Story.{Story, reports, runs, begins, is_of, events_of}
 use Rattle.settling.specs.Replays.{replay}
 use Rattle.settling.specs.Causes.{CanCome, CutReaches}

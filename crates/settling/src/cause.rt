@@ -37,7 +37,7 @@ fn sender_of(endpoints: Endpoints, direction: Direction) -> u32
     }
 }
 
-fn node_of<A: Device + Drop, S: Device + Drop>(world: &World<A, S>, device: u32) -> Node
+fn node_of<D: Device + Drop>(world: &World<D>, device: u32) -> Node
     ensures { result ≡ node_at world.now device }
 {
     world.node(device).unwrap_or(Node(0))
@@ -58,8 +58,8 @@ fn is_event(number: u16, node: Node, front: QueueFront<'_>, event: &Event) -> bo
 }
 
 // Whether what waits first in a direction of a stream is this event of this device.
-fn is_front<A: Device + Drop, S: Device + Drop>(
-    world: &World<A, S>,
+fn is_front<D: Device + Drop>(
+    world: &World<D>,
     stream: u16,
     direction: Direction,
     device: u32,
@@ -79,8 +79,8 @@ fn is_front<A: Device + Drop, S: Device + Drop>(
 
 // The act that takes the event off a stream.
 #[tactic(auto, using(crate::proofs::Causing::front_causes))]
-fn stream_cause<A: Device + Drop, S: Device + Drop>(
-    world: &World<A, S>,
+fn stream_cause<D: Device + Drop>(
+    world: &World<D>,
     stream: u16,
     device: u32,
     event: &Event,
@@ -106,12 +106,7 @@ fn stream_cause<A: Device + Drop, S: Device + Drop>(
 // DATAGRAMS
 
 // Whether this is the datagram at a place among those that were sent.
-fn is_sent<A: Device + Drop, S: Device + Drop>(
-    world: &World<A, S>,
-    place: usize,
-    peer: Node,
-    bytes: &[u8],
-) -> bool
+fn is_sent<D: Device + Drop>(world: &World<D>, place: usize, peer: Node, bytes: &[u8]) -> bool
     ensures { IsTrue result ↔ (slice_get world.now.sent place ≡ Some (record { from = peer; bytes = bytes.now })) }
 {
     match world.sent(place) {
@@ -121,11 +116,7 @@ fn is_sent<A: Device + Drop, S: Device + Drop>(
 }
 
 // The last place of an equal datagram.
-fn sent_place<A: Device + Drop, S: Device + Drop>(
-    world: &World<A, S>,
-    peer: Node,
-    bytes: &[u8],
-) -> Option<usize>
+fn sent_place<D: Device + Drop>(world: &World<D>, peer: Node, bytes: &[u8]) -> Option<usize>
     ensures none { IfNone result (WasSent world.now.sent peer bytes.now → ⊥) }
     ensures some { IfSome result (λ k. slice_get world.now.sent k ≡ Some (record { from = peer; bytes = bytes.now })) }
 {
@@ -138,8 +129,8 @@ fn sent_place<A: Device + Drop, S: Device + Drop>(
 }
 
 // A place of an equal datagram, from a place on or shortly before it.
-fn sent_near<A: Device + Drop, S: Device + Drop>(
-    world: &World<A, S>,
+fn sent_near<D: Device + Drop>(
+    world: &World<D>,
     peer: Node,
     bytes: &[u8],
     from: usize,
@@ -171,8 +162,8 @@ pub enum Search {
 
 // The act that delivers the datagram.
 #[tactic(auto, using(crate::proofs::Ways::sent_is_cause))]
-fn sent_cause<A: Device + Drop, S: Device + Drop>(
-    world: &World<A, S>,
+fn sent_cause<D: Device + Drop>(
+    world: &World<D>,
     device: u32,
     peer: Node,
     bytes: &[u8],
@@ -196,12 +187,7 @@ fn sent_cause<A: Device + Drop, S: Device + Drop>(
 
 // The act that is this event of a device's application, or of time at it.
 #[tactic(auto, using(crate::proofs::Ways::call_is_cause))]
-fn local_cause<A: Device + Drop, S: Device + Drop>(
-    _world: &World<A, S>,
-    device: u32,
-    _event: &Event,
-    call: Call,
-) -> Act
+fn local_cause<D: Device + Drop>(_world: &World<D>, device: u32, _event: &Event, call: Call) -> Act
     requires { event_of_call call ≡ _event.now }
     ensures { Causes _world.now device _event.now result }
 {
@@ -211,9 +197,9 @@ fn local_cause<A: Device + Drop, S: Device + Drop>(
 // ALL EVENTS
 
 /// The act that brings the event to the device now, if there is one.
-pub fn cause<A: Device + Drop, S: Device + Drop>(
+pub fn cause<D: Device + Drop>(
     alloc: Global,
-    world: &World<A, S>,
+    world: &World<D>,
     device: u32,
     event: &Event,
     search: Search,

@@ -32,13 +32,14 @@ fn is_used(number: u16, events: &[Event]) -> bool
 }
 
 // Whether neither end of a stream has an event to come that uses it.
-fn is_unused<A: Device + Drop, S: Device + Drop>(
-    world: &World<A, S>,
+fn is_unused<D: Device + Drop>(
+    world: &World<D>,
     histories: &[History],
     placed: &[usize],
     stream: u16,
 ) -> bool
-    ensures { result ≡ is_unused stream (rest (events_of_all histories.now) placed.now) (slice_get world.now.streams stream) }
+    ensures { result ≡ is_unused stream (rest (events_of_all histories.now) placed.now)
+        (slice_get world.now.streams stream) }
 {
     match world.endpoints(stream) {
         None => false,
@@ -48,8 +49,8 @@ fn is_unused<A: Device + Drop, S: Device + Drop>(
 }
 
 // Whether a cut of the stream would reach this device, which takes from this direction.
-fn cut_reaches<A: Device + Drop, S: Device + Drop>(
-    world: &World<A, S>,
+fn cut_reaches<D: Device + Drop>(
+    world: &World<D>,
     stream: u16,
     direction: Direction,
     device: u32,
@@ -65,15 +66,18 @@ fn cut_reaches<A: Device + Drop, S: Device + Drop>(
 }
 
 /// The direction in which a cut of this stream, where it may be made, brings its mark to the device.
-pub fn cut_way<A: Device + Drop, S: Device + Drop>(
-    world: &World<A, S>,
+pub fn cut_way<D: Device + Drop>(
+    world: &World<D>,
     histories: &[History],
     placed: &[usize],
     stream: u16,
     device: u32,
 ) -> Option<Direction>
-    ensures none { IfNone result (is_unused stream (rest (events_of_all histories.now) placed.now) (slice_get world.now.streams stream) ≡ true → (d : Direction) → CutReaches world.now stream device d → ⊥) }
-    ensures may { OnSome result (is_unused stream (rest (events_of_all histories.now) placed.now) (slice_get world.now.streams stream) ≡ true) }
+    ensures none { IfNone result
+        (is_unused stream (rest (events_of_all histories.now) placed.now) (slice_get world.now.streams stream) ≡ true
+        → (d : Direction) → CutReaches world.now stream device d → ⊥) }
+    ensures may { OnSome result
+        (is_unused stream (rest (events_of_all histories.now) placed.now) (slice_get world.now.streams stream) ≡ true) }
     ensures reaches { IfSome result (CutReaches world.now stream device) }
 {
     if !is_unused(world, histories, placed, stream) {

@@ -10,11 +10,11 @@ use std::marker::Model;
 
 /// The marks of one device, which contracts see as their list.
 #[derive(Drop)]
-struct Row {
+struct MarkRow {
     marks: Vec<bool>,
 }
 
-impl Model for Row {
+impl Model for MarkRow {
     ghost use Rattle.std.specs.Prelude.{List, Bool};
 
     ghost Value = { List Bool };
@@ -22,12 +22,12 @@ impl Model for Row {
     ghost view = { λ r. r.marks.items };
 }
 
-impl Row {
+impl MarkRow {
     // So many marks, none of which is set.
-    fn new(alloc: Global, count: usize) -> Result<Row, OutOfMemory>
+    fn new(alloc: Global, count: usize) -> Result<MarkRow, OutOfMemory>
         ensures { IfOk result (λ row. row ≡ replicate count false) }
     {
-        Ok(Row {
+        Ok(MarkRow {
             marks: vec![in alloc; false; count]?,
         })
     }
@@ -52,7 +52,7 @@ impl Row {
 /// For each event of each device whether a receipt is for it, which contracts see as lists of marks.
 #[derive(Drop)]
 pub struct Marks {
-    rows: Vec<Row>,
+    rows: Vec<MarkRow>,
 }
 
 impl Model for Marks {
@@ -63,7 +63,7 @@ impl Model for Marks {
     ghost view = { λ m. m.rows.items };
 }
 
-fn set_in(rows: &mut Vec<Row>, device: usize, place: usize)
+fn set_in(rows: &mut Vec<MarkRow>, device: usize, place: usize)
     requires device { device < length rows.old.items }
     requires place { place < length (slice_index_or rows.old.items device []) }
     ensures { rows.new.items ≡ with_mark rows.old.items device place }
@@ -78,7 +78,7 @@ impl Marks {
     {
         let mut rows = Vec::new(alloc);
         for history in histories {
-            rows.push(Row::new(alloc, history.events().len())?)?;
+            rows.push(MarkRow::new(alloc, history.events().len())?)?;
         }
         Ok(Marks { rows })
     }

@@ -1,7 +1,6 @@
 //! Places the events of histories in a world.
 
-ghost use Rattle.std.specs.Prelude.{◌≡◌, ◌<◌, ◌≤◌, ◌^◌, ℕ, [], ◌∷◌, List, IfOk, IfErr, OnOk, MatchBool, length};
-ghost use Rattle.cip_events.specs.declared.event.Event.{Event};
+ghost use Rattle.std.specs.Prelude.{◌≡◌, ◌<◌, ◌≤◌, ℕ, IfOk, IfErr, OnOk, MatchBool, length};
 ghost use Rattle.settling.specs.Histories.{bytes_of, events_of_all};
 ghost use Rattle.settling.specs.Lowest.{IsLowest};
 ghost use Rattle.settling.specs.Placements.{IsOver, IsPlaced, IsReachable, Preserves, Ready, StuckHere, left_count};
@@ -35,7 +34,7 @@ impl From<OutOfMemory> for Unplaced {
     }
 }
 
-impl<A: Device + Drop, S: Device + Drop> Placement<A, S> {
+impl<D: Device + Drop> Placement<D> {
     // Places events of a device as long as short searches find them.
     fn advance(
         &mut self,
@@ -46,7 +45,10 @@ impl<A: Device + Drop, S: Device + Drop> Placement<A, S> {
         requires device { device < length histories.now }
         requires reachable { IsReachable (events_of_all histories.now) self.old }
         ensures kept { OnOk result (Preserves (events_of_all histories.now) self.old self.new) }
-        ensures moved { IfOk result (λ moved. MatchBool moved (left_count (events_of_all histories.now) self.new.placed < left_count (events_of_all histories.now) self.old.placed) (self.new ≡ self.old)) }
+        ensures moved { IfOk result
+            (λ moved. MatchBool moved
+            (left_count (events_of_all histories.now) self.new.placed
+            < left_count (events_of_all histories.now) self.old.placed) (self.new ≡ self.old)) }
     {
         let mut moved = false;
         loop {
@@ -67,7 +69,10 @@ impl<A: Device + Drop, S: Device + Drop> Placement<A, S> {
         requires devices { devices ≡ length histories.now }
         requires reachable { IsReachable (events_of_all histories.now) self.old }
         ensures kept { OnOk result (Preserves (events_of_all histories.now) self.old self.new) }
-        ensures moved { IfOk result (λ moved. MatchBool moved (left_count (events_of_all histories.now) self.new.placed < left_count (events_of_all histories.now) self.old.placed) (self.new ≡ self.old)) }
+        ensures moved { IfOk result
+            (λ moved. MatchBool moved
+            (left_count (events_of_all histories.now) self.new.placed
+            < left_count (events_of_all histories.now) self.old.placed) (self.new ≡ self.old)) }
     {
         let mut moved = false;
         for device in 0..devices {
@@ -88,7 +93,9 @@ impl<A: Device + Drop, S: Device + Drop> Placement<A, S> {
         requires devices { devices ≡ length histories.now }
         requires reachable { IsReachable (events_of_all histories.now) self.old }
         ensures kept { OnOk result (Preserves (events_of_all histories.now) self.old self.new) }
-        ensures less { OnOk result (left_count (events_of_all histories.now) self.new.placed ≤ left_count (events_of_all histories.now) self.old.placed) }
+        ensures less { OnOk result
+            (left_count (events_of_all histories.now) self.new.placed
+            ≤ left_count (events_of_all histories.now) self.old.placed) }
     {
         loop {
             if !self.advance_each(alloc, histories, devices)? {
@@ -107,7 +114,11 @@ impl<A: Device + Drop, S: Device + Drop> Placement<A, S> {
         requires devices { devices ≡ length histories.now }
         requires reachable { IsReachable (events_of_all histories.now) self.old }
         ensures kept { OnOk result (Preserves (events_of_all histories.now) self.old self.new) }
-        ensures moved { IfOk result (λ moved. MatchBool moved (left_count (events_of_all histories.now) self.new.placed < left_count (events_of_all histories.now) self.old.placed) ((i : ℕ) → i < length histories.now → StuckHere (events_of_all histories.now) self.new i)) }
+        ensures moved { IfOk result
+            (λ moved. MatchBool moved
+            (left_count (events_of_all histories.now) self.new.placed
+            < left_count (events_of_all histories.now) self.old.placed)
+            ((i : ℕ) → i < length histories.now → StuckHere (events_of_all histories.now) self.new i)) }
     {
         for device in 0..devices {
             if self.try_all(alloc, histories, device)? {
@@ -127,7 +138,8 @@ impl<A: Device + Drop, S: Device + Drop> Placement<A, S> {
         requires devices { devices ≡ length histories.now }
         requires reachable { IsReachable (events_of_all histories.now) self.old }
         ensures kept { OnOk result (Preserves (events_of_all histories.now) self.old self.new) }
-        ensures stuck { OnOk result ((i : ℕ) → i < length histories.now → StuckHere (events_of_all histories.now) self.new i) }
+        ensures stuck { OnOk result
+            ((i : ℕ) → i < length histories.now → StuckHere (events_of_all histories.now) self.new i) }
     {
         loop {
             self.advance_all(alloc, histories, devices)?;
@@ -140,7 +152,8 @@ impl<A: Device + Drop, S: Device + Drop> Placement<A, S> {
     // Of the devices with events to come, the one with the lowest byte, and how many of its events are placed.
     fn lowest_over(&self, histories: &[History], devices: u32) -> Option<(usize, usize)>
         requires devices { devices ≡ length histories.now }
-        ensures { IsLowest (IsPlaced (events_of_all histories.now) self.now) (IsOver (events_of_all histories.now) self.now) (bytes_of histories.now) (length histories.now) result }
+        ensures { IsLowest (IsPlaced (events_of_all histories.now) self.now)
+            (IsOver (events_of_all histories.now) self.now) (bytes_of histories.now) (length histories.now) result }
     {
         let mut best = None;
         for device in 0..devices {
@@ -154,9 +167,9 @@ impl<A: Device + Drop, S: Device + Drop> Placement<A, S> {
 }
 
 /// A schedule from this world on whose events are the histories.
-pub fn place_histories<A: Device + Drop, S: Device + Drop>(
+pub fn place_histories<D: Device + Drop>(
     alloc: Global,
-    world: World<A, S>,
+    world: World<D>,
     histories: &[History],
     devices: u32,
 ) -> Result<Vec<Act>, Unplaced>

@@ -1,6 +1,6 @@
 //! How far the placing of events has come, and one event more.
 
-ghost use Rattle.std.specs.Prelude.{◌≡◌, ◌<◌, ◌≤◌, ◌+◌, [], ◌∷◌, ◌++◌, ℕ, List, Option, Ok, IsOk, IfOk, OnOk, IfSome, IfNone, OnSome, MatchBool, length, replicate, set, slice_index};
+ghost use Rattle.std.specs.Prelude.{◌≡◌, ◌<◌, ◌+◌, [], ◌∷◌, ◌++◌, List, Option, Ok, IsOk, IfOk, OnOk, IfSome, IfNone, OnSome, MatchBool, length, replicate, set, slice_index};
 ghost use Rattle.cip_events.specs.declared.event.Event.{Event};
 ghost use Rattle.cip_events.specs.declared.event.Event.TheVariants.{StreamCut};
 ghost use Rattle.stream_queues.specs.declared.direction.Direction.{Direction};
@@ -25,14 +25,14 @@ use std::marker::Model;
 /// A world, the acts that led to it, and how many events of each device are placed. Beside them, for each device, the
 /// place among the sent datagrams where its next one is looked for first.
 #[derive(Drop)]
-pub struct Placement<A: Device + Drop, S: Device + Drop> {
-    world: World<A, S>,
+pub struct Placement<D: Device + Drop> {
+    world: World<D>,
     acts: Vec<Act>,
     placed: Vec<usize>,
     search_from: Vec<usize>,
 }
 
-impl<A: Device + Drop, S: Device + Drop> Model for Placement<A, S> {
+impl<D: Device + Drop> Model for Placement<D> {
     ghost use Rattle.settling.specs.Placements.{Placement as Placed};
 
     ghost Value = { Placed };
@@ -43,14 +43,15 @@ impl<A: Device + Drop, S: Device + Drop> Model for Placement<A, S> {
 }
 
 /// One act that can be done.
-pub fn perform<A: Device + Drop, S: Device + Drop>(
-    world: &mut World<A, S>,
+pub fn perform<D: Device + Drop>(
+    world: &mut World<D>,
     acts: &mut Vec<Act>,
     act: Act,
 ) -> Result<(), OutOfMemory>
     requires { IsOk (happens world.old act) }
     ensures acts { OnOk result (acts.new.items ≡ acts.old.items ++ act ∷ []) }
-    ensures world { OnOk result ((reported : Option ReportedEvent) × (happens world.old act ≡ Ok (reported, world.new))) }
+    ensures world { OnOk result
+        ((reported : Option ReportedEvent) × (happens world.old act ≡ Ok (reported, world.new))) }
 {
     match world.act(&act) {
         Ok(_) => {
@@ -78,13 +79,9 @@ fn set_place(places: &mut Vec<usize>, device: u32, place: usize) {
     }
 }
 
-impl<A: Device + Drop, S: Device + Drop> Placement<A, S> {
+impl<D: Device + Drop> Placement<D> {
     /// No event is placed.
-    pub fn new(
-        alloc: Global,
-        world: World<A, S>,
-        devices: usize,
-    ) -> Result<Placement<A, S>, OutOfMemory>
+    pub fn new(alloc: Global, world: World<D>, devices: usize) -> Result<Placement<D>, OutOfMemory>
         ensures { IfOk result (λ p. p ≡ record { world = world; acts = []; placed = replicate devices 0 }) }
     {
         Ok(Placement {
@@ -118,7 +115,8 @@ impl<A: Device + Drop, S: Device + Drop> Placement<A, S> {
     /// The next event of a device. Takes no memory.
     pub fn next<'a>(&self, histories: &'a [History], device: u32) -> Option<&'a Event>
         ensures none { IfNone result (rest (events_of_all histories.now) self.now.placed device ≡ []) }
-        ensures some { IfSome result (λ e. (es : List Event) × (rest (events_of_all histories.now) self.now.placed device ≡ e.now ∷ es)) }
+        ensures some { IfSome result
+            (λ e. (es : List Event) × (rest (events_of_all histories.now) self.now.placed device ≡ e.now ∷ es)) }
     {
         match events_left(histories, &self.placed, device) {
             [] => None,
@@ -143,8 +141,11 @@ impl<A: Device + Drop, S: Device + Drop> Placement<A, S> {
 
     // The direction in which a cut of this stream, where it may be made, brings its mark to the device.
     fn way_of(&self, histories: &[History], stream: u16, device: u32) -> Option<Direction>
-        ensures none { IfNone result (IsPermitted (rest (events_of_all histories.now) self.now.placed) self.now.world (act.CutStream stream) → (d : Direction) → CutReaches self.now.world stream device d → ⊥) }
-        ensures may { OnSome result (IsPermitted (rest (events_of_all histories.now) self.now.placed) self.now.world (act.CutStream stream)) }
+        ensures none { IfNone result
+            (IsPermitted (rest (events_of_all histories.now) self.now.placed) self.now.world (act.CutStream stream)
+            → (d : Direction) → CutReaches self.now.world stream device d → ⊥) }
+        ensures may { OnSome result
+            (IsPermitted (rest (events_of_all histories.now) self.now.placed) self.now.world (act.CutStream stream)) }
         ensures reaches { IfSome result (CutReaches self.now.world stream device) }
     {
         cut_way(&self.world, histories, &self.placed, stream, device)
@@ -179,7 +180,9 @@ impl<A: Device + Drop, S: Device + Drop> Placement<A, S> {
         requires reachable { IsReachable (events_of_all histories.now) self.old }
         requires causes { CausesNext (events_of_all histories.now) self.old device act }
         ensures kept { OnOk result (Preserves (events_of_all histories.now) self.old self.new) }
-        ensures less { OnOk result (left_count (events_of_all histories.now) self.new.placed < left_count (events_of_all histories.now) self.old.placed) }
+        ensures less { OnOk result
+            (left_count (events_of_all histories.now) self.new.placed
+            < left_count (events_of_all histories.now) self.old.placed) }
     {
         let most = events_of(histories, device).len();
         perform(&mut self.world, &mut self.acts, act)?;
@@ -196,10 +199,12 @@ impl<A: Device + Drop, S: Device + Drop> Placement<A, S> {
         _direction: Direction,
     ) -> Result<(), OutOfMemory>
         requires reachable { IsReachable (events_of_all _histories.now) self.old }
-        requires may { IsPermitted (rest (events_of_all _histories.now) self.old.placed) self.old.world (act.CutStream stream) }
+        requires may { IsPermitted (rest (events_of_all _histories.now) self.old.placed) self.old.world
+            (act.CutStream stream) }
         requires reaches { CutReaches self.old.world stream _device _direction }
         ensures kept { OnOk result (Preserves (events_of_all _histories.now) self.old self.new) }
-        ensures causes { OnOk result (Causes self.new.world _device (StreamCut stream) (act.NextFrame stream _direction)) }
+        ensures causes { OnOk result
+            (Causes self.new.world _device (StreamCut stream) (act.NextFrame stream _direction)) }
         ensures placed { OnOk result (self.new.placed ≡ self.old.placed) }
     {
         perform(&mut self.world, &mut self.acts, Act::CutStream { stream })?;
@@ -217,7 +222,10 @@ impl<A: Device + Drop, S: Device + Drop> Placement<A, S> {
         requires device { device < length histories.now }
         requires reachable { IsReachable (events_of_all histories.now) self.old }
         ensures kept { OnOk result (Preserves (events_of_all histories.now) self.old self.new) }
-        ensures moved { IfOk result (λ moved. MatchBool moved (left_count (events_of_all histories.now) self.new.placed < left_count (events_of_all histories.now) self.old.placed) (self.new ≡ self.old)) }
+        ensures moved { IfOk result
+            (λ moved. MatchBool moved
+            (left_count (events_of_all histories.now) self.new.placed
+            < left_count (events_of_all histories.now) self.old.placed) (self.new ≡ self.old)) }
     {
         let Some(event) = self.next(histories, device) else {
             return Ok(false);
@@ -242,7 +250,11 @@ impl<A: Device + Drop, S: Device + Drop> Placement<A, S> {
         requires device { device < length histories.now }
         requires reachable { IsReachable (events_of_all histories.now) self.old }
         ensures kept { OnOk result (Preserves (events_of_all histories.now) self.old self.new) }
-        ensures moved { IfOk result (λ moved. MatchBool moved (left_count (events_of_all histories.now) self.new.placed < left_count (events_of_all histories.now) self.old.placed) ((self.new ≡ self.old) × StuckHere (events_of_all histories.now) self.old device)) }
+        ensures moved { IfOk result
+            (λ moved. MatchBool moved
+            (left_count (events_of_all histories.now) self.new.placed
+            < left_count (events_of_all histories.now) self.old.placed)
+            ((self.new ≡ self.old) × StuckHere (events_of_all histories.now) self.old device)) }
     {
         let Some(event) = self.next(histories, device) else {
             return Ok(false);

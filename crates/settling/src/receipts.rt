@@ -1,7 +1,7 @@
 //! Receipts against histories.
 
-ghost use Rattle.std.specs.Prelude.{◌≡◌, ◌↔◌, ◌<◌, ℕ, true, false, None, Some, Ok, [], IsTrue, IfOk, IfSome, IfNone, MatchBool, length, slice_get, slice_index_or};
-ghost use Rattle.cip_tables.specs.Step.{config_fault, makes_adapter};
+ghost use Rattle.std.specs.Prelude.{◌≡◌, ◌↔◌, ◌<◌, true, false, None, Some, Ok, [], IsTrue, IfOk, IfSome, IfNone, MatchBool, length, slice_get, slice_index_or};
+ghost use Rattle.cip_tables.specs.Step.{AcceptsAll, config_fault};
 ghost use Rattle.segment_world.specs.Configs.{first_fault};
 ghost use Rattle.settling.specs.Histories.{bytes_of, configs_of, device_at, events_of_all, place_of};
 ghost use Rattle.settling.specs.Lowest.{IsLowest};
@@ -11,53 +11,38 @@ ghost use Rattle.settling.specs.Schedules.{history};
 use crate::histories::byte_of;
 use crate::lowest::lower_of;
 use crate::marks::Marks;
-use cip_tables::{Answer, Config, Device, Event, Outcome};
+use cip_tables::{Answer, Device, Event, Outcome};
 use cip_types::{Items, OutOfMemory};
 use device_lock::{History, Receipt};
 use std::alloc::Global;
 
 // WHAT FRESH DEVICES ANSWER
 
-fn makes_adapter(config: &Config) -> bool
-    ensures { result ≡ makes_adapter config.now }
-{
-    match config {
-        Config::Adapter(_) => true,
-        Config::Scanner(_) => false,
-    }
-}
-
 // What a fresh device answers to the events of a history.
-fn outcomes_of<A: Device + Drop, S: Device + Drop>(
+fn outcomes_of<D: Device + Drop>(
     alloc: Global,
     history: &History,
 ) -> Result<Items<Outcome>, OutOfMemory>
-    requires adapter { A.ADAPTER ≡ true }
-    requires scanner { S.ADAPTER ≡ false }
+    requires accepts { AcceptsAll D.accepts }
     requires valid { config_fault history.now.config ≡ None }
     ensures { IfOk result (λ outcomes. outcomes ≡ outcomes_in history.now) }
 {
-    let outcomes = if makes_adapter(history.config()) {
-        history.outcomes::<A>(alloc)?
-    } else {
-        history.outcomes::<S>(alloc)?
-    };
+    let outcomes = history.outcomes::<D>(alloc)?;
     Ok(Items::from_vec(outcomes))
 }
 
 /// What fresh devices answer to the events of histories.
-pub fn outcomes_of_all<A: Device + Drop, S: Device + Drop>(
+pub fn outcomes_of_all<D: Device + Drop>(
     alloc: Global,
     histories: &[History],
 ) -> Result<Vec<Items<Outcome>>, OutOfMemory>
-    requires adapter { A.ADAPTER ≡ true }
-    requires scanner { S.ADAPTER ≡ false }
+    requires accepts { AcceptsAll D.accepts }
     requires valid { first_fault (configs_of histories.now) ≡ None }
     ensures { IfOk result (λ outcomes. outcomes.items ≡ outcomes_of_all histories.now) }
 {
     let mut all = Vec::new(alloc);
     for history in histories {
-        all.push(outcomes_of::<A, S>(alloc, history)?)?;
+        all.push(outcomes_of::<D>(alloc, history)?)?;
     }
     Ok(all)
 }
@@ -140,7 +125,8 @@ fn mark_event(
 ) -> bool
     requires outcomes { outcomes.now ≡ outcomes_of_all histories.now }
     requires room { HasRoomForMarks histories.now marks.old }
-    ensures { MatchBool result (IsMarked histories.now marks.old receipt.now marks.new) (IsUnmarked histories.now marks.old receipt.now → ⊥) }
+    ensures { MatchBool result (IsMarked histories.now marks.old receipt.now marks.new)
+        (IsUnmarked histories.now marks.old receipt.now → ⊥) }
 {
     let Some(place) = place_of(histories, receipt) else {
         return false;
@@ -191,7 +177,8 @@ fn missing_of(marks: &Marks, device: usize, count: usize) -> Option<usize>
 
 /// Of the devices that have an event without a mark, the one with the lowest byte, and its first such event.
 pub fn first_missing(histories: &[History], marks: &Marks) -> Option<(usize, usize)>
-    ensures { IsLowest (HasItsMarks (events_of_all histories.now) marks.now) (LacksItsMark (events_of_all histories.now) marks.now) (bytes_of histories.now) (length histories.now) result }
+    ensures { IsLowest (HasItsMarks (events_of_all histories.now) marks.now)
+        (LacksItsMark (events_of_all histories.now) marks.now) (bytes_of histories.now) (length histories.now) result }
 {
     let mut best = None;
     for (device, history) in histories.iter().enumerate() {

@@ -1,10 +1,11 @@
 //! Finds a schedule for histories and receipts.
 
-ghost use Rattle.std.specs.Prelude.{◌≡◌, ◌<◌, ◌^◌, true, false, None, [], IfOk, IfErr, IfSome, IfNone, OnOk, length};
+ghost use Rattle.std.specs.Prelude.{◌≡◌, ◌<◌, ◌^◌, None, [], IfOk, IfErr, OnOk, length};
+ghost use Rattle.cip_tables.specs.Step.{AcceptsAll};
 ghost use Rattle.segment_world.specs.Configs.{opening_world, world_fault};
 ghost use Rattle.settling.specs.Histories.{bytes_of, configs_of, events_of_all, nodes_of, start_of};
 ghost use Rattle.settling.specs.Openings.{FirstOpen, Opening};
-ghost use Rattle.settling.specs.Receipts.{AllGood, AreMarks, Covered};
+ghost use Rattle.settling.specs.Receipts.{AllGood, AreMarks};
 ghost use Rattle.settling.specs.Schedules.{Settles};
 ghost use Rattle.settling.specs.Settlings.{AllAnswered, IsWrong, OpensFirst, SettlesAll, WhyNot, WhyUnplaced};
 
@@ -79,12 +80,11 @@ pub fn check_configs(alloc: Global, histories: &[History]) -> Result<(), WorldFa
 // THE EVENTS
 
 // The world that the devices were in before their first events.
-fn opening_world<A: Device + Drop, S: Device + Drop>(
+fn opening_world<D: Device + Drop>(
     alloc: Global,
     histories: &[History],
-) -> Result<World<A, S>, OutOfMemory>
-    requires adapter { A.ADAPTER ≡ true }
-    requires scanner { S.ADAPTER ≡ false }
+) -> Result<World<D>, OutOfMemory>
+    requires accepts { AcceptsAll D.accepts }
     requires valid { world_fault (configs_of histories.now) ≡ None }
     ensures { IfOk result (λ world. world ≡ start_of histories.now) }
 {
@@ -124,8 +124,8 @@ fn in_32_bits(count: usize) -> u32
 }
 
 // Opens the streams that the histories name.
-fn open_first<A: Device + Drop, S: Device + Drop>(
-    world: &mut World<A, S>,
+fn open_first<D: Device + Drop>(
+    world: &mut World<D>,
     acts: &mut Vec<Act>,
     histories: &[History],
 ) -> Result<(), OutOfMemory>
@@ -143,21 +143,21 @@ fn open_first<A: Device + Drop, S: Device + Drop>(
 }
 
 // A schedule whose events are the histories, all of which are answered.
-fn settle_events<A: Device + Drop, S: Device + Drop>(
+fn settle_events<D: Device + Drop>(
     alloc: Global,
     histories: &[History],
     devices: u32,
 ) -> Result<Vec<Act>, Unplaced>
-    requires adapter { A.ADAPTER ≡ true }
-    requires scanner { S.ADAPTER ≡ false }
+    requires accepts { AcceptsAll D.accepts }
     requires valid { world_fault (configs_of histories.now) ≡ None }
     requires devices { devices ≡ length histories.now }
     requires answered { AllAnswered (start_of histories.now) (events_of_all histories.now) }
     ensures settled { IfOk result (λ acts. Settles (start_of histories.now) (events_of_all histories.now) acts.items) }
     ensures opens { IfOk result (λ acts. OpensFirst (start_of histories.now) (events_of_all histories.now) acts.items) }
-    ensures stuck { IfErr result (WhyUnplaced (start_of histories.now) (events_of_all histories.now) (bytes_of histories.now)) }
+    ensures stuck { IfErr result
+        (WhyUnplaced (start_of histories.now) (events_of_all histories.now) (bytes_of histories.now)) }
 {
-    let mut world = opening_world::<A, S>(alloc, histories)?;
+    let mut world = opening_world::<D>(alloc, histories)?;
     let mut acts = Vec::new(alloc);
     open_first(&mut world, &mut acts, histories)?;
     match place_histories(alloc, world, histories, devices) {
@@ -172,19 +172,18 @@ fn settle_events<A: Device + Drop, S: Device + Drop>(
 // THE RECEIPTS
 
 // A mark for each event that has a receipt, where all receipts are good.
-fn marks_of<A: Device + Drop, S: Device + Drop>(
+fn marks_of<D: Device + Drop>(
     alloc: Global,
     histories: &[History],
     receipts: &[Receipt],
 ) -> Result<Marks, Unsettled>
-    requires adapter { A.ADAPTER ≡ true }
-    requires scanner { S.ADAPTER ≡ false }
+    requires accepts { AcceptsAll D.accepts }
     requires valid { world_fault (configs_of histories.now) ≡ None }
     ensures good { IfOk result (λ _. AllGood histories.now [] receipts.now) }
     ensures marks { IfOk result (AreMarks histories.now receipts.now) }
     ensures foreign { IfErr result (WhyNot histories.now receipts.now) }
 {
-    let outcomes = outcomes_of_all::<A, S>(alloc, histories)?;
+    let outcomes = outcomes_of_all::<D>(alloc, histories)?;
     let mut marks = Marks::new(alloc, histories)?;
     match first_foreign(histories, &outcomes, &mut marks, receipts) {
         Some((device, index)) => Err(Unsettled::Foreign(device, index)),
@@ -201,23 +200,22 @@ fn marks_of<A: Device + Drop, S: Device + Drop>(
 /// only where neither end has an event to come that uses it.
 ///
 /// The faults, in order: `Foreign`, `Missing`, `Uncaused`, and `OutOfMemory` wherever a growth of memory is refused.
-pub fn settle<A: Device + Drop, S: Device + Drop>(
+pub fn settle<D: Device + Drop>(
     alloc: Global,
     histories: &[History],
     receipts: &[Receipt],
 ) -> Result<Settled, Unsettled>
-    requires adapter { A.ADAPTER ≡ true }
-    requires scanner { S.ADAPTER ≡ false }
+    requires accepts { AcceptsAll D.accepts }
     requires valid { world_fault (configs_of histories.now) ≡ None }
     ensures settled { IfOk result (λ settled. SettlesAll histories.now receipts.now settled.schedule) }
     ensures unsettled { IfErr result (WhyNot histories.now receipts.now) }
 {
-    let marks = marks_of::<A, S>(alloc, histories, receipts)?;
+    let marks = marks_of::<D>(alloc, histories, receipts)?;
     if let Some((device, place)) = first_missing(histories, &marks) {
         let byte = byte_at(histories, device);
         return Err(Unsettled::Missing(byte, place as u64));
     }
-    match settle_events::<A, S>(alloc, histories, count_devices(histories)) {
+    match settle_events::<D>(alloc, histories, count_devices(histories)) {
         Ok(acts) => Ok(Settled {
             schedule: Items::from_vec(acts),
         }),

@@ -141,8 +141,8 @@ fn open_act(pair: (usize, usize)) -> Act
 }
 
 /// Opens the streams below a number, each between its pair of devices.
-pub fn open_streams<A: Device + Drop, S: Device + Drop>(
-    world: &mut World<A, S>,
+pub fn open_streams<D: Device + Drop>(
+    world: &mut World<D>,
     acts: &mut Vec<Act>,
     histories: &[History],
     count: u32,

@@ -2,21 +2,19 @@
 use Rattle.std.proofs.Common.{◌≡◌, ℕ, zero, suc, List, [], ◌∷◌, ◌++◌, map, filter, slice_get, Option, Some, None, Result, Ok, Err, IfOk, refl, sym, ◌∙◌, ap, subst}
 use Rattle.std.proofs.lemmas.List.{append-nil, append_assoc, map-append}
 use Rattle.std.proofs.lemmas.List.Elements.{filter-append}
-use Rattle.cip_events.specs.declared.event.Event.{Event}
-use Rattle.cip_events.specs.declared.event.StepFault.{StepFault}
+use Rattle.scanner_laws.specs.Lemmas.Stepping.{table_is}
+use Rattle.scanner_laws.specs.Lemmas.Folds.{fold_of}
 use Rattle.scanner_table.specs.declared.profile.ScannerProfile.{ScannerProfile}
 use Rattle.scanner_table.specs.declared.table.ScannerTable.{ScannerTable}
-use Rattle.scanner_table.specs.Effects.{Next}
 use Rattle.scanner_table.specs.Slots.{IndexedSlot}
-use Rattle.scanner_table.specs.Step.{scanner_step, scanner_table}
+use Rattle.scanner_table.specs.Step.{scanner_table}
 use Rattle.scanner_laws.specs.Newest.{OpeningsAreNumbered}
-use Rattle.scanner_laws.specs.Runs.{left_by, table_after as scanner_after, IsLaw}
+use Rattle.scanner_whole.specs.Runs.{table_after as scanner_after, IsLaw}
 use Rattle.cip_tables.specs.declared.table.Config.{Config}
 use Rattle.cip_tables.specs.declared.table.Config.TheVariants as config
 use Rattle.cip_tables.specs.declared.table.DeviceTable.{DeviceTable}
 use Rattle.cip_tables.specs.declared.table.DeviceTable.TheVariants.{Scanner}
-use Rattle.cip_tables.specs.Run.{table_of, table_after}
-use Rattle.cip_tables.specs.Step.{as_scanner, step, opening_table}
+use Rattle.cip_tables.specs.Step.{opening_table}
 use Rattle.segment_world.specs.declared.act.Act.{Act}
 use Rattle.segment_world.specs.declared.act.ActFault.{ActFault}
 use Rattle.segment_world.specs.Configs.{opening_world}
@@ -70,25 +68,10 @@ events_both device before rest =
 
 -- ---- a scanner
 
-left_scanner : (t : ScannerTable) (said : Result Next StepFault) → table_of (Scanner t) (as_scanner said) ≡ Scanner (left_by t said)
-left_scanner t (Ok next) = refl
-left_scanner t (Err why) = refl
-
-step_left : (t : ScannerTable) (event : Event) → table_of (Scanner t) (step (Scanner t) event) ≡ Scanner (left_by t (scanner_step t event))
-unfolding step
-step_left t event = left_scanner t (scanner_step t event)
-
-after_scanner : (t : ScannerTable) (events : List Event) → table_after (Scanner t) events ≡ Scanner (scanner_after t events)
-after_scanner t [] = refl
-after_scanner t (event ∷ events) = ap (λ (x : DeviceTable). table_after x events) (step_left t event) ∙ after_scanner (left_by t (scanner_step t event)) events
-
 opens_at : (configs : List Config) (device : ℕ) (profile : ScannerProfile) → slice_get configs device ≡ Some (config.Scanner profile) → slice_get (map opening_table configs) device ≡ Some (Scanner (scanner_table profile))
 opens_at [] device profile at = absurd (let e = at in cc)
 opens_at (made ∷ configs) zero profile at = let same : made ≡ config.Scanner profile = cc in ap (λ (c : Config). Some (opening_table c)) same
 opens_at (made ∷ configs) (suc device) profile at = opens_at configs device profile at
-
-table_is : (a b : ScannerTable) → Some (Scanner a) ≡ Some (Scanner b) → a ≡ b
-table_is a b is = cc
 
 -- the table is the one to which the scanner's own events lead
 leads_there : ProjectionsAreRuns → (configs : List Config) (acts : List Act) (device : ℕ) (profile : ScannerProfile) (place : IndexedSlot) (number : ℕ) → slice_get configs device ≡ Some (config.Scanner profile) → (after : HasOpeningAfter configs acts device place number) → after.table ≡ scanner_after (scanner_table profile) (events_of device after.story.reported)
@@ -96,7 +79,7 @@ leads_there projections configs acts device profile place number at after =
     let events = events_of device after.story.reported in
     table_is after.table (scanner_after (scanner_table profile) events)
     (sym after.there ∙ projections (opening_world configs) acts after.story device (Scanner (scanner_table profile)) after.ran (opens_at configs device profile at)
-    ∙ ap (λ (x : DeviceTable). Some x) (after_scanner (scanner_table profile) events))
+    ∙ ap (λ (x : DeviceTable). Some x) (fold_of (scanner_table profile) events))
 
 pub schedules_name_one : ProjectionsAreRuns → IsLaw OpeningsAreNumbered → SlotsHaveOpeningsOfTheirOwn → SchedulesNameOneSlot
 schedules_name_one projections law differ configs acts more device profile first later number at was now =

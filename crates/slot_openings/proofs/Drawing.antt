@@ -1,22 +1,23 @@
 -- A slot that has an opening number had it before, or drew it since.
-use Rattle.std.proofs.Common.{◌≡◌, ◌≤◌, ◌<◌, ◌⊎◌, inl, inr, ℕ, Bool, true, false, cond, List, [], ◌∷◌, ◌++◌, Some, None, Result, Ok, Err, refl, sym, ◌∙◌, ap, subst, arith}
-use Rattle.cip_types.specs.declared.names.Ms.{Ms}
+use Rattle.std.proofs.Common.{◌≡◌, ◌≤◌, ◌⊎◌, inl, inr, ℕ, List, [], ◌∷◌, ◌++◌, Some, None, Result, Ok, Err, refl, sym, ◌∙◌, ap, subst, arith}
+use Rattle.std.proofs.lemmas.Option.{same_Some}
+use Rattle.made_productions.specs.Lemmas.OpeningNumbers.{written_number, below, due_number, moded_number}
 use Rattle.cip_events.specs.declared.event.Event.{Event}
 use Rattle.cip_events.specs.declared.event.StepFault.{StepFault}
 use Rattle.cip_productions.specs.Kinds.{is_owner}
 use Rattle.scanner_table.specs.declared.slot.Slot.{Slot}
 use Rattle.scanner_table.specs.declared.slot.SlotState.{SlotState}
-use Rattle.scanner_table.specs.declared.slot.SlotState.TheVariants.{Idle, Opening, Established, TimedOut, Closing}
+use Rattle.scanner_table.specs.declared.slot.SlotState.TheVariants.{TimedOut}
 use Rattle.scanner_table.specs.declared.table.ScannerTable.{ScannerTable}
 use Rattle.scanner_table.specs.Effects.{Next}
-use Rattle.scanner_table.specs.Productions.{written_state, state_is_due, produced_state, produced_slot}
+use Rattle.scanner_table.specs.Productions.{state_is_due, produced_slot}
 use Rattle.scanner_table.specs.Slots.{IndexedSlot, slot_at}
 use Rattle.scanner_table.specs.Step.{scanner_step, scanner_table}
-use Rattle.scanner_laws.specs.Newest.{StateIsNumbered, OpeningsAreNumbered}
-use Rattle.scanner_laws.specs.Runs.{left_by, table_after, IsLaw}
-use Rattle.scanner_laws.proofs.Moves.{Leads, step_leads}
-use Rattle.scanner_laws.proofs.SlotLookups.{indexed_at, slot_is, slot_stands}
-use Rattle.scanner_laws.proofs.Slotwise.{Relation, SlotwiseAlways, Goes, same_later, stays_goes, goes_always, was_of}
+use Rattle.scanner_laws.specs.Newest.{OpeningsAreNumbered}
+use Rattle.scanner_whole.specs.Runs.{left_by, table_after, IsLaw}
+use Rattle.scanner_whole.specs.Lemmas.Moves.{Leads, step_leads}
+use Rattle.scanner_whole.specs.Lemmas.SlotLookups.{indexed_at, slot_is, slot_stands}
+use Rattle.scanner_whole.specs.Lemmas.Slotwise.{Relation, SlotwiseAlways, Goes, same_later, stays_goes, goes_always, was_of}
 use Rattle.made_productions.specs.Runs.{opening_number, OpeningsDiffer, SlotsHaveOpeningsOfTheirOwn}
 use Rattle.slot_openings.specs.Openings.{HasOpening, OpeningNumbersNameOneSlot}
 
@@ -29,9 +30,6 @@ Drew next was now = (number : ℕ) → opening_number now ≡ Some number → (o
 -- a slot that has an opening number had it before, or drew it since
 abbrev Draws : Relation
 Draws t u number config was now = Drew t.next_request was.state now.state
-
-some_same : (a b : ℕ) → Some a ≡ Some b → a ≡ b
-some_same a b is = cc
 
 -- the state's opening stays
 kept : (next : ℕ) (was now : SlotState) → opening_number now ≡ opening_number was → Drew next was now
@@ -47,34 +45,12 @@ drew_after next more a b c up before behind number has = step (behind number has
   step (inl mid) = before number mid
   step (inr le) = inr (omega (arith, up, le))
 
-written_number : (state : SlotState) → opening_number (written_state state) ≡ opening_number state
-written_number Idle = refl
-written_number (Opening o) = refl
-written_number (Established c) = refl
-written_number (TimedOut link) = refl
-written_number (Closing c) = refl
-
-produced_number : (clock : Ms) (state : SlotState) → opening_number (produced_state clock state) ≡ opening_number state
-produced_number clock Idle = refl
-produced_number clock (Opening o) = refl
-produced_number clock (Established c) = refl
-produced_number clock (TimedOut link) = refl
-produced_number clock (Closing c) = refl
-
-due_number : (due : Bool) (clock : Ms) (slot : Slot) → opening_number (cond due (record slot { state = produced_state clock slot.state }) slot).state ≡ opening_number slot.state
-due_number true clock slot = produced_number clock slot.state
-due_number false clock slot = refl
-
-moded_number : (owner : Bool) (slot : Slot) → opening_number (cond owner (record slot { state = written_state slot.state }) slot).state ≡ opening_number slot.state
-moded_number true slot = written_number slot.state
-moded_number false slot = refl
-
 draws_always : SlotwiseAlways Draws
 draws_always = record {
   widely = record {
     stays = λ t u number config slot later. kept t.next_request slot.state slot.state refl;
     after = λ t u v number config a b c first next before behind. drew_after t.next_request u.next_request a.state b.state c.state first.requests before behind;
-    opening = λ t place closed_before number has. inr (let same = some_same t.next_request number has in omega (arith, same));
+    opening = λ t place closed_before number has. inr (let same = same_Some t.next_request number has in omega (arith, same));
     idling = λ t place slot idle. none_left t.next_request place.slot.state slot.state (ap opening_number idle.state);
     timing_out = λ t place c is. none_left t.next_request place.slot.state (TimedOut c.link) refl;
     closing = λ t place c is number has. absurd (let e = has in cc);
@@ -107,14 +83,6 @@ after_both t [] more = refl
 after_both t (event ∷ events) more = after_both (left_by t (scanner_step t event)) events more
 
 -- ---- two moments
-
--- a number that a slot has is below the next one
-below : (next number : ℕ) (state : SlotState) → StateIsNumbered next state → opening_number state ≡ Some number → number < next
-below next number Idle numbered has = absurd (let e = has in cc)
-below next number (Opening o) numbered has = subst (λ (n : ℕ). n < next) (some_same o.request number has) numbered
-below next number (Established c) numbered has = subst (λ (n : ℕ). n < next) (some_same c.opening number has) numbered
-below next number (TimedOut link) numbered has = absurd (let e = has in cc)
-below next number (Closing c) numbered has = absurd (let e = has in cc)
 
 names_one : (t u : ScannerTable) (first later : IndexedSlot) (number : ℕ) → OpeningsAreNumbered t → OpeningsDiffer t → Goes Draws t u → HasOpening t first number → HasOpening u later number → first.number ≡ later.number
 names_one t u first later number numbered differ goes before behind =

@@ -17,7 +17,7 @@ use Rattle.scanner_table.specs.Replies.{open_answer, answered}
 use Rattle.scanner_table.specs.Encapsulation.{stream_opened, frame}
 use Rattle.scanner_table.specs.Points.{start}
 use Rattle.scanner_table.specs.Step.{scanner_table}
-use Rattle.scanner_laws.specs.Runs.{table_after}
+use Rattle.scanner_whole.specs.Runs.{table_after}
 use Rattle.made_productions.specs.Runs.{opening_number}
 
 abbrev target : Node

@@ -5,7 +5,7 @@ use Rattle.scanner_table.specs.declared.profile.ScannerProfile.{ScannerProfile}
 use Rattle.scanner_table.specs.declared.table.ScannerTable.{ScannerTable}
 use Rattle.scanner_table.specs.Slots.{IndexedSlot, slot_at}
 use Rattle.scanner_table.specs.Step.{scanner_table}
-use Rattle.scanner_laws.specs.Runs.{table_after}
+use Rattle.scanner_whole.specs.Runs.{table_after}
 use Rattle.made_productions.specs.Runs.{opening_number}
 
 -- The slot is the table's, and waits for the reply to the opening of this request number, or has the connection that came

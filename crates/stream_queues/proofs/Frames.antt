@@ -1,17 +1,10 @@
 -- The frames of one direction, after a change of the list of queued frames.
-use Rattle.std.proofs.Common.{◌≡◌, ◌≢◌, ◌<◌, ◌≤◌, ℕ, zero, suc, ◌==◌, not, Bool, true, false, cond, List, [], ◌∷◌, ◌++◌, filter, length, get_or, refl, sym, ◌∙◌, ap, arith}
+use Rattle.std.proofs.Common.{◌≡◌, ◌≢◌, ◌<◌, ◌≤◌, ℕ, zero, suc, ◌==◌, not, Bool, true, false, cond, List, [], ◌∷◌, ◌++◌, filter, length, get_or, refl, sym, ◌∙◌, ap, arith, ne_eqb, eqb-true}
 use Rattle.std.specs.List.{remove}
-use Rattle.std.proofs.lemmas.Bool.Decides.{nat_tests}
 use Rattle.stream_queues.specs.declared.direction.Direction.{Direction}
 use Rattle.stream_queues.specs.declared.waiting.QueuedFrame.{QueuedFrame}
 use Rattle.stream_queues.specs.Streams.{QueueItem, Queued}
 use Rattle.stream_queues.specs.Queues.{is_in, is_elsewhere, frames_of, AreNumbered}
-
-eq_false : (a b : ℕ) → a ≢ b → (a == b) ≡ false
-eq_false a b h = grind (arith, nat_tests)
-
-eq_true : (a b : ℕ) → (a == b) ≡ true → a ≡ b
-eq_true a b h = grind (arith, nat_tests)
 
 -- the frame, if it waits there
 abbrev pub frame_if : Bool → QueuedFrame → List QueueItem
@@ -33,8 +26,8 @@ frames_push n d (x ∷ ws) w = push_step (is_in n d x) x (frames_of n d ws) (fra
 drop_step : (b : Bool) (n j : ℕ) (d : Direction) (w : QueuedFrame) (ws : List QueuedFrame) → (w.stream == n) ≡ b → j ≢ n → frames_of j d (filter (is_elsewhere n) ws) ≡ frames_of j d ws → frames_of j d (cond (not b) (w ∷ filter (is_elsewhere n) ws) (filter (is_elsewhere n) ws)) ≡ frames_of j d (w ∷ ws)
 unfolding frames_of
 drop_step true n j d w ws is ne same =
-    let here : w.stream ≡ n = eq_true w.stream n is in
-    let there : (w.stream == j) ≡ false = eq_false w.stream j (λ e. ne (sym e ∙ here)) in
+    let here : w.stream ≡ n = eqb-true w.stream n is in
+    let there : (w.stream == j) ≡ false = ne_eqb w.stream j (λ e. ne (sym e ∙ here)) in
     rw there same
 drop_step false n j d w ws is ne same = ap (λ l. cond (is_in j d w) (Queued w.bytes ∷ l) l) same
 
@@ -51,7 +44,7 @@ unfolding AreNumbered frames_of
 frames_beyond count n d [] numbered le = refl
 frames_beyond count n d (w ∷ ws) numbered le =
     let lt : w.stream < count = numbered.0 in
-    let there : (w.stream == n) ≡ false = eq_false w.stream n (λ e. absurd (omega (arith, e))) in
+    let there : (w.stream == n) ≡ false = ne_eqb w.stream n (λ e. absurd (omega (arith, e))) in
     rw there (frames_beyond count n d ws numbered.1 le)
 
 -- THE FIRST FRAME

@@ -1,7 +1,9 @@
 -- Frames wait only on streams that have not ended: after a change of a stream, or of the queued frames.
-use Rattle.std.proofs.Common.{◌≡◌, ◌≢◌, ◌<◌, ℕ, zero, suc, ◌==◌, not, Bool, true, false, cond, List, [], ◌∷◌, ◌++◌, filter, set, length, slice_get, Some, refl, sym, ◌∙◌, ap, arith}
+use Rattle.std.proofs.Common.{◌≡◌, ◌<◌, ℕ, zero, suc, ◌==◌, not, Bool, true, false, cond, List, [], ◌∷◌, ◌++◌, filter, set, length, slice_get, Some, refl, sym, ◌∙◌, ap, arith}
 use Rattle.std.specs.List.{remove}
-use Rattle.std.proofs.lemmas.Bool.Decides.{nat_tests}
+use Rattle.std.proofs.lemmas.Bool.{eqb-false}
+use Rattle.std.proofs.lemmas.Option.{same_Some}
+use Rattle.base_lemmas.specs.Lists.{set_other}
 use Rattle.stream_queues.specs.declared.direction.Direction.{Direction}
 use Rattle.stream_queues.specs.declared.direction.Direction.TheVariants.{Forth, Back}
 use Rattle.stream_queues.specs.declared.links.StreamEnd.{StreamEnd}
@@ -59,21 +61,10 @@ live_more links link (w ∷ ws) live = (living_more links link w.stream live.0, 
 
 -- A STREAM THAT ENDS, WHOSE FRAMES ARE DROPPED
 
-set_elsewhere : (links : List StreamLink) (n i : ℕ) (link : StreamLink) → i ≢ n → slice_get (set links n link) i ≡ slice_get links i
-set_elsewhere [] zero i link ne = refl
-set_elsewhere [] (suc n) i link ne = refl
-set_elsewhere (first ∷ links) zero zero link ne = absurd (ne refl)
-set_elsewhere (first ∷ links) zero (suc i) link ne = refl
-set_elsewhere (first ∷ links) (suc n) zero link ne = refl
-set_elsewhere (first ∷ links) (suc n) (suc i) link ne = set_elsewhere links n i link (λ e. ne (ap suc e))
-
-are_two : (a b : ℕ) → (a == b) ≡ false → a ≢ b
-are_two a b is = grind (arith, nat_tests)
-
 drop_step : (b : Bool) (links : List StreamLink) (n : ℕ) (link : StreamLink) (w : QueuedFrame) (ws : List QueuedFrame) → (w.stream == n) ≡ b → is_living (slice_get links w.stream) ≡ true → AreLive (set links n link) ws → AreLive (set links n link) (cond (not b) (w ∷ ws) ws)
 unfolding AreLive
 drop_step true links n link w ws is living live = live
-drop_step false links n link w ws is living live = (ap is_living (set_elsewhere links n w.stream link (are_two w.stream n is)) ∙ living, live)
+drop_step false links n link w ws is living live = (ap is_living (set_other links n w.stream link (eqb-false w.stream n is)) ∙ living, live)
 
 pub live_drop : (links : List StreamLink) (n : ℕ) (link : StreamLink) (ws : List QueuedFrame) → AreLive links ws → AreLive (set links n link) (filter (is_elsewhere n) ws)
 unfolding AreLive
@@ -86,12 +77,9 @@ ended_kept : (d : Direction) (link : StreamLink) (end : StreamEnd) → (with_end
 ended_kept Forth link end = refl
 ended_kept Back link end = refl
 
-same_link : (link other : StreamLink) → Some link ≡ Some other → link ≡ other
-same_link link other is = let e = is in cc
-
 living_after : (links : List StreamLink) (n i : ℕ) (link new : StreamLink) → slice_get links n ≡ Some link → new.ended ≡ link.ended → is_living (slice_get links i) ≡ true → is_living (slice_get (set links n new) i) ≡ true
 living_after [] n i link new is same living = absurd (let e = living in cc)
-living_after (first ∷ links) zero zero link new is same living = ap not (same ∙ ap (λ (l : StreamLink). l.ended) (sym (same_link first link is))) ∙ living
+living_after (first ∷ links) zero zero link new is same living = ap not (same ∙ ap (λ (l : StreamLink). l.ended) (sym (same_Some first link is))) ∙ living
 living_after (first ∷ links) zero (suc i) link new is same living = living
 living_after (first ∷ links) (suc n) zero link new is same living = living
 living_after (first ∷ links) (suc n) (suc i) link new is same living = living_after links n i link new is same living

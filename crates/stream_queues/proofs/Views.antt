@@ -1,6 +1,8 @@
 -- The streams that links and queued frames make, after a change of one stream.
 use Rattle.std.proofs.Common.{◌≡◌, ◌≢◌, ◌<◌, ◌≤◌, ℕ, zero, suc, ◌+◌, List, [], ◌∷◌, ◌++◌, set, length, slice_get, Option, Some, None, refl, sym, ◌∙◌, ap, arith}
 use Rattle.std.specs.Option.{option_map}
+use Rattle.std.proofs.lemmas.Option.{slice_get_within}
+use Rattle.base_lemmas.specs.Lists.{set_same}
 use Rattle.stream_queues.specs.declared.direction.Direction.{Direction}
 use Rattle.stream_queues.specs.declared.direction.Direction.TheVariants.{Forth, Back}
 use Rattle.stream_queues.specs.declared.links.StreamLink.{StreamLink}
@@ -56,21 +58,11 @@ unfolding streams_in
 length_in n ws [] = refl
 length_in n ws (link ∷ links) = ap suc (length_in (suc n) ws links)
 
-set_same : {X : Type 0} (xs : List X) (k : ℕ) (x : X) → slice_get xs k ≡ Some x → set xs k x ≡ xs
-set_same [] k x is = refl
-set_same (y ∷ xs) zero x is = ap (λ z. z ∷ xs) (let e = is in cc)
-set_same (y ∷ xs) (suc k) x is = ap (λ l. y ∷ l) (set_same xs k x is)
-
-pub get_within : {X : Type 0} (xs : List X) (k : ℕ) (x : X) → slice_get xs k ≡ Some x → k < length xs
-get_within [] k x is = absurd (let e = is in cc)
-get_within (y ∷ xs) zero x is = omega arith
-get_within (y ∷ xs) (suc k) x is = let lt = get_within xs k x is in omega arith
-
 -- ONE STREAM IS CHANGED
 
 pub changed_in : (change : Stream → Stream) (ws ws' : List QueuedFrame) (links : List StreamLink) (k : ℕ) (link link' : StreamLink) → slice_get links k ≡ Some link → SameElsewhere k ws ws' → stream_in k ws' link' ≡ change (stream_in k ws link) → streams_in 0 ws' (set links k link') ≡ with_stream change k (streams_in 0 ws links)
 changed_in change ws ws' links k link link' is same so =
-    set_in 0 ws ws' links k k link' (get_within links k link is) (omega arith) same
+    set_in 0 ws ws' links k k link' (slice_get_within links k link is) (omega arith) same
     ∙ ap (λ s. set (streams_in 0 ws links) k s) so
     ∙ sym (ap (changed change (streams_in 0 ws links) k) (get_some ws links k link is))
 

@@ -1,26 +1,23 @@
 -- Changes of one stream, by its link and its queued frames.
-use Rattle.std.proofs.Common.{◌≡◌, ◌≢◌, ◌≤◌, ℕ, ◌==◌, ◌&&◌, ◌||◌, nat_lt, Bool, true, false, cond, List, [], ◌∷◌, ◌++◌, length, get_or, slice_get, Some, None, refl, sym, ◌∙◌, ap, arith, append_assoc, append-nil}
+use Rattle.std.proofs.Common.{◌≡◌, ◌≤◌, ℕ, ◌==◌, ◌&&◌, nat_lt, Bool, true, false, cond, List, [], ◌∷◌, ◌++◌, length, get_or, slice_get, Some, None, refl, sym, ◌∙◌, ap, arith, append_assoc, append-nil, ne_eqb, eqb-true}
 use Rattle.std.specs.List.{remove, position, position_or_len}
 use Rattle.std.proofs.lemmas.List.Sums.{fails_before_first}
 use Rattle.std.proofs.lemmas.List.Quantifiers.{position-Some}
 use Rattle.std.proofs.lemmas.Bool.Decides.{nat_tests}
+use Rattle.std.proofs.lemmas.Bool.{and_parts}
+use Rattle.base_lemmas.specs.Booleans.{and_none, or_false}
+use Rattle.base_lemmas.specs.Numbers.{number_same}
 use Rattle.stream_queues.specs.declared.direction.Direction.{Direction}
 use Rattle.stream_queues.specs.declared.direction.Direction.TheVariants.{Forth, Back}
 use Rattle.stream_queues.specs.declared.links.StreamEnd.{StreamEnd}
 use Rattle.stream_queues.specs.declared.links.StreamLink.{StreamLink}
 use Rattle.stream_queues.specs.declared.waiting.QueuedFrame.{QueuedFrame}
-use Rattle.stream_queues.specs.Streams.{QueueItem, Opening, Queued, Ending, Side, Stream, side_of, with_side, queued, sent_so, sent_over, ended_side, emptied, closed_so, closed_by, cut_stream, without_first, taken_from, way_between}
+use Rattle.stream_queues.specs.Streams.{QueueItem, Opening, Queued, Ending, Side, Stream, side_of, with_side, queued, sent_along, sent_over, ended_side, emptied, closed_along, closed_by, cut_stream, without_first, taken_from, way_between}
 use Rattle.stream_queues.specs.Links.{ending_end, quiet_end, closed_link, cut_link, end_of, with_end, end_after, is_marked}
 use Rattle.stream_queues.specs.Fronts.{front_of}
 use Rattle.stream_queues.specs.Queues.{is_same, is_in, frames_of, side_in, opening_of, stream_in}
 use Rattle.stream_queues.proofs.Frames.{frame_if, frames_push, IsFirst, frames_first, frames_rest, frames_none}
 use Rattle.stream_queues.proofs.Views.{SameElsewhere}
-
-eq_same : (n : ℕ) → (n == n) ≡ true
-eq_same n = grind (arith, nat_tests)
-
-eq_other : (a b : ℕ) → a ≢ b → (a == b) ≡ false
-eq_other a b h = grind (arith, nat_tests)
 
 abbrev built : StreamLink → List QueueItem → List QueueItem → Stream
 built link forth back = record { from = link.from; to = link.to; ended = link.ended; forth = side_in link.ended forth link.forth; back = side_in link.ended back link.back }
@@ -28,12 +25,8 @@ built link forth back = record { from = link.from; to = link.to; ended = link.en
 -- A FRAME MORE
 
 is_here : (n : ℕ) (d : Direction) (bytes : List ℕ) → is_in n d (record { stream = n; direction = d; bytes = bytes }) ≡ true
-is_here n Forth bytes = ap (λ b. b && true) (eq_same n)
-is_here n Back bytes = ap (λ b. b && true) (eq_same n)
-
-and_false : (b : Bool) → (b && false) ≡ false
-and_false true = refl
-and_false false = refl
+is_here n Forth bytes = ap (λ b. b && true) (number_same n)
+is_here n Back bytes = ap (λ b. b && true) (number_same n)
 
 push_here : (n : ℕ) (d : Direction) (ws : List QueuedFrame) (bytes : List ℕ) → frames_of n d (ws ++ (record { stream = n; direction = d; bytes = bytes }) ∷ []) ≡ frames_of n d ws ++ Queued bytes ∷ []
 push_here n d ws bytes = frames_push n d ws _ ∙ ap (λ b. frames_of n d ws ++ frame_if b (record { stream = n; direction = d; bytes = bytes })) (is_here n d bytes)
@@ -42,7 +35,7 @@ push_away : (n j : ℕ) (d e : Direction) (ws : List QueuedFrame) (bytes : List 
 push_away n j d e ws bytes away = frames_push j e ws _ ∙ ap (λ b. frames_of j e ws ++ frame_if b (record { stream = n; direction = d; bytes = bytes })) away ∙ append-nil (frames_of j e ws)
 
 pub push_elsewhere : (n : ℕ) (d : Direction) (ws : List QueuedFrame) (bytes : List ℕ) → SameElsewhere n ws (ws ++ (record { stream = n; direction = d; bytes = bytes }) ∷ [])
-push_elsewhere n d ws bytes j e ne = push_away n j d e ws bytes (ap (λ b. b && is_same d e) (eq_other n j (λ same. ne (sym same))))
+push_elsewhere n d ws bytes j e ne = push_away n j d e ws bytes (ap (λ b. b && is_same d e) (ne_eqb n j (λ same. ne (sym same))))
 
 side_push : (ended : Bool) (frames : List QueueItem) (end : StreamEnd) (item : QueueItem) → ended ≡ false → side_in ended (frames ++ item ∷ []) end ≡ queued item (side_in ended frames end)
 side_push true frames end item is = absurd (let e = is in cc)
@@ -55,20 +48,20 @@ open_way device false from to d is = refl
 pushed_way : (n : ℕ) (ws : List QueuedFrame) (link : StreamLink) (d : Direction) (bytes : List ℕ) → link.ended ≡ false → stream_in n (ws ++ (record { stream = n; direction = d; bytes = bytes }) ∷ []) link ≡ with_side d (stream_in n ws link) (queued (Queued bytes) (side_of d (stream_in n ws link)))
 pushed_way n ws link Forth bytes live =
     ap (λ f. built link f (frames_of n Back (ws ++ (record { stream = n; direction = Forth; bytes = bytes }) ∷ []))) (push_here n Forth ws bytes)
-    ∙ ap (λ b. built link (frames_of n Forth ws ++ Queued bytes ∷ []) b) (push_away n n Forth Back ws bytes (and_false (n == n)))
+    ∙ ap (λ b. built link (frames_of n Forth ws ++ Queued bytes ∷ []) b) (push_away n n Forth Back ws bytes (and_none (n == n)))
     ∙ ap (λ (side : Side). record (built link [] (frames_of n Back ws)) { forth = side }) (side_push link.ended (frames_of n Forth ws) link.forth (Queued bytes) live)
 pushed_way n ws link Back bytes live =
-    ap (λ f. built link f (frames_of n Back (ws ++ (record { stream = n; direction = Back; bytes = bytes }) ∷ []))) (push_away n n Back Forth ws bytes (and_false (n == n)))
+    ap (λ f. built link f (frames_of n Back (ws ++ (record { stream = n; direction = Back; bytes = bytes }) ∷ []))) (push_away n n Back Forth ws bytes (and_none (n == n)))
     ∙ ap (λ b. built link (frames_of n Forth ws) b) (push_here n Back ws bytes)
     ∙ ap (λ (side : Side). record (built link (frames_of n Forth ws) []) { back = side }) (side_push link.ended (frames_of n Back ws) link.back (Queued bytes) live)
 
 pub sent_way : (n : ℕ) (ws : List QueuedFrame) (link : StreamLink) (device : ℕ) (d : Direction) (bytes : List ℕ) → way_between device link.ended link.from link.to ≡ Some d → stream_in n (ws ++ (record { stream = n; direction = d; bytes = bytes }) ∷ []) link ≡ sent_over device bytes (stream_in n ws link)
 sent_way n ws link device d bytes way =
     pushed_way n ws link d bytes (open_way device link.ended link.from link.to d way)
-    ∙ sym (ap (sent_so bytes (stream_in n ws link)) way)
+    ∙ sym (ap (sent_along bytes (stream_in n ws link)) way)
 
 pub unsent_way : (n : ℕ) (ws : List QueuedFrame) (link : StreamLink) (device : ℕ) (bytes : List ℕ) → way_between device link.ended link.from link.to ≡ None → stream_in n ws link ≡ sent_over device bytes (stream_in n ws link)
-unsent_way n ws link device bytes way = sym (ap (sent_so bytes (stream_in n ws link)) way)
+unsent_way n ws link device bytes way = sym (ap (sent_along bytes (stream_in n ws link)) way)
 
 -- AN END
 
@@ -83,7 +76,7 @@ side_quiet false frames more end = refl
 abbrev sided : StreamLink → Side → Side → Stream
 sided link forth back = record { from = link.from; to = link.to; ended = true; forth = forth; back = back }
 
-closed_so_way : (n : ℕ) (ws ws' : List QueuedFrame) (link : StreamLink) (d : Direction) → stream_in n ws' (closed_link link d) ≡ closed_so (stream_in n ws link) (Some d)
+closed_so_way : (n : ℕ) (ws ws' : List QueuedFrame) (link : StreamLink) (d : Direction) → stream_in n ws' (closed_link link d) ≡ closed_along (stream_in n ws link) (Some d)
 closed_so_way n ws ws' link Forth =
     ap (λ forth. sided link forth (side_in true (frames_of n Back ws') (quiet_end link.back))) (side_ending link.ended (frames_of n Forth ws) (frames_of n Forth ws') link.forth)
     ∙ ap (sided link (ended_side (side_in link.ended (frames_of n Forth ws) link.forth))) (side_quiet link.ended (frames_of n Back ws) (frames_of n Back ws') link.back)
@@ -92,10 +85,10 @@ closed_so_way n ws ws' link Back =
     ∙ ap (sided link (emptied (side_in link.ended (frames_of n Forth ws) link.forth))) (side_ending link.ended (frames_of n Back ws) (frames_of n Back ws') link.back)
 
 pub closed_way : (n : ℕ) (ws ws' : List QueuedFrame) (link : StreamLink) (device : ℕ) (d : Direction) → way_between device link.ended link.from link.to ≡ Some d → stream_in n ws' (closed_link link d) ≡ closed_by device (stream_in n ws link)
-closed_way n ws ws' link device d way = closed_so_way n ws ws' link d ∙ sym (ap (closed_so (stream_in n ws link)) way)
+closed_way n ws ws' link device d way = closed_so_way n ws ws' link d ∙ sym (ap (closed_along (stream_in n ws link)) way)
 
 pub unclosed_way : (n : ℕ) (ws : List QueuedFrame) (link : StreamLink) (device : ℕ) → way_between device link.ended link.from link.to ≡ None → stream_in n ws link ≡ closed_by device (stream_in n ws link)
-unclosed_way n ws link device way = sym (ap (closed_so (stream_in n ws link)) way)
+unclosed_way n ws link device way = sym (ap (closed_along (stream_in n ws link)) way)
 
 pub cut_way : (n : ℕ) (ws ws' : List QueuedFrame) (link : StreamLink) → stream_in n ws' (cut_link link) ≡ cut_stream (stream_in n ws link)
 cut_way n ws ws' link =
@@ -103,10 +96,6 @@ cut_way n ws ws' link =
     ∙ ap (sided link (ended_side (side_in link.ended (frames_of n Forth ws) link.forth))) (side_ending link.ended (frames_of n Back ws) (frames_of n Back ws') link.back)
 
 -- RECEIVING
-
-or_false : (b : Bool) → (b || false) ≡ b
-or_false true = refl
-or_false false = refl
 
 mark_taken : (ended taken ending : Bool) (frames : List QueueItem) → is_marked ended taken ≡ true → side_in ended frames (end_after ended (record { taken = taken; ending = ending })) ≡ without_first (side_in ended frames (record { taken = taken; ending = ending })) (side_in ended frames (record { taken = taken; ending = ending })).queue
 mark_taken true taken true frames marked = ap (λ b. record { taken = b; queue = [] }) (sym (or_false taken))
@@ -136,14 +125,6 @@ frame_way_at n ws ws' link Back bytes marked is rest =
     ap (λ f. built link f (frames_of n Back ws')) (rest Forth refl)
     ∙ ap (λ (side : Side). record (stream_in n ws link) { back = side }) (frame_taken link.ended link.back.taken link.back.ending (frames_of n Back ws) (frames_of n Back ws') bytes marked is)
 
-and_both : (b c : Bool) → (b && c) ≡ true → (b ≡ true) × (c ≡ true)
-and_both true true is = (refl, refl)
-and_both true false is = absurd (let e = is in cc)
-and_both false c is = absurd (let e = is in cc)
-
-eq_is : (a b : ℕ) → (a == b) ≡ true → a ≡ b
-eq_is a b h = grind (arith, nat_tests)
-
 same_is : (d e f : Direction) → is_same d e ≡ true → is_same e f ≡ false → is_same d f ≡ false
 same_is Forth Forth f is other = other
 same_is Forth Back f is other = absurd (let h = is in cc)
@@ -152,15 +133,15 @@ same_is Back Back f is other = other
 
 pub frame_way : (n : ℕ) (ws : List QueuedFrame) (link : StreamLink) (d : Direction) (k : ℕ) (w : QueuedFrame) → is_marked link.ended (end_of d link).taken ≡ false → IsFirst n d ws k w → stream_in n (remove ws k) link ≡ taken_from d (stream_in n ws link)
 frame_way n ws link d k w marked first =
-    let passes = and_both (w.stream == n) (is_same w.direction d) first.passes in
+    let passes = and_parts (w.stream == n) (is_same w.direction d) first.passes in
     frame_way_at n ws (remove ws k) link d w.bytes marked (frames_first n d ws k w first)
-    (λ e other. frames_rest n n d e ws k w first (ap (λ b. (w.stream == n) && b) (same_is w.direction d e passes.1 other) ∙ and_false (w.stream == n)))
+    (λ e other. frames_rest n n d e ws k w first (ap (λ b. (w.stream == n) && b) (same_is w.direction d e passes.1 other) ∙ and_none (w.stream == n)))
 
 pub first_elsewhere : (n : ℕ) (ws : List QueuedFrame) (d : Direction) (k : ℕ) (w : QueuedFrame) → IsFirst n d ws k w → SameElsewhere n ws (remove ws k)
 first_elsewhere n ws d k w first j e ne =
-    let passes = and_both (w.stream == n) (is_same w.direction d) first.passes in
-    let here : w.stream ≡ n = eq_is w.stream n passes.0 in
-    frames_rest n j d e ws k w first (ap (λ b. b && is_same w.direction e) (eq_other w.stream j (λ same. ne (sym same ∙ here))))
+    let passes = and_parts (w.stream == n) (is_same w.direction d) first.passes in
+    let here : w.stream ≡ n = eqb-true w.stream n passes.0 in
+    frames_rest n j d e ws k w first (ap (λ b. b && is_same w.direction e) (ne_eqb w.stream j (λ same. ne (sym same ∙ here))))
 
 pub none_way : (n : ℕ) (ws : List QueuedFrame) (link : StreamLink) (d : Direction) → is_marked link.ended (end_of d link).taken ≡ false → frames_of n d ws ≡ [] → stream_in n ws link ≡ taken_from d (stream_in n ws link)
 none_way n ws link Forth marked is = ap (λ (side : Side). record (stream_in n ws link) { forth = side }) (none_taken link.ended link.forth.taken link.forth.ending (frames_of n Forth ws) marked is)

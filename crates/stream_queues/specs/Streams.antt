@@ -70,13 +70,13 @@ with_stream change n streams = changed change streams n (slice_get streams n)
 abbrev pub queued : QueueItem → Side → Side
 queued item side = record side { queue = side.queue ++ item ∷ [] }
 
-abbrev pub sent_so : List ℕ → Stream → Option Direction → Stream
-sent_so bytes s None = s
-sent_so bytes s (Some direction) = with_side direction s (queued (Queued bytes) (side_of direction s))
+abbrev pub sent_along : List ℕ → Stream → Option Direction → Stream
+sent_along bytes s None = s
+sent_along bytes s (Some direction) = with_side direction s (queued (Queued bytes) (side_of direction s))
 
 -- a frame of the device waits for the other end; a frame that cannot be sent is lost
 abbrev pub sent_over : ℕ → List ℕ → Stream → Stream
-sent_over device bytes s = sent_so bytes s (way_from device s)
+sent_over device bytes s = sent_along bytes s (way_from device s)
 
 -- frames for a peer answer requests that came over no stream
 abbrev pub frame_sent : ℕ → List Stream → List ℕ → Recipient → List Stream
@@ -101,13 +101,13 @@ abbrev pub cut_stream : Stream → Stream
 cut_stream s = record s { ended = true; forth = ended_side s.forth; back = ended_side s.back }
 
 -- one end closes the stream: the mark waits for the other end alone
-abbrev pub closed_so : Stream → Option Direction → Stream
-closed_so s None = s
-closed_so s (Some Forth) = record s { ended = true; forth = ended_side s.forth; back = emptied s.back }
-closed_so s (Some Back) = record s { ended = true; forth = emptied s.forth; back = ended_side s.back }
+abbrev pub closed_along : Stream → Option Direction → Stream
+closed_along s None = s
+closed_along s (Some Forth) = record s { ended = true; forth = ended_side s.forth; back = emptied s.back }
+closed_along s (Some Back) = record s { ended = true; forth = emptied s.forth; back = ended_side s.back }
 
 abbrev pub closed_by : ℕ → Stream → Stream
-closed_by device s = closed_so s (way_from device s)
+closed_by device s = closed_along s (way_from device s)
 
 -- of the notices, only the close of a stream changes streams
 abbrev pub notice_applied : ℕ → List Stream → Notice → List Stream

@@ -1,4 +1,4 @@
-use Rattle.schedule_laws.proofs.Drawing.{schedules_keep}
+use Rattle.schedule_laws.specs.Lemmas.Drawing.{schedules_keep}
 use Rattle.schedule_laws.proofs.OpeningIds.{opening_worlds}
 use Rattle.schedule_laws.proofs.ids_are_drawn.Goals as goal
 

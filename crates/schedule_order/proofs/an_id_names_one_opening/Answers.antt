@@ -1,4 +1,4 @@
-use Rattle.schedule_order.proofs.OpeningActs.{one_opening_has_it}
+use Rattle.schedule_order.specs.Lemmas.OpeningActs.{one_opening_has_it}
 use Rattle.schedule_order.proofs.an_id_names_one_opening.Goals as goal
 
 pub returns : goal.returns

@@ -1,4 +1,4 @@
-use Rattle.schedule_order.proofs.OpeningActs.{schedules_name}
+use Rattle.schedule_order.specs.Lemmas.OpeningActs.{schedules_name}
 use Rattle.schedule_order.proofs.ids_name_openings.Goals as goal
 
 pub returns : goal.returns

@@ -1,4 +1,4 @@
-use Rattle.schedule_order.proofs.OpeningActs.{schedules_accept}
+use Rattle.schedule_order.specs.Lemmas.OpeningActs.{schedules_accept}
 use Rattle.schedule_order.proofs.one_opening_is_accepted.Goals as goal
 
 pub returns : goal.returns

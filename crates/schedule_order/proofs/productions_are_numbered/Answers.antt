@@ -1,4 +1,4 @@
-use Rattle.schedule_order.proofs.Beginning.{well_produced}
+use Rattle.schedule_order.specs.Lemmas.Beginning.{well_produced}
 use Rattle.schedule_order.proofs.productions_are_numbered.Goals as goal
 
 pub returns : goal.returns

@@ -10,6 +10,6 @@ loop-event-preserved g c =
     record {
       account =
           rw c.in_ok-push.ensures.items
-          (account_more _ _ _ _ _ _ c.loop-event.invariant.account c.in_ok-take_items.ensures c.in_ok-step.ensures (All-head (λ e. is_own e ≡ true) _ _ (All-same (λ e. is_own e ≡ true) _ _ (sym next) c.loop-event.invariant.left)));
+          (account_more _ _ _ _ _ _ c.loop-event.invariant.account c.in_ok-take_arrivals.ensures c.in_ok-step.ensures (All-head (λ e. is_own e ≡ true) _ _ (All-same (λ e. is_own e ≡ true) _ _ (sym next) c.loop-event.invariant.left)));
       left = All-rest (λ e. is_own e ≡ true) _ _ _ next c.loop-event.invariant.left;
     }

@@ -6,6 +6,6 @@ use Rattle.segment_world.proofs.configs.devices_of.Given as goal
 
 abbrev pub invariant-loop-config : goal.invariant-loop-config
 invariant-loop-config g l = record {
-  made : l.devices.items ++ map opening_table (into_iter_items l.config-iterator) ≡ map opening_table l.fn.configs.items;
+  made : map g.D.Device.table l.devices.items ++ map opening_table (into_iter_items l.config-iterator) ≡ map opening_table l.fn.configs.items;
   good : first_fault (into_iter_items l.config-iterator) ≡ None;
 }

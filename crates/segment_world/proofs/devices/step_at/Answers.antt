@@ -2,4 +2,4 @@ use Rattle.segment_world.proofs.CameTo.{came_to}
 use Rattle.segment_world.proofs.devices.step_at.Goals as goal
 
 pub returns : goal.returns
-returns g c = came_to c.answers_are_small.ensures c.args.devices.now.items c.args.device c.args.event.now c.step.result c.step.new.self c.index.result.now c.index_mut.result.now c.requires c.index.ensures c.is_whole.ensures c.index_mut.ensures.value c.step.ensures
+returns g c = came_to c.answers_are_small.ensures g.D.Device.table c.args.devices.now.items c.args.device c.args.event.now c.step.result c.step.new.self c.index.result.now c.index_mut.result.now c.requires c.index.ensures c.is_whole.ensures c.index_mut.ensures.value c.step.ensures.step

@@ -1,6 +1,6 @@
-use Rattle.std.proofs.Common.{◌≡◌, ℕ, [], replicate, length, arith, ap, sym, ◌∙◌}
+use Rattle.std.proofs.Common.{◌≡◌, ℕ, [], replicate, arith, ap, sym, ◌∙◌}
 use Rattle.settling.specs.Histories.{bytes_of, events_in, events_of_all}
-use Rattle.settling.specs.Placements.{IsPlacement, Placement, first_placement}
+use Rattle.settling.specs.Placements.{IsPlacement, first_placement}
 use Rattle.settling.proofs.Ending.{good_new, settles, is_stuck}
 use Rattle.settling.proofs.Listing.{length_all}
 use Rattle.settling.proofs.place.place_histories.Goals as goal

@@ -1,4 +1,4 @@
-use Rattle.std.proofs.Common.{◌≡◌, ◌↔◌, ℕ, List, [], Bool, true, false, IsTrue, slice_get, slice_index_or, Some, Ok, sym, subst, ◌∙◌}
+use Rattle.std.proofs.Common.{◌≡◌, ◌↔◌, ℕ, List, [], Bool, IsTrue, slice_get, slice_index_or, Some, Ok, sym, subst, ◌∙◌}
 use Rattle.std.proofs.lemmas.Bool.{false≢true}
 use Rattle.cip_events.specs.Outcomes.{Outcome}
 use Rattle.device_lock.specs.declared.receipt.Receipt.{Receipt}

@@ -1,5 +1,5 @@
-use Rattle.std.proofs.Common.{◌≡◌, ◌<◌, ◌≤◌, ℕ, slice_index, length, arith, rules, Fits, w8, below_more, ◌∙◌, sym}
-use Rattle.settling.specs.Histories.{byte_in, bytes_of}
+use Rattle.std.proofs.Common.{◌<◌, ◌≤◌, ℕ, slice_index, length, arith, rules, Fits, w8, below_more}
+use Rattle.settling.specs.Histories.{bytes_of}
 use Rattle.settling.proofs.Counting.{byte_here, few_devices}
 use Rattle.settling.proofs.settled.count_devices.Goals as goal
 

@@ -1,10 +1,11 @@
 use Rattle.std.proofs.Common.{set, Some, None, sym, ap, ◌∙◌}
+use Rattle.std.proofs.lemmas.Option.{slice_get_within}
 use Rattle.stream_queues.specs.Streams.{closed_by}
 use Rattle.stream_queues.specs.Links.{closed_link}
 use Rattle.stream_queues.specs.Queues.{Queues}
 use Rattle.stream_queues.proofs.Frames.{frames_elsewhere}
 use Rattle.stream_queues.proofs.Live.{live_drop}
-use Rattle.stream_queues.proofs.Views.{get_within, looked, seen_none, seen_kept, seen_changed}
+use Rattle.stream_queues.proofs.Views.{looked, seen_none, seen_kept, seen_changed}
 use Rattle.stream_queues.proofs.Ways.{closed_way, unclosed_way}
 use Rattle.stream_queues.proofs.streams.Streams.close_by.Goals as goal
 
@@ -19,7 +20,7 @@ returns-in_default-way_from c =
     (ap (λ (q : Queues). q.streams) c.self.view_is)
 
 pub put_link-requires : goal.put_link-requires
-put_link-requires c = get_within c.self.inside.links.items c.args.number c.in-Some.link (looked _ _ _ _ (Some c.in-Some.link) c.deref.ensures.value c.link_at.ensures c.in-Some.is)
+put_link-requires c = slice_get_within c.self.inside.links.items c.args.number c.in-Some.link (looked _ _ _ _ (Some c.in-Some.link) c.deref.ensures.value c.link_at.ensures c.in-Some.is)
 
 pub invariant_of-self : goal.invariant_of-self
 invariant_of-self c =

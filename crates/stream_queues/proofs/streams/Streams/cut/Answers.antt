@@ -1,11 +1,12 @@
 use Rattle.std.proofs.Common.{not, set, slice_get, Some, None, sym, ap, ◌∙◌}
+use Rattle.std.proofs.lemmas.Option.{slice_get_within}
 use Rattle.stream_queues.specs.Fronts.{is_open}
 use Rattle.stream_queues.specs.Streams.{cut_stream}
 use Rattle.stream_queues.specs.Links.{cut_link}
 use Rattle.stream_queues.specs.Queues.{Queues}
 use Rattle.stream_queues.proofs.Frames.{frames_elsewhere}
 use Rattle.stream_queues.proofs.Live.{live_drop}
-use Rattle.stream_queues.proofs.Views.{get_some, get_none, get_within, looked, seen_changed}
+use Rattle.stream_queues.proofs.Views.{get_some, get_none, looked, seen_changed}
 use Rattle.stream_queues.proofs.Ways.{cut_way}
 use Rattle.stream_queues.proofs.streams.Streams.cut.Goals as goal
 
@@ -21,7 +22,7 @@ returns-then-stream-clause-open c =
     ∙ ap (λ (q : Queues). is_open (slice_get q.streams c.args.number)) c.self.view_is
 
 pub put_link-requires : goal.put_link-requires
-put_link-requires c = get_within c.self.inside.links.items c.args.number c.in-Some.stream (looked _ _ _ _ (Some c.in-Some.stream) c.deref.ensures.value c.link_at.ensures c.in-Some.is)
+put_link-requires c = slice_get_within c.self.inside.links.items c.args.number c.in-Some.stream (looked _ _ _ _ (Some c.in-Some.stream) c.deref.ensures.value c.link_at.ensures c.in-Some.is)
 
 pub invariant_of-self : goal.invariant_of-self
 invariant_of-self c =

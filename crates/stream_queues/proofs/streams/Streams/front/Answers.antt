@@ -1,4 +1,5 @@
-use Rattle.std.proofs.Common.{◌≡◌, ℕ, List, slice_get, cond, not, Bool, true, false, Option, Some, None, refl, sym, ap, ◌∙◌}
+use Rattle.std.proofs.Common.{◌≡◌, ℕ, List, slice_get, cond, true, false, Option, Some, None, sym, ap, ◌∙◌}
+use Rattle.std.proofs.lemmas.Bool.{not-true, not-false}
 use Rattle.stream_queues.specs.declared.direction.Direction.{Direction}
 use Rattle.stream_queues.specs.declared.waiting.QueuedFrame.{QueuedFrame}
 use Rattle.stream_queues.specs.declared.links.StreamLink.{StreamLink}
@@ -28,14 +29,6 @@ ends_so d link end b is ending = ap (λ (e : StreamEnd). e.ending) (sym is) ∙ 
 taken_so : (d : Direction) (link : StreamLink) (end : StreamEnd) (b : _) → end ≡ end_of d link → end.taken ≡ b → (end_of d link).taken ≡ b
 taken_so d link end b is taken = ap (λ (e : StreamEnd). e.taken) (sym is) ∙ taken
 
-not_true : (b : Bool) → not b ≡ true → b ≡ false
-not_true true is = absurd (let e = is in cc)
-not_true false is = refl
-
-not_false : (b : Bool) → not b ≡ false → b ≡ true
-not_false true is = refl
-not_false false is = absurd (let e = is in cc)
-
 pub returns-then-end : goal.returns-then-end
 returns-then-end c =
     let link = c.in-Some.link in
@@ -52,14 +45,14 @@ pub returns-then-not-end : goal.returns-then-not-end
 returns-then-not-end c =
     let link = c.in-Some.link in
     seen_front c.args.direction c.self.inside.waiting.items c.self.inside.links.items c.args.number link c.args.self.now (Some Opening) (looked _ _ _ _ (Some c.in-Some.link) c.deref.ensures.value c.link_at.ensures c.in-Some.is) (ap (λ (q : Queues). q.streams) c.self.view_is)
-    (front_opening c.args.number c.self.inside.waiting.items link c.args.direction c.if-link.false (taken_so c.args.direction link c.end-end.result false c.end-end.ensures (not_true c.end-end.result.taken c.if-not-end.true)))
+    (front_opening c.args.number c.self.inside.waiting.items link c.args.direction c.if-link.false (taken_so c.args.direction link c.end-end.result false c.end-end.ensures (not-true c.end-end.result.taken c.if-not-end.true)))
 
 pub returns-in_default-first : goal.returns-in_default-first
 returns-in_default-first c =
     let link = c.in-Some.link in
     seen_front c.args.direction c.self.inside.waiting.items c.self.inside.links.items c.args.number link c.args.self.now None (looked _ _ _ _ (Some c.in-Some.link) c.deref.ensures.value c.link_at.ensures c.in-Some.is) (ap (λ (q : Queues). q.streams) c.self.view_is)
     (front_none c.args.number c.self.inside.waiting.items link c.args.direction c.if-link.false
-    (taken_so c.args.direction link c.end-end.result true c.end-end.ensures (not_false c.end-end.result.taken c.if-not-end.false))
+    (taken_so c.args.direction link c.end-end.result true c.end-end.ensures (not-false c.end-end.result.taken c.if-not-end.false))
     (not_found c.args.number c.args.direction c.self.inside.waiting.items c.deref-2.result.now c.deref-2.ensures.value (sym c.in_default-first.is ∙ c.first.ensures)))
 
 pub returns : goal.returns
@@ -71,5 +64,5 @@ returns c =
     ap (λ bytes. Some (Queued bytes)) c.as_slice.ensures
     ∙ seen_front c.args.direction c.self.inside.waiting.items c.self.inside.links.items c.args.number link c.args.self.now (Some (Queued w.bytes)) (looked _ _ _ _ (Some c.in-Some.link) c.deref.ensures.value c.link_at.ensures c.in-Some.is) (ap (λ (q : Queues). q.streams) c.self.view_is)
     (front_frame c.args.number c.self.inside.waiting.items link c.args.direction c.in-Some-first.index w c.if-link.false
-    (taken_so c.args.direction link c.end-end.result true c.end-end.ensures (not_false c.end-end.result.taken c.if-not-end.false))
+    (taken_so c.args.direction link c.end-end.result true c.end-end.ensures (not-false c.end-end.result.taken c.if-not-end.false))
     first)

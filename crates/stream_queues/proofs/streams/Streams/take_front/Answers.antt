@@ -1,10 +1,11 @@
 use Rattle.std.proofs.Common.{set, Some, None, refl, sym, ap, ◌∙◌}
 use Rattle.std.specs.List.{remove}
+use Rattle.std.proofs.lemmas.Option.{slice_get_within}
 use Rattle.stream_queues.specs.Streams.{taken_from}
 use Rattle.stream_queues.specs.Queues.{Queues}
 use Rattle.stream_queues.proofs.Frames.{IsFirst}
 use Rattle.stream_queues.proofs.Live.{live_remove, live_after}
-use Rattle.stream_queues.proofs.Views.{get_within, looked, seen_none, seen_kept, seen_changed, seen_waits}
+use Rattle.stream_queues.proofs.Views.{looked, seen_none, seen_kept, seen_changed, seen_waits}
 use Rattle.stream_queues.proofs.Ways.{mark_way, frame_way, none_way, first_elsewhere, found_first, not_found}
 use Rattle.stream_queues.proofs.streams.Streams.take_front.Goals as goal
 
@@ -12,7 +13,7 @@ pub returns-in_default-clause-streams : goal.returns-in_default-clause-streams
 returns-in_default-clause-streams c = seen_none (taken_from c.args.direction) c.self.inside.waiting.items c.self.inside.links.items c.args.number _ (looked _ _ _ _ None c.deref.ensures.value c.link_at.ensures c.in_default.is) (ap (λ (q : Queues). q.streams) c.self.view_is)
 
 pub put_link-requires : goal.put_link-requires
-put_link-requires c = get_within c.self.inside.links.items c.args.number c.in-Some.link (looked _ _ _ _ (Some c.in-Some.link) c.deref.ensures.value c.link_at.ensures c.in-Some.is)
+put_link-requires c = slice_get_within c.self.inside.links.items c.args.number c.in-Some.link (looked _ _ _ _ (Some c.in-Some.link) c.deref.ensures.value c.link_at.ensures c.in-Some.is)
 
 pub invariant_of-self : goal.invariant_of-self
 invariant_of-self c =

@@ -1,0 +1,15 @@
+mod Passing
+mod Testing
+mod NameTesting
+mod ImageTesting
+mod SegmentTesting
+mod MomentTesting
+mod LawTesting
+mod PointSamples
+mod BentSamples
+mod BentNames
+mod BentImages
+mod BentSegment
+mod BentMoments
+mod StepTesting
+mod BentSteps

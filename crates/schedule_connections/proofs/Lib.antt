@@ -1,0 +1,6 @@
+mod Asking
+mod Openings
+mod ConnectionRows
+mod Admitting
+mod Requested
+mod Joining

@@ -1,0 +1,103 @@
+-- If each id that passes one test passes another, then the ids of tables, frames and datagrams do.
+use Rattle.std.proofs.Common.{ℕ, Bool, List, Option, Some, None, Result, Ok, Err}
+use Rattle.cip_types.specs.declared.names.ConnId.{ConnId}
+use Rattle.cip_datagram.specs.declared.datagram.DatagramFault.{DatagramFault}
+use Rattle.cip_datagram.specs.Datagram.{DatagramFields}
+use Rattle.cip_datagram.specs.Reading.{datagram_reading}
+use Rattle.cip_encap.specs.declared.message.EncapFault.{EncapFault}
+use Rattle.cip_encap.specs.declared.packet.ItemFault.{ItemFault}
+use Rattle.cip_encap.specs.Message.{MessageFields}
+use Rattle.cip_encap.specs.Packet.{PacketFields}
+use Rattle.cip_encap.specs.PacketReading.{packet_reading}
+use Rattle.cip_encap.specs.Reading.{message_reading}
+use Rattle.cip_events.specs.declared.event.Event.{Event}
+use Rattle.cip_events.specs.declared.event.Event.TheVariants.{Request, Frame}
+use Rattle.cip_events.specs.declared.event.Reason.{Reason}
+use Rattle.cip_fwdopen.specs.declared.reply.OpenAnswer.{OpenAnswer}
+use Rattle.cip_fwdopen.specs.declared.reply.OpenAnswer.TheVariants as answer
+use Rattle.cip_fwdopen.specs.Reply.{open_reply_reading}
+use Rattle.cip_router.specs.Requests.{RouterRequestFields, nothing, refused, closing, assembly, opening, router_request_reading}
+use Rattle.scanner_table.specs.declared.slot.SlotState.{SlotState}
+use Rattle.scanner_table.specs.declared.slot.SlotState.TheVariants.{Idle, Opening, Established, TimedOut, Closing}
+use Rattle.scanner_table.specs.Replies.{reply_answer}
+use Rattle.scanner_table.specs.Slots.{indexed_slots}
+use Rattle.cip_tables.specs.declared.table.DeviceTable.{DeviceTable}
+use Rattle.cip_tables.specs.declared.table.DeviceTable.TheVariants.{Adapter, Scanner}
+use Rattle.stream_queues.specs.Streams.{QueueItem, Opening as Opens, Queued, Ending, Stream}
+use Rattle.device_laws.specs.Ids.{RequestIds, ReplyIds, PacketIds, MessageIds, FrameIds, ReadId, DatagramId, RowIds, EventIds, RequestedId, StateIds}
+use Rattle.device_laws.specs.Carrying.{Passes, SlotIds, TableIds}
+use Rattle.schedule_laws.specs.Ids.{ItemHolds, StreamHolds, StreamsHold}
+use Rattle.schedule_laws.specs.Lemmas.Lists.{all_more}
+use Rattle.schedule_laws.specs.Lemmas.Moves.{EventHolds}
+
+-- each id that passes the first passes the second
+abbrev pub More : (P Q : ℕ → Type 0) → Type 0
+More P Q = (id : ℕ) → P id → Q id
+
+request_more : (P Q : ℕ → Type 0) → More P Q → (requested : RouterRequestFields) → RequestIds P requested → RequestIds Q requested
+request_more P Q more nothing ids = tt
+request_more P Q more (refused service why) ids = tt
+request_more P Q more (closing request) ids = tt
+request_more P Q more (assembly service instance attribute body) ids = tt
+request_more P Q more (opening large request) ids = more _ ids
+
+reported_more : (P Q : ℕ → Type 0) → More P Q → (reported : Result OpenAnswer Reason) → ReplyIds P reported → ReplyIds Q reported
+reported_more P Q more (Err why) ids = tt
+reported_more P Q more (Ok (answer.Refused r)) ids = tt
+reported_more P Q more (Ok (answer.Opened o)) ids = (more _ ids.0, more _ ids.1)
+
+packet_more : (P Q : ℕ → Type 0) → More P Q → (reading : Result PacketFields ItemFault) → PacketIds P reading → PacketIds Q reading
+packet_more P Q more (Err fault) ids = tt
+packet_more P Q more (Ok packet) ids = record {
+  requested = request_more P Q more (router_request_reading packet.payload) ids.requested;
+  replied = λ large. reported_more P Q more (reply_answer large (open_reply_reading packet.payload)) (ids.replied large);
+}
+
+message_more : (P Q : ℕ → Type 0) → More P Q → (reading : Result MessageFields EncapFault) → MessageIds P reading → MessageIds Q reading
+message_more P Q more (Err fault) ids = tt
+message_more P Q more (Ok m) ids = packet_more P Q more (packet_reading m.payload) ids
+
+pub frame_more : (P Q : ℕ → Type 0) → More P Q → (bytes : List ℕ) → FrameIds P bytes → FrameIds Q bytes
+frame_more P Q more bytes ids = message_more P Q more (message_reading bytes) ids
+
+read_more : (P Q : ℕ → Type 0) → More P Q → (reading : Result DatagramFields DatagramFault) → ReadId P reading → ReadId Q reading
+read_more P Q more (Err fault) id = tt
+read_more P Q more (Ok d) id = more _ id
+
+pub datagram_more : (P Q : ℕ → Type 0) → More P Q → (bytes : List ℕ) → DatagramId P bytes → DatagramId Q bytes
+datagram_more P Q more bytes id = read_more P Q more (datagram_reading bytes) id
+
+-- ---- tables
+
+requested_more : (P Q : ℕ → Type 0) → More P Q → (requested : Option ConnId) → RequestedId P requested → RequestedId Q requested
+requested_more P Q more None id = tt
+requested_more P Q more (Some requested) id = more _ id
+
+state_more : (P Q : ℕ → Type 0) → More P Q → (state : SlotState) → StateIds P state → StateIds Q state
+state_more P Q more Idle ids = tt
+state_more P Q more (Opening o) ids = requested_more P Q more o.requested.t_o_id ids
+state_more P Q more (Established c) ids = (more _ ids.0, more _ ids.1)
+state_more P Q more (TimedOut link) ids = (more _ ids.0, more _ ids.1)
+state_more P Q more (Closing c) ids = (more _ ids.0, more _ ids.1)
+
+pub table_more : (p q openings : ℕ → Bool) → More (Passes p) (Passes q) → (t : DeviceTable) → TableIds p openings t → TableIds q openings t
+table_more p q openings more (Adapter t) ids =
+    all_more (RowIds (Passes p) (Passes openings)) (RowIds (Passes q) (Passes openings)) (λ row holds. record { o_t = more _ holds.o_t; t_o = more _ holds.t_o; opening = holds.opening }) t.rows ids
+table_more p q openings more (Scanner t) ids = all_more (SlotIds (Passes p)) (SlotIds (Passes q)) (λ indexed holds. state_more (Passes p) (Passes q) more indexed.slot.state holds) (indexed_slots t) ids
+
+-- ---- streams and events
+
+item_more : (P Q : List ℕ → Type 0) → ((bytes : List ℕ) → P bytes → Q bytes) → (item : QueueItem) → ItemHolds P item → ItemHolds Q item
+item_more P Q more Opens holds = tt
+item_more P Q more (Queued bytes) holds = more bytes holds
+item_more P Q more Ending holds = tt
+
+pub streams_more : (P Q : List ℕ → Type 0) → ((bytes : List ℕ) → P bytes → Q bytes) → (streams : List Stream) → StreamsHold P streams → StreamsHold Q streams
+streams_more P Q more streams holds =
+    all_more (StreamHolds P) (StreamHolds Q)
+    (λ s is. record { forth = all_more (ItemHolds P) (ItemHolds Q) (item_more P Q more) s.forth.queue is.forth; back = all_more (ItemHolds P) (ItemHolds Q) (item_more P Q more) s.back.queue is.back }) streams holds
+
+pub event_more : (P Q : ℕ → Type 0) → More P Q → (happens : Event) → EventHolds (FrameIds P) happens → EventIds Q happens
+event_more P Q more (Request peer bytes) holds = holds
+event_more P Q more (Frame stream bytes) holds = frame_more P Q more bytes holds
+event_more P Q more other holds = tt

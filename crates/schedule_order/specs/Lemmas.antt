@@ -1,0 +1,25 @@
+-- Lemmas that crates above cite: what one act adds to a chronicle, and whom its ids, numbers and streams name.
+pub mod SentTexts
+pub mod ProducedActs
+pub mod Beginning
+pub mod ActEvents
+pub mod AdapterNewest
+pub mod ScannerNewest
+pub mod Deliveries
+pub mod NewestSteps
+pub mod NewestActs
+pub mod RisingIndexes
+pub mod Found
+pub mod StreamActs
+pub mod Entries
+pub mod AdapterNames
+pub mod ScannerNames
+pub mod NameActs
+pub mod Addresses
+pub mod AcceptedOpenings
+pub mod OpeningActs
+pub mod AdapterProducers
+pub mod OneProducer
+pub mod Numbers
+pub mod ApartIds
+pub mod Acts

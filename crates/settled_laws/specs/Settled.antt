@@ -1,0 +1,67 @@
+-- Histories and receipts that settle into a schedule have its chronicle, and the laws of order hold of it (Volume 1, chapter 3,
+-- class 1 transport, network connection ids; Volume 2, chapter 2, sequenced address item).
+use Rattle.std.specs.Prelude.{◌≡◌, List, None}
+use Rattle.cip_tables.specs.declared.table.Config.{Config}
+use Rattle.device_lock.specs.declared.receipt.Receipt.{Receipt}
+use Rattle.device_lock.specs.Histories.{HistoryValue}
+use Rattle.segment_world.specs.declared.act.Act.{Act}
+use Rattle.segment_world.specs.Configs.{world_fault}
+use Rattle.schedule_laws.specs.Ids.{AreBytes}
+use Rattle.schedule_order.specs.Chronicle.{Chronicle}
+use Rattle.schedule_order.specs.Devices.{DevicesStand}
+use Rattle.schedule_order.specs.Indexes.{IsWellProduced}
+use Rattle.schedule_order.specs.MadeOnce.{IdsAreUsedOnce, OneConnectionHasIt}
+use Rattle.schedule_order.specs.Marks.{StreamsFollowMarks}
+use Rattle.schedule_order.specs.Names.{IdsNameOpenings, OneOpeningHasTheId}
+use Rattle.schedule_order.specs.Order.{IsChronicle, KeepsHalfCircle, OutputsAreWritten}
+use Rattle.schedule_order.specs.Producers.{IdsNameOneProducer}
+use Rattle.schedule_points.specs.Images.{ImagesAreInOrder, ImagesWereGathered}
+use Rattle.schedule_points.specs.Outputs.{OutputsAreInOrder}
+use Rattle.settling.specs.Histories.{configs_of, events_of_all}
+use Rattle.settling.specs.Schedules.{Projects}
+use Rattle.settling.specs.Settlings.{AllStand, SettlesAll}
+
+-- THE CHRONICLE
+
+-- The chronicle of a schedule of the histories' devices. In its story the events of each device are the device's history, and
+-- each receipt stands at its place with the schedule's answer.
+pub record HasChronicle (hs : List HistoryValue) (rs : List Receipt) (acts : List Act) : Type 0 where
+  pub chronicle : Chronicle
+  pub is : IsChronicle (configs_of hs) acts chronicle
+  pub projects : Projects (events_of_all hs) chronicle.story
+  pub stand : AllStand hs chronicle.story rs
+
+-- A schedule that settles histories and receipts has a chronicle, if a world can be made of the histories' configurations, and
+-- their incarnations are bytes.
+abbrev pub SchedulesHaveChronicles : Type 0
+SchedulesHaveChronicles =
+    (hs : List HistoryValue) (rs : List Receipt) (acts : List Act) → world_fault (configs_of hs) ≡ None → AreBytes (configs_of hs) →
+    SettlesAll hs rs acts → HasChronicle hs rs acts
+
+-- THE LAWS OF ORDER
+
+-- the laws of order, at a chronicle
+pub record IsInOrder (configs : List Config) (acts : List Act) (c : Chronicle) : Type 0 where
+  pub produced : IsWellProduced c
+  pub written : OutputsAreWritten c configs
+  pub named : IdsNameOpenings c
+  pub devices : DevicesStand configs c
+  pub marks : StreamsFollowMarks c
+  pub used_once : IdsAreUsedOnce c.story.world c.opened
+  pub one_connection : OneConnectionHasIt c
+  pub one_opening : OneOpeningHasTheId c
+  pub one_producer : IdsNameOneProducer c
+  pub gathered : ImagesWereGathered c
+  pub outputs : KeepsHalfCircle configs acts → OutputsAreInOrder c
+  pub images : KeepsHalfCircle configs acts → ImagesAreInOrder c
+
+-- a chronicle of what happened, of which the laws of order hold
+pub record HappenedInOrder (hs : List HistoryValue) (rs : List Receipt) (acts : List Act) : Type 0 where
+  pub happened : HasChronicle hs rs acts
+  pub order : IsInOrder (configs_of hs) acts happened.chronicle
+
+-- So it is of each schedule that settles histories and receipts.
+abbrev pub SettledLinesAreInOrder : Type 0
+SettledLinesAreInOrder =
+    (hs : List HistoryValue) (rs : List Receipt) (acts : List Act) → world_fault (configs_of hs) ≡ None → AreBytes (configs_of hs) →
+    SettlesAll hs rs acts → HappenedInOrder hs rs acts

@@ -1,0 +1,45 @@
+//! What the devices of a line did is a schedule: histories and receipts that settle have a chronicle, and the laws of order hold
+//! of it. Each call does nothing: its contract is the law.
+#![tactic(auto)]
+
+ghost use Rattle.settled_laws.specs.Settled.{SchedulesHaveChronicles, SettledLinesAreInOrder};
+
+use schedule_order::{
+    an_id_names_one_opening, an_id_names_one_producer, an_id_opens_one_connection, devices_stand,
+    ids_are_used_once, ids_name_openings, outputs_are_as_written, productions_are_numbered,
+    streams_follow_their_marks,
+};
+use schedule_points::{
+    applied_outputs_are_in_order, images_are_in_order, images_hold_accepted_data,
+};
+
+/// A schedule that settles histories and receipts has a chronicle. In its story the events of each device are the device's
+/// history, and each receipt stands at its place with the schedule's answer.
+///
+/// The histories are of devices of which a world can be made, and whose incarnations are bytes.
+pub fn settled_schedules_have_chronicles()
+    ensures { SchedulesHaveChronicles }
+{}
+
+/// The laws of order hold of the chronicle of each schedule that settles histories and receipts.
+///
+/// So what the devices of a line did, each in a thread of its own, is in order, if it settles. What is accepted and applied in
+/// order is so under the half-circle condition of the schedule.
+///
+/// Volume 1, chapter 3, class 1 transport; Volume 2, chapter 2, sequenced address item.
+pub fn settled_lines_are_in_order()
+    ensures { SettledLinesAreInOrder }
+{
+    productions_are_numbered();
+    outputs_are_as_written();
+    ids_name_openings();
+    devices_stand();
+    streams_follow_their_marks();
+    ids_are_used_once();
+    an_id_opens_one_connection();
+    an_id_names_one_opening();
+    an_id_names_one_producer();
+    images_hold_accepted_data();
+    applied_outputs_are_in_order();
+    images_are_in_order();
+}
