@@ -10,7 +10,7 @@ use Rattle.adapter_table.specs.Ticks.{clocked_table, tick}
 use Rattle.cip_tables.specs.declared.table.DeviceTable.TheVariants.{Adapter}
 use Rattle.cip_tables.specs.Step.{step, as_adapter}
 use Rattle.cip_tables.specs.Wakes.{IsQuietFor}
-use Rattle.connection_list.specs.Changes.{IsQuietBefore}
+use Rattle.connection_list.specs.Quiet.{IsQuietBefore}
 use Rattle.adapter.proofs.EngineEffects.{waits}
 
 within : (n most : ℕ) → n ≤ most → nat_lt most n ≡ false

@@ -6,6 +6,7 @@ ghost use Rattle.std.specs.Prelude.{◌≡◌, ◌≢◌, ◌+◌, ◌^◌, [], 
 ghost use Rattle.std.specs.Option.{option_map, ForSome};
 ghost use Rattle.cip_fwdopen.specs.Open.{view_open};
 ghost use Rattle.cip_fwdopen.specs.Close.{view_close};
+ghost use Rattle.cip_fwdopen.specs.Services.{is_large_open};
 ghost use Rattle.cip_router.specs.Replies.{view_reply};
 ghost use Rattle.adapter_table.specs.Checks.{Gives, config_bytes, admission, view_admission, drawn_ids};
 ghost use Rattle.adapter_table.specs.Opening.{opened_row, opened_production, opened_state, opened_t_o_id, connection_id, configured};
@@ -35,8 +36,8 @@ use adapter_table::{Judgement, drives};
 use app_rules::{View, admit};
 use assembly_set::AssemblySet;
 use cip_datagram::{Datagram, read_datagram};
-use cip_fwdopen::service::{FORWARD_CLOSE, FORWARD_OPEN, GET_ATTRIBUTE_SINGLE, LARGE_FORWARD_OPEN};
-use cip_fwdopen::{CloseRequest, OpenRequest};
+use cip_fwdopen::service::{FORWARD_CLOSE, GET_ATTRIBUTE_SINGLE};
+use cip_fwdopen::{CloseRequest, OpenRequest, OpenService};
 use cip_tables::{
     AdapterTable, Admission, Answer, Config, Delivery, Device, DeviceTable, Event, NewFault,
     Outcome, Production, Refusal, Reply, RouterRequest, Row, State, Status, StepFault, Stream,
@@ -44,7 +45,7 @@ use cip_tables::{
 };
 use cip_types::limits::{CLOCK_END_MS, FIRST_WATCHDOG_MS, IDS_PER_INCARNATION, LONGEST_TICK_MS};
 use cip_types::{ConnId, Items, Ms, Node, OutOfMemory};
-use connection_list::{ConnectionTable, Passing};
+use connection_list::{ConnectionTable, TickPlan};
 use session_streams::copied_streams;
 use std::alloc::Global;
 use std::marker::Model;
@@ -184,13 +185,14 @@ impl<T: ConnectionTable> Adapter<T> {
     fn open(
         &mut self,
         route: Route,
-        large: bool,
+        service: OpenService,
         request: &OpenRequest<&[u8]>,
         admitted: &Admission<'_>,
     ) -> Outcome
         requires admitted { admission self.old (view_open request.now) ≡ Ok (view_admission admitted.now) }
         requires drawn { admitted.now.drawn ≡ drawn_ids admitted.now.multicast admitted.now.group }
-        ensures { Follows (Ok (routed self.old route (Some (admitted_open self.old (peer_of route) large
+        ensures { Follows (Ok
+            (routed self.old route (Some (admitted_open self.old (peer_of route) (is_large_open service)
             (view_open request.now) (view_admission admitted.now))))) self.old result self.new }
     {
         // The table stays whole, and what was admitted is within the limits.
@@ -199,7 +201,7 @@ impl<T: ConnectionTable> Adapter<T> {
         let row = self.opened_row(route.peer(), request, admitted);
         let replaced = self.table.replaced(row.triad);
         let notices = opening_notices(self.alloc, replaced, &row)?;
-        let reply = Reply::Opened(large, opened_reply(&row));
+        let reply = Reply::Opened(service, opened_reply(&row));
         let answer = reply_answer(self.alloc, route, &reply, opened_address(&row), notices)?;
         self.table.open(replaced, row)?;
         configure(&mut self.assemblies, admitted.segment);
@@ -209,19 +211,20 @@ impl<T: ConnectionTable> Adapter<T> {
 
     /// A Forward_Open of either size.
     #[tactic(auto, unfolding(adapter_table::specs::Requests::served_open))]
-    fn forward_open(&mut self, route: Route, large: bool, request: &OpenRequest<&[u8]>) -> Outcome
+    fn forward_open(
+        &mut self,
+        route: Route,
+        service: OpenService,
+        request: &OpenRequest<&[u8]>,
+    ) -> Outcome
         ensures { Follows (Ok (routed self.old route
-            (Some (served_open self.old (peer_of route) large (view_open request.now))))) self.old result self.new }
+            (Some (served_open self.old (peer_of route) (is_large_open service)
+            (view_open request.now))))) self.old result self.new }
     {
         match self.judge(request) {
-            Ok(admitted) => self.open(route, large, request, &admitted),
+            Ok(admitted) => self.open(route, service, request, &admitted),
             Err(why) => {
-                let service = if large {
-                    LARGE_FORWARD_OPEN
-                } else {
-                    FORWARD_OPEN
-                };
-                let reply = Reply::Refused(service, why.fault(), Some(request.triad));
+                let reply = Reply::Refused(service.code(), why.fault(), Some(request.triad));
                 Ok(self.reply(route, reply)?)
             }
         }
@@ -318,7 +321,9 @@ impl<T: ConnectionTable> Adapter<T> {
             RouterRequest::Assembly(service, instance, attribute, body) => {
                 self.assembly(route, service, instance, attribute, body)
             }
-            RouterRequest::Opening(large, request) => self.forward_open(route, large, &request),
+            RouterRequest::Opening(service, request) => {
+                self.forward_open(route, service, &request)
+            },
         }
     }
 
@@ -395,11 +400,11 @@ impl<T: ConnectionTable> Adapter<T> {
         // The table stays whole.
         tables_are_whole();
         let clock = Ms(self.clock.0 + u64::from(ms));
-        let Passing {
+        let TickPlan {
             expired,
             dropped,
             datagrams,
-        } = self.table.passing(self.alloc, &self.assemblies, clock)?;
+        } = self.table.tick_plan(self.alloc, &self.assemblies, clock)?;
         let notices = expiry_notices(self.alloc, &expired, &dropped)?;
         lose_owners(&mut self.assemblies, &expired);
         self.clock = clock;
@@ -624,12 +629,18 @@ impl<T: ConnectionTable> Adapter<T> {
 
 impl<T: ConnectionTable> Device for Adapter<T> {
     ghost use Rattle.cip_tables.specs.declared.table.DeviceTable.{DeviceTable};
+    ghost use Rattle.cip_tables.specs.Step.{makes_adapter};
 
     ghost table = { λ adapter. DeviceTable.Adapter adapter };
 
-    ghost ADAPTER = { true };
+    ghost accepts = { makes_adapter };
 
-    const ADAPTER: bool = true;
+    fn is_accepted(config: &Config) -> bool {
+        match config {
+            Config::Adapter(_) => true,
+            Config::Scanner(_) => false,
+        }
+    }
 
     fn new(alloc: Global, config: Config) -> Result<Self, NewFault> {
         let profile = match config {
@@ -687,8 +698,8 @@ impl<T: ConnectionTable> Device for Adapter<T> {
     }
 
     fn next_wake(&self) -> Ms {
-        let change = self.table.next_change();
-        let wait = change.0.saturating_sub(self.clock.0);
+        let due = self.table.first_due();
+        let wait = due.0.saturating_sub(self.clock.0);
         Ms(wait.min(u64::from(LONGEST_TICK_MS)))
     }
 

@@ -4,9 +4,9 @@ use Rattle.cip_types.specs.declared.names.Node.{Node}
 use Rattle.adapter_table.specs.declared.table.AdapterTable.{AdapterTable}
 use Rattle.adapter_table.specs.Requests.{Served, answered}
 use Rattle.adapter_table.specs.Encapsulation.{framed, request_replied}
-use Rattle.adapter_replies.specs.declared.routes.ReplyHeader.{ReplyHeader}
+use Rattle.adapter_replies.specs.declared.routes.RequestHeader.{RequestHeader}
 use Rattle.adapter_replies.specs.declared.routes.Route.TheVariants as route
-use Rattle.adapter_replies.specs.Routes.{view_reply_header, routed}
+use Rattle.adapter_replies.specs.Routes.{view_request_header, routed}
 
 -- to a peer
 pub routed_to_peer : (t : AdapterTable) (peer : Node) (s : Option Served) → routed t (route.Peer peer) s ≡ answered t peer s
@@ -14,6 +14,6 @@ routed_to_peer t peer None = refl
 routed_to_peer t peer (Some s) = refl
 
 -- over a stream
-pub routed_over_stream : (t : AdapterTable) (number : ℕ) (peer : Node) (reply_header : ReplyHeader) (s : Option Served) → routed t (route.Stream number peer reply_header) s ≡ framed number (view_reply_header reply_header) (request_replied t s)
-routed_over_stream t number peer reply_header None = refl
-routed_over_stream t number peer reply_header (Some s) = refl
+pub routed_over_stream : (t : AdapterTable) (number : ℕ) (peer : Node) (request_header : RequestHeader) (s : Option Served) → routed t (route.Stream number peer request_header) s ≡ framed number (view_request_header request_header) (request_replied t s)
+routed_over_stream t number peer request_header None = refl
+routed_over_stream t number peer request_header (Some s) = refl

@@ -15,7 +15,7 @@ use Rattle.cip_events.specs.Answers.{plain_answer}
 use Rattle.cip_router.specs.Frames as frames
 use Rattle.cip_router.specs.Frames.{FrameFields, reply_message}
 use Rattle.adapter_table.specs.Encapsulation.{reply_frames}
-use Rattle.adapter_replies.specs.declared.routes.ReplyHeader.{ReplyHeader}
+use Rattle.adapter_replies.specs.declared.routes.RequestHeader.{RequestHeader}
 use Rattle.adapter_replies.specs.declared.routes.Route.{Route}
 use Rattle.adapter_replies.specs.declared.routes.Route.TheVariants as route
 use Rattle.adapter_replies.specs.declared.frames.FrameView.{FrameView}
@@ -25,14 +25,14 @@ use Rattle.adapter_replies.specs.declared.replies.FrameReply.TheVariants as repl
 
 -- WHAT THE PROGRAM'S VALUES ARE IN THE DEFINITIONS
 
-abbrev pub view_reply_header : ReplyHeader → frames.ReplyHeader
-view_reply_header e = record { command = e.command; session = e.session; context = e.context }
+abbrev pub view_request_header : RequestHeader → frames.RequestHeader
+view_request_header e = record { command = e.command; session = e.session; context = e.context }
 
 -- a frame, wherever its data lie in memory
 abbrev pub view_frame : FrameView → FrameFields
-view_frame view.Headless = frames.headless
-view_frame (view.Misfit reply_header) = frames.misfit (view_reply_header reply_header)
-view_frame (view.Whole reply_header body) = frames.whole (view_reply_header reply_header) body.now
+view_frame view.NoHeader = frames.without_header
+view_frame (view.BadLength request_header) = frames.wrong_length (view_request_header request_header)
+view_frame (view.Whole request_header body) = frames.whole (view_request_header request_header) body.now
 
 -- the reply to a frame, likewise
 abbrev pub view_frame_reply : FrameReply → frames.FrameReply
@@ -56,7 +56,7 @@ IsWritableFrame (frames.router_reply answer address) = IsWritable answer
 IsWritableFrame (frames.refused why) = Unit {0}
 
 -- the numbers of the header of a reply of the router with data of this length
-abbrev pub router_numbers : frames.ReplyHeader → ℕ → List ℕ
+abbrev pub router_numbers : frames.RequestHeader → ℕ → List ℕ
 router_numbers e len = e.command ∷ len ∷ e.session ∷ 0 ∷ e.context ∷ 0 ∷ []
 
 -- ROUTES
@@ -64,20 +64,20 @@ router_numbers e len = e.command ∷ len ∷ e.session ∷ 0 ∷ e.context ∷ 0
 -- the peer whose request it is
 abbrev pub peer_of : Route → Node
 peer_of (route.Peer peer) = peer
-peer_of (route.Stream number peer reply_header) = peer
+peer_of (route.Stream number peer request_header) = peer
 
 -- the frame with a reply, and in a frame over a stream the multicast address of a connection that was opened
 abbrev pub routed_frame : Route → ReplyFields → Option Node → Frame
 routed_frame (route.Peer peer) answer address = reply_frame peer answer
-routed_frame (route.Stream number peer reply_header) answer address = record {
+routed_frame (route.Stream number peer request_header) answer address = record {
   to = recipient.Stream number;
-  bytes = message_text (reply_message (view_reply_header reply_header) (frames.router_reply answer address));
+  bytes = message_text (reply_message (view_request_header request_header) (frames.router_reply answer address));
 }
 
 -- an answer with the reply to a frame
-abbrev pub framed_answer : ℕ → frames.ReplyHeader → frames.FrameReply → List Notice → Answer
-framed_answer number reply_header answer notices = record {
-  frames = reply_frames number reply_header (Some answer);
+abbrev pub framed_answer : ℕ → frames.RequestHeader → frames.FrameReply → List Notice → Answer
+framed_answer number request_header answer notices = record {
+  frames = reply_frames number request_header (Some answer);
   datagrams = [];
   verdict = Done;
   notices = notices;
@@ -86,7 +86,7 @@ framed_answer number reply_header answer notices = record {
 -- the answer to bytes that are no request
 abbrev pub unserved_answer : Route → Answer
 unserved_answer (route.Peer peer) = plain_answer BadFrame
-unserved_answer (route.Stream number peer reply_header) = framed_answer number (view_reply_header reply_header) (frames.refused status.IncorrectData) []
+unserved_answer (route.Stream number peer request_header) = framed_answer number (view_request_header request_header) (frames.refused status.IncorrectData) []
 
 -- an answer with the reply to a request
 abbrev pub routed_answer : Route → ReplyFields → Option Node → List Notice → Answer

@@ -4,10 +4,10 @@ ghost use Rattle.std.specs.Prelude.{◌≡◌, ◌∷◌, ◌++◌, [], map, IfO
 ghost use Rattle.cip_router.specs.Replies.{view_reply};
 ghost use Rattle.adapter_table.specs.Opening.{opened_reply, opened_address, replaced_notices};
 ghost use Rattle.adapter_table.specs.Ticks.{expired_notice};
-ghost use Rattle.adapter_replies.specs.Routes.{view_reply_header, view_frame_reply, IsWritable, IsWritableFrame, routed_answer, framed_answer, unserved_answer};
+ghost use Rattle.adapter_replies.specs.Routes.{view_request_header, view_frame_reply, IsWritable, IsWritableFrame, routed_answer, framed_answer, unserved_answer};
 
 use crate::replies::{FrameReply, write_frame_reply};
-use crate::routes::{ReplyHeader, Route};
+use crate::routes::{RequestHeader, Route};
 use adapter_table::{Row, State};
 use cip_events::{Answer, Frame, Notice, OutgoingDatagram, Recipient, Verdict};
 use cip_fwdopen::Opened;
@@ -41,7 +41,13 @@ fn answer_of(
     notices: Vec<Notice>,
 ) -> Result<Answer, OutOfMemory>
     ensures { IfOk result (λ answer. answer
-        ≡ record { frames = record { to = to; bytes = bytes.items } ∷ []; datagrams = []; verdict = Verdict.Done; notices = notices.items }) }
+        ≡ record {
+          frames = record { to = to; bytes = bytes.items }
+              ∷ [];
+          datagrams = [];
+          verdict = Verdict.Done;
+          notices = notices.items;
+        }) }
 {
     let bytes = Items::from_vec(bytes);
     Ok(Answer {
@@ -69,9 +75,9 @@ pub fn reply_answer(
         Route::Peer(peer) => {
             answer_of(alloc, Recipient::Peer(peer), reply.write(alloc)?, notices)
         }
-        Route::Stream(number, _, reply_header) => {
+        Route::Stream(number, _, request_header) => {
             let reply = FrameReply::Router(*reply, address);
-            frame_answer(alloc, number, reply_header, &reply, notices)
+            frame_answer(alloc, number, request_header, &reply, notices)
         }
     }
 }
@@ -80,15 +86,15 @@ pub fn reply_answer(
 pub fn frame_answer(
     alloc: Global,
     number: u16,
-    reply_header: ReplyHeader,
+    request_header: RequestHeader,
     reply: &FrameReply<'_>,
     notices: Vec<Notice>,
 ) -> Result<Answer, OutOfMemory>
     requires { IsWritableFrame (view_frame_reply reply.now) }
     ensures { IfOk result (λ answer. answer
-        ≡ framed_answer number (view_reply_header reply_header) (view_frame_reply reply.now) notices.items) }
+        ≡ framed_answer number (view_request_header request_header) (view_frame_reply reply.now) notices.items) }
 {
-    let bytes = write_frame_reply(alloc, reply_header, reply)?;
+    let bytes = write_frame_reply(alloc, request_header, reply)?;
     answer_of(alloc, Recipient::Stream(number), bytes, notices)
 }
 
@@ -98,9 +104,9 @@ pub fn unserved_answer(alloc: Global, route: Route) -> Result<Answer, OutOfMemor
 {
     match route {
         Route::Peer(_) => Ok(Answer::plain(alloc, Verdict::BadFrame)),
-        Route::Stream(number, _, reply_header) => {
+        Route::Stream(number, _, request_header) => {
             let reply = FrameReply::Refused(EncapStatus::IncorrectData);
-            frame_answer(alloc, number, reply_header, &reply, Vec::new(alloc))
+            frame_answer(alloc, number, request_header, &reply, Vec::new(alloc))
         }
     }
 }

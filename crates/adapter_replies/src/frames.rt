@@ -6,7 +6,7 @@ ghost use Rattle.cip_router.specs.Frames.{frame_reading, protocol_text};
 ghost use Rattle.adapter_replies.specs.Routes.{view_frame};
 
 use crate::replies::PROTOCOL;
-use crate::routes::ReplyHeader;
+use crate::routes::RequestHeader;
 use cip_encap::{read_message, read_message_header};
 
 /// The bytes of a frame, read.
@@ -15,11 +15,11 @@ use cip_encap::{read_message, read_message_header};
 #[derive(Clone, Copy)]
 pub enum FrameView<'a> {
     /// Too few bytes for a header.
-    Headless,
+    NoHeader,
     /// A header whose length field is not the length of the bytes behind it.
-    Misfit(ReplyHeader),
+    BadLength(RequestHeader),
     /// A whole message, with its data.
-    Whole(ReplyHeader, &'a [u8]),
+    Whole(RequestHeader, &'a [u8]),
 }
 
 /// Reads the bytes of a frame. The status and options of a request are ignored.
@@ -27,10 +27,10 @@ pub fn read_frame(bytes: &[u8]) -> FrameView<'_>
     ensures { view_frame result ≡ frame_reading bytes.now }
 {
     match read_message(bytes) {
-        Ok(message) => FrameView::Whole(ReplyHeader::of_message(&message), message.data),
+        Ok(message) => FrameView::Whole(RequestHeader::of_message(&message), message.data),
         Err(_) => match read_message_header(bytes) {
-            Some((header, _rest)) => FrameView::Misfit(ReplyHeader::of_header(&header)),
-            None => FrameView::Headless,
+            Some((header, _rest)) => FrameView::BadLength(RequestHeader::of_header(&header)),
+            None => FrameView::NoHeader,
         },
     }
 }

@@ -16,4 +16,4 @@ pub use answers::{
 };
 pub use frames::{FrameView, is_protocol, read_frame};
 pub use replies::{FrameReply, write_frame_reply};
-pub use routes::{ReplyHeader, Route};
+pub use routes::{RequestHeader, Route};

@@ -4,9 +4,9 @@ ghost use Rattle.std.specs.Prelude.{◌≡◌, ◌≤◌, IfOk, length};
 ghost use Rattle.cip_encap.specs.Message.{message_text, view_header};
 ghost use Rattle.cip_router.specs.Replies.{view_reply};
 ghost use Rattle.cip_router.specs.Frames.{headed_reply, reply_message, router_reply};
-ghost use Rattle.adapter_replies.specs.Routes.{view_reply_header, view_frame_reply, router_numbers, IsWritable, IsWritableFrame};
+ghost use Rattle.adapter_replies.specs.Routes.{view_request_header, view_frame_reply, router_numbers, IsWritable, IsWritableFrame};
 
-use crate::routes::ReplyHeader;
+use crate::routes::RequestHeader;
 use cip_encap::{
     HEADER_LEN, MessageHeader, MessageView, SocketAddress, items_len, put_items_header,
     put_message_header, put_socket, write_message,
@@ -45,20 +45,20 @@ pub enum FrameReply<'a> {
 /// A message that returns the command and the sender context of its request.
 fn write_headed_reply(
     alloc: Global,
-    reply_header: ReplyHeader,
+    request_header: RequestHeader,
     session: u32,
     status: u32,
     body: &[u8],
 ) -> Result<Vec<u8>, OutOfMemory>
     requires { length body.now ≤ 65535 }
     ensures { IfOk result (λ v. v.items
-        ≡ message_text (headed_reply (view_reply_header reply_header) session status body.now)) }
+        ≡ message_text (headed_reply (view_request_header request_header) session status body.now)) }
 {
     let message = MessageView {
-        command: reply_header.command,
+        command: request_header.command,
         session,
         status,
-        context: reply_header.context,
+        context: request_header.context,
         options: 0,
         data: body,
     };
@@ -67,15 +67,15 @@ fn write_headed_reply(
 
 /// The header of a message with data of this length, which returns the command, the session handle and the sender
 /// context of its request.
-fn router_header(reply_header: ReplyHeader, len: u16) -> MessageHeader
-    ensures { view_header result ≡ router_numbers (view_reply_header reply_header) len }
+fn router_header(request_header: RequestHeader, len: u16) -> MessageHeader
+    ensures { view_header result ≡ router_numbers (view_request_header request_header) len }
 {
     MessageHeader {
-        command: reply_header.command,
+        command: request_header.command,
         len,
-        session: reply_header.session,
+        session: request_header.session,
         status: 0,
-        context: reply_header.context,
+        context: request_header.context,
         options: 0,
     }
 }
@@ -83,13 +83,14 @@ fn router_header(reply_header: ReplyHeader, len: u16) -> MessageHeader
 /// The message of a reply of the message router: header, items and reply in one buffer.
 fn write_router(
     alloc: Global,
-    reply_header: ReplyHeader,
+    request_header: RequestHeader,
     reply: &Reply<'_>,
     address: Option<Node>,
 ) -> Result<Vec<u8>, OutOfMemory>
     requires { IsWritable (view_reply reply.now) }
     ensures { IfOk result (λ v. v.items
-        ≡ message_text (reply_message (view_reply_header reply_header) (router_reply (view_reply reply.now) address))) }
+        ≡ message_text (reply_message (view_request_header request_header)
+        (router_reply (view_reply reply.now) address))) }
 {
     let socket = address.map(|address| SocketAddress {
         port: UDP_PORT,
@@ -98,7 +99,7 @@ fn write_router(
     let reply_len = reply.len();
     let len = items_len(reply_len, socket);
     let mut out = Vec::with_capacity(alloc, HEADER_LEN + len)?;
-    put_message_header(&mut out, &router_header(reply_header, len as u16))?;
+    put_message_header(&mut out, &router_header(request_header, len as u16))?;
     put_items_header(&mut out, reply_len as u16, socket)?;
     reply.put(&mut out)?;
     put_socket(&mut out, socket)?;
@@ -110,38 +111,38 @@ fn write_router(
 /// Volume 2, chapter 2, encapsulation commands and status codes.
 pub fn write_frame_reply(
     alloc: Global,
-    reply_header: ReplyHeader,
+    request_header: RequestHeader,
     reply: &FrameReply<'_>,
 ) -> Result<Vec<u8>, OutOfMemory>
     // A value that is replied has at most 1,400 bytes, and a refusal a status that says so.
     requires { IsWritableFrame (view_frame_reply reply.now) }
     ensures { IfOk result (λ v. v.items
-        ≡ message_text (reply_message (view_reply_header reply_header) (view_frame_reply reply.now))) }
+        ≡ message_text (reply_message (view_request_header request_header) (view_frame_reply reply.now))) }
 {
     match reply {
         FrameReply::Services => write_headed_reply(
             alloc,
-            reply_header,
-            reply_header.session,
+            request_header,
+            request_header.session,
             0,
             &SERVICES,
         ),
         FrameReply::Registered(session) => write_headed_reply(
             alloc,
-            reply_header,
+            request_header,
             *session,
             0,
             &PROTOCOL,
         ),
         FrameReply::OtherVersion => {
             let status = EncapStatus::UnsupportedVersion.code();
-            write_headed_reply(alloc, reply_header, 0, status, &PROTOCOL)
+            write_headed_reply(alloc, request_header, 0, status, &PROTOCOL)
         }
-        FrameReply::Router(reply, address) => write_router(alloc, reply_header, reply, *address),
+        FrameReply::Router(reply, address) => write_router(alloc, request_header, reply, *address),
         FrameReply::Refused(why) => write_headed_reply(
             alloc,
-            reply_header,
-            reply_header.session,
+            request_header,
+            request_header.session,
             why.code(),
             &[],
         ),

@@ -1,8 +1,8 @@
 //! The routes of replies.
 
 ghost use Rattle.std.specs.Prelude.{◌≡◌};
-ghost use Rattle.adapter_replies.specs.Routes.{view_reply_header, peer_of};
-ghost use Rattle.cip_router.specs.Frames.{reply_header_of, reply_header_in};
+ghost use Rattle.adapter_replies.specs.Routes.{view_request_header, peer_of};
+ghost use Rattle.cip_router.specs.Frames.{request_header_of, request_header_in};
 ghost use Rattle.cip_encap.specs.Message.{view_message, view_header};
 
 use cip_encap::{MessageHeader, MessageView};
@@ -12,18 +12,18 @@ use cip_types::Node;
 ///
 /// Volume 2, chapter 2, encapsulation messages.
 #[derive(Clone, Copy, PartialEq, Eq)]
-pub struct ReplyHeader {
+pub struct RequestHeader {
     pub command: u16,
     pub session: u32,
     pub context: u64,
 }
 
-impl ReplyHeader {
+impl RequestHeader {
     /// The fields that the reply to a whole message returns.
-    pub fn of_message(message: &MessageView<'_>) -> ReplyHeader
-        ensures { view_reply_header result ≡ reply_header_of (view_message message.now) }
+    pub fn of_message(message: &MessageView<'_>) -> RequestHeader
+        ensures { view_request_header result ≡ request_header_of (view_message message.now) }
     {
-        ReplyHeader {
+        RequestHeader {
             command: message.command,
             session: message.session,
             context: message.context,
@@ -31,10 +31,10 @@ impl ReplyHeader {
     }
 
     /// The fields that the reply to a header without its whole message returns.
-    pub fn of_header(header: &MessageHeader) -> ReplyHeader
-        ensures { view_reply_header result ≡ reply_header_in (view_header header.now) }
+    pub fn of_header(header: &MessageHeader) -> RequestHeader
+        ensures { view_request_header result ≡ request_header_in (view_header header.now) }
     {
-        ReplyHeader {
+        RequestHeader {
             command: header.command,
             session: header.session,
             context: header.context,
@@ -48,7 +48,7 @@ pub enum Route {
     /// To the peer itself.
     Peer(Node),
     /// Over the stream of this number, in a frame that answers another one.
-    Stream(u16, Node, ReplyHeader),
+    Stream(u16, Node, RequestHeader),
 }
 
 impl Route {

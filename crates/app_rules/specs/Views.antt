@@ -6,11 +6,11 @@ use Rattle.cip_epath.specs.Path.{view_path}
 use Rattle.adapter_table.specs.Connections.{Row}
 use Rattle.adapter_table.specs.Checks as checks
 use Rattle.app_rules.specs.declared.view.View.{View}
-use Rattle.app_rules.specs.declared.questions.Points.{Points}
+use Rattle.app_rules.specs.declared.questions.NamedPoints.{NamedPoints}
 
 -- the state that the checks of a request of the triad read, from the list of the connections
 abbrev pub seen : {C : Type 0} → (C → List Row) → View C → Triad → checks.View
 seen rows view triad = checks.view_at view.profile.now (option_map (λ lent. lent.now) view.config) (rows view.connections.now) view.next_id triad
 
-abbrev pub view_points : Points → checks.Points
-view_points points = record { path = view_path points.path; consumer = points.consumer; input = points.input; group = points.group }
+abbrev pub view_named_points : NamedPoints → checks.Points
+view_named_points points = record { path = view_path points.path; consumer = points.consumer; input = points.input; group = points.group }

@@ -5,12 +5,12 @@ ghost use Rattle.std.specs.Option.{option_map};
 ghost use Rattle.cip_epath.specs.Path.{view_path};
 ghost use Rattle.cip_fwdopen.specs.Open.{view_open};
 ghost use Rattle.adapter_table.specs.Checks.{Gives, view_admission, verdict, points_of, admitted_at, drawn_ids, is_multicast};
-ghost use Rattle.app_rules.specs.Views.{seen, view_points};
+ghost use Rattle.app_rules.specs.Views.{seen, view_named_points};
 ghost use Rattle.app_rules.specs.Stages.{request_check, points_check, transport_of, IsPassed};
 
 use crate::connections::ConnectionsView;
 use crate::questions::{
-    Points, Transport, admission_at, changes_config, consumed_point_of, has_other_o_t_size,
+    NamedPoints, Transport, admission_at, changes_config, consumed_point_of, has_other_o_t_size,
     has_other_t_o_size, is_known_config, is_owned, is_unserved, is_unsupported, joined,
     joins_other_api, joins_other_inhibit, joins_other_trigger, key_check, lacks_capacity,
     lacks_ids, listens_alone, misfits_config, readable, refuse_if, served_inhibit,
@@ -52,7 +52,8 @@ pub fn admit<'a, C: ConnectionsView>(
     view: &View<'_, C>,
     request: &OpenRequest<&'a [u8]>,
 ) -> Result<Admission<'a>, Refusal>
-    ensures verdict { Gives view_admission result (verdict (seen C.rows view.now request.now.triad) (view_open request.now)) }
+    ensures verdict { Gives view_admission result
+        (verdict (seen C.rows view.now request.now.triad) (view_open request.now)) }
     ensures drawn { IfOk result (λ a. a.drawn ≡ drawn_ids a.multicast a.group) }
 {
     // 2
@@ -73,7 +74,8 @@ fn transport_of<C: ConnectionsView>(
 ) -> Result<Transport, Refusal>
     ensures passed { IsPassed (request_check (seen C.rows view.now request.now.triad) (view_open request.now)
         (option_map view_path path.now)) result }
-    ensures found { IfOk result (λ found. found ≡ transport_of (view_open request.now) (option_map view_path path.now)) }
+    ensures found { IfOk result
+        (λ found. found ≡ transport_of (view_open request.now) (option_map view_path path.now)) }
 {
     // 3
     refuse_if(view.connections.is_open(request.triad), Refusal::InUse)?;
@@ -113,9 +115,9 @@ fn points_of<'a, C: ConnectionsView>(
     request: &OpenRequest<&'a [u8]>,
     path: Option<ConnPath<'a>>,
     multicast: bool,
-) -> Result<Points<'a>, Refusal>
+) -> Result<NamedPoints<'a>, Refusal>
     requires { multicast ≡ is_multicast request.now.t_o_params.kind }
-    ensures { Gives view_points result
+    ensures { Gives view_named_points result
         (points_of (seen C.rows view.now request.now.triad) (view_open request.now) (option_map view_path path.entry)) }
 {
     let profile = view.profile;
@@ -126,7 +128,7 @@ fn points_of<'a, C: ConnectionsView>(
     let consumer = consumed_point_of(profile, path.consumed).ok_or(Refusal::ConsumedPath)?;
     let input = profile.input(path.produced).ok_or(Refusal::ProducedPath)?;
     let group = joined(view.connections, multicast, path.produced);
-    Ok(Points {
+    Ok(NamedPoints {
         path,
         consumer,
         input,
@@ -139,13 +141,14 @@ fn points_of<'a, C: ConnectionsView>(
 fn check_points<C: ConnectionsView>(
     view: &View<'_, C>,
     request: &OpenRequest<&[u8]>,
-    points: &Points<'_>,
+    points: &NamedPoints<'_>,
     admission: &Admission<'_>,
 ) -> Result<(), Refusal>
-    requires admission { view_admission admission.now ≡ admitted_at (view_open request.now) (view_points points.now) }
+    requires admission { view_admission admission.now
+        ≡ admitted_at (view_open request.now) (view_named_points points.now) }
     requires drawn { admission.now.drawn ≡ drawn_ids admission.now.multicast admission.now.group }
     ensures { IsPassed (points_check (seen C.rows view.now request.now.triad) (view_open request.now)
-        (view_points points.now)) result }
+        (view_named_points points.now)) result }
 {
     // 10
     refuse_if(misfits_config(view, points), Refusal::ConfigurationSize)?;

@@ -10,7 +10,7 @@ ghost use Rattle.cip_productions.specs.declared.kind.Kind.{Kind};
 ghost use Rattle.cip_productions.specs.Kinds.{is_owner, is_listener};
 ghost use Rattle.adapter_table.specs.Rows.{most_rows, is_established, is_timed_out, drives, is_supported};
 ghost use Rattle.adapter_table.specs.Checks.{Gives, view_admission, check, key_of, key_check, is_unserved, served_inhibit, is_known_config, consumed_point_of, group_of, joined, named_len, has_other_length, has_other_bytes, has_other_o_t_size, has_other_t_o_size, joins, has_other_trigger, has_other_inhibit, drawn_ids};
-ghost use Rattle.app_rules.specs.Views.{view_points};
+ghost use Rattle.app_rules.specs.Views.{view_named_points};
 ghost use Rattle.app_rules.specs.Stages.{IsPassed, readable, path_inhibit, admission_at};
 
 use crate::connections::ConnectionsView;
@@ -38,7 +38,7 @@ pub struct Transport {
 
 /// The points that a path names: the consumer, the input that is produced, and the group that is joined.
 #[derive(Clone, Copy)]
-pub struct Points<'a> {
+pub struct NamedPoints<'a> {
     pub path: ConnPath<'a>,
     pub consumer: ConsumedPoint,
     pub input: InputPoint,
@@ -146,8 +146,8 @@ fn drawn_ids(multicast: bool, group: &Option<Row>) -> u32
 }
 
 /// The connection that a request of these points and this transport is admitted as.
-pub fn admission_at<'a>(points: &Points<'a>, transport: &Transport) -> Admission<'a>
-    ensures admission { view_admission result ≡ admission_at (view_points points.now) transport.now }
+pub fn admission_at<'a>(points: &NamedPoints<'a>, transport: &Transport) -> Admission<'a>
+    ensures admission { view_admission result ≡ admission_at (view_named_points points.now) transport.now }
     ensures drawn { result.drawn ≡ drawn_ids result.multicast result.group }
 {
     Admission {
@@ -167,7 +167,7 @@ pub fn admission_at<'a>(points: &Points<'a>, transport: &Transport) -> Admission
 }
 
 /// Whether the data segment has another length than the configuration that the path names.
-pub fn misfits_config<C: ConnectionsView>(view: &View<'_, C>, points: &Points<'_>) -> bool
+pub fn misfits_config<C: ConnectionsView>(view: &View<'_, C>, points: &NamedPoints<'_>) -> bool
     ensures { result ≡ has_other_length (named_len view.now.profile.now.config (view_path points.now.path).config)
         (view_path points.now.path).segment }
 {
@@ -193,8 +193,8 @@ pub fn changes_config<C: ConnectionsView>(view: &View<'_, C>, admission: &Admiss
 
 /// Whether an O->T size is not that of the consumed point: a sequence count, and an owner's data behind a
 /// run/idle header.
-pub fn has_other_o_t_size(request: &OpenRequest<&[u8]>, points: &Points<'_>) -> bool
-    ensures { result ≡ has_other_o_t_size (view_open request.now) (view_points points.now) }
+pub fn has_other_o_t_size(request: &OpenRequest<&[u8]>, points: &NamedPoints<'_>) -> bool
+    ensures { result ≡ has_other_o_t_size (view_open request.now) (view_named_points points.now) }
 {
     let size = request.o_t_params.size;
     match points.consumer.kind {
@@ -204,8 +204,8 @@ pub fn has_other_o_t_size(request: &OpenRequest<&[u8]>, points: &Points<'_>) -> 
 }
 
 /// Whether a T->O size is not that of the produced point: a sequence count and the input.
-pub fn has_other_t_o_size(request: &OpenRequest<&[u8]>, points: &Points<'_>) -> bool
-    ensures { result ≡ has_other_t_o_size (view_open request.now) (view_points points.now) }
+pub fn has_other_t_o_size(request: &OpenRequest<&[u8]>, points: &NamedPoints<'_>) -> bool
+    ensures { result ≡ has_other_t_o_size (view_open request.now) (view_named_points points.now) }
 {
     let size = request.t_o_params.size;
     size < 2 || u64::from(size) - 2 != points.input.len

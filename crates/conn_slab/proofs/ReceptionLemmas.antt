@@ -68,12 +68,6 @@ kept_balance pool change rs keeps balanced = record {
 
 -- ---- a record that has accepted a datagram, or has not
 
-reception_by : Ms → DatagramFields → Bool → Record → Record
-reception_by clock d b r = cond b (accepted_row clock d r) r
-
-reception_if : Ms → DatagramFields → (Record → Bool) → Bool → Record → Record
-reception_if clock d test b r = cond (test r) (cond b (accepted_row clock d r) r) r
-
 keeps_reception : (pool : List Group) (clock : Ms) (d : DatagramFields) (test : Record → Bool) (b : Bool) → KeepsProducer pool (λ r. cond (test r) (cond b (accepted_row clock d r) r) r)
 keeps_reception pool clock d test b = record { producer = λ r. producer (test r) b r; served = λ r s. served (test r) b r s }
   where

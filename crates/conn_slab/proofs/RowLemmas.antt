@@ -261,9 +261,6 @@ long_last pool (r ∷ rs) row = let rest = long_last pool rs row in omega arith
 
 -- THE WHOLE
 
-pub consistent_kept : {X : Type 0} (P : List X → Type 0) (old new : List X) → new ≡ old → P old → P new
-consistent_kept P old new same is = subst P (sym same) is
-
 pub lone_items : (name : TriadKey) (rs : List Record) (names : List TriadKey) → map key_of rs ≡ names → IsDistinct same_key names → Lone (is_of name) rs
 lone_items name rs names are distinct = lone_name name rs (subst (IsDistinct same_key) (sym are) distinct)
 

@@ -15,9 +15,9 @@ end_of deadline (Established production) = deadline
 end_of deadline TimedOut = never
 
 -- when the first of the watchdogs runs out
-abbrev pub first_end : List Row → ℕ
-first_end [] = never
-first_end (row ∷ rows) = min (end_of row.deadline.0 row.state) (first_end rows)
+abbrev pub next_watchdog : List Row → ℕ
+next_watchdog [] = never
+next_watchdog (row ∷ rows) = min (end_of row.deadline.0 row.state) (next_watchdog rows)
 
 abbrev pub StateNotDueBefore : ℕ → State → Type 0
 StateNotDueBefore bound (Established production) = bound ≤ production.due.0

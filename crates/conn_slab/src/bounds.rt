@@ -1,7 +1,7 @@
 //! The times at which watchdogs run out.
 
 ghost use Rattle.std.specs.Prelude.{◌≡◌};
-ghost use Rattle.conn_slab.specs.Bounds.{end_of, first_end};
+ghost use Rattle.conn_slab.specs.Bounds.{end_of, next_watchdog};
 
 use crate::rows::Rows;
 use adapter_table::{Row, State};
@@ -18,8 +18,8 @@ fn end_of(row: &Row) -> u64
 
 /// When the first of the watchdogs runs out; `u64::MAX` if there is none.
 #[tactic(auto, using(crate::proofs::Ends::min_never, crate::proofs::Ends::min_end))]
-pub(crate) fn first_end(rows: Rows<'_>) -> u64
-    ensures { result ≡ first_end rows.entry }
+pub(crate) fn next_watchdog(rows: Rows<'_>) -> u64
+    ensures { result ≡ next_watchdog rows.entry }
 {
     let mut first = u64::MAX;
     for row in rows {

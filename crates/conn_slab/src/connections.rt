@@ -14,11 +14,11 @@ ghost use Rattle.conn_slab.specs.Index.{items_of};
 ghost use Rattle.conn_slab.specs.Records.{row_of};
 ghost use Rattle.conn_slab.specs.Layout.{IsConsistent};
 ghost use Rattle.conn_slab.specs.Reception.{IsReceived, reception};
-ghost use Rattle.conn_slab.specs.Bounds.{first_end, AllNotDueBefore};
+ghost use Rattle.conn_slab.specs.Bounds.{next_watchdog, AllNotDueBefore};
 ghost use Rattle.conn_slab.specs.Producing.{producer_by, peer_in};
 ghost use Rattle.conn_slab.specs.Connections.{without, AreConnections, timed_out_if, accepting_if, is_opened_at, is_listening};
 
-use crate::bounds::first_end;
+use crate::bounds::next_watchdog;
 use crate::index::{
     Sources, Triads, find_at_position, has_listeners, hint_among, put_last, reserve_record,
     running, take_record,
@@ -356,10 +356,10 @@ impl Connections {
     /// When the first watchdog of an established connection runs out; `u64::MAX` if there is none. Takes no memory.
     ///
     /// Volume 1, chapter 3, inactivity watchdog.
-    pub fn first_end(&self) -> u64
-        ensures { result ≡ first_end self.now }
+    pub fn next_watchdog(&self) -> u64
+        ensures { result ≡ next_watchdog self.now }
     {
-        first_end(self.rows())
+        next_watchdog(self.rows())
     }
 
     /// A time before which no producer is due. Takes no memory.

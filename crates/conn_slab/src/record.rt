@@ -1,7 +1,7 @@
 //! Connections without their productions, and the keys that lead to them.
 
 ghost use Rattle.std.specs.Prelude.{◌≡◌};
-ghost use Rattle.conn_slab.specs.Records.{record_of, key_of, key_for, source_of};
+ghost use Rattle.conn_slab.specs.Records.{record_of, key_for, source_of};
 
 use adapter_table::{Connection, Row, producer_number};
 use cip_types::Triad;

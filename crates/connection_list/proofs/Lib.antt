@@ -1,4 +1,3 @@
 pub mod Orders
 pub mod Loops
 pub mod Advancing
-pub mod Quiet

@@ -8,11 +8,6 @@ use Rattle.adapter_table.specs.Connections.{Row}
 use Rattle.adapter_table.specs.Productions.{producer_in}
 use Rattle.connection_list.specs.Orders.{picked}
 
--- one more passes
-pub kept_more : {X : Type 0} (p : X → Bool) (xs : List X) (i : ℕ) (d : X) (kept new : List X) → i < length xs → kept ≡ filter p (take i xs) → p (get_or xs i d) ≡ true → new ≡ kept ++ get_or xs i d ∷ [] → new ≡ filter p (take (i + 1) xs)
-kept_more {X} p xs i d kept new lt are passes grown =
-    rw (filter_more p xs i d lt, passes) (grown ∙ ap (λ (l : List X). l ++ get_or xs i d ∷ []) are)
-
 -- one more does not
 pub left_more : {X : Type 0} (p : X → Bool) (xs : List X) (i : ℕ) (d : X) (kept : List X) → i < length xs → kept ≡ filter p (take i xs) → p (get_or xs i d) ≡ false → kept ≡ filter p (take (i + 1) xs)
 left_more p xs i d kept lt are fails =

@@ -5,4 +5,4 @@ pub mod Lone
 pub mod Replacing
 pub mod Removals
 pub mod Receiving
-pub mod Changes
+pub mod Quiet

@@ -10,7 +10,7 @@ use Rattle.adapter_table.specs.Closing.{unsupported, staying}
 use Rattle.adapter_table.specs.Productions.{due_productions, produced_row}
 use Rattle.adapter_table.specs.Ticks.{expired, expired_rows}
 use Rattle.adapter_table.specs.Whole.{IsWhole}
-use Rattle.connection_list.specs.declared.table.Passing.{Passing}
+use Rattle.connection_list.specs.declared.table.TickPlan.{TickPlan}
 
 -- the connections of some whole table of an adapter
 pub record AreWhole (rows : List Row) : Type 0 where
@@ -24,7 +24,7 @@ abbrev pub advanced_rows : Ms → List Row → List Row
 advanced_rows clock rows = map (produced_row clock) (staying (expired_rows clock rows))
 
 -- what happens to the connections when time passes up to this clock
-pub record IsPassing (clock : Ms) (rows : List Row) (values : List PointValue) (passing : Passing) : Type 0 where
-  pub expired : passing.expired.items ≡ expired clock rows
-  pub dropped : passing.dropped.items ≡ map triad_of (unsupported (expired_rows clock rows))
-  pub datagrams : passing.datagrams.items ≡ map sent (due_productions clock (staying (expired_rows clock rows)) values)
+pub record IsTickPlan (clock : Ms) (rows : List Row) (values : List PointValue) (tick_plan : TickPlan) : Type 0 where
+  pub expired : tick_plan.expired.items ≡ expired clock rows
+  pub dropped : tick_plan.dropped.items ≡ map triad_of (unsupported (expired_rows clock rows))
+  pub datagrams : tick_plan.datagrams.items ≡ map sent (due_productions clock (staying (expired_rows clock rows)) values)

@@ -3,12 +3,12 @@
 ghost use Rattle.std.specs.Prelude.{◌≡◌, filter, IfOk};
 ghost use Rattle.adapter_table.specs.Sound.{TriadsDiffer};
 ghost use Rattle.adapter_table.specs.Ticks.{has_expired, expired, expired_rows};
-ghost use Rattle.connection_list.specs.Tables.{IsPassing};
+ghost use Rattle.connection_list.specs.Tables.{IsTickPlan};
 
 use crate::order::ByDeadline;
 use crate::productions::sent_when_due;
 use crate::support::{remove_each, unsupported};
-use crate::table::Passing;
+use crate::table::TickPlan;
 use adapter_table::{Row, expired_row, has_expired};
 use assembly_set::AssemblySet;
 use cip_types::{Ms, OutOfMemory};
@@ -48,21 +48,21 @@ pub fn expire_rows(rows: &mut [Row], clock: Ms)
 }
 
 /// What happens to these connections when time passes up to this clock. Out of memory is the only fault.
-pub fn passing(
+pub fn tick_plan(
     alloc: Global,
     mut rows: Vec<Row>,
     assemblies: &AssemblySet,
     clock: Ms,
-) -> Result<Passing, OutOfMemory>
+) -> Result<TickPlan, OutOfMemory>
     requires { TriadsDiffer rows.items }
-    ensures { IfOk result (λ passing. IsPassing clock rows.items assemblies.now.values passing) }
+    ensures { IfOk result (λ tick_plan. IsTickPlan clock rows.items assemblies.now.values tick_plan) }
 {
     let expired = expired(alloc, &rows, clock)?;
     expire_rows(&mut rows, clock);
     let dropped = unsupported(alloc, &rows)?;
     remove_each(&mut rows, &dropped);
     let datagrams = sent_when_due(alloc, &rows, assemblies, clock)?;
-    Ok(Passing {
+    Ok(TickPlan {
         expired,
         dropped,
         datagrams,

@@ -10,7 +10,7 @@
 mod changes;
 mod deliveries;
 mod expiries;
-mod next_change;
+mod first_due;
 mod order;
 mod plain;
 mod producers;
@@ -20,8 +20,9 @@ mod support;
 mod table;
 
 pub use changes::{sent_on_change, written_rows};
-pub use expiries::passing;
+pub use expiries::tick_plan;
+pub use first_due::connection_due;
 pub use plain::ConnectionList;
 pub use productions::sent_when_due;
 pub use support::dropped_with;
-pub use table::{ConnectionTable, Passing, ReceivedDatagram};
+pub use table::{ConnectionTable, ReceivedDatagram, TickPlan};

@@ -2,12 +2,12 @@
 
 use crate::changes::{produces_at_once, sent_on_change, write_and_change_rows, written_rows};
 use crate::deliveries::{accept_rows, find_target};
-use crate::expiries::{expire_rows, passing};
-use crate::next_change::next_change;
+use crate::expiries::{expire_rows, tick_plan};
+use crate::first_due::first_due;
 use crate::productions::{produce_rows, sent_when_due};
 use crate::rows::{append_row, copied, find_row, remove_triad, replaced};
 use crate::support::{dropped_with, remove_each};
-use crate::table::{ConnectionTable, Passing, ReceivedDatagram};
+use crate::table::{ConnectionTable, ReceivedDatagram, TickPlan};
 use adapter_table::{Profile, Row, has_expired, is_due, judge};
 use app_rules::{ConnectionsView, ListView};
 use assembly_set::AssemblySet;
@@ -113,8 +113,8 @@ impl ConnectionTable for ConnectionList {
         self.0.iter().any(|row| is_due(row, clock))
     }
 
-    fn next_change(&self) -> Ms {
-        next_change(&self.0)
+    fn first_due(&self) -> Ms {
+        first_due(&self.0)
     }
 
     fn sent_when_due(
@@ -130,13 +130,13 @@ impl ConnectionTable for ConnectionList {
         produce_rows(&mut self.0, clock);
     }
 
-    fn passing(
+    fn tick_plan(
         &self,
         alloc: Global,
         assemblies: &AssemblySet,
         clock: Ms,
-    ) -> Result<Passing, OutOfMemory> {
-        passing(alloc, copied(alloc, &self.0)?, assemblies, clock)
+    ) -> Result<TickPlan, OutOfMemory> {
+        tick_plan(alloc, copied(alloc, &self.0)?, assemblies, clock)
     }
 
     fn advance(&mut self, clock: Ms, _timed_out: &[Row], dropped: &[Triad]) {

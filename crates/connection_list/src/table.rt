@@ -10,8 +10,8 @@ ghost use Rattle.adapter_table.specs.Closing.{without_triad, staying, unsupporte
 ghost use Rattle.adapter_table.specs.Datagrams.{is_for};
 ghost use Rattle.adapter_table.specs.Productions.{is_due, due_productions, produced_row, produces_on_change, productions_on_change, changed_row};
 ghost use Rattle.adapter_table.specs.Ticks.{has_expired, expired, expired_rows};
-ghost use Rattle.connection_list.specs.Changes.{IsQuietBefore};
-ghost use Rattle.connection_list.specs.Tables.{AreWhole, IsPassing, advanced_rows};
+ghost use Rattle.cip_tables.specs.Wakes.{connections_due};
+ghost use Rattle.connection_list.specs.Tables.{AreWhole, IsTickPlan, advanced_rows};
 ghost use Rattle.connection_list.specs.Receiving.{IsReceived, receiving};
 
 use adapter_table::{Judgement, Profile, Row};
@@ -31,7 +31,7 @@ pub struct ReceivedDatagram<'a> {
 
 /// What happens when time passes, decided before anything changes.
 #[derive(Drop)]
-pub struct Passing {
+pub struct TickPlan {
     /// The connections that time out, by their deadlines and then in opening order.
     pub expired: Vec<Row>,
     /// The listen-only connections that lose their support with them, in opening order.
@@ -126,13 +126,12 @@ pub trait ConnectionTable: ConnectionsView + Drop {
     fn is_due(&self, clock: Ms) -> bool
         ensures { result ≡ list_any (is_due clock) (Self.rows self.now) };
 
-    /// A time before which no deadline of an established connection is reached and no producer is due; `u64::MAX` if
-    /// there is none. It may be too early, but is later once `has_expired` and then `produce` or `advance` have been
-    /// called at that time. Takes no memory.
+    /// When the first deadline of an established connection is reached or the first producer is due; `u64::MAX` if
+    /// there is neither. Takes no memory.
     ///
     /// Volume 1, chapter 3, inactivity watchdog and production triggers.
-    fn next_change(&self) -> Ms
-        ensures { IsQuietBefore result.0 (Self.rows self.now) };
+    fn first_due(&self) -> Ms
+        ensures { result.0 ≡ connections_due (Self.rows self.now) };
 
     /// The datagrams of the producers that are due, one each. Out of memory is the only fault.
     ///
@@ -158,15 +157,15 @@ pub trait ConnectionTable: ConnectionsView + Drop {
     /// What happens when time passes up to this clock. Out of memory is the only fault.
     ///
     /// Volume 1, chapter 3, inactivity watchdog, listen-only application connections and production triggers.
-    fn passing(
+    fn tick_plan(
         &self,
         alloc: Global,
         assemblies: &AssemblySet,
         clock: Ms,
-    ) -> Result<Passing, OutOfMemory>
+    ) -> Result<TickPlan, OutOfMemory>
         requires { AreWhole (Self.rows self.now) }
-        ensures { IfOk result (λ passing.
-            IsPassing clock (Self.rows self.now) assemblies.now.values passing) };
+        ensures { IfOk result (λ tick_plan.
+            IsTickPlan clock (Self.rows self.now) assemblies.now.values tick_plan) };
 
     /// The connections that expire time out, those that lose their support are dropped, and the producers that are
     /// due have produced. Takes no memory.

@@ -111,9 +111,6 @@ pub record TakenUp (rows : List Row) (ahead : List Peer) (consumer_table : List 
   pub left : map peer_in rest ≡ ahead
   pub are : consumer_table ≡ map (consumers_of rows) (numbers front)
 
-pub taken_none : (rows : List Row) (peers : List Peer) → peers ≡ map peer_in rows → TakenUp rows peers []
-taken_none rows peers are = record { front = []; rest = rows; split = refl; left = sym are; are = refl }
-
 taken_next : (rows front rest : List Row) (ahead : List Peer) (peer : Peer) (consumer_table new : List ProducerConsumers) → front ++ rest ≡ rows → map peer_in rest ≡ peer ∷ ahead → consumer_table ≡ map (consumers_of rows) (numbers front) → new ≡ consumer_table ++ more_by rows consumer_table peer.producer → TakenUp rows ahead new
 taken_next rows front [] ahead peer consumer_table new split left are is = absurd cc
 taken_next rows front (row ∷ rest) ahead peer consumer_table new split left are is =

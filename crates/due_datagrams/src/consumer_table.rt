@@ -111,7 +111,8 @@ fn add_producer(
 ) -> bool
     requires peers { peers.now ≡ map peer_in connections.now }
     requires within { AreWithin (length nodes.old.items) entries.old.items }
-    requires single { IsNewIfSingle connections.now (map (consumers_in nodes.old.items) entries.old.items) peer.node peer.producer }
+    requires single { IsNewIfSingle connections.now
+        (map (consumers_in nodes.old.items) entries.old.items) peer.node peer.producer }
     ensures within { result ≡ true → AreWithin (length nodes.new.items) entries.new.items }
     ensures added { result ≡ true
         → map (consumers_in nodes.new.items) entries.new.items ≡ map (consumers_in nodes.old.items) entries.old.items

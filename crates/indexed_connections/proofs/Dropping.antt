@@ -1,14 +1,12 @@
 -- Where no connection listens, none is dropped.
-use Rattle.std.proofs.Common.{◌≡◌, Bool, true, false, cond, not, ◌&&◌, ◌||◌, List, [], ◌∷◌, ◌++◌, filter, Option, Some, None, refl, sym, ap, ◌∙◌, true≢false}
+use Rattle.std.proofs.Common.{◌≡◌, Bool, true, false, cond, not, ◌&&◌, ◌||◌, List, [], ◌∷◌, ◌++◌, filter, Option, Some, None, refl, sym, ◌∙◌, true≢false}
 use Rattle.std.specs.List.{list_any}
 use Rattle.cip_types.specs.declared.names.Triad.{Triad}
 use Rattle.cip_productions.specs.Kinds.{is_listener}
 use Rattle.adapter_table.specs.Connections.{Row}
 use Rattle.adapter_table.specs.Rows.{has_triad, is_established, is_unsupported}
 use Rattle.adapter_table.specs.Closing.{without_triad, unsupported, stays, staying}
-use Rattle.cip_types.specs.declared.names.Ms.{Ms}
-use Rattle.adapter_table.specs.Ticks.{has_expired, expired_rows}
-use Rattle.conn_slab.specs.Connections.{is_listening, timed_out, without}
+use Rattle.conn_slab.specs.Connections.{is_listening, without}
 use Rattle.connection_list.specs.Lone.{neither}
 
 -- ---- none listens
@@ -17,13 +15,6 @@ pub no_listener : (e k s : Bool) → (e && k) ≡ false → (e && (k && s)) ≡ 
 no_listener true true s none = absurd (true≢false none)
 no_listener true false s none = refl
 no_listener false k s none = refl
-
-pub none_listen : (all rows : List Row) → list_any is_listening rows ≡ false → filter (stays all) rows ≡ rows
-none_listen all [] none = refl
-none_listen all (row ∷ rows) none =
-    let parts = neither (is_listening row) (list_any is_listening rows) none in
-    let stays_here : is_unsupported all row ≡ false = no_listener (is_established row) (is_listener row.kind) _ parts.0 in
-    rw stays_here (ap (λ (l : List Row). row ∷ l) (none_listen all rows parts.1))
 
 none_dropped : (all rows : List Row) → list_any is_listening rows ≡ false → filter (is_unsupported all) rows ≡ []
 none_dropped all [] none = refl
@@ -60,16 +51,6 @@ pub quiet_opened : (listening more : Bool) (removed : Option Triad) (rows : List
 quiet_opened listening more removed rows row is quiet none =
     let parts = neither listening (is_listening row) (sym is ∙ none) in
     any_last is_listening (without removed rows) row (any_without is_listening removed rows (quiet parts.0)) parts.1
-
-out_quiet : (b : Bool) (row : Row) → is_listening row ≡ false → is_listening (cond b (timed_out row) row) ≡ false
-out_quiet true row none = refl
-out_quiet false row none = none
-
-pub quiet_expired : (clock : Ms) (rows : List Row) → list_any is_listening rows ≡ false → list_any is_listening (expired_rows clock rows) ≡ false
-quiet_expired clock [] none = refl
-quiet_expired clock (row ∷ rows) none =
-    let parts = neither (is_listening row) (list_any is_listening rows) none in
-    rw (out_quiet (has_expired clock row) row parts.0, quiet_expired clock rows parts.1) refl
 
 pub quiet_left : (triad : Triad) (rows : List Row) → list_any is_listening rows ≡ false → list_any is_listening (without_triad triad rows) ≡ false
 quiet_left triad rows none = any_left is_listening (λ row. not (has_triad triad row)) rows none

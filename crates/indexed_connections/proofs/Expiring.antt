@@ -1,12 +1,12 @@
 -- Connections that time out one after another, in any order.
-use Rattle.std.proofs.Common.{◌≡◌, Bool, true, false, cond, ◌&&◌, List, [], ◌∷◌, map, filter, refl, sym, ap, ◌∙◌}
+use Rattle.std.proofs.Common.{◌≡◌, Bool, true, false, cond, List, [], ◌∷◌, map, filter, refl, sym, ap, ◌∙◌}
 use Rattle.std.specs.List.{list_any}
 use Rattle.cip_types.specs.declared.names.Ms.{Ms}
 use Rattle.cip_types.specs.declared.names.Triad.{Triad}
 use Rattle.cip_types.specs.Order.{inserted, in_order}
 use Rattle.adapter_table.specs.Connections.{Row}
 use Rattle.adapter_table.specs.Rows.{is_established, same_triad, has_triad, holds_triad}
-use Rattle.adapter_table.specs.Ticks.{has_expired, by_deadline, expired, expired_row, expired_rows}
+use Rattle.adapter_table.specs.Ticks.{has_expired, by_deadline, expired, expired_rows}
 use Rattle.adapter_table.specs.Sound.{TriadsDiffer}
 use Rattle.conn_slab.specs.Connections.{timed_out, timed_out_if}
 use Rattle.connection_list.specs.Lone.{both_hold, neither, triad_itself, other_way}

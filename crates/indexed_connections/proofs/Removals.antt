@@ -1,17 +1,17 @@
 -- Running counts as connections are removed, time out and change.
-use Rattle.std.proofs.Common.{◌≡◌, ◌≤◌, ◌<◌, ℕ, ◌+◌, ◌==◌, ◌&&◌, ◌||◌, Bool, true, false, cond, not, List, [], ◌∷◌, ◌++◌, map, filter, find, length, Option, Some, None, refl, sym, ap, subst, ◌∙◌, true≢false, arith}
+use Rattle.std.proofs.Common.{◌≡◌, ◌≤◌, ◌<◌, ℕ, ◌+◌, ◌==◌, ◌&&◌, ◌||◌, Bool, true, false, cond, not, List, [], ◌∷◌, ◌++◌, map, filter, find, length, Option, Some, None, refl, sym, ap, subst, ◌∙◌, arith}
 use Rattle.std.specs.List.{list_any}
 use Rattle.std.proofs.lemmas.Bool.Decides.{nat_tests}
 use Rattle.cip_types.specs.declared.names.Triad.{Triad}
 use Rattle.cip_productions.specs.declared.kind.Kind.{Kind}
-use Rattle.cip_productions.specs.declared.kind.Kind.TheVariants.{ExclusiveOwner, InputOnly, ListenOnly}
-use Rattle.cip_productions.specs.Kinds.{is_owner, is_listener, same_kind}
+use Rattle.cip_productions.specs.declared.kind.Kind.TheVariants.{ListenOnly}
+use Rattle.cip_productions.specs.Kinds.{is_owner, same_kind}
 use Rattle.adapter_table.specs.Connections.{Row}
-use Rattle.adapter_table.specs.Rows.{is_established, has_triad, drives, supports, is_supported, is_unsupported}
+use Rattle.adapter_table.specs.Rows.{is_established, has_triad, drives, supports}
 use Rattle.adapter_table.specs.Closing.{without_triad}
 use Rattle.adapter_table.specs.Sound.{TriadsDiffer}
-use Rattle.conn_slab.specs.Connections.{without, timed_out, timed_out_if, is_listening}
-use Rattle.owner_counts.specs.Counts.{Counts, number_at, total, is_driver, is_supporter, AreCounted, HasJoined}
+use Rattle.conn_slab.specs.Connections.{without, timed_out, timed_out_if}
+use Rattle.owner_counts.specs.Counts.{Counts, total, is_driver, is_supporter, AreCounted, HasJoined}
 use Rattle.indexed_connections.specs.CountChanges.{named, HaveJoined, AreLess}
 use Rattle.connection_list.specs.Lone.{some_is, neither, triad_only}
 use Rattle.connection_list.specs.Removals.{all_stay}

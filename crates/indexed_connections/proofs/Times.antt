@@ -1,5 +1,5 @@
 -- Bounds on the times of connections, as these change.
-use Rattle.std.proofs.Common.{◌≡◌, ◌≤◌, ◌<◌, ℕ, ◌==◌, ◌&&◌, Bool, true, false, cond, List, [], ◌∷◌, ◌++◌, map, filter, not, find, Option, Some, None, refl, sym, ap, subst, ◌∙◌, true≢false, arith}
+use Rattle.std.proofs.Common.{◌≡◌, ◌≤◌, ◌<◌, ℕ, min, ◌==◌, ◌&&◌, Bool, true, false, cond, List, [], ◌∷◌, ◌++◌, map, filter, not, find, Option, Some, None, refl, sym, ap, subst, ◌∙◌, true≢false, arith}
 use Rattle.std.specs.Prelude.{nat_le}
 use Rattle.std.specs.List.{list_any}
 use Rattle.std.proofs.lemmas.Bool.Decides.{nat_tests}
@@ -19,8 +19,9 @@ use Rattle.adapter_table.specs.Datagrams.{later_deadline, is_for, row_delivery, 
 use Rattle.adapter_table.specs.Productions.{is_due, state_is_due, produced_row, produced_state, changed_state, changed_row}
 use Rattle.adapter_table.specs.Sound.{IdsDiffer}
 use Rattle.adapter_table.specs.Ticks.{has_expired}
+use Rattle.cip_tables.specs.Wakes.{connections_due}
 use Rattle.conn_slab.specs.declared.reception.Received.{Received}
-use Rattle.conn_slab.specs.Bounds.{never, end_of, first_end, StateNotDueBefore, NotDueBefore, AllNotDueBefore}
+use Rattle.conn_slab.specs.Bounds.{never, end_of, next_watchdog, StateNotDueBefore, NotDueBefore, AllNotDueBefore}
 use Rattle.conn_slab.specs.Reception.{IsReceived, reception}
 use Rattle.connection_list.specs.Lone.{some_is, neither}
 
@@ -33,7 +34,7 @@ early_end : (bound : ℕ) (clock : Ms) (deadline : ℕ) (state : State) → cloc
 early_end bound clock deadline (Established production) early lasts = not_yet clock.0 deadline (omega arith)
 early_end bound clock deadline TimedOut early lasts = refl
 
-pub none_ends : (bound : ℕ) (clock : Ms) (rows : List Row) → clock.0 < bound → bound ≤ first_end rows → list_any (has_expired clock) rows ≡ false
+pub none_ends : (bound : ℕ) (clock : Ms) (rows : List Row) → clock.0 < bound → bound ≤ next_watchdog rows → list_any (has_expired clock) rows ≡ false
 none_ends bound clock [] early lasts = refl
 none_ends bound clock (row ∷ rows) early lasts =
     rw (early_end bound clock row.deadline.0 row.state early (omega arith)) (none_ends bound clock rows early (omega arith))
@@ -46,9 +47,21 @@ pub none_due : (bound : ℕ) (clock : Ms) (rows : List Row) → clock.0 < bound 
 none_due bound clock [] early all = refl
 none_due bound clock (row ∷ rows) early all = rw (state_early bound clock row.state early all.0) (none_due bound clock rows early all.1)
 
+-- ---- nothing is due after the end of time
+
+due_within : (rows : List Row) → connections_due rows ≤ never
+due_within [] = omega arith
+due_within (row ∷ rows) = let rest = due_within rows in omega arith
+
+pub min_never : (rows : List Row) → min never (connections_due rows) ≡ connections_due rows
+min_never rows = let all = due_within rows in omega arith
+
+pub min_due : (n : ℕ) → n ≤ never → min n never ≡ n
+min_due n le = omega arith
+
 -- ---- changes that keep deadlines and states
 
-pub ends_mapped : (f : Row → Row) → ((row : Row) → end_of (f row).deadline.0 (f row).state ≡ end_of row.deadline.0 row.state) → (rows : List Row) → first_end (map f rows) ≡ first_end rows
+pub ends_mapped : (f : Row → Row) → ((row : Row) → end_of (f row).deadline.0 (f row).state ≡ end_of row.deadline.0 row.state) → (rows : List Row) → next_watchdog (map f rows) ≡ next_watchdog rows
 ends_mapped f same [] = refl
 ends_mapped f same (row ∷ rows) = rw (same row, ends_mapped f same rows) refl
 
@@ -60,7 +73,7 @@ produced_end clock api deadline (Established production) = split (is_production_
     split true = refl
     split false = refl
 
-pub produced_ends : (clock : Ms) (rows : List Row) → first_end (map (produced_row clock) rows) ≡ first_end rows
+pub produced_ends : (clock : Ms) (rows : List Row) → next_watchdog (map (produced_row clock) rows) ≡ next_watchdog rows
 produced_ends clock rows = ends_mapped (produced_row clock) (λ row. produced_end clock row.t_o_api_ms row.deadline.0 row.state) rows
 
 written_end : (deadline : ℕ) (state : State) → end_of deadline (written_state state) ≡ end_of deadline state
@@ -79,7 +92,7 @@ changed_step : (b : Bool) (clock : Ms) (row : Row) → end_of (cond b (record ro
 changed_step true clock row = changed_end clock row.t_o_api_ms row.deadline.0 row.state
 changed_step false clock row = refl
 
-pub changed_ends : (clock : Ms) (point : ℕ) (rows : List Row) → first_end (map (changed_row clock point) (map (written_row point) rows)) ≡ first_end rows
+pub changed_ends : (clock : Ms) (point : ℕ) (rows : List Row) → next_watchdog (map (changed_row clock point) (map (written_row point) rows)) ≡ next_watchdog rows
 changed_ends clock point rows =
     ends_mapped (changed_row clock point) (λ row. changed_step (row.produced == point) clock row) (map (written_row point) rows)
     ∙ ends_mapped (written_row point) (λ row. written_step (row.produced == point) row) rows
@@ -105,7 +118,7 @@ others_unreceived clock peer d (row ∷ rows) none =
 same_of : (a b : ℕ) → a == b ≡ true → a ≡ b
 same_of a b is = grind (arith, nat_tests)
 
-accepted_ends : (clock : Ms) (peer : Node) (d : DatagramFields) (low : ℕ) (rows : List Row) (found : Row) → IdsDiffer rows → find (is_for peer d.connection) rows ≡ Some found → low ≤ (accepted_row clock d found).deadline.0 → low ≤ first_end rows → low ≤ first_end (map (accepted_if_for clock peer d) rows)
+accepted_ends : (clock : Ms) (peer : Node) (d : DatagramFields) (low : ℕ) (rows : List Row) (found : Row) → IdsDiffer rows → find (is_for peer d.connection) rows ≡ Some found → low ≤ (accepted_row clock d found).deadline.0 → low ≤ next_watchdog rows → low ≤ next_watchdog (map (accepted_if_for clock peer d) rows)
 accepted_ends clock peer d low [] found differ is after before = before
 accepted_ends clock peer d low (row ∷ rows) found differ is after before = split (is_for peer d.connection row) refl (accepted_ends clock peer d low rows found differ.1)
   where
@@ -113,7 +126,7 @@ accepted_ends clock peer d low (row ∷ rows) found differ is after before = spl
     end_after deadline (Established production) le was = le
     end_after deadline TimedOut le was = was
 
-    split : (b : Bool) → is_for peer d.connection row ≡ b → (find (is_for peer d.connection) rows ≡ Some found → low ≤ (accepted_row clock d found).deadline.0 → low ≤ first_end rows → low ≤ first_end (map (accepted_if_for clock peer d) rows)) → low ≤ first_end (map (accepted_if_for clock peer d) (row ∷ rows))
+    split : (b : Bool) → is_for peer d.connection row ≡ b → (find (is_for peer d.connection) rows ≡ Some found → low ≤ (accepted_row clock d found).deadline.0 → low ≤ next_watchdog rows → low ≤ next_watchdog (map (accepted_if_for clock peer d) rows)) → low ≤ next_watchdog (map (accepted_if_for clock peer d) (row ∷ rows))
     split true here rest =
         let same : row ≡ found = some_is (sym (ap (λ b. cond b (Some row) (find (is_for peer d.connection) rows)) here) ∙ is) in
         let id : row.o_t_id.0 ≡ d.connection = same_of row.o_t_id.0 d.connection (id_of_for (is_established row) (row.peer.0 == peer.0) (row.o_t_id.0 == d.connection) here) in
@@ -134,7 +147,7 @@ rests_same clock peer d bound (row ∷ rows) all = (split (is_for peer d.connect
     split true = all.0
     split false = all.0
 
-received_end : (b : Bool) (clock : Ms) (peer : Node) (d : DatagramFields) (low : ℕ) (rows : List Row) (found : Row) → IdsDiffer rows → find (is_for peer d.connection) rows ≡ Some found → low ≤ (cond b (later_deadline clock found) found.deadline).0 → low ≤ first_end rows → low ≤ first_end (cond b (map (accepted_if_for clock peer d) rows) rows)
+received_end : (b : Bool) (clock : Ms) (peer : Node) (d : DatagramFields) (low : ℕ) (rows : List Row) (found : Row) → IdsDiffer rows → find (is_for peer d.connection) rows ≡ Some found → low ≤ (cond b (later_deadline clock found) found.deadline).0 → low ≤ next_watchdog rows → low ≤ next_watchdog (cond b (map (accepted_if_for clock peer d) rows) rows)
 received_end true clock peer d low rows found differ is after before = accepted_ends clock peer d low rows found differ is after before
 received_end false clock peer d low rows found differ is after before = before
 
@@ -143,14 +156,14 @@ received_rest true clock peer d bound rows all = rests_same clock peer d bound r
 received_rest false clock peer d bound rows all = all
 
 -- if it was received, the earlier of the bound and the deadline of the receiving connection is a bound
-ends_found : (profile : Profile) (clock : Ms) (peer : Node) (d : DatagramFields) (low next_watchdog : ℕ) (rows : List Row) (o : Option Row) (received : Received) → find (is_for peer d.connection) rows ≡ o → IdsDiffer rows → IsReceived profile clock d o (Some received) → low ≤ next_watchdog → low ≤ received.deadline.0 → next_watchdog ≤ first_end rows → low ≤ first_end (reception profile clock peer d o rows)
-ends_found profile clock peer d low next_watchdog rows None received is differ reported below after before = absurd reported
-ends_found profile clock peer d low next_watchdog rows (Some row) received is differ reported below after before =
+ends_found : (profile : Profile) (clock : Ms) (peer : Node) (d : DatagramFields) (low watchdog : ℕ) (rows : List Row) (o : Option Row) (received : Received) → find (is_for peer d.connection) rows ≡ o → IdsDiffer rows → IsReceived profile clock d o (Some received) → low ≤ watchdog → low ≤ received.deadline.0 → watchdog ≤ next_watchdog rows → low ≤ next_watchdog (reception profile clock peer d o rows)
+ends_found profile clock peer d low watchdog rows None received is differ reported below after before = absurd reported
+ends_found profile clock peer d low watchdog rows (Some row) received is differ reported below after before =
     received_end (is_accepted (row_delivery profile row d)) clock peer d low rows row differ is (subst (λ (deadline : Ms). low ≤ deadline.0) reported.deadline after) (omega arith)
 
-pub ends_received : (profile : Profile) (clock : Ms) (peer : Node) (d : DatagramFields) (low next_watchdog : ℕ) (rows : List Row) (received : Received) → IdsDiffer rows → IsReceived profile clock d (find (is_for peer d.connection) rows) (Some received) → low ≤ next_watchdog → low ≤ received.deadline.0 → next_watchdog ≤ first_end rows → low ≤ first_end (reception profile clock peer d (find (is_for peer d.connection) rows) rows)
-ends_received profile clock peer d low next_watchdog rows received differ reported below after before =
-    ends_found profile clock peer d low next_watchdog rows (find (is_for peer d.connection) rows) received refl differ reported below after before
+pub ends_received : (profile : Profile) (clock : Ms) (peer : Node) (d : DatagramFields) (low watchdog : ℕ) (rows : List Row) (received : Received) → IdsDiffer rows → IsReceived profile clock d (find (is_for peer d.connection) rows) (Some received) → low ≤ watchdog → low ≤ received.deadline.0 → watchdog ≤ next_watchdog rows → low ≤ next_watchdog (reception profile clock peer d (find (is_for peer d.connection) rows) rows)
+ends_received profile clock peer d low watchdog rows received differ reported below after before =
+    ends_found profile clock peer d low watchdog rows (find (is_for peer d.connection) rows) received refl differ reported below after before
 
 rests_found : (profile : Profile) (clock : Ms) (peer : Node) (d : DatagramFields) (bound : ℕ) (rows : List Row) (o : Option Row) → AllNotDueBefore bound rows → AllNotDueBefore bound (reception profile clock peer d o rows)
 rests_found profile clock peer d bound rows None all = all
@@ -161,19 +174,19 @@ rests_received profile clock peer d bound rows all = rests_found profile clock p
 
 -- ---- connections that are removed, and one that is appended
 
-pub ends_left : (low : ℕ) (p : Row → Bool) (rows : List Row) → low ≤ first_end rows → low ≤ first_end (filter p rows)
+pub ends_left : (low : ℕ) (p : Row → Bool) (rows : List Row) → low ≤ next_watchdog rows → low ≤ next_watchdog (filter p rows)
 ends_left low p [] before = before
 ends_left low p (row ∷ rows) before = split (p row) (ends_left low p rows (omega arith))
   where
-    split : (b : Bool) → low ≤ first_end (filter p rows) → low ≤ first_end (cond b (row ∷ filter p rows) (filter p rows))
+    split : (b : Bool) → low ≤ next_watchdog (filter p rows) → low ≤ next_watchdog (cond b (row ∷ filter p rows) (filter p rows))
     split true rest = omega arith
     split false rest = rest
 
-ends_without : (low : ℕ) (removed : Option Triad) (rows : List Row) → low ≤ first_end rows → low ≤ first_end (without removed rows)
+ends_without : (low : ℕ) (removed : Option Triad) (rows : List Row) → low ≤ next_watchdog rows → low ≤ next_watchdog (without removed rows)
 ends_without low None rows before = before
 ends_without low (Some triad) rows before = ends_left low (λ row. not (has_triad triad row)) rows before
 
-ends_within : (rows : List Row) → first_end rows ≤ never
+ends_within : (rows : List Row) → next_watchdog rows ≤ never
 ends_within [] = omega arith
 ends_within (row ∷ rows) = let rest = ends_within rows in omega arith
 
@@ -181,11 +194,11 @@ end_later : (low deadline : ℕ) (state : State) → low ≤ never → low ≤ d
 end_later low deadline (Established production) below le = le
 end_later low deadline TimedOut below le = below
 
-ends_last : (low : ℕ) (rows : List Row) (row : Row) → low ≤ end_of row.deadline.0 row.state → low ≤ first_end rows → low ≤ first_end (rows ++ row ∷ [])
+ends_last : (low : ℕ) (rows : List Row) (row : Row) → low ≤ end_of row.deadline.0 row.state → low ≤ next_watchdog rows → low ≤ next_watchdog (rows ++ row ∷ [])
 ends_last low [] row here before = omega arith
 ends_last low (x ∷ rows) row here before = let rest = ends_last low rows row here (omega arith) in omega arith
 
-pub ends_opened : (low : ℕ) (removed : Option Triad) (rows : List Row) (row : Row) → low ≤ row.deadline.0 → low ≤ first_end rows → low ≤ first_end (without removed rows ++ row ∷ [])
+pub ends_opened : (low : ℕ) (removed : Option Triad) (rows : List Row) (row : Row) → low ≤ row.deadline.0 → low ≤ next_watchdog rows → low ≤ next_watchdog (without removed rows ++ row ∷ [])
 ends_opened low removed rows row after before =
     let within = ends_within rows in
     ends_last low (without removed rows) row (end_later low row.deadline.0 row.state (omega arith) after) (ends_without low removed rows before)

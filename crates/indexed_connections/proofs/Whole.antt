@@ -2,7 +2,7 @@
 use Rattle.std.proofs.Common.{◌≡◌, List, Option, Some, None, refl, subst}
 use Rattle.cip_types.specs.declared.names.Triad.{Triad}
 use Rattle.adapter_table.specs.Connections.{Row}
-use Rattle.adapter_table.specs.Sound.{IdsDiffer, GroupsAloneShare}
+use Rattle.adapter_table.specs.Sound.{IdsDiffer}
 use Rattle.connection_list.specs.Tables.{AreWhole}
 use Rattle.connection_list.specs.Replacing.{left_by}
 use Rattle.conn_slab.specs.Connections.{AreConnections, without}
@@ -21,9 +21,6 @@ whole_connections rows whole =
 
 pub whole_ids : (rows : List Row) → AreWhole rows → IdsDiffer rows
 whole_ids rows whole = subst IdsDiffer whole.same whole.whole.sound.ids_differ
-
-pub whole_shares : (rows : List Row) → AreWhole rows → GroupsAloneShare rows
-whole_shares rows whole = subst GroupsAloneShare whole.same whole.whole.sound.producers.shared
 
 -- the connections without the one that is replaced
 pub same_left : (removed : Option Triad) (rows : List Row) → without removed rows ≡ left_by removed rows

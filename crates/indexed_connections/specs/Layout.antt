@@ -2,14 +2,14 @@
 use Rattle.std.specs.Prelude.{ℕ, ◌≡◌, ◌≤◌, Bool, true, false, List}
 use Rattle.std.specs.List.{list_any}
 use Rattle.adapter_table.specs.Connections.{Row}
-use Rattle.conn_slab.specs.Bounds.{first_end, AllNotDueBefore}
+use Rattle.conn_slab.specs.Bounds.{next_watchdog, AllNotDueBefore}
 use Rattle.conn_slab.specs.Connections.{is_listening}
 use Rattle.owner_counts.specs.Counts.{Counts, AreCounted}
 use Rattle.due_datagrams.specs.ConsumerTables.{ProducerConsumers, consumers_by_producer}
 
 -- bounds on the times of connections: no watchdog runs out before the one, and no producer is due before the other
-pub record IsBounded (rows : List Row) (next_watchdog next_production : ℕ) : Type 0 where
-  pub last : next_watchdog ≤ first_end rows
+pub record IsBounded (rows : List Row) (watchdog next_production : ℕ) : Type 0 where
+  pub last : watchdog ≤ next_watchdog rows
   pub rest : AllNotDueBefore next_production rows
 
 -- connections with their counts and bounds, whether there may be listen-only ones among them, and the consumers of

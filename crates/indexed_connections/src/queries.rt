@@ -5,6 +5,7 @@ ghost use Rattle.std.specs.List.{list_any};
 ghost use Rattle.adapter_table.specs.Rows.{is_established, is_timed_out, is_member};
 ghost use Rattle.adapter_table.specs.Productions.{produces_on_change};
 ghost use Rattle.adapter_table.specs.Ticks.{has_expired};
+ghost use Rattle.cip_tables.specs.Wakes.{connections_due};
 ghost use Rattle.conn_slab.specs.Connections.{is_listening};
 
 use adapter_table::{
@@ -13,6 +14,7 @@ use adapter_table::{
 use cip_productions::Kind;
 use cip_types::Ms;
 use conn_slab::Rows;
+use connection_list::connection_due;
 
 /// Whether some connection is established.
 pub fn is_any_established(rows: Rows<'_>) -> bool
@@ -73,6 +75,19 @@ pub fn first_expired(rows: Rows<'_>, clock: Ms) -> Option<Row>
         }
     }
     None
+}
+
+/// When the first deadline of an established connection is reached or the first producer is due; `u64::MAX` if there
+/// is neither.
+#[tactic(auto, using(crate::proofs::Times::min_never, crate::proofs::Times::min_due))]
+pub fn first_due(rows: Rows<'_>) -> u64
+    ensures { result ≡ connections_due rows.entry }
+{
+    let mut first = u64::MAX;
+    for row in rows {
+        first = first.min(connection_due(&row));
+    }
+    first
 }
 
 /// Whether a connection is an established listen-only one.

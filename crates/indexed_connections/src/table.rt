@@ -10,7 +10,7 @@ ghost use Rattle.due_datagrams.specs.ConsumerTables.{consumers_by_producer};
 use crate::counts::{close, close_each, counted, expire, open};
 use crate::from_list::{from_rows, replaced};
 use crate::queries::{
-    first_expired, first_member, first_timed_out, is_any_established, is_any_on_change,
+    first_due, first_expired, first_member, first_timed_out, is_any_established, is_any_on_change,
     is_listening,
 };
 use adapter_table::{Profile, Row, State};
@@ -21,8 +21,8 @@ use cip_events::OutgoingDatagram;
 use cip_types::limits::MOST_CONNECTIONS;
 use cip_types::{Ms, Node, OutOfMemory, Triad};
 use connection_list::{
-    ConnectionTable, Passing, ReceivedDatagram, dropped_with, passing, sent_on_change,
-    sent_when_due, written_rows,
+    ConnectionTable, ReceivedDatagram, TickPlan, dropped_with, sent_on_change, sent_when_due,
+    tick_plan, written_rows,
 };
 use due_datagrams::{ConsumerTable, due_datagrams};
 use owner_counts::Rules;
@@ -123,7 +123,7 @@ impl IndexedConnections {
         if clock.0 < self.next_watchdog {
             return false;
         }
-        self.next_watchdog = self.connections.first_end();
+        self.next_watchdog = self.connections.next_watchdog();
         first_expired(self.connections.rows(), clock).is_some()
     }
 }
@@ -177,7 +177,7 @@ impl ConnectionTable for IndexedConnections {
         let connections = from_rows(alloc, rows)?;
         let rules = counted(alloc, rows)?;
         let listening = connections.has_listeners();
-        let next_watchdog = connections.first_end();
+        let next_watchdog = connections.next_watchdog();
         let next_production = connections.first_due();
         Ok(IndexedConnections {
             connections,
@@ -255,8 +255,9 @@ impl ConnectionTable for IndexedConnections {
         self.connections.is_any_due(clock)
     }
 
-    fn next_change(&self) -> Ms {
-        Ms(self.next_watchdog.min(self.next_production))
+    fn first_due(&self) -> Ms {
+        // A datagram moves a deadline and not the bound, so the connections say it.
+        Ms(first_due(self.connections.rows()))
     }
 
     fn sent_when_due(
@@ -283,13 +284,13 @@ impl ConnectionTable for IndexedConnections {
         self.next_production = self.connections.first_due();
     }
 
-    fn passing(
+    fn tick_plan(
         &self,
         alloc: Global,
         assemblies: &AssemblySet,
         clock: Ms,
-    ) -> Result<Passing, OutOfMemory> {
-        passing(alloc, self.connections.to_vec(alloc)?, assemblies, clock)
+    ) -> Result<TickPlan, OutOfMemory> {
+        tick_plan(alloc, self.connections.to_vec(alloc)?, assemblies, clock)
     }
 
     fn advance(&mut self, clock: Ms, timed_out: &[Row], dropped: &[Triad]) {
@@ -298,7 +299,7 @@ impl ConnectionTable for IndexedConnections {
         close_each(&mut self.connections, &mut self.rules, dropped);
         self.listening = self.connections.has_listeners();
         self.connections.produce(clock);
-        self.next_watchdog = self.connections.first_end();
+        self.next_watchdog = self.connections.next_watchdog();
         self.next_production = self.connections.first_due();
     }
 

@@ -3,7 +3,6 @@ use Rattle.std.proofs.Common.{◌≡◌, ◌<◌, ◌≤◌, ℕ, ◌==◌, ◌&
 use Rattle.std.specs.List.{list_any, position, position_or_len, remove}
 use Rattle.std.specs.Option.{IsSome}
 use Rattle.std.proofs.lemmas.Bool.Decides.{nat_tests, Decides-eqb}
-use Rattle.std.proofs.lemmas.List.{get_or-set_same}
 use Rattle.std.proofs.lemmas.List.Quantifiers.{position-Some}
 use Rattle.cip_types.specs.Indices.{Mapped, mapped_at, map_done, written_back, find_none}
 use Rattle.mcast_pool.specs.declared.group.Group.{Group}
@@ -80,10 +79,6 @@ joined_at true point groups at is = is
 pub joined_found : (shared : Bool) (point : ℕ) (groups : List Group) (at : ℕ) (d : Group) → index_for shared point groups ≡ Some at → joined_group shared point groups ≡ Some (get_or groups at d)
 joined_found false point groups at d is = absurd cc
 joined_found true point groups at d is = found_there (serves point) groups at d (first_at (serves point) groups at d is)
-
--- the changed one keeps its index
-pub there_again : (test : Group → Bool) (change : Group → Group) (groups : List Group) (at : ℕ) (d : Group) → IsFirst test groups at d → get_or (change_first test change groups) at d ≡ change (get_or groups at d)
-there_again test change groups at d is = ap (λ l. get_or l at d) (sym (changed_there test change groups at d is)) ∙ get_or-set_same groups at (change (get_or groups at d)) d is.within
 
 -- WHAT HOLDS AT A PLACE
 

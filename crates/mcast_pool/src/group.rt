@@ -1,8 +1,8 @@
 //! One producer and the connections that share it.
 
-ghost use Rattle.std.specs.Prelude.{◌≡◌, ◌≤◌, ◌+◌, ◌^◌, true, ◌||◌};
-ghost use Rattle.cip_productions.specs.Productions.{is_on_change, is_production_due};
-ghost use Rattle.mcast_pool.specs.Groups.{has_number, serves, begun, one_more, touched_production, touched, produced_group, produced_if_due, written_and_changed, is_at_once, is_new_at_once, FitsGroup, MayProduce};
+ghost use Rattle.std.specs.Prelude.{◌≡◌, ◌≤◌, ◌+◌, ◌^◌, true};
+ghost use Rattle.cip_productions.specs.Productions.{is_production_due};
+ghost use Rattle.mcast_pool.specs.Groups.{has_number, serves, begun, touched_production, touched, produced_group, produced_if_due, written_and_changed, is_at_once, is_new_at_once, FitsGroup};
 
 use cip_netparams::Trigger;
 use cip_productions::{

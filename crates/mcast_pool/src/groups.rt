@@ -1,6 +1,6 @@
 //! Groups, in the order in which they started.
 
-ghost use Rattle.std.specs.Prelude.{◌≡◌, ◌+◌, ◌≤◌, ◌<◌, Some, find, vec_capacity};
+ghost use Rattle.std.specs.Prelude.{◌≡◌, ◌+◌, ◌<◌, Some, find, vec_capacity};
 ghost use Rattle.std.specs.List.{position};
 ghost use Rattle.std.specs.Option.{option_map};
 ghost use Rattle.mcast_pool.specs.Groups.{has_number, serves, producer_of, one_more, change_first, left, is_last, lower, numbered, index_for, subscribers, AreGroups};

@@ -1,6 +1,6 @@
 //! The producers of a device's connections.
 
-ghost use Rattle.std.specs.Prelude.{◌≡◌, ◌≤◌, ◌<◌, ◌+◌, ◌^◌, ◌++◌, ◌∷◌, [], Some, None, find, filter, length, map, is_some, true, IfOk, vec_len, vec_capacity};
+ghost use Rattle.std.specs.Prelude.{◌≡◌, ◌≤◌, ◌<◌, ◌+◌, ◌^◌, ◌++◌, [], Some, None, filter, length, map, true, IfOk, vec_len, vec_capacity};
 ghost use Rattle.std.specs.Option.{option_map};
 ghost use Rattle.cip_datagram.specs.Datagram.{datagram_text};
 ghost use Rattle.cip_productions.specs.Productions.{production_datagram};

@@ -2,7 +2,7 @@
 
 ghost use Rattle.std.specs.Prelude.{◌≡◌, ◌≤◌, ◌<◌, Some, true, find, vec_len, vec_capacity};
 ghost use Rattle.std.specs.List.{position};
-ghost use Rattle.owner_counts.specs.Counts.{is_at, number_at, one_more, one_less, more_if, less_if, total, AreCounts};
+ghost use Rattle.owner_counts.specs.Counts.{is_at, number_at, one_more, more_if, less_if, total, AreCounts};
 
 /// How many connections are counted at a point.
 #[derive(Clone, Copy)]

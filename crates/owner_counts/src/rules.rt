@@ -1,6 +1,6 @@
 //! Running counts of owners and supporters.
 
-ghost use Rattle.std.specs.Prelude.{◌≡◌, ◌≤◌, ◌<◌, ◌++◌, ◌∷◌, [], List, IfOk};
+ghost use Rattle.std.specs.Prelude.{◌≡◌, ◌<◌, ◌++◌, ◌∷◌, [], List, IfOk};
 ghost use Rattle.adapter_table.specs.Connections.{Row};
 ghost use Rattle.adapter_table.specs.Rows.{drives, supports};
 ghost use Rattle.cip_productions.specs.declared.kind.Kind.{Kind};

@@ -11,7 +11,7 @@ mod sweep;
 mod timer;
 
 use cip_types::OutOfMemory;
-use search::{Hints, key_of};
+use search::{BucketHints, key_of};
 use slots::Slots;
 use std::alloc::Global;
 use std::marker::Model;
@@ -34,7 +34,7 @@ pub struct Wheel {
     timers: Vec<Option<Timer>>,
     // The token of each key that has a timer. The token of any other key has no meaning.
     tokens: Vec<Token>,
-    hints: Hints,
+    hints: BucketHints,
     // The timers that `advance` removed. Empty between calls.
     due: Vec<Timer>,
 }
@@ -64,7 +64,7 @@ impl Wheel {
             slots: Slots::new(alloc, capacity)?,
             timers: vec![in alloc; None; capacity]?,
             tokens: vec![in alloc; Token(0); capacity]?,
-            hints: Hints::new(alloc, capacity)?,
+            hints: BucketHints::new(alloc, capacity)?,
             due: Vec::with_capacity(alloc, capacity)?,
         })
     }

@@ -14,13 +14,13 @@ const SPREAD: u64 = 0x9E37_79B9_7F4A_7C15;
 
 /// A cache of the key that each token was last armed at. An entry may be out of date, so the caller checks it.
 #[derive(Drop)]
-pub struct Hints {
+pub struct BucketHints {
     keys: Vec<usize>,
     // The number of dropped lower bits of a spread token.
     shift: u32,
 }
 
-impl Hints {
+impl BucketHints {
     /// An empty cache for this number of tokens, with at least four entries for each. OutOfMemory is the only fault.
     pub fn new(alloc: Global, tokens: usize) -> Result<Self, OutOfMemory>
         ensures { IfOk result (λ hints. 4 * tokens ≤ vec_len hints.keys) }
@@ -29,7 +29,7 @@ impl Hints {
             .saturating_mul(4)
             .checked_next_power_of_two()
             .ok_or(OutOfMemory)?;
-        Ok(Hints {
+        Ok(BucketHints {
             keys: vec![in alloc; 0; places]?,
             shift: places.leading_zeros().wrapping_add(1),
         })
@@ -77,7 +77,7 @@ fn has_token(timers: &[Option<Timer>], token: Token, key: usize) -> bool
 pub fn key_of(
     timers: &[Option<Timer>],
     tokens: &[Token],
-    hints: &Hints,
+    hints: &BucketHints,
     token: Token,
 ) -> Option<usize>
     requires { Mirrors tokens.now timers.now }

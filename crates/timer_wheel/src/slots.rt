@@ -1,7 +1,7 @@
 //! The keys in each slot, and a mark for each slot that is not empty.
 
 ghost use Rattle.std.specs.Prelude.{◌≡◌, ◌≢◌, ℕ, ◌+◌, ◌<◌, ◌≤◌, length, Some, None, IfOk, IfSome, IfNone};
-ghost use Rattle.futures.specs.LinkedLists.{items, list_of, list_count, key_limit, IsEmpty, Moves};
+ghost use Rattle.futures.specs.LinkedLists.{items, list_of, key_limit, IsEmpty, Moves};
 ghost use Rattle.timer_wheel.specs.Marks.{AllEmpty, AllFree};
 
 use crate::timer::FREE;

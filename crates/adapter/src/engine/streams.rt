@@ -3,15 +3,16 @@
 ghost use Rattle.std.specs.Prelude.{◌≡◌, ◌∷◌, [], Ok, IfOk, Some};
 ghost use Rattle.cip_events.specs.declared.event.Notice.TheVariants.{StreamClosed};
 ghost use Rattle.cip_events.specs.declared.event.Verdict.TheVariants.{Done};
-ghost use Rattle.adapter_table.specs.Encapsulation.{frame, misfit_answer, framed, refusal, handled, session_begun, register_session, unregister_session, send_rr_data};
+ghost use Rattle.adapter_table.specs.Encapsulation.{frame, wrong_length_answer, framed, refusal, handled, session_begun, register_session, unregister_session, send_rr_data};
 ghost use Rattle.adapter_table.specs.Streams.{stream_opened, stream_cut, without_stream, registered_table};
 ghost use Rattle.cip_router.specs.Commands.{command_of};
 ghost use Rattle.cip_events.specs.Outcomes.{Follows};
-ghost use Rattle.adapter_replies.specs.Routes.{view_reply_header, view_frame_reply, IsWritableFrame, framed_answer};
+ghost use Rattle.adapter_replies.specs.Routes.{view_request_header, view_frame_reply, IsWritableFrame, framed_answer};
 
 use super::Adapter;
 use adapter_replies::{
-    FrameReply, FrameView, ReplyHeader, Route, ended_answer, frame_answer, is_protocol, read_frame,
+    FrameReply, FrameView, RequestHeader, Route, ended_answer, frame_answer, is_protocol,
+    read_frame,
 };
 use adapter_table::laws::tables_are_whole;
 use cip_encap::read_items;
@@ -83,37 +84,42 @@ impl<T: ConnectionTable> Adapter<T> {
     fn answer_frame(
         &self,
         number: u16,
-        reply_header: ReplyHeader,
+        request_header: RequestHeader,
         reply: &FrameReply<'_>,
     ) -> Result<Answer, OutOfMemory>
         requires { IsWritableFrame (view_frame_reply reply.now) }
         ensures { IfOk result (λ answer. answer
-            ≡ framed_answer number (view_reply_header reply_header) (view_frame_reply reply.now) []) }
+            ≡ framed_answer number (view_request_header request_header) (view_frame_reply reply.now) []) }
     {
         frame_answer(
             self.alloc,
             number,
-            reply_header,
+            request_header,
             reply,
             Vec::new(self.alloc),
         )
     }
 
     /// A message that is refused.
-    fn refuse_frame(&mut self, number: u16, reply_header: ReplyHeader, why: EncapStatus) -> Outcome
-        ensures { Follows (Ok (framed number (view_reply_header reply_header) (refusal self.old why)))
+    fn refuse_frame(
+        &mut self,
+        number: u16,
+        request_header: RequestHeader,
+        why: EncapStatus,
+    ) -> Outcome
+        ensures { Follows (Ok (framed number (view_request_header request_header) (refusal self.old why)))
             self.old result self.new }
     {
-        Ok(self.answer_frame(number, reply_header, &FrameReply::Refused(why))?)
+        Ok(self.answer_frame(number, request_header, &FrameReply::Refused(why))?)
     }
 
     /// A session begins.
-    fn begin_session(&mut self, stream: &Stream, reply_header: ReplyHeader) -> Outcome
-        ensures { Follows (Ok (framed stream.now.number (view_reply_header reply_header)
+    fn begin_session(&mut self, stream: &Stream, request_header: RequestHeader) -> Outcome
+        ensures { Follows (Ok (framed stream.now.number (view_request_header request_header)
             (session_begun self.old stream.now))) self.old result self.new }
     {
         let reply = FrameReply::Registered(session_of(stream));
-        let answer = self.answer_frame(stream.number, reply_header, &reply)?;
+        let answer = self.answer_frame(stream.number, request_header, &reply)?;
         self.register_stream(stream.number);
         Ok(answer)
     }
@@ -122,22 +128,22 @@ impl<T: ConnectionTable> Adapter<T> {
     fn register_session(
         &mut self,
         stream: &Stream,
-        reply_header: ReplyHeader,
+        request_header: RequestHeader,
         body: &[u8],
     ) -> Outcome
-        ensures { Follows (Ok (framed stream.now.number (view_reply_header reply_header)
+        ensures { Follows (Ok (framed stream.now.number (view_request_header request_header)
             (register_session self.old stream.now body.now))) self.old result self.new }
     {
         if body.len() != 4 {
-            return self.refuse_frame(stream.number, reply_header, EncapStatus::InvalidLength);
+            return self.refuse_frame(stream.number, request_header, EncapStatus::InvalidLength);
         }
         if !is_protocol(body) {
-            return Ok(self.answer_frame(stream.number, reply_header, &FrameReply::OtherVersion)?);
+            return Ok(self.answer_frame(stream.number, request_header, &FrameReply::OtherVersion)?);
         }
         if stream.registered {
-            return self.refuse_frame(stream.number, reply_header, EncapStatus::InvalidCommand);
+            return self.refuse_frame(stream.number, request_header, EncapStatus::InvalidCommand);
         }
-        self.begin_session(stream, reply_header)
+        self.begin_session(stream, request_header)
     }
 
     /// A session ends, and its stream with it.
@@ -155,11 +161,11 @@ impl<T: ConnectionTable> Adapter<T> {
     }
 
     /// UnRegisterSession.
-    fn unregister_session(&mut self, stream: &Stream, reply_header: ReplyHeader) -> Outcome
-        ensures { Follows (Ok (framed stream.now.number (view_reply_header reply_header)
-            (unregister_session self.old stream.now reply_header.session))) self.old result self.new }
+    fn unregister_session(&mut self, stream: &Stream, request_header: RequestHeader) -> Outcome
+        ensures { Follows (Ok (framed stream.now.number (view_request_header request_header)
+            (unregister_session self.old stream.now request_header.session))) self.old result self.new }
     {
-        if has_session(stream, reply_header.session) {
+        if has_session(stream, request_header.session) {
             return self.end_session(stream.number);
         }
         Ok(Answer::plain(self.alloc, Verdict::Done))
@@ -171,53 +177,60 @@ impl<T: ConnectionTable> Adapter<T> {
 impl<T: ConnectionTable> Adapter<T> {
     /// SendRRData.
     #[tactic(auto, using(adapter_replies::specs::RouteLaws::routed_over_stream))]
-    fn send_rr_data(&mut self, stream: &Stream, reply_header: ReplyHeader, body: &[u8]) -> Outcome
-        ensures { Follows (Ok (framed stream.now.number (view_reply_header reply_header)
-            (send_rr_data self.old stream.now reply_header.session body.now))) self.old result self.new }
+    fn send_rr_data(
+        &mut self,
+        stream: &Stream,
+        request_header: RequestHeader,
+        body: &[u8],
+    ) -> Outcome
+        ensures { Follows (Ok (framed stream.now.number (view_request_header request_header)
+            (send_rr_data self.old stream.now request_header.session body.now))) self.old result self.new }
     {
-        if !has_session(stream, reply_header.session) {
-            return self.refuse_frame(stream.number, reply_header, EncapStatus::InvalidSession);
+        if !has_session(stream, request_header.session) {
+            return self.refuse_frame(stream.number, request_header, EncapStatus::InvalidSession);
         }
         let Ok(packet) = read_items(body) else {
-            return self.refuse_frame(stream.number, reply_header, EncapStatus::IncorrectData);
+            return self.refuse_frame(stream.number, request_header, EncapStatus::IncorrectData);
         };
-        let route = Route::Stream(stream.number, stream.peer, reply_header);
+        let route = Route::Stream(stream.number, stream.peer, request_header);
         self.serve(route, packet.data)
     }
 
     /// A whole message, by its command.
     #[tactic(auto, unfolding(adapter_table::specs::Encapsulation::handled))]
-    fn handle(&mut self, stream: &Stream, reply_header: ReplyHeader, body: &[u8]) -> Outcome
-        ensures { Follows (Ok (framed stream.now.number (view_reply_header reply_header) (handled self.old stream.now
-            (view_reply_header reply_header) body.now (command_of reply_header.command)))) self.old result self.new }
+    fn handle(&mut self, stream: &Stream, request_header: RequestHeader, body: &[u8]) -> Outcome
+        ensures { Follows (Ok
+            (framed stream.now.number (view_request_header request_header) (handled self.old stream.now
+            (view_request_header request_header) body.now
+            (command_of request_header.command)))) self.old result self.new }
     {
-        match Command::of(reply_header.command) {
+        match Command::of(request_header.command) {
             Command::Nop => Ok(Answer::plain(self.alloc, Verdict::Done)),
             Command::ListServices => Ok(self.answer_frame(
                 stream.number,
-                reply_header,
+                request_header,
                 &FrameReply::Services,
             )?),
-            Command::RegisterSession => self.register_session(stream, reply_header, body),
-            Command::UnregisterSession => self.unregister_session(stream, reply_header),
-            Command::SendRrData => self.send_rr_data(stream, reply_header, body),
+            Command::RegisterSession => self.register_session(stream, request_header, body),
+            Command::UnregisterSession => self.unregister_session(stream, request_header),
+            Command::SendRrData => self.send_rr_data(stream, request_header, body),
             Command::Other => self.refuse_frame(
                 stream.number,
-                reply_header,
+                request_header,
                 EncapStatus::InvalidCommand,
             ),
         }
     }
 
     /// A header whose length field is wrong.
-    fn misfit(&mut self, number: u16, reply_header: ReplyHeader) -> Outcome
-        ensures { Follows (Ok (misfit_answer self.old number (view_reply_header reply_header)))
+    fn wrong_length(&mut self, number: u16, request_header: RequestHeader) -> Outcome
+        ensures { Follows (Ok (wrong_length_answer self.old number (view_request_header request_header)))
             self.old result self.new }
     {
-        if Command::of(reply_header.command).is_silent() {
+        if Command::of(request_header.command).is_silent() {
             return Ok(Answer::plain(self.alloc, Verdict::BadFrame));
         }
-        self.refuse_frame(number, reply_header, EncapStatus::InvalidLength)
+        self.refuse_frame(number, request_header, EncapStatus::InvalidLength)
     }
 
     /// The bytes of a frame that is received over a stream.
@@ -229,9 +242,12 @@ impl<T: ConnectionTable> Adapter<T> {
             return Err(StepFault::NotAllowedNow);
         };
         match read_frame(bytes) {
-            FrameView::Headless => Ok(Answer::plain(self.alloc, Verdict::BadFrame)),
-            FrameView::Misfit(reply_header) => self.misfit(stream.number, reply_header),
-            FrameView::Whole(reply_header, body) => self.handle(&stream, reply_header, body),
+            FrameView::NoHeader => Ok(Answer::plain(self.alloc, Verdict::BadFrame)),
+            FrameView::BadLength(request_header) => self.wrong_length(
+                stream.number,
+                request_header,
+            ),
+            FrameView::Whole(request_header, body) => self.handle(&stream, request_header, body),
         }
     }
 }

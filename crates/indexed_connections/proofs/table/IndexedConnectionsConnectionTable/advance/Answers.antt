@@ -1,10 +1,7 @@
 use Rattle.std.proofs.Common.{◌≡◌, List, map, sym, subst, ap, ◌∙◌}
 use Rattle.std.specs.List.{list_any}
 use Rattle.cip_types.specs.declared.names.Ms.{Ms}
-use Rattle.cip_types.specs.declared.names.Triad.{Triad}
 use Rattle.adapter_table.specs.Connections.{Row}
-use Rattle.adapter_table.specs.Opening.{triad_of}
-use Rattle.adapter_table.specs.Closing.{unsupported, staying}
 use Rattle.adapter_table.specs.Productions.{produced_row}
 use Rattle.adapter_table.specs.Sound.{TriadsDiffer}
 use Rattle.adapter_table.specs.Ticks.{expired, expired_rows}
@@ -47,7 +44,7 @@ returns c =
 
 pub invariant_of-self : goal.invariant_of-self
 invariant_of-self c = record {
-  bounded = record { last = same_end c.first_end-self-inside.ensures; rest = c.first_due-self-inside.ensures };
+  bounded = record { last = same_end c.next_watchdog-self-inside.ensures; rest = c.first_due-self-inside.ensures };
   counted = subst (AreCounted c.close_each.new.rules) (sym c.produce.ensures) (produced_counted c.args.clock c.close_each.new.rules c.close_each.new.connections c.close_each.ensures.counted);
   serving = λ holds. absurd cc;
   quiet = λ off. ap (list_any is_listening) c.produce.ensures ∙ produced_listen c.args.clock c.close_each.new.connections ∙ sym c.has_listeners-self-inside.ensures ∙ off;

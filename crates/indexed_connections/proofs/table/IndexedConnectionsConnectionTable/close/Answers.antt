@@ -6,7 +6,7 @@ use Rattle.adapter_table.specs.Closing.{stays, staying, without_triad}
 use Rattle.std.specs.List.{list_any}
 use Rattle.conn_slab.specs.Connections.{is_listening}
 use Rattle.indexed_connections.proofs.Dropping.{quiet_staying}
-use Rattle.conn_slab.specs.Bounds.{first_end, AllNotDueBefore}
+use Rattle.conn_slab.specs.Bounds.{next_watchdog, AllNotDueBefore}
 use Rattle.cip_types.specs.declared.names.Triad.{Triad}
 use Rattle.connection_list.specs.Lone.{differ_filtered}
 use Rattle.connection_list.specs.Removals.{without_each, without_unsupported}
@@ -45,7 +45,7 @@ invariant_of-self c =
     c.close_each.ensures.rows ∙ ap (without_each c.args.dropped.now) c.close.ensures.rows ∙ without_unsupported rest c.args.dropped.now differ (rw c.self.view_is c.requires.dropped) in
     record {
       bounded = record {
-        last = subst (λ (rows : List Row). own.next_watchdog ≤ first_end rows) (sym is)
+        last = subst (λ (rows : List Row). own.next_watchdog ≤ next_watchdog rows) (sym is)
             (ends_left own.next_watchdog (stays rest) rest (ends_left own.next_watchdog (λ row. not (has_triad c.args.triad row)) own.connections c.self.invariant.bounded.last));
         rest = subst (AllNotDueBefore own.next_production) (sym is)
             (rests_left own.next_production (stays rest) rest (rests_left own.next_production (λ row. not (has_triad c.args.triad row)) own.connections c.self.invariant.bounded.rest));

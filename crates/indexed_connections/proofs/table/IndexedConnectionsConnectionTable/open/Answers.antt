@@ -5,7 +5,7 @@ use Rattle.adapter_table.specs.Opening.{is_replaced, replaced_triad}
 use Rattle.std.specs.List.{list_any}
 use Rattle.conn_slab.specs.Connections.{AreConnections, without, is_listening}
 use Rattle.indexed_connections.proofs.Dropping.{quiet_opened}
-use Rattle.conn_slab.specs.Bounds.{first_end, AllNotDueBefore}
+use Rattle.conn_slab.specs.Bounds.{next_watchdog, AllNotDueBefore}
 use Rattle.connection_list.specs.Replacing.{goes_by_triad}
 use Rattle.indexed_connections.proofs.Times.{ends_opened, rests_opened}
 use Rattle.connection_list.specs.Whole.{whole_triads, whole_rise}
@@ -40,7 +40,7 @@ invariant_of-self-2 c =
     let rest = c.min-self-inside-2.result in
     record {
       bounded = record {
-        last = subst (λ (rows : List Row). low ≤ first_end rows) (sym c.in_ok-open.ensures.rows) (ends_opened low c.args.replaced own.connections c.args.row (omega arith) (omega arith));
+        last = subst (λ (rows : List Row). low ≤ next_watchdog rows) (sym c.in_ok-open.ensures.rows) (ends_opened low c.args.replaced own.connections c.args.row (omega arith) (omega arith));
         rest = subst (AllNotDueBefore rest) (sym c.in_ok-open.ensures.rows) (rests_opened rest own.next_production c.due_of.result c.args.replaced own.connections c.args.row (omega arith) (omega arith) c.due_of.ensures c.self.invariant.bounded.rest);
       };
       counted = c.open.ensures.counted;

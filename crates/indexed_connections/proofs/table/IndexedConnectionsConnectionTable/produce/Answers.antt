@@ -2,7 +2,7 @@ use Rattle.std.proofs.Common.{◌≤◌, ℕ, List, sym, subst, ap, ◌∙◌}
 use Rattle.std.specs.List.{list_any}
 use Rattle.conn_slab.specs.Connections.{is_listening}
 use Rattle.adapter_table.specs.Connections.{Row}
-use Rattle.conn_slab.specs.Bounds.{first_end}
+use Rattle.conn_slab.specs.Bounds.{next_watchdog}
 use Rattle.owner_counts.specs.Counts.{AreCounted}
 use Rattle.indexed_connections.proofs.Counted.{produced_counted, produced_listen}
 use Rattle.indexed_connections.proofs.Times.{produced_ends}
@@ -15,7 +15,7 @@ invariant_of-self c =
     let own = c.self.inside in
     record {
       bounded = record {
-        last = subst (λ (rows : List Row). own.next_watchdog ≤ first_end rows) (sym c.produce.ensures) (subst (λ (n : ℕ). own.next_watchdog ≤ n) (sym (produced_ends c.args.clock own.connections)) c.self.invariant.bounded.last);
+        last = subst (λ (rows : List Row). own.next_watchdog ≤ next_watchdog rows) (sym c.produce.ensures) (subst (λ (n : ℕ). own.next_watchdog ≤ n) (sym (produced_ends c.args.clock own.connections)) c.self.invariant.bounded.last);
         rest = c.first_due-self-inside.ensures;
       };
       counted = subst (AreCounted own.rules) (sym c.produce.ensures) (produced_counted c.args.clock own.rules own.connections c.self.invariant.counted);

@@ -6,7 +6,7 @@ use Rattle.adapter_table.specs.Connections.{Row}
 use Rattle.adapter_table.specs.Datagrams.{is_for}
 use Rattle.conn_slab.specs.Reception.{IsReceived}
 use Rattle.adapter_table.specs.Sound.{IdsDiffer}
-use Rattle.conn_slab.specs.Bounds.{first_end, AllNotDueBefore}
+use Rattle.conn_slab.specs.Bounds.{next_watchdog, AllNotDueBefore}
 use Rattle.owner_counts.specs.Counts.{AreCounted}
 use Rattle.indexed_connections.proofs.Counted.{received_counted, received_listen}
 use Rattle.indexed_connections.proofs.Times.{ends_received, rests_received}
@@ -23,7 +23,7 @@ invariant_of-self-2 c =
     let differ : IdsDiffer own.connections = rw c.self.view_is (whole_ids c.args.self.now c.requires.whole) in
     record {
       bounded = record {
-        last = subst (λ (rows : List Row). low ≤ first_end rows) (sym c.receive.ensures.rows)
+        last = subst (λ (rows : List Row). low ≤ next_watchdog rows) (sym c.receive.ensures.rows)
             (ends_received c.args.profile.now c.args.clock c.args.peer d low own.next_watchdog own.connections c.in_ok-received.received differ (subst (IsReceived c.args.profile.now c.args.clock d (find (is_for c.args.peer d.connection) own.connections)) c.in_ok-received.was c.receive.ensures.received) (omega arith) (omega arith) c.self.invariant.bounded.last);
         rest = subst (AllNotDueBefore own.next_production) (sym c.receive.ensures.rows) (rests_received c.args.profile.now c.args.clock c.args.peer d own.next_production own.connections c.self.invariant.bounded.rest);
       };

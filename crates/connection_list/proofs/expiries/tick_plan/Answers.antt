@@ -6,7 +6,7 @@ use Rattle.adapter_table.specs.Closing.{unsupported, staying}
 use Rattle.adapter_table.specs.Productions.{due_productions}
 use Rattle.adapter_table.specs.Ticks.{expired, expired_rows}
 use Rattle.connection_list.proofs.Advancing.{expired_back, left_after}
-use Rattle.connection_list.proofs.expiries.passing.Goals as goal
+use Rattle.connection_list.proofs.expiries.tick_plan.Goals as goal
 
 pub returns : goal.returns
 returns c =
