@@ -2,6 +2,7 @@
 #![tactic(auto)]
 
 use adapter::Adapter;
+use cip_tables::AnyDevice;
 use connection_list::ConnectionList;
 use slot_hints::NoHints;
 use slot_scanner::Scanner;
@@ -11,3 +12,6 @@ pub type PlainAdapter = Adapter<ConnectionList>;
 
 /// A scanner that looks at all its slots at each event, which contracts see as its table.
 pub type PlainScanner = Scanner<NoHints>;
+
+/// A plain adapter or a plain scanner, as its configuration says.
+pub type PlainDevice = AnyDevice<PlainAdapter, PlainScanner>;

@@ -14,7 +14,7 @@ use Rattle.cip_events.specs.declared.event.Verdict.TheVariants.{Delivered, Done}
 use Rattle.cip_events.specs.Answers.{plain_answer}
 use Rattle.cip_productions.specs.Acceptance.{is_duplicate}
 use Rattle.scanner_table.specs.declared.profile.SlotConfig.{SlotConfig}
-use Rattle.scanner_table.specs.declared.slot.Connection.{Connection}
+use Rattle.scanner_table.specs.declared.slot.SlotConnection.{SlotConnection}
 use Rattle.scanner_table.specs.declared.slot.Slot.{Slot}
 use Rattle.scanner_table.specs.declared.slot.SlotState.{SlotState}
 use Rattle.scanner_table.specs.declared.slot.SlotState.TheVariants.{Established}
@@ -33,18 +33,18 @@ use Rattle.slot_data.specs.Results.{judged}
 -- ---- one slot
 
 -- the slot that has accepted a datagram, by whether its count was that of the last
-abbrev gathered_slot : Bool → ScannerTable → IndexedSlot → DatagramFields → Connection → Slot
+abbrev gathered_slot : Bool → ScannerTable → IndexedSlot → DatagramFields → SlotConnection → Slot
 gathered_slot duplicate t indexed d c = record indexed.slot {
   state = Established (accepted_connection t.clock indexed.config.mult d c);
   image = cond duplicate indexed.slot.image d.payload;
 }
 
-accepted_by : (b : Bool) (t : ScannerTable) (indexed : IndexedSlot) (d : DatagramFields) (c : Connection) → is_duplicate c.last d.count ≡ b → accepted t indexed d c ≡ (plain_answer (Delivered (cond b Duplicate Applied)), with_slot t indexed.number (gathered_slot b t indexed d c))
+accepted_by : (b : Bool) (t : ScannerTable) (indexed : IndexedSlot) (d : DatagramFields) (c : SlotConnection) → is_duplicate c.last d.count ≡ b → accepted t indexed d c ≡ (plain_answer (Delivered (cond b Duplicate Applied)), with_slot t indexed.number (gathered_slot b t indexed d c))
 accepted_by true t indexed d c is = rw is refl
 accepted_by false t indexed d c is = rw is refl
 
 -- a datagram at the slot that the lookup found for it
-pub received_is : (t : ScannerTable) (indexed : IndexedSlot) (d : DatagramFields) (c : Connection) (found : Option IndexedSlot) (old new : Slot) (delivery : Delivery) → Some indexed ≡ found → state_received t indexed d indexed.slot.state ≡ judged t indexed d (Ok c) → old ≡ indexed.slot → delivery ≡ cond (is_duplicate c.last d.count) Duplicate Applied → new ≡ record old { state = Established (accepted_connection t.clock indexed.config.mult d c); image = cond (is_duplicate c.last d.count) old.image d.payload } → ◌≡◌ {A = Next} (plain_answer (Delivered delivery), with_slot t indexed.number new) (received_at t d found)
+pub received_is : (t : ScannerTable) (indexed : IndexedSlot) (d : DatagramFields) (c : SlotConnection) (found : Option IndexedSlot) (old new : Slot) (delivery : Delivery) → Some indexed ≡ found → state_received t indexed d indexed.slot.state ≡ judged t indexed d (Ok c) → old ≡ indexed.slot → delivery ≡ cond (is_duplicate c.last d.count) Duplicate Applied → new ≡ record old { state = Established (accepted_connection t.clock indexed.config.mult d c); image = cond (is_duplicate c.last d.count) old.image d.payload } → ◌≡◌ {A = Next} (plain_answer (Delivered delivery), with_slot t indexed.number new) (received_at t d found)
 received_is t indexed d c found old new delivery at is same reported changed =
     sym (ap (received_at t d) (sym at) ∙ is ∙ accepted_by (is_duplicate c.last d.count) t indexed d c refl ∙ step (sym reported) (changed ∙ ap (λ (s : Slot). record s { state = Established (accepted_connection t.clock indexed.config.mult d c); image = cond (is_duplicate c.last d.count) s.image d.payload }) same)) where
       step : cond (is_duplicate c.last d.count) Duplicate Applied ≡ delivery → new ≡ gathered_slot (is_duplicate c.last d.count) t indexed d c → ◌≡◌ {A = Next} (plain_answer (Delivered (cond (is_duplicate c.last d.count) Duplicate Applied)), with_slot t indexed.number (gathered_slot (is_duplicate c.last d.count) t indexed d c)) (plain_answer (Delivered delivery), with_slot t indexed.number new)
@@ -105,14 +105,14 @@ sent_more view f g xs i x d sent more lt is so_far grown =
     ∙ ap (λ l. map g (filter_map f (map view l))) (sym one)
 
 -- what an established connection produces is sent
-pub pushed_is : (run : Bool) (indexed : IndexedSlot) (c : Connection) (old new : List OutgoingDatagram) (one : OutgoingDatagram) → indexed.slot.state ≡ Established c → one ≡ sent (connection_production run indexed c) → new ≡ old ++ one ∷ [] → new ≡ old ++ map sent (filter_map (slot_production run) (indexed ∷ []))
+pub pushed_is : (run : Bool) (indexed : IndexedSlot) (c : SlotConnection) (old new : List OutgoingDatagram) (one : OutgoingDatagram) → indexed.slot.state ≡ Established c → one ≡ sent (connection_production run indexed c) → new ≡ old ++ one ∷ [] → new ≡ old ++ map sent (filter_map (slot_production run) (indexed ∷ []))
 pushed_is run indexed c old new one is made grown =
     grown ∙ ap (λ (s : OutgoingDatagram). old ++ s ∷ []) made ∙ ap (λ (s : SlotState). old ++ map sent (cons_option (state_production run indexed s) [])) (sym is)
 
 -- ---- hints
 
 -- the bounds of a slot that has accepted a datagram
-pub accepted_hinted : (later bounds : Bounds) (t : ScannerTable) (indexed : IndexedSlot) (d : DatagramFields) (c accepted : Connection) (old new : Slot) (image : List ℕ) → ((b l : Bounds) (u : ScannerTable) → IsNoLater b l → IsHinted l u → IsHinted b u) → accepted ≡ accepted_connection t.clock indexed.config.mult d c → old ≡ indexed.slot → new ≡ record old { state = Established accepted; image = image } → IsHinted (with_deadline bounds (accepted_connection t.clock indexed.config.mult d c).deadline) (accepted_table t indexed d c image) → IsNoLater later (with_deadline bounds accepted.deadline) → IsHinted later (with_slot t indexed.number new)
+pub accepted_hinted : (later bounds : Bounds) (t : ScannerTable) (indexed : IndexedSlot) (d : DatagramFields) (c accepted : SlotConnection) (old new : Slot) (image : List ℕ) → ((b l : Bounds) (u : ScannerTable) → IsNoLater b l → IsHinted l u → IsHinted b u) → accepted ≡ accepted_connection t.clock indexed.config.mult d c → old ≡ indexed.slot → new ≡ record old { state = Established accepted; image = image } → IsHinted (with_deadline bounds (accepted_connection t.clock indexed.config.mult d c).deadline) (accepted_table t indexed d c image) → IsNoLater later (with_deadline bounds accepted.deadline) → IsHinted later (with_slot t indexed.number new)
 accepted_hinted later bounds t indexed d c accepted old new image earlier is same changed hinted le =
-    let next : new ≡ record indexed.slot { state = Established (accepted_connection t.clock indexed.config.mult d c); image = image } = changed ∙ ap (λ (s : Slot). record s { state = Established accepted; image = image }) same ∙ ap (λ (x : Connection). record indexed.slot { state = Established x; image = image }) is in
-    subst (λ (s : Slot). IsHinted later (with_slot t indexed.number s)) (sym next) (earlier later _ _ (subst (λ (x : Connection). IsNoLater later (with_deadline bounds x.deadline)) is le) hinted)
+    let next : new ≡ record indexed.slot { state = Established (accepted_connection t.clock indexed.config.mult d c); image = image } = changed ∙ ap (λ (s : Slot). record s { state = Established accepted; image = image }) same ∙ ap (λ (x : SlotConnection). record indexed.slot { state = Established x; image = image }) is in
+    subst (λ (s : Slot). IsHinted later (with_slot t indexed.number s)) (sym next) (earlier later _ _ (subst (λ (x : SlotConnection). IsNoLater later (with_deadline bounds x.deadline)) is le) hinted)

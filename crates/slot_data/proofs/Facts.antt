@@ -7,7 +7,7 @@ use Rattle.cip_events.specs.declared.profile_fault.ProfileFault.{ProfileFault}
 use Rattle.cip_events.specs.declared.profile_fault.ProfileFault.TheVariants as fault
 use Rattle.scanner_table.specs.declared.profile.SlotConfig.{SlotConfig}
 use Rattle.scanner_table.specs.declared.profile.ScannerProfile.{ScannerProfile}
-use Rattle.scanner_table.specs.declared.slot.Connection.{Connection}
+use Rattle.scanner_table.specs.declared.slot.SlotConnection.{SlotConnection}
 use Rattle.scanner_table.specs.declared.slot.Slot.{Slot}
 use Rattle.scanner_table.specs.declared.slot.SlotState.{SlotState}
 use Rattle.scanner_table.specs.declared.slot.SlotState.TheVariants.{Established}
@@ -18,7 +18,7 @@ use Rattle.cip_productions.specs.Kinds.{is_owner}
 use Rattle.slot_places.specs.declared.indexed_slots.SlotView.{SlotView}
 use Rattle.slot_places.specs.Views.{view_slot}
 use Rattle.scanner_table.specs.Slots.{IndexedSlot, indexed_from, indexed_slots, is_numbered}
-use Rattle.scanner_table.specs.Whole.{FitsState, FitsSlot, SlotsFit, IsWhole}
+use Rattle.scanner_table.specs.Whole.{FitsState, FitsSlot, SlotsFit, IsWellFormed}
 
 -- ---- profiles
 
@@ -67,7 +67,7 @@ faultless profile is =
       times = (and_parts (list_all has_times profile.slots) (is_wait profile.open_timeout && is_wait profile.retry) (not_false (keeps_time profile) none.1.1)).0;
     }
 
-pub few_slots : (t : ScannerTable) → IsWhole t → length t.profile.slots ≤ 4294967296
+pub few_slots : (t : ScannerTable) → IsWellFormed t → length t.profile.slots ≤ 4294967296
 few_slots t whole = omega (arith, (faultless t.profile whole.faultless).few)
 
 -- ---- slots
@@ -123,7 +123,7 @@ mult_of config is =
     let of = and_parts (nat_le config.mult 7) _ last.1 in
     at_most config.mult 7 of.0
 
-pub found : (test : IndexedSlot → Bool) (t : ScannerTable) (indexed : IndexedSlot) → IsWhole t → Some indexed ≡ find test (indexed_slots t) → Found test t indexed
+pub found : (test : IndexedSlot → Bool) (t : ScannerTable) (indexed : IndexedSlot) → IsWellFormed t → Some indexed ≡ find test (indexed_slots t) → Found test t indexed
 found test t indexed whole is =
     let stands = found_stands test t.next_request t.clock.0 0 t.profile.slots t.slots indexed whole.slots (faultless t.profile whole.faultless).times (sym is) in
     let same : stands.index ≡ indexed.number = omega (arith, stands.number) in
@@ -138,7 +138,7 @@ found test t indexed whole is =
     }
 
 -- an established one's packet interval is at most ten seconds
-pub interval_of : (r k : ℕ) (desired_up : Bool) (state : SlotState) (c : Connection) → state ≡ Established c → FitsState r k desired_up state → c.t_o_api_ms ≤ 10000
+pub interval_of : (r k : ℕ) (desired_up : Bool) (state : SlotState) (c : SlotConnection) → state ≡ Established c → FitsState r k desired_up state → c.t_o_api_ms ≤ 10000
 interval_of r k desired_up state c is fits = let fit : FitsState r k desired_up (Established c) = subst (FitsState r k desired_up) is fits in fit.1.t_o_api_ms
 
 -- the slot that has a number
@@ -193,7 +193,7 @@ short_order before [] short = tt
 short_order before (indexed ∷ rest) short = short_inserted before indexed (in_order before rest) short.0 (short_order before rest short.1)
 
 -- the outputs of the slots that a test chooses are short, in any order
-pub short_due : (t : ScannerTable) (p : IndexedSlot → Bool) (before : IndexedSlot → IndexedSlot → Bool) → IsWhole t → Short (in_order before (filter p (indexed_slots t)))
+pub short_due : (t : ScannerTable) (p : IndexedSlot → Bool) (before : IndexedSlot → IndexedSlot → Bool) → IsWellFormed t → Short (in_order before (filter p (indexed_slots t)))
 short_due t p before whole = short_order before (filter p (indexed_slots t)) (short_filter p (indexed_slots t) (short_from t.next_request t.clock.0 0 t.profile.slots t.slots whole.slots (faultless t.profile whole.faultless).lengths))
 
 pub short_at : (views : List SlotView) → Short (map view_slot views) → (i : ℕ) (d : SlotView) → i < length views → length (get_or views i d).slot.now.output ≤ 65529

@@ -15,7 +15,7 @@ use Rattle.scanner_table.specs.declared.table.ScannerTable.{ScannerTable}
 use Rattle.scanner_table.specs.Productions.{state_is_due, is_due, due_of, by_due, slot_production}
 use Rattle.scanner_table.specs.Profiles.{has_lengths}
 use Rattle.scanner_table.specs.Slots.{IndexedSlot, indexed_from}
-use Rattle.scanner_table.specs.Whole.{SlotsFit, IsWhole}
+use Rattle.scanner_table.specs.Whole.{SlotsFit, IsWellFormed}
 use Rattle.slot_data.specs.Turns.{due_in_turn, datagrams_in_turn}
 use Rattle.slot_data.proofs.Facts.{faultless, and_parts, out_len}
 
@@ -105,5 +105,5 @@ short_from r k (config ∷ configs) (slot ∷ slots) fit is (suc i) d less =
     short_from r k configs slots fit.1 (and_parts (has_lengths config) (list_all has_lengths configs) is).1 i d (omega (arith, less))
 
 -- the outputs of a whole table are short
-pub short_slots : (t : ScannerTable) → IsWhole t → (i : ℕ) (d : Slot) → i < length t.slots → length (get_or t.slots i d).output ≤ 65529
+pub short_slots : (t : ScannerTable) → IsWellFormed t → (i : ℕ) (d : Slot) → i < length t.slots → length (get_or t.slots i d).output ≤ 65529
 short_slots t whole = short_from t.next_request t.clock.0 t.profile.slots t.slots whole.slots (faultless t.profile whole.faultless).lengths

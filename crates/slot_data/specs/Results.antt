@@ -5,14 +5,14 @@ use Rattle.cip_events.specs.declared.event.Delivery.{Delivery}
 use Rattle.cip_events.specs.declared.event.StepFault.{StepFault}
 use Rattle.cip_events.specs.declared.event.Verdict.TheVariants.{Done}
 use Rattle.cip_events.specs.Answers.{plain_answer}
-use Rattle.scanner_table.specs.declared.slot.Connection.{Connection}
+use Rattle.scanner_table.specs.declared.slot.SlotConnection.{SlotConnection}
 use Rattle.scanner_table.specs.declared.table.ScannerTable.{ScannerTable}
 use Rattle.scanner_table.specs.Slots.{IndexedSlot}
 use Rattle.scanner_table.specs.Effects.{Next}
 use Rattle.scanner_table.specs.Datagrams.{delivered, accepted}
 
 -- the error is the delivery of a datagram that is not accepted; otherwise the connection accepts it
-abbrev pub judged : ScannerTable → IndexedSlot → DatagramFields → Result Connection Delivery → Next
+abbrev pub judged : ScannerTable → IndexedSlot → DatagramFields → Result SlotConnection Delivery → Next
 judged t indexed d (Err delivery) = delivered delivery t
 judged t indexed d (Ok connection) = accepted t indexed d connection
 

@@ -11,7 +11,7 @@ ghost use Rattle.scanner_table.specs.declared.table.ScannerTable.{ScannerTable};
 ghost use Rattle.scanner_table.specs.declared.slot.SlotState.TheVariants as state;
 ghost use Rattle.scanner_table.specs.Slots.{indexed_slots};
 ghost use Rattle.scanner_table.specs.Datagrams.{is_for, accepted_connection, state_received, received_at, received};
-ghost use Rattle.scanner_table.specs.Whole.{IsWhole};
+ghost use Rattle.scanner_table.specs.Whole.{IsWellFormed};
 ghost use Rattle.slot_places.specs.Views.{view_slot, table_of};
 ghost use Rattle.slot_data.specs.Results.{judged};
 ghost use Rattle.slot_hints.specs.Bounding.{IsHinted};
@@ -21,7 +21,7 @@ use cip_events::Delivery;
 use cip_netparams::timeout_of;
 use cip_productions::{Accepted, accepts_sequence, is_duplicate};
 use cip_types::{ConnId, Ms, Node};
-use scanner_table::{Connection, ScannerProfile, Slot, SlotState};
+use scanner_table::{ScannerProfile, Slot, SlotConnection, SlotState};
 use slot_hints::{
     Hints, accepted_datagrams_keep_bounds, bounds_are_kept_by_earlier_ones,
     found_consumers_are_first,
@@ -31,11 +31,11 @@ use slot_places::{ScannerState, SlotTest, SlotView, find_slot, slot_at};
 /// Returns the connection after it has accepted a datagram: it records the sequence number and the count, and starts its
 /// watchdog anew.
 fn accepted_connection(
-    connection: Connection,
+    connection: SlotConnection,
     clock: Ms,
     mult: u8,
     datagram: &Datagram<'_>,
-) -> Connection
+) -> SlotConnection
     requires waits { mult ≤ 7 }
     requires interval { connection.t_o_api_ms ≤ 10000 }
     requires time { clock.0 ≤ 2 ^ 48 }
@@ -43,7 +43,7 @@ fn accepted_connection(
 {
     // The multiplier is at most 7 and the interval at most 10 seconds, so there is a timeout.
     let timeout = timeout_of(mult, connection.t_o_api_ms).unwrap();
-    Connection {
+    SlotConnection {
         last: Some(Accepted {
             number: datagram.sequence,
             count: datagram.count,
@@ -55,8 +55,10 @@ fn accepted_connection(
 
 /// Returns the connection of a slot if it accepts a datagram: the datagram has the size of the input, and its sequence
 /// number is newer than the last accepted one. The error is the delivery of a datagram that is not accepted.
-fn accepting(indexed: SlotView<'_>, datagram: &Datagram<'_>) -> Result<Connection, Delivery>
-    ensures judged { (t : ScannerTable) → state_received t (view_slot indexed.entry) (view_datagram datagram.now) indexed.entry.slot.now.state ≡ judged t (view_slot indexed.entry) (view_datagram datagram.now) result }
+fn accepting(indexed: SlotView<'_>, datagram: &Datagram<'_>) -> Result<SlotConnection, Delivery>
+    ensures judged { (t : ScannerTable)
+        → state_received t (view_slot indexed.entry) (view_datagram datagram.now) indexed.entry.slot.now.state
+        ≡ judged t (view_slot indexed.entry) (view_datagram datagram.now) result }
     ensures established { IfOk result (λ connection. indexed.entry.slot.now.state ≡ state.Established connection) }
     ensures size { IfOk result (λ _. length datagram.now.«data».now ≡ indexed.entry.config.now.in_len) }
 {
@@ -76,12 +78,14 @@ fn accepting(indexed: SlotView<'_>, datagram: &Datagram<'_>) -> Result<Connectio
 fn gather(
     slot: &mut Slot,
     last: Option<Accepted>,
-    connection: Connection,
+    connection: SlotConnection,
     datagram: &Datagram<'_>,
 ) -> Delivery
     requires size { length slot.old.image ≡ length (view_datagram datagram.now).payload }
-    ensures delivery { result ≡ (if is_duplicate last datagram.now.count then delivery.Duplicate else delivery.Applied) }
-    ensures slot { slot.new ≡ record slot.old { state = state.Established connection; image = if is_duplicate last datagram.now.count then slot.old.image else (view_datagram datagram.now).payload } }
+    ensures delivery { result
+        ≡ (if is_duplicate last datagram.now.count then delivery.Duplicate else delivery.Applied) }
+    ensures slot { slot.new
+        ≡ record slot.old { state = state.Established connection; image = if is_duplicate last datagram.now.count then slot.old.image else (view_datagram datagram.now).payload } }
 {
     slot.state = SlotState::Established(connection);
     if is_duplicate(last, datagram.count) {
@@ -100,8 +104,10 @@ fn remembered<'a>(
     peer: Node,
     id: ConnId,
 ) -> Option<SlotView<'a>>
-    requires whole { IsWhole (table_of profile.now scanner.now) }
-    ensures { IfSome result (λ indexed. find (is_for peer id.0) (indexed_slots (table_of profile.now scanner.now)) ≡ Some (view_slot indexed)) }
+    requires whole { IsWellFormed (table_of profile.now scanner.now) }
+    ensures { IfSome result
+        (λ indexed. find (is_for peer id.0) (indexed_slots (table_of profile.now scanner.now))
+        ≡ Some (view_slot indexed)) }
 {
     // No other slot is for it either.
     found_consumers_are_first();
@@ -122,8 +128,9 @@ fn search<'a, H: Hints>(
     peer: Node,
     id: ConnId,
 ) -> Option<SlotView<'a>>
-    requires whole { IsWhole (table_of profile.now scanner.now) }
-    ensures found { option_map view_slot result ≡ find (is_for peer id.0) (indexed_slots (table_of profile.now scanner.now)) }
+    requires whole { IsWellFormed (table_of profile.now scanner.now) }
+    ensures found { option_map view_slot result
+        ≡ find (is_for peer id.0) (indexed_slots (table_of profile.now scanner.now)) }
     ensures hints { H.bounds hints.new ≡ H.bounds hints.old }
 {
     let test = SlotTest::For(peer, id);
@@ -143,8 +150,9 @@ fn consumer<'a, H: Hints>(
     peer: Node,
     id: ConnId,
 ) -> Option<SlotView<'a>>
-    requires whole { IsWhole (table_of profile.now scanner.now) }
-    ensures found { option_map view_slot result ≡ find (is_for peer id.0) (indexed_slots (table_of profile.now scanner.now)) }
+    requires whole { IsWellFormed (table_of profile.now scanner.now) }
+    ensures found { option_map view_slot result
+        ≡ find (is_for peer id.0) (indexed_slots (table_of profile.now scanner.now)) }
     ensures hints { H.bounds hints.new ≡ H.bounds hints.old }
 {
     if let Some(number) = hints.consumer(id) {
@@ -163,9 +171,12 @@ fn receive_read<H: Hints>(
     peer: Node,
     datagram: &Datagram<'_>,
 ) -> Delivery
-    requires whole { IsWhole (table_of profile.now scanner.old) }
-    ensures step { (plain_answer (Delivered result), table_of profile.now scanner.new) ≡ received_at (table_of profile.now scanner.old) (view_datagram datagram.now) (find (is_for peer datagram.now.connection.0) (indexed_slots (table_of profile.now scanner.old))) }
-    ensures hints { IsHinted (H.bounds hints.old) (table_of profile.now scanner.old) → IsHinted (H.bounds hints.new) (table_of profile.now scanner.new) }
+    requires whole { IsWellFormed (table_of profile.now scanner.old) }
+    ensures step { (plain_answer (Delivered result), table_of profile.now scanner.new)
+        ≡ received_at (table_of profile.now scanner.old) (view_datagram datagram.now)
+        (find (is_for peer datagram.now.connection.0) (indexed_slots (table_of profile.now scanner.old))) }
+    ensures hints { IsHinted (H.bounds hints.old) (table_of profile.now scanner.old)
+        → IsHinted (H.bounds hints.new) (table_of profile.now scanner.new) }
 {
     // The bounds stay true of the slot with its new deadline.
     accepted_datagrams_keep_bounds();
@@ -204,9 +215,11 @@ pub fn receive<H: Hints>(
     peer: Node,
     bytes: &[u8],
 ) -> Delivery
-    requires whole { IsWhole (table_of profile.now scanner.old) }
-    ensures step { (plain_answer (Delivered result), table_of profile.now scanner.new) ≡ received (table_of profile.now scanner.old) peer bytes.now }
-    ensures hints { IsHinted (H.bounds hints.old) (table_of profile.now scanner.old) → IsHinted (H.bounds hints.new) (table_of profile.now scanner.new) }
+    requires whole { IsWellFormed (table_of profile.now scanner.old) }
+    ensures step { (plain_answer (Delivered result), table_of profile.now scanner.new)
+        ≡ received (table_of profile.now scanner.old) peer bytes.now }
+    ensures hints { IsHinted (H.bounds hints.old) (table_of profile.now scanner.old)
+        → IsHinted (H.bounds hints.new) (table_of profile.now scanner.new) }
 {
     match read_datagram(bytes) {
         Err(_) => Delivery::Malformed,

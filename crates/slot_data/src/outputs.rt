@@ -7,13 +7,13 @@ ghost use Rattle.cip_productions.specs.Kinds.{is_owner};
 ghost use Rattle.scanner_table.specs.Slots.{indexed_from};
 ghost use Rattle.scanner_table.specs.Productions.{written_state};
 ghost use Rattle.scanner_table.specs.Points.{output_slot, moded_slot, write, mode};
-ghost use Rattle.scanner_table.specs.Whole.{IsWhole};
+ghost use Rattle.scanner_table.specs.Whole.{IsWellFormed};
 ghost use Rattle.slot_places.specs.Views.{table_of};
 ghost use Rattle.slot_data.specs.Results.{done_or};
 
 use cip_events::StepFault;
 use cip_productions::{Kind, Production};
-use scanner_table::{Connection, ScannerProfile, Slot, SlotConfig, SlotState};
+use scanner_table::{ScannerProfile, Slot, SlotConfig, SlotConnection, SlotState};
 use slot_places::{ScannerState, slot_at};
 
 /// Returns a state whose established connection has new data.
@@ -21,7 +21,7 @@ fn written_state(state: SlotState) -> SlotState
     ensures { result ≡ written_state state }
 {
     match state {
-        SlotState::Established(connection) => SlotState::Established(Connection {
+        SlotState::Established(connection) => SlotState::Established(SlotConnection {
             production: Production {
                 written: true,
                 ..connection.production
@@ -63,8 +63,9 @@ pub fn write(
     number: u32,
     bytes: &[u8],
 ) -> Result<(), StepFault>
-    requires whole { IsWhole (table_of profile.now scanner.old) }
-    ensures said { done_or result (table_of profile.now scanner.new) ≡ write (table_of profile.now scanner.old) number bytes.now }
+    requires whole { IsWellFormed (table_of profile.now scanner.old) }
+    ensures said { done_or result (table_of profile.now scanner.new)
+        ≡ write (table_of profile.now scanner.old) number bytes.now }
     ensures same { IfErr result (λ _. scanner.new ≡ scanner.old) }
 {
     let Some(indexed) = slot_at(profile.slots.as_slice(), &scanner.slots, number) else {
@@ -114,7 +115,7 @@ fn renew_all(configs: &[SlotConfig], slots: &mut Vec<Slot>)
 /// Volume 1, chapter 3, real time formats and run/idle.
 #[tactic(auto, unfolding(scanner_table::specs::Points::mode))]
 pub fn set_mode(profile: &ScannerProfile, scanner: &mut ScannerState, run: bool)
-    requires whole { IsWhole (table_of profile.now scanner.old) }
+    requires whole { IsWellFormed (table_of profile.now scanner.old) }
     ensures { (plain_answer Done, table_of profile.now scanner.new) ≡ mode (table_of profile.now scanner.old) run }
 {
     if run == scanner.run {

@@ -10,7 +10,7 @@ ghost use Rattle.scanner_table.specs.declared.profile.ScannerProfile.{ScannerPro
 ghost use Rattle.scanner_table.specs.declared.slot.Slot.{Slot};
 ghost use Rattle.scanner_table.specs.Slots.{indexed_from};
 ghost use Rattle.scanner_table.specs.Productions.{slot_data, connection_production, slot_production, is_due, due_of, by_due, due_productions, produced_connection, produced_slot, produced_table};
-ghost use Rattle.scanner_table.specs.Whole.{IsWhole};
+ghost use Rattle.scanner_table.specs.Whole.{IsWellFormed};
 ghost use Rattle.slot_places.specs.declared.indexed_slots.SlotView.{SlotView};
 ghost use Rattle.slot_places.specs.Views.{view_slot, table_of};
 ghost use Rattle.slot_hints.specs.Bounding.{at_time};
@@ -21,7 +21,7 @@ use cip_events::{Consumers, OutgoingDatagram, SmallBytes};
 use cip_productions::{Kind, Producer, is_production_due, produced, sent_by};
 use cip_types::{Ms, OutOfMemory};
 use list_order::{Order, sorted};
-use scanner_table::{Connection, ScannerProfile, Slot, SlotConfig, SlotState};
+use scanner_table::{ScannerProfile, Slot, SlotConfig, SlotConnection, SlotState};
 use slot_places::{ScannerState, SlotTest, SlotView, is_due, slots_go_on, slots_that};
 use std::alloc::Global;
 
@@ -73,10 +73,11 @@ fn outgoing(
     alloc: Global,
     run: bool,
     indexed: SlotView<'_>,
-    connection: &Connection,
+    connection: &SlotConnection,
 ) -> Result<OutgoingDatagram, OutOfMemory>
     requires { length indexed.slot.now.output ≤ 65529 }
-    ensures { IfOk result (λ outgoing. outgoing ≡ sent (connection_production run (view_slot indexed.entry) connection.now)) }
+    ensures { IfOk result
+        (λ outgoing. outgoing ≡ sent (connection_production run (view_slot indexed.entry) connection.now)) }
 {
     let bytes = slot_data(alloc, run, indexed)?;
     let producer = Producer {
@@ -100,7 +101,9 @@ fn due_slots<'a>(
     clock: Ms,
 ) -> Result<Vec<SlotView<'a>>, OutOfMemory>
     requires { length configs.now ≤ 2 ^ 32 }
-    ensures { IfOk result (λ due. map view_slot due.items ≡ in_order by_due (filter (is_due clock) (indexed_from 0 configs.now slots.now))) }
+    ensures { IfOk result
+        (λ due. map view_slot due.items
+        ≡ in_order by_due (filter (is_due clock) (indexed_from 0 configs.now slots.now))) }
 {
     let due = slots_that(alloc, configs, slots, SlotTest::Due(clock))?;
     sorted(alloc, &due, &ByDue)
@@ -114,7 +117,9 @@ fn push_outgoing(
     due_datagrams: &mut Vec<OutgoingDatagram>,
 ) -> Result<(), OutOfMemory>
     requires { length indexed.slot.now.output ≤ 65529 }
-    ensures { OnOk result (due_datagrams.new.items ≡ due_datagrams.old.items ++ map sent (filter_map (slot_production run) (view_slot indexed.entry ∷ []))) }
+    ensures { OnOk result
+        (due_datagrams.new.items ≡ due_datagrams.old.items
+        ++ map sent (filter_map (slot_production run) (view_slot indexed.entry ∷ []))) }
 {
     let SlotState::Established(connection) = &indexed.slot.state else {
         return Ok(());
@@ -152,7 +157,9 @@ fn push_due(
     due_datagrams: &mut Vec<OutgoingDatagram>,
 ) -> Result<(), OutOfMemory>
     requires { length indexed.slot.now.output ≤ 65529 }
-    ensures { OnOk result (due_datagrams.new.items ≡ due_datagrams.old.items ++ datagrams_in_turn run clock (view_slot indexed.entry ∷ [])) }
+    ensures { OnOk result
+        (due_datagrams.new.items ≡ due_datagrams.old.items
+        ++ datagrams_in_turn run clock (view_slot indexed.entry ∷ [])) }
 {
     if is_due(&indexed.slot.state, clock) {
         push_outgoing(alloc, run, indexed, due_datagrams)?;
@@ -171,7 +178,8 @@ fn datagrams_in_turn(
 ) -> Result<Vec<OutgoingDatagram>, OutOfMemory>
     requires few { length configs.now ≤ 2 ^ 32 }
     requires short { All (λ (slot : Slot). length slot.output ≤ 65529) slots.now }
-    ensures { IfOk result (λ due_datagrams. due_datagrams.items ≡ datagrams_in_turn run clock (indexed_from 0 configs.now slots.now)) }
+    ensures { IfOk result
+        (λ due_datagrams. due_datagrams.items ≡ datagrams_in_turn run clock (indexed_from 0 configs.now slots.now)) }
 {
     // The slots from a number on begin with the slot of that number.
     slots_go_on();
@@ -194,7 +202,9 @@ fn datagrams_of(
     indexed_slots: &[SlotView<'_>],
 ) -> Result<Vec<OutgoingDatagram>, OutOfMemory>
     requires { All (λ (indexed : SlotView). length indexed.slot.now.output ≤ 65529) indexed_slots.now }
-    ensures { IfOk result (λ due_datagrams. due_datagrams.items ≡ map sent (filter_map (slot_production run) (map view_slot indexed_slots.now))) }
+    ensures { IfOk result
+        (λ due_datagrams. due_datagrams.items
+        ≡ map sent (filter_map (slot_production run) (map view_slot indexed_slots.now))) }
 {
     let mut due_datagrams = Vec::with_capacity(alloc, indexed_slots.len())?;
     for indexed in indexed_slots {
@@ -212,8 +222,10 @@ pub fn due_datagrams(
     scanner: &ScannerState,
     clock: Ms,
 ) -> Result<Vec<OutgoingDatagram>, OutOfMemory>
-    requires whole { IsWhole (table_of profile.now scanner.now) }
-    ensures { IfOk result (λ due_datagrams. due_datagrams.items ≡ map sent (due_productions (at_time (table_of profile.now scanner.now) clock))) }
+    requires whole { IsWellFormed (table_of profile.now scanner.now) }
+    ensures { IfOk result
+        (λ due_datagrams. due_datagrams.items
+        ≡ map sent (due_productions (at_time (table_of profile.now scanner.now) clock))) }
 {
     let configs = profile.slots.as_slice();
     if let Some(count) = due_in_turn(&scanner.slots, clock) {
@@ -224,7 +236,7 @@ pub fn due_datagrams(
 }
 
 /// Records the production of a connection.
-fn produce_connection(connection: &mut Connection, clock: Ms)
+fn produce_connection(connection: &mut SlotConnection, clock: Ms)
     requires time { clock.0 ≤ 2 ^ 48 }
     requires due { connection.old.production.due.0 ≤ 2 ^ 48 + 10000 }
     ensures { connection.new ≡ produced_connection clock connection.old }
@@ -266,7 +278,8 @@ fn produce_all(slots: &mut Vec<Slot>, clock: Ms)
 #[tactic(auto, unfolding(scanner_table::specs::Productions::produced_table))]
 pub fn produce(scanner: &mut ScannerState, clock: Ms)
     requires { clock.0 ≤ 2 ^ 48 }
-    ensures { (profile : ScannerProfile) → table_of profile scanner.new ≡ produced_table (at_time (table_of profile scanner.old) clock) }
+    ensures { (profile : ScannerProfile)
+        → table_of profile scanner.new ≡ produced_table (at_time (table_of profile scanner.old) clock) }
 {
     scanner.clock = clock;
     produce_all(&mut scanner.slots, clock);

@@ -28,7 +28,7 @@ earlier_due bound later (Closing c) le due = tt
 
 pub earlier_one : (bounds later : Bounds) (streams : List TargetStream) (indexed : IndexedSlot) → IsNoLater bounds later → IsBounded later streams indexed → IsBounded bounds streams indexed
 earlier_one bounds later streams indexed le one = record {
-  ends = earlier_end bounds.ends.0 later.ends.0 indexed.slot.state le.ends one.ends;
+  deadlines = earlier_end bounds.deadlines.0 later.deadlines.0 indexed.slot.state le.deadlines one.deadlines;
   retries = λ can. let at = one.retries can in omega (arith, at, le.retries);
   dues = earlier_due bounds.dues.0 later.dues.0 indexed.slot.state le.dues one.dues;
 }
@@ -41,7 +41,7 @@ pub earlier_hints : (bounds later : Bounds) (t : ScannerTable) → IsNoLater bou
 earlier_hints bounds later t le hinted = record { slots = earlier_all bounds later t.streams (indexed_slots t) le hinted.slots }
 
 pub no_later_than : (a b c : Bounds) → IsNoLater a b → IsNoLater b c → IsNoLater a c
-no_later_than a b c first second = record { ends = omega (arith, first.ends, second.ends); retries = omega (arith, first.retries, second.retries); dues = omega (arith, first.dues, second.dues) }
+no_later_than a b c first second = record { deadlines = omega (arith, first.deadlines, second.deadlines); retries = omega (arith, first.retries, second.retries); dues = omega (arith, first.dues, second.dues) }
 
 -- ---- the bounds at the beginning of time
 
@@ -61,11 +61,11 @@ due_from_zero (Closing c) = tt
 
 -- the earliest bounds
 abbrev pub zeros : Bounds
-zeros = record { ends = record { 0 = 0 }; retries = record { 0 = 0 }; dues = record { 0 = 0 } }
+zeros = record { deadlines = record { 0 = 0 }; retries = record { 0 = 0 }; dues = record { 0 = 0 } }
 
 all_from_zero : (streams : List TargetStream) (all : List IndexedSlot) → AreBounded zeros streams all
 all_from_zero streams [] = tt
-all_from_zero streams (indexed ∷ rest) = (record { ends = from_zero indexed.slot.state; retries = λ can. omega arith; dues = due_from_zero indexed.slot.state }, all_from_zero streams rest)
+all_from_zero streams (indexed ∷ rest) = (record { deadlines = from_zero indexed.slot.state; retries = λ can. omega arith; dues = due_from_zero indexed.slot.state }, all_from_zero streams rest)
 
 pub zeros_hold : (t : ScannerTable) → IsHinted zeros t
 zeros_hold t = record { slots = all_from_zero t.streams (indexed_slots t) }
@@ -90,7 +90,7 @@ no_slots : (number : ℕ) (configs : List SlotConfig) → indexed_from number co
 no_slots number [] = refl
 no_slots number (config ∷ configs) = refl
 
-ends_from : (number index : ℕ) (configs : List SlotConfig) (slots : List Slot) → min (length configs) (length slots) ≤ index → indexed_from number (drop index configs) (drop index slots) ≡ []
+pub ends_from : (number index : ℕ) (configs : List SlotConfig) (slots : List Slot) → min (length configs) (length slots) ≤ index → indexed_from number (drop index configs) (drop index slots) ≡ []
 ends_from number zero [] slots le = refl
 ends_from number (suc index) [] slots le = refl
 ends_from number zero (config ∷ configs) [] le = refl
@@ -100,4 +100,4 @@ ends_from number (suc index) (config ∷ configs) (slot ∷ slots) le = ends_fro
 
 pub covers_all : (so_far : Bounds) (streams : List TargetStream) (configs : List SlotConfig) (slots : List Slot) (index : ℕ) → min (length configs) (length slots) ≤ index → Covers so_far streams configs slots index → AreBounded so_far streams (indexed_from 0 configs slots)
 covers_all so_far streams configs slots index le covers =
-    covers so_far (record { ends = omega arith; retries = omega arith; dues = omega arith }) (subst (AreBounded so_far streams) (sym (ends_from index index configs slots le)) tt)
+    covers so_far (record { deadlines = omega arith; retries = omega arith; dues = omega arith }) (subst (AreBounded so_far streams) (sym (ends_from index index configs slots le)) tt)

@@ -9,7 +9,7 @@ use Rattle.cip_events.specs.declared.event.Answer.{Answer}
 use Rattle.cip_events.specs.declared.event.StepFault.{StepFault}
 use Rattle.cip_productions.specs.Kinds.{is_owner}
 use Rattle.scanner_table.specs.declared.profile.SlotConfig.{SlotConfig}
-use Rattle.scanner_table.specs.declared.slot.Connection.{Connection}
+use Rattle.scanner_table.specs.declared.slot.SlotConnection.{SlotConnection}
 use Rattle.scanner_table.specs.declared.slot.Slot.{Slot}
 use Rattle.scanner_table.specs.declared.slot.SlotState.{SlotState}
 use Rattle.scanner_table.specs.declared.slot.SlotState.TheVariants.{Idle, Opening, Established, TimedOut, Closing}
@@ -22,8 +22,9 @@ use Rattle.scanner_table.specs.Points.{output_slot, output_written, write, write
 use Rattle.scanner_table.specs.Productions.{written_state}
 use Rattle.scanner_table.specs.Replies.{state_consumes}
 use Rattle.scanner_table.specs.Whole.{states_clash, clashes, IdsDiffer}
+use Rattle.cip_tables.specs.Wakes.{has_session}
 use Rattle.slot_hints.specs.declared.bounds.Bounds.{Bounds}
-use Rattle.slot_hints.specs.Bounding.{EndsFrom, IsDueFrom, has_session, IsBounded, AreBounded, IsHinted, IsNoLater, with_deadline}
+use Rattle.slot_hints.specs.Bounding.{EndsFrom, IsDueFrom, IsBounded, AreBounded, IsHinted, IsNoLater, with_deadline}
 use Rattle.slot_hints.proofs.Bounded.{earlier_one, earlier_all}
 
 some_is : {A : Type 0} (a b : A) → Some a ≡ Some b → a ≡ b
@@ -51,14 +52,14 @@ no_retry : (up session : Bool) (A : Type 0) → (up && (false && session)) ≡ t
 no_retry true session A can = absurd (let e : false ≡ true = can in cc)
 no_retry false session A can = absurd (let e : false ≡ true = can in cc)
 
-accepted_carries : (bounds : Bounds) (streams : List TargetStream) (slot : Slot) (clock : Ms) (mult : ℕ) (d : DatagramFields) (c : Connection) (bytes : List ℕ) → slot.state ≡ Established c → Carries bounds (with_deadline bounds (accepted_connection clock mult d c).deadline) streams slot (record slot { state = Established (accepted_connection clock mult d c); image = bytes })
+accepted_carries : (bounds : Bounds) (streams : List TargetStream) (slot : Slot) (clock : Ms) (mult : ℕ) (d : DatagramFields) (c : SlotConnection) (bytes : List ℕ) → slot.state ≡ Established c → Carries bounds (with_deadline bounds (accepted_connection clock mult d c).deadline) streams slot (record slot { state = Established (accepted_connection clock mult d c); image = bytes })
 accepted_carries bounds streams slot clock mult d c bytes is number config one =
     let due : IsDueFrom bounds.dues.0 (Established c) = subst (IsDueFrom bounds.dues.0) is one.dues in
-    record { ends = omega arith; retries = λ can. no_retry slot.desired_up (has_session streams config.target) _ can; dues = due }
+    record { deadlines = omega arith; retries = λ can. no_retry slot.desired_up (has_session streams config.target) _ can; dues = due }
 
-pub accepted_hints : (bounds : Bounds) (t : ScannerTable) (indexed : IndexedSlot) (d : DatagramFields) (c : Connection) (bytes : List ℕ) → slice_get t.slots indexed.number ≡ Some indexed.slot → indexed.slot.state ≡ Established c → IsHinted bounds t → IsHinted (with_deadline bounds (accepted_connection t.clock indexed.config.mult d c).deadline) (accepted_table t indexed d c bytes)
+pub accepted_hints : (bounds : Bounds) (t : ScannerTable) (indexed : IndexedSlot) (d : DatagramFields) (c : SlotConnection) (bytes : List ℕ) → slice_get t.slots indexed.number ≡ Some indexed.slot → indexed.slot.state ≡ Established c → IsHinted bounds t → IsHinted (with_deadline bounds (accepted_connection t.clock indexed.config.mult d c).deadline) (accepted_table t indexed d c bytes)
 accepted_hints bounds t indexed d c bytes at is hinted = record {
-  slots = set_bounded bounds (with_deadline bounds (accepted_connection t.clock indexed.config.mult d c).deadline) t.streams indexed.slot _ indexed.number 0 t.profile.slots t.slots (record { ends = omega arith; retries = omega arith; dues = omega arith }) at (accepted_carries bounds t.streams indexed.slot t.clock indexed.config.mult d c bytes is) hinted.slots;
+  slots = set_bounded bounds (with_deadline bounds (accepted_connection t.clock indexed.config.mult d c).deadline) t.streams indexed.slot _ indexed.number 0 t.profile.slots t.slots (record { deadlines = omega arith; retries = omega arith; dues = omega arith }) at (accepted_carries bounds t.streams indexed.slot t.clock indexed.config.mult d c bytes is) hinted.slots;
 }
 
 -- ---- writes
@@ -87,13 +88,13 @@ written_closed (Closing c) = refl
 -- new data and another output change no time
 written_bounded : (bounds : Bounds) (streams : List TargetStream) (number : ℕ) (config : SlotConfig) (slot : Slot) (output : List ℕ) → IsBounded bounds streams (record { number = number; config = config; slot = slot }) → IsBounded bounds streams (record { number = number; config = config; slot = record slot { output = output; state = written_state slot.state } })
 written_bounded bounds streams number config slot output one = record {
-  ends = written_ends bounds.ends.0 slot.state one.ends;
+  deadlines = written_ends bounds.deadlines.0 slot.state one.deadlines;
   retries = λ can. one.retries (ap (λ (closed : Bool). slot.desired_up && (closed && has_session streams config.target)) (sym (written_closed slot.state)) ∙ can);
   dues = written_due bounds.dues.0 slot.state one.dues;
 }
 
 same_bounds : (bounds : Bounds) → IsNoLater bounds bounds
-same_bounds bounds = record { ends = omega arith; retries = omega arith; dues = omega arith }
+same_bounds bounds = record { deadlines = omega arith; retries = omega arith; dues = omega arith }
 
 output_hints : (bounds : Bounds) (t : ScannerTable) (indexed : IndexedSlot) (bytes : List ℕ) → slice_get t.slots indexed.number ≡ Some indexed.slot → IsHinted bounds t → IsHinted bounds (output_written t indexed bytes).1
 output_hints bounds t indexed bytes at hinted = record {
@@ -154,7 +155,7 @@ or_true false b is = is
 both_equal : (a b c : ℕ) → (a == c) ≡ true → (b == c) ≡ true → (b == a) ≡ true
 both_equal a b c first second = grind (arith, nat_tests)
 
-other_consumes : (id : ℕ) (c : Connection) (other : SlotState) → (c.link.t_o_id.0 == id) ≡ true → state_consumes (record { 0 = id }) other ≡ true → state_consumes c.link.t_o_id other ≡ true
+other_consumes : (id : ℕ) (c : SlotConnection) (other : SlotState) → (c.link.t_o_id.0 == id) ≡ true → state_consumes (record { 0 = id }) other ≡ true → state_consumes c.link.t_o_id other ≡ true
 other_consumes id c Idle first second = absurd (let e : false ≡ true = second in cc)
 other_consumes id c (Opening o) first second = absurd (let e : false ≡ true = second in cc)
 other_consumes id c (Established d) first second = both_equal c.link.t_o_id.0 d.link.t_o_id.0 id first second

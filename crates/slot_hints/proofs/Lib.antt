@@ -2,3 +2,4 @@ pub mod Bounded
 pub mod Resting
 pub mod Changes
 pub mod Few
+pub mod FirstDue

@@ -20,9 +20,10 @@ use Rattle.scanner_table.specs.Closing.{given_up}
 use Rattle.scanner_table.specs.Opening.{opened, opened_within, is_ready_slot, ready_opened}
 use Rattle.scanner_table.specs.Productions.{is_due, state_is_due, by_due, slot_production, due_productions, produced_slot, produced_table}
 use Rattle.scanner_table.specs.Ticks.{has_expired, state_has_expired, by_deadline, expired, all_expired, is_overdue, state_is_overdue, all_given_up, advanced}
-use Rattle.scanner_table.specs.Whole.{SlotsFit, IsWhole}
+use Rattle.scanner_table.specs.Whole.{SlotsFit, IsWellFormed}
+use Rattle.cip_tables.specs.Wakes.{has_session}
 use Rattle.slot_hints.specs.declared.bounds.Bounds.{Bounds}
-use Rattle.slot_hints.specs.Bounding.{EndsFrom, IsDueFrom, has_session, IsBounded, AreBounded, IsHinted, at_time}
+use Rattle.slot_hints.specs.Bounding.{EndsFrom, IsDueFrom, IsBounded, AreBounded, IsHinted, at_time}
 
 not_yet : (early late : ℕ) → early < late → nat_le late early ≡ false
 not_yet early late lt = grind (arith, nat_tests)
@@ -43,13 +44,13 @@ not_overdue bound clock (Established c) early ends = refl
 not_overdue bound clock (TimedOut link) early ends = refl
 not_overdue bound clock (Closing c) early ends = not_yet clock.0 c.deadline.0 (omega (arith, early, ends))
 
-none_expires : (bounds : Bounds) (streams : List TargetStream) (clock : Ms) (all : List IndexedSlot) → clock.0 < bounds.ends.0 → AreBounded bounds streams all → filter (has_expired clock) all ≡ []
+none_expires : (bounds : Bounds) (streams : List TargetStream) (clock : Ms) (all : List IndexedSlot) → clock.0 < bounds.deadlines.0 → AreBounded bounds streams all → filter (has_expired clock) all ≡ []
 none_expires bounds streams clock [] early hold = refl
-none_expires bounds streams clock (indexed ∷ rest) early hold = rw (not_expired bounds.ends.0 clock indexed.slot.state early hold.0.ends) (none_expires bounds streams clock rest early hold.1)
+none_expires bounds streams clock (indexed ∷ rest) early hold = rw (not_expired bounds.deadlines.0 clock indexed.slot.state early hold.0.deadlines) (none_expires bounds streams clock rest early hold.1)
 
-none_overdue : (bounds : Bounds) (streams : List TargetStream) (clock : Ms) (all : List IndexedSlot) → clock.0 < bounds.ends.0 → AreBounded bounds streams all → filter (is_overdue clock) all ≡ []
+none_overdue : (bounds : Bounds) (streams : List TargetStream) (clock : Ms) (all : List IndexedSlot) → clock.0 < bounds.deadlines.0 → AreBounded bounds streams all → filter (is_overdue clock) all ≡ []
 none_overdue bounds streams clock [] early hold = refl
-none_overdue bounds streams clock (indexed ∷ rest) early hold = rw (not_overdue bounds.ends.0 clock indexed.slot.state early hold.0.ends) (none_overdue bounds streams clock rest early hold.1)
+none_overdue bounds streams clock (indexed ∷ rest) early hold = rw (not_overdue bounds.deadlines.0 clock indexed.slot.state early hold.0.deadlines) (none_overdue bounds streams clock rest early hold.1)
 
 -- ---- retries
 
@@ -94,7 +95,7 @@ no_opening : (bounds : Bounds) (t : ScannerTable) (clock : Ms) → clock.0 < bou
 unfolding ready_opened
 no_opening bounds t clock early hinted = none_opens bounds t clock (indexed_slots t) early hinted.slots
 
-pub connections_rest : (bounds : Bounds) (t : ScannerTable) (clock : Ms) → IsHinted bounds t → clock.0 < bounds.ends.0 → clock.0 < bounds.retries.0 → advanced (at_time t clock) ≡ nothing (at_time t clock)
+pub connections_rest : (bounds : Bounds) (t : ScannerTable) (clock : Ms) → IsHinted bounds t → clock.0 < bounds.deadlines.0 → clock.0 < bounds.retries.0 → advanced (at_time t clock) ≡ nothing (at_time t clock)
 connections_rest bounds t clock hinted early before =
     ap (λ (e : Effect). and_then (and_then e all_given_up) ready_opened) (no_expiry (at_time t clock) (none_expires bounds t.streams clock (indexed_slots t) early hinted.slots))
     ∙ ap (λ (e : Effect). and_then e ready_opened) (ap (λ (e : Effect). and_then (nothing (at_time t clock)) (λ u. e)) (no_giving_up (at_time t clock) (none_overdue bounds t.streams clock (indexed_slots t) early hinted.slots)))
@@ -123,6 +124,6 @@ same_slots bounds streams clock r k number (config ∷ configs) [] early fit hol
 same_slots bounds streams clock r k number (config ∷ configs) (slot ∷ slots) early fit hold =
     rw (not_due bounds.dues.0 clock slot.state early hold.0.dues) (ap (λ l. slot ∷ l) (same_slots bounds streams clock r k (suc number) configs slots early fit.1 hold.1))
 
-pub nothing_produced : (bounds : Bounds) (t : ScannerTable) (clock : Ms) → IsWhole t → IsHinted bounds t → clock.0 < bounds.dues.0 → produced_table (at_time t clock) ≡ at_time t clock
+pub nothing_produced : (bounds : Bounds) (t : ScannerTable) (clock : Ms) → IsWellFormed t → IsHinted bounds t → clock.0 < bounds.dues.0 → produced_table (at_time t clock) ≡ at_time t clock
 unfolding produced_table
 nothing_produced bounds t clock whole hinted early = ap (λ (slots : List Slot). record t { clock = clock; slots = slots }) (same_slots bounds t.streams clock t.next_request t.clock.0 0 t.profile.slots t.slots early whole.slots hinted.slots)

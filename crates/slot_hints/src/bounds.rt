@@ -4,11 +4,12 @@ ghost use Rattle.std.specs.Prelude.{◌≡◌, ◌<◌, ◌≤◌, ◌^◌, ◌&
 ghost use Rattle.scanner_table.specs.Profiles.{profile_fault};
 ghost use Rattle.scanner_table.specs.Slots.{indexed_from, is_closed};
 ghost use Rattle.slot_places.specs.Views.{view_slot, table_of};
-ghost use Rattle.slot_hints.specs.Bounding.{has_session, can_retry, IsBounded, AreBounded, IsHinted, IsNoLater};
+ghost use Rattle.slot_hints.specs.Bounding.{can_retry, IsBounded, AreBounded, IsHinted, IsNoLater};
 
-use cip_types::{Ms, Node};
+use crate::due::has_session;
+use cip_types::Ms;
 use scanner_table::{ScannerProfile, Slot, SlotConfig, SlotState, TargetStream};
-use slot_places::{ScannerState, SlotView, session_with};
+use slot_places::{ScannerState, SlotView};
 
 /// The end of time, which no clock reaches.
 const NEVER: Ms = Ms(u64::MAX);
@@ -17,7 +18,7 @@ const NEVER: Ms = Ms(u64::MAX);
 #[derive(Clone, Copy, PartialEq, Eq)]
 pub struct Bounds {
     /// No connection times out, and no request is given up, before this time.
-    pub ends: Ms,
+    pub deadlines: Ms,
     /// No slot whose target has a session opens before this time.
     pub retries: Ms,
     /// No producer is due before this time.
@@ -26,16 +27,10 @@ pub struct Bounds {
 
 /// The bounds where nothing happens.
 const UNBOUNDED: Bounds = Bounds {
-    ends: NEVER,
+    deadlines: NEVER,
     retries: NEVER,
     dues: NEVER,
 };
-
-fn has_session(streams: &[TargetStream], target: Node) -> bool
-    ensures { result ≡ has_session streams.now target }
-{
-    session_with(streams, target).is_some()
-}
 
 /// The retry time of a closed slot, if it opens at it.
 fn retry_of(streams: &[TargetStream], indexed: SlotView<'_>) -> Ms
@@ -54,16 +49,16 @@ fn times_of(streams: &[TargetStream], indexed: SlotView<'_>) -> Bounds
 {
     match &indexed.slot.state {
         SlotState::Opening(opening) => Bounds {
-            ends: opening.deadline,
+            deadlines: opening.deadline,
             ..UNBOUNDED
         },
         SlotState::Established(connection) => Bounds {
-            ends: connection.deadline,
+            deadlines: connection.deadline,
             dues: connection.production.due,
             ..UNBOUNDED
         },
         SlotState::Closing(closing) => Bounds {
-            ends: closing.deadline,
+            deadlines: closing.deadline,
             ..UNBOUNDED
         },
         SlotState::Idle | SlotState::TimedOut(_) => Bounds {
@@ -87,7 +82,7 @@ impl Bounds {
         ensures second { IsNoLater result other }
     {
         Bounds {
-            ends: earlier(self.ends, other.ends),
+            deadlines: earlier(self.deadlines, other.deadlines),
             retries: earlier(self.retries, other.retries),
             dues: earlier(self.dues, other.dues),
         }
@@ -96,19 +91,21 @@ impl Bounds {
     /// Whether a connection may change by this time: it may time out, be given up, or open.
     #[inline(always)]
     pub fn allow_changes(self, clock: Ms) -> bool
-        ensures value { result ≡ (nat_le self.ends.0 clock.0 || nat_le self.retries.0 clock.0) }
-        ensures none { result ≡ false → (clock.0 < self.ends.0) × (clock.0 < self.retries.0) }
+        ensures value { result ≡ (nat_le self.deadlines.0 clock.0 || nat_le self.retries.0 clock.0) }
+        ensures none { result ≡ false → (clock.0 < self.deadlines.0) × (clock.0 < self.retries.0) }
     {
-        self.ends.0 <= clock.0 || self.retries.0 <= clock.0
+        self.deadlines.0 <= clock.0 || self.retries.0 <= clock.0
     }
 
     /// Whether nothing happens by this time: no connection may change, and no producer is due.
     #[inline(always)]
     pub fn are_after(self, clock: Ms) -> bool
-        ensures value { result ≡ (nat_lt clock.0 self.ends.0 && (nat_lt clock.0 self.retries.0 && nat_lt clock.0 self.dues.0)) }
-        ensures all { result ≡ true → (clock.0 < self.ends.0) × (clock.0 < self.retries.0) × (clock.0 < self.dues.0) }
+        ensures value { result
+            ≡ (nat_lt clock.0 self.deadlines.0 && (nat_lt clock.0 self.retries.0 && nat_lt clock.0 self.dues.0)) }
+        ensures all { result ≡ true → (clock.0 < self.deadlines.0) × (clock.0 < self.retries.0)
+            × (clock.0 < self.dues.0) }
     {
-        clock.0 < self.ends.0 && clock.0 < self.retries.0 && clock.0 < self.dues.0
+        clock.0 < self.deadlines.0 && clock.0 < self.retries.0 && clock.0 < self.dues.0
     }
 }
 

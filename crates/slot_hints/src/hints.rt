@@ -42,7 +42,7 @@ pub trait Hints: Drop {
 pub struct NoHints;
 
 impl Hints for NoHints {
-    ghost bounds = { λ _. record { ends = record { 0 = 0 }; retries = record { 0 = 0 }; dues = record { 0 = 0 } } };
+    ghost bounds = { λ _. record { deadlines = record { 0 = 0 }; retries = record { 0 = 0 }; dues = record { 0 = 0 } } };
 
     fn new() -> Self {
         NoHints
@@ -50,7 +50,7 @@ impl Hints for NoHints {
 
     fn bounds(&self) -> Bounds {
         Bounds {
-            ends: Ms(0),
+            deadlines: Ms(0),
             retries: Ms(0),
             dues: Ms(0),
         }
@@ -84,7 +84,7 @@ impl Hints for SlotHints {
     fn new() -> Self {
         SlotHints {
             bounds: Bounds {
-                ends: Ms(0),
+                deadlines: Ms(0),
                 retries: Ms(0),
                 dues: Ms(0),
             },
@@ -103,8 +103,8 @@ impl Hints for SlotHints {
 
     #[inline(always)]
     fn await_deadline(&mut self, deadline: Ms) {
-        if deadline.0 < self.bounds.ends.0 {
-            self.bounds.ends = deadline;
+        if deadline.0 < self.bounds.deadlines.0 {
+            self.bounds.deadlines = deadline;
         }
     }
 

@@ -6,10 +6,12 @@
 #![tactic(auto)]
 
 mod bounds;
+mod due;
 mod hints;
 mod laws;
 
 pub use bounds::{Bounds, bounds_of};
+pub use due::first_due;
 pub use hints::{Hints, NoHints, SlotHints};
 pub use laws::{
     accepted_datagrams_keep_bounds, bounds_are_kept_by_earlier_ones,

@@ -80,7 +80,8 @@ pub fn find_slot<'a>(
 ) -> Option<SlotView<'a>>
     requires { length configs.now ≤ 2 ^ 32 }
     ensures found { option_map view_slot result ≡ find (passes test) (indexed_from 0 configs.now slots.now) }
-    ensures within { IfSome result (λ indexed. (indexed.number < length configs.now) × (indexed.number < length slots.now)) }
+    ensures within { IfSome result
+        (λ indexed. (indexed.number < length configs.now) × (indexed.number < length slots.now)) }
 {
     for index in 0..configs.len().min(slots.len()) {
         let indexed = SlotView {
@@ -103,7 +104,8 @@ pub fn slots_that<'a>(
     test: SlotTest,
 ) -> Result<Vec<SlotView<'a>>, OutOfMemory>
     requires { length configs.now ≤ 2 ^ 32 }
-    ensures { IfOk result (λ found. map view_slot found.items ≡ filter (passes test) (indexed_from 0 configs.now slots.now)) }
+    ensures { IfOk result
+        (λ found. map view_slot found.items ≡ filter (passes test) (indexed_from 0 configs.now slots.now)) }
 {
     let mut found = Vec::new(alloc);
     for index in 0..configs.len().min(slots.len()) {

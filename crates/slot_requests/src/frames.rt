@@ -4,12 +4,12 @@ ghost use Rattle.std.specs.Prelude.{◌≡◌, ◌≤◌, ◌++◌, ℕ, List, I
 ghost use Rattle.cip_encap.specs.Message.{view_header};
 ghost use Rattle.cip_epath.specs.Path.{view_path};
 ghost use Rattle.cip_fwdopen.specs.Open.{sent_open};
-ghost use Rattle.scanner_table.specs.Requests.{id_or_zero, is_large, slot_path, open_fields, close_fields, open_service, opening, closing, registration, numbered, sent_frame};
+ghost use Rattle.scanner_table.specs.Requests.{id_or_zero, is_large, slot_path, open_fields, close_fields, opening, closing, registration, numbered, sent_frame};
 ghost use Rattle.scanner_table.specs.Profiles.{has_lengths};
 ghost use Rattle.slot_requests.specs.Requests.{request_numbers, manager_bytes};
 
 use crate::paths::slot_path;
-use crate::sizes::{is_large, o_t_params, t_o_params};
+use crate::sizes::{o_t_params, service_for, t_o_params};
 use cip_encap::command::{REGISTER_SESSION, SEND_RR_DATA};
 use cip_encap::{
     HEADER_LEN, MessageHeader, MessageView, items_len, put_items_header, put_message_header,
@@ -17,7 +17,7 @@ use cip_encap::{
 };
 use cip_epath::{ConnPath, path_len};
 use cip_events::{Frame, Recipient};
-use cip_fwdopen::service::{FORWARD_CLOSE, FORWARD_OPEN, LARGE_FORWARD_OPEN};
+use cip_fwdopen::service::FORWARD_CLOSE;
 use cip_fwdopen::{CloseRequest, OpenRequest, close_len, open_len, put_close, put_open};
 use cip_types::fields::put_bytes;
 use cip_types::{ConnId, Items, OutOfMemory, Triad};
@@ -77,7 +77,8 @@ fn manager_front(
     len: usize,
 ) -> Result<Vec<u8>, OutOfMemory>
     requires { len ≤ 1000 }
-    ensures { (body : List ℕ) → length body ≡ len → IfOk result (λ v. v.items ++ body ≡ manager_bytes session number service body) }
+    ensures { (body : List ℕ) → length body ≡ len
+        → IfOk result (λ v. v.items ++ body ≡ manager_bytes session number service body) }
 {
     let manager = [service, 2, 0x20, 6, 0x24, 1];
     let request_len = manager.len() + len;
@@ -87,16 +88,6 @@ fn manager_front(
     put_items_header(&mut out, request_len as u16, None)?;
     put_bytes(&mut out, &manager)?;
     Ok(out)
-}
-
-fn open_service(large: bool) -> u8
-    ensures { result ≡ open_service large }
-{
-    if large {
-        LARGE_FORWARD_OPEN
-    } else {
-        FORWARD_OPEN
-    }
 }
 
 fn id_or_zero(id: Option<ConnId>) -> ConnId
@@ -139,13 +130,15 @@ pub fn open_frame(
     number: u64,
 ) -> Result<Frame, OutOfMemory>
     requires { IsTrue (has_lengths config.now) }
-    ensures { IfOk result (λ frame. frame ≡ sent_frame (numbered session number (opening (is_large config.now) (open_fields config.now requested.now)))) }
+    ensures { IfOk result
+        (λ frame. frame ≡ sent_frame
+        (numbered session number (opening (is_large config.now) (open_fields config.now requested.now)))) }
 {
     let request = open_request(config, requested);
-    let large = is_large(config);
-    let len = open_len(large, path_len(&request.path));
-    let mut out = manager_front(alloc, session, number, open_service(large), len)?;
-    put_open(&mut out, large, &request)?;
+    let service = service_for(config);
+    let len = open_len(service, path_len(&request.path));
+    let mut out = manager_front(alloc, session, number, service.code(), len)?;
+    put_open(&mut out, service, &request)?;
     Ok(Frame {
         to: Recipient::Stream(session.stream),
         bytes: Items::from_vec(out),
@@ -164,7 +157,8 @@ pub fn close_frame(
     number: u64,
 ) -> Result<Frame, OutOfMemory>
     requires { IsTrue (has_lengths config.now) }
-    ensures { IfOk result (λ frame. frame ≡ sent_frame (numbered session number (closing (close_fields config.now triad)))) }
+    ensures { IfOk result
+        (λ frame. frame ≡ sent_frame (numbered session number (closing (close_fields config.now triad)))) }
 {
     let request = CloseRequest {
         priority_tick: PRIORITY_TICK,

@@ -10,4 +10,4 @@ mod sizes;
 
 pub use frames::{close_frame, open_frame, registration_frame};
 pub use replies::{is_registered, open_answer};
-pub use sizes::is_large;
+pub use sizes::service_for;

@@ -4,7 +4,9 @@ ghost use Rattle.std.specs.Prelude.{◌≡◌, IsTrue, nat_lt};
 ghost use Rattle.cip_netparams.specs.declared.ConnectionType.TheVariants.{PointToPoint};
 ghost use Rattle.scanner_table.specs.Requests.{o_t_size, t_o_size, is_large, t_o_type, slot_params};
 ghost use Rattle.scanner_table.specs.Profiles.{has_lengths};
+ghost use Rattle.cip_fwdopen.specs.Services.{is_large_open};
 
+use cip_fwdopen::OpenService;
 use cip_netparams::{ConnectionType, NetParams, Priority};
 use cip_productions::Kind;
 use scanner_table::SlotConfig;
@@ -42,14 +44,18 @@ fn is_long_output(config: &SlotConfig) -> bool
     config.kind == Kind::ExclusiveOwner && config.out_len > LONGEST_OUTPUT
 }
 
-/// Whether a size of the slot's datagrams does not fit the parameters of a Forward_Open, so that a
-/// Large_Forward_Open is sent.
+/// The service that opens the slot's connection: Large_Forward_Open if a size of its datagrams does not fit the
+/// parameters of a Forward_Open.
 ///
 /// Volume 1, chapter 3, Large_Forward_Open service.
-pub fn is_large(config: &SlotConfig) -> bool
-    ensures { result ≡ is_large config.now }
+pub fn service_for(config: &SlotConfig) -> OpenService
+    ensures { is_large_open result ≡ is_large config.now }
 {
-    is_long_output(config) || config.in_len > LONGEST_INPUT
+    if is_long_output(config) || config.in_len > LONGEST_INPUT {
+        OpenService::LargeForwardOpen
+    } else {
+        OpenService::ForwardOpen
+    }
 }
 
 fn t_o_type(multicast: bool) -> ConnectionType

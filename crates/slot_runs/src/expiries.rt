@@ -28,9 +28,9 @@ fn deadline_of(state: &SlotState) -> u64
 }
 
 /// The order by deadlines, and then by the numbers of slots.
-struct ByDeadline;
+struct BySlotDeadline;
 
-impl<'a> Order<SlotView<'a>> for ByDeadline {
+impl<'a> Order<SlotView<'a>> for BySlotDeadline {
     ghost before = { λ _ indexed other. by_deadline (view_slot indexed) (view_slot other) };
 
     fn is_before(&self, item: &SlotView<'a>, other: &SlotView<'a>) -> bool {
@@ -54,13 +54,14 @@ fn numbers_of(alloc: Global, indexed_slots: &[SlotView<'_>]) -> Result<Vec<u32>,
 #[tactic(auto, using(crate::proofs::Few::few_slots))]
 fn expired_numbers(transaction: &Transaction<'_>) -> Result<Vec<u32>, OutOfMemory>
     requires { IsReady transaction.now }
-    ensures { IfOk result (λ numbers. numbers.items ≡ map slot_number (expired_slots (view_transaction transaction.now).table)) }
+    ensures { IfOk result
+        (λ numbers. numbers.items ≡ map slot_number (expired_slots (view_transaction transaction.now).table)) }
 {
     let scanner = &transaction.scanner;
     let test = SlotTest::Expired(scanner.clock);
     let configs = transaction.profile.slots.as_slice();
     let found = slots_that(transaction.alloc, configs, &scanner.slots, test)?;
-    let ordered = sorted(transaction.alloc, &found, &ByDeadline)?;
+    let ordered = sorted(transaction.alloc, &found, &BySlotDeadline)?;
     numbers_of(transaction.alloc, &ordered)
 }
 
@@ -69,7 +70,8 @@ fn expired_numbers(transaction: &Transaction<'_>) -> Result<Vec<u32>, OutOfMemor
 /// Volume 1, chapter 3, connection timeouts.
 pub fn expire_all(transaction: &mut Transaction<'_>) -> Result<(), OutOfMemory>
     requires ready { IsReady transaction.old }
-    ensures effect { let d = view_transaction transaction.old in IfOk result (λ _. view_transaction transaction.new ≡ followed d (all_expired d.table)) }
+    ensures effect { let d = view_transaction transaction.old in IfOk result
+        (λ _. view_transaction transaction.new ≡ followed d (all_expired d.table)) }
     ensures kept { GoesOn transaction.old transaction.new }
 {
     let numbers = expired_numbers(transaction)?;
@@ -83,7 +85,8 @@ pub fn expire_all(transaction: &mut Transaction<'_>) -> Result<(), OutOfMemory>
 /// ready slots open. `OutOfMemory` is the only error.
 pub fn advance(transaction: &mut Transaction<'_>) -> Result<(), OutOfMemory>
     requires ready { IsReady transaction.old }
-    ensures effect { let d = view_transaction transaction.old in IfOk result (λ _. view_transaction transaction.new ≡ followed d (advanced d.table)) }
+    ensures effect { let d = view_transaction transaction.old in IfOk result
+        (λ _. view_transaction transaction.new ≡ followed d (advanced d.table)) }
     ensures kept { GoesOn transaction.old transaction.new }
 {
     expire_all(transaction)?;

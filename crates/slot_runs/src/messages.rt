@@ -15,7 +15,7 @@ use cip_encap::{MessageView, read_message};
 use cip_types::{Node, OutOfMemory};
 use scanner_table::{SlotState, Stage, TargetStream};
 use slot_places::{SlotTest, find_slot};
-use slot_requests::{is_large, open_answer};
+use slot_requests::{open_answer, service_for};
 use slot_transactions::Transaction;
 
 /// The outcome of a frame.
@@ -38,7 +38,10 @@ fn replied_to(
 ) -> Result<FrameOutcome, OutOfMemory>
     requires ready { IsReady transaction.old }
     requires fresh { view_transaction transaction.old ≡ begun (view_transaction transaction.old).table }
-    ensures effect { let t = (view_transaction transaction.old).table in let m = view_message message.now in IfOk result (λ outcome. frame_next t outcome (view_transaction transaction.new) ≡ replied_to t m (find (is_awaiting target m.context) (indexed_slots t))) }
+    ensures effect { let t =
+        (view_transaction transaction.old).table in let m = view_message message.now in IfOk result
+        (λ outcome. frame_next t outcome (view_transaction transaction.new)
+        ≡ replied_to t m (find (is_awaiting target m.context) (indexed_slots t))) }
     ensures kept { GoesOn transaction.old transaction.new }
 {
     let test = SlotTest::Awaiting(target, message.context);
@@ -49,7 +52,7 @@ fn replied_to(
     let number = indexed.number;
     match indexed.slot.state {
         SlotState::Opening(opening) => {
-            let reported = open_answer(is_large(indexed.config), message);
+            let reported = open_answer(service_for(indexed.config), message);
             transaction.answer(number, &opening, reported)?;
             Ok(FrameOutcome::Answered)
         }
@@ -71,7 +74,9 @@ fn registered(
 ) -> Result<FrameOutcome, OutOfMemory>
     requires ready { IsReady transaction.old }
     requires fresh { view_transaction transaction.old ≡ begun (view_transaction transaction.old).table }
-    ensures effect { let t = (view_transaction transaction.old).table in IfOk result (λ outcome. frame_next t outcome (view_transaction transaction.new) ≡ reported t stream (view_message message.now) Waiting) }
+    ensures effect { let t = (view_transaction transaction.old).table in IfOk result
+        (λ outcome. frame_next t outcome (view_transaction transaction.new)
+        ≡ reported t stream (view_message message.now) Waiting) }
     ensures kept { GoesOn transaction.old transaction.new }
 {
     if message.context != 0 {
@@ -89,7 +94,9 @@ fn reported(
 ) -> Result<FrameOutcome, OutOfMemory>
     requires ready { IsReady transaction.old }
     requires fresh { view_transaction transaction.old ≡ begun (view_transaction transaction.old).table }
-    ensures effect { let t = (view_transaction transaction.old).table in IfOk result (λ outcome. frame_next t outcome (view_transaction transaction.new) ≡ reported t stream (view_message message.now) stream.stage) }
+    ensures effect { let t = (view_transaction transaction.old).table in IfOk result
+        (λ outcome. frame_next t outcome (view_transaction transaction.new)
+        ≡ reported t stream (view_message message.now) stream.stage) }
     ensures kept { GoesOn transaction.old transaction.new }
 {
     match stream.stage {
@@ -110,7 +117,9 @@ pub fn receive_frame(
 ) -> Result<FrameOutcome, OutOfMemory>
     requires ready { IsReady transaction.old }
     requires fresh { view_transaction transaction.old ≡ begun (view_transaction transaction.old).table }
-    ensures effect { let t = (view_transaction transaction.old).table in IfOk result (λ outcome. frame_next t outcome (view_transaction transaction.new) ≡ frame_answer t stream (message_reading bytes.now)) }
+    ensures effect { let t = (view_transaction transaction.old).table in IfOk result
+        (λ outcome. frame_next t outcome (view_transaction transaction.new)
+        ≡ frame_answer t stream (message_reading bytes.now)) }
     ensures kept { GoesOn transaction.old transaction.new }
 {
     match read_message(bytes) {

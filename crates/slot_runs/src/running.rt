@@ -42,7 +42,9 @@ fn act_on_slot(
 ) -> Result<(), OutOfMemory>
     requires ready { IsReady transaction.old }
     requires found { HasSlot transaction.old number }
-    ensures effect { IfOk result (λ _. view_transaction transaction.new ≡ after_at (effect_of action) number (view_transaction transaction.old)) }
+    ensures effect { IfOk result
+        (λ _. view_transaction transaction.new
+        ≡ after_at (effect_of action) number (view_transaction transaction.old)) }
     ensures kept { GoesOn transaction.old transaction.new }
 {
     match action {
@@ -59,7 +61,8 @@ fn run(
     test: SlotTest,
 ) -> Result<(), OutOfMemory>
     requires ready { IsReady transaction.old }
-    ensures effect { let d = view_transaction transaction.old in IfOk result (λ _. view_transaction transaction.new ≡ followed d (run action test d.table)) }
+    ensures effect { let d = view_transaction transaction.old in IfOk result
+        (λ _. view_transaction transaction.new ≡ followed d (run action test d.table)) }
     ensures kept { GoesOn transaction.old transaction.new }
 {
     let count = transaction.profile.slots.as_slice().len() as u32;
@@ -77,7 +80,8 @@ fn run(
 /// Volume 1, chapter 3, Forward_Open service.
 pub fn open_ready(transaction: &mut Transaction<'_>) -> Result<(), OutOfMemory>
     requires ready { IsReady transaction.old }
-    ensures effect { let d = view_transaction transaction.old in IfOk result (λ _. view_transaction transaction.new ≡ followed d (ready_opened d.table)) }
+    ensures effect { let d = view_transaction transaction.old in IfOk result
+        (λ _. view_transaction transaction.new ≡ followed d (ready_opened d.table)) }
     ensures kept { GoesOn transaction.old transaction.new }
 {
     let ready = SlotTest::Ready(transaction.scanner.clock);
@@ -89,7 +93,8 @@ pub fn open_ready(transaction: &mut Transaction<'_>) -> Result<(), OutOfMemory>
 /// Volume 1, chapter 3, Forward_Open service.
 pub fn open_target(transaction: &mut Transaction<'_>, target: Node) -> Result<(), OutOfMemory>
     requires ready { IsReady transaction.old }
-    ensures effect { let d = view_transaction transaction.old in IfOk result (λ _. view_transaction transaction.new ≡ followed d (target_opened target d.table)) }
+    ensures effect { let d = view_transaction transaction.old in IfOk result
+        (λ _. view_transaction transaction.new ≡ followed d (target_opened target d.table)) }
     ensures kept { GoesOn transaction.old transaction.new }
 {
     let ready = SlotTest::ReadyWith(target, transaction.scanner.clock);
@@ -100,7 +105,8 @@ pub fn open_target(transaction: &mut Transaction<'_>, target: Node) -> Result<()
 #[tactic(auto, unfolding(scanner_table::specs::Closing::target_lost))]
 pub fn lose_target(transaction: &mut Transaction<'_>, target: Node) -> Result<(), OutOfMemory>
     requires ready { IsReady transaction.old }
-    ensures effect { let d = view_transaction transaction.old in IfOk result (λ _. view_transaction transaction.new ≡ followed d (target_lost target d.table)) }
+    ensures effect { let d = view_transaction transaction.old in IfOk result
+        (λ _. view_transaction transaction.new ≡ followed d (target_lost target d.table)) }
     ensures kept { GoesOn transaction.old transaction.new }
 {
     run(transaction, SlotAction::GiveUp, SlotTest::With(target))
@@ -110,7 +116,8 @@ pub fn lose_target(transaction: &mut Transaction<'_>, target: Node) -> Result<()
 #[tactic(auto, unfolding(scanner_table::specs::Ticks::all_given_up))]
 pub fn give_up_overdue(transaction: &mut Transaction<'_>) -> Result<(), OutOfMemory>
     requires ready { IsReady transaction.old }
-    ensures effect { let d = view_transaction transaction.old in IfOk result (λ _. view_transaction transaction.new ≡ followed d (all_given_up d.table)) }
+    ensures effect { let d = view_transaction transaction.old in IfOk result
+        (λ _. view_transaction transaction.new ≡ followed d (all_given_up d.table)) }
     ensures kept { GoesOn transaction.old transaction.new }
 {
     let overdue = SlotTest::Overdue(transaction.scanner.clock);

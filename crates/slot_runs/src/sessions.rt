@@ -22,7 +22,8 @@ fn begin_session(
     handle: u32,
 ) -> Result<(), OutOfMemory>
     requires ready { IsReady transaction.old }
-    ensures effect { let d = view_transaction transaction.old in IfOk result (λ _. view_transaction transaction.new ≡ followed d (session_begun d.table stream handle)) }
+    ensures effect { let d = view_transaction transaction.old in IfOk result
+        (λ _. view_transaction transaction.new ≡ followed d (session_begun d.table stream handle)) }
     ensures kept { GoesOn transaction.old transaction.new }
 {
     transaction.set_stage(stream.number, Stage::Up(handle))?;
@@ -32,7 +33,8 @@ fn begin_session(
 /// Records that the registration on a stream failed.
 #[tactic(auto, using(crate::proofs::Remaining::adds_nothing))]
 fn fail_session(transaction: &mut Transaction<'_>, stream: TargetStream) -> Result<(), OutOfMemory>
-    ensures effect { let d = view_transaction transaction.old in IfOk result (λ _. view_transaction transaction.new ≡ followed d (session_failed d.table stream)) }
+    ensures effect { let d = view_transaction transaction.old in IfOk result
+        (λ _. view_transaction transaction.new ≡ followed d (session_failed d.table stream)) }
     ensures kept { GoesOn transaction.old transaction.new }
 {
     transaction.set_stage(stream.number, Stage::Unused)?;
@@ -48,7 +50,8 @@ pub fn register(
     message: &MessageView<'_>,
 ) -> Result<(), OutOfMemory>
     requires ready { IsReady transaction.old }
-    ensures effect { let d = view_transaction transaction.old in IfOk result (λ _. view_transaction transaction.new ≡ followed d (registered d.table stream (view_message message.now))) }
+    ensures effect { let d = view_transaction transaction.old in IfOk result
+        (λ _. view_transaction transaction.new ≡ followed d (registered d.table stream (view_message message.now))) }
     ensures kept { GoesOn transaction.old transaction.new }
 {
     if is_registered(message) {
@@ -64,7 +67,9 @@ pub fn cut_stream(
     stream: TargetStream,
 ) -> Result<(), OutOfMemory>
     requires ready { IsReady transaction.old }
-    ensures effect { let d = view_transaction transaction.old in IfOk result (λ _. view_transaction transaction.new ≡ followed d (target_lost stream.peer (without_stream d.table stream.number))) }
+    ensures effect { let d = view_transaction transaction.old in IfOk result
+        (λ _. view_transaction transaction.new
+        ≡ followed d (target_lost stream.peer (without_stream d.table stream.number))) }
     ensures kept { GoesOn transaction.old transaction.new }
 {
     transaction.cut_stream(stream.number)?;

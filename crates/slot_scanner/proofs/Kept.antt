@@ -15,7 +15,7 @@ use Rattle.scanner_table.specs.Datagrams.{received}
 use Rattle.scanner_table.specs.Effects.{Next}
 use Rattle.scanner_table.specs.Points.{write}
 use Rattle.scanner_table.specs.Step.{scanner_step}
-use Rattle.scanner_laws.specs.Whole.{IsWholeScanner}
+use Rattle.scanner_whole.specs.Whole.{IsWholeScanner}
 
 -- each step keeps a table whole
 abbrev pub StepsKeep : Type 0

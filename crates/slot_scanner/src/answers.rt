@@ -23,7 +23,11 @@ pub fn sent_answer(alloc: Global, datagrams: Vec<OutgoingDatagram>) -> Answer
 }
 
 /// Takes a transaction back: the scanner is as it was before. Returns the fault. Takes no memory.
-pub fn undone(transaction: Transaction<'_>, scanner: &mut ScannerState, why: StepFault) -> StepFault
+pub fn roll_back(
+    transaction: Transaction<'_>,
+    scanner: &mut ScannerState,
+    why: StepFault,
+) -> StepFault
     ensures fault { result ≡ why }
     ensures state { state_of scanner.new ≡ state_before transaction.entry }
 {
@@ -32,7 +36,7 @@ pub fn undone(transaction: Transaction<'_>, scanner: &mut ScannerState, why: Ste
 }
 
 /// Ends a transaction of an event that changes nothing. Returns the answer with this verdict. Takes no memory.
-pub fn unchanged(
+pub fn end_unchanged(
     alloc: Global,
     transaction: Transaction<'_>,
     scanner: &mut ScannerState,
@@ -46,7 +50,7 @@ pub fn unchanged(
 }
 
 /// Ends a transaction: its table becomes the present one. Returns its answer. Takes no memory.
-pub fn taken(
+pub fn commit(
     transaction: Transaction<'_>,
     scanner: &mut ScannerState,
     datagrams: Vec<OutgoingDatagram>,

@@ -5,7 +5,7 @@ use cip_tables::{
     Config, Delivery, Device, DeviceTable, Event, NewFault, Outcome, StepFault, TableCopy,
 };
 use cip_types::{Ms, Node, OutOfMemory};
-use scanner_laws::{fresh_tables_are_whole, steps_keep_tables_whole};
+use scanner_whole::{fresh_tables_are_whole, steps_keep_tables_whole};
 use slot_data::receive;
 use slot_hints::Hints;
 use std::alloc::Global;
@@ -22,7 +22,7 @@ pub struct Scanner<H: Hints> {
 
 impl<H: Hints> Model for Scanner<H> {
     ghost use Rattle.scanner_table.specs.declared.table.ScannerTable.{ScannerTable};
-    ghost use Rattle.scanner_laws.specs.Whole.{IsWholeScanner};
+    ghost use Rattle.scanner_whole.specs.Whole.{IsWholeScanner};
     ghost use Rattle.slot_hints.specs.Bounding.{IsHinted};
     ghost use Rattle.slot_scanner.specs.Tables.{table_in};
 
@@ -34,14 +34,19 @@ impl<H: Hints> Model for Scanner<H> {
 }
 
 impl<H: Hints> Device for Scanner<H> {
-    ghost use Rattle.std.specs.Prelude.{false};
     ghost use Rattle.cip_tables.specs.declared.table.DeviceTable.{DeviceTable};
+    ghost use Rattle.cip_tables.specs.Step.{makes_scanner};
 
     ghost table = { λ scanner. DeviceTable.Scanner scanner };
 
-    ghost ADAPTER = { false };
+    ghost accepts = { makes_scanner };
 
-    const ADAPTER: bool = false;
+    fn is_accepted(config: &Config) -> bool {
+        match config {
+            Config::Adapter(_) => false,
+            Config::Scanner(_) => true,
+        }
+    }
 
     fn new(alloc: Global, config: Config) -> Result<Self, NewFault> {
         let profile = match config {
@@ -68,7 +73,7 @@ impl<H: Hints> Device for Scanner<H> {
         steps_keep_tables_whole();
         match event {
             Event::Tick { ms } => self.slots.tick(&mut self.hints, *ms),
-            _ => self.slots.happened(&mut self.hints, event),
+            _ => self.slots.take_event(&mut self.hints, event),
         }
     }
 
@@ -89,7 +94,7 @@ impl<H: Hints> Device for Scanner<H> {
     fn write_point(&mut self, point: u32, bytes: &[u8]) -> Outcome {
         // The next table is whole, as the invariant of this type says.
         steps_keep_tables_whole();
-        self.slots.written(point, bytes)
+        self.slots.write(point, bytes)
     }
 
     #[tactic(auto, unfolding(cip_tables::specs::Step::step, scanner_table::specs::Points::read))]
@@ -103,7 +108,7 @@ impl<H: Hints> Device for Scanner<H> {
 
     #[tactic(auto, unfolding(cip_tables::specs::Step::step), using(crate::proofs::Waking::device_rests))]
     fn next_wake(&self) -> Ms {
-        self.slots.quiet_time(self.hints.bounds())
+        self.slots.due_in()
     }
 
     fn is_whole(&self) {

@@ -6,7 +6,7 @@ ghost use Rattle.cip_tables.specs.Step.{image_of, is_datagram};
 ghost use Rattle.scanner_table.specs.Points.{read, write, mode};
 ghost use Rattle.scanner_table.specs.Slots.{slot_at};
 ghost use Rattle.scanner_table.specs.Step.{scanner_step};
-ghost use Rattle.scanner_table.specs.Whole.{IsWhole};
+ghost use Rattle.scanner_table.specs.Whole.{IsWellFormed};
 ghost use Rattle.slot_hints.specs.declared.bounds.Bounds.{Bounds};
 ghost use Rattle.slot_hints.specs.Bounding.{IsHinted};
 ghost use Rattle.slot_scanner.specs.Tables.{table_in};
@@ -22,7 +22,8 @@ impl ScannerSlots {
     /// Returns the image of the slot of a number. Takes no memory. `NoSuchSlot` is the only error.
     pub fn image_at(&self, number: u32) -> Result<&[u8], StepFault>
         ensures found { IfOk result (λ bytes. image_of (slot_at (table_in self.now) number) ≡ Some bytes.now) }
-        ensures none { IfErr result (λ fault. (fault ≡ StepFault.NoSuchSlot) × (slot_at (table_in self.now) number ≡ None)) }
+        ensures none { IfErr result
+            (λ fault. (fault ≡ StepFault.NoSuchSlot) × (slot_at (table_in self.now) number ≡ None)) }
     {
         match slot_at(self.profile.slots.as_slice(), &self.state.slots, number) {
             Some(indexed) => Ok(indexed.slot.image.as_slice()),
@@ -40,9 +41,10 @@ impl ScannerSlots {
     }
 
     /// Writes the output of a slot. Takes no memory.
-    pub fn written(&mut self, number: u32, bytes: &[u8]) -> Outcome
-        requires { IsWhole (table_in self.old) }
-        ensures step { Follows (write (table_in self.old) number bytes.now) (table_in self.old) result (table_in self.new) }
+    pub fn write(&mut self, number: u32, bytes: &[u8]) -> Outcome
+        requires { IsWellFormed (table_in self.old) }
+        ensures step { Follows (write (table_in self.old) number bytes.now) (table_in self.old) result
+            (table_in self.new) }
         ensures no_memory { result ≢ Err StepFault.OutOfMemory }
         ensures hints { (bounds : Bounds) → IsHinted bounds (table_in self.old) → IsHinted bounds (table_in self.new) }
     {
@@ -55,8 +57,8 @@ impl ScannerSlots {
     }
 
     /// Sets the mode. Takes no memory.
-    fn moded(&mut self, run: bool) -> Outcome
-        requires { IsWhole (table_in self.old) }
+    fn set_mode(&mut self, run: bool) -> Outcome
+        requires { IsWellFormed (table_in self.old) }
         ensures step { Follows (Ok (mode (table_in self.old) run)) (table_in self.old) result (table_in self.new) }
         ensures hints { (bounds : Bounds) → IsHinted bounds (table_in self.old) → IsHinted bounds (table_in self.new) }
     {
@@ -68,10 +70,11 @@ impl ScannerSlots {
 
     /// Performs one event. It is not inlined, so that `step` is, and an idle tick stays cheap.
     #[inline(never)]
-    pub fn happened<H: Hints>(&mut self, hints: &mut H, event: &Event) -> Outcome
-        requires whole { IsWhole (table_in self.old) }
+    pub fn take_event<H: Hints>(&mut self, hints: &mut H, event: &Event) -> Outcome
+        requires whole { IsWellFormed (table_in self.old) }
         requires hints { IsHinted (H.bounds hints.old) (table_in self.old) }
-        ensures step { Follows (scanner_step (table_in self.old) event.now) (table_in self.old) result (table_in self.new) }
+        ensures step { Follows (scanner_step (table_in self.old) event.now) (table_in self.old) result
+            (table_in self.new) }
         ensures no_memory { is_datagram event.now ≡ true → result ≢ Err StepFault.OutOfMemory }
         ensures hints { IsHinted (H.bounds hints.new) (table_in self.new) }
     {
@@ -102,10 +105,10 @@ impl ScannerSlots {
                 );
                 Ok(Answer::plain(self.alloc, Verdict::Delivered(delivery)))
             }
-            Event::Write { point, bytes } => self.written(*point, bytes.as_slice()),
+            Event::Write { point, bytes } => self.write(*point, bytes.as_slice()),
             Event::Read { point } => self.read(*point),
             Event::Tick { ms } => self.tick(hints, *ms),
-            Event::Mode { run } => self.moded(*run),
+            Event::Mode { run } => self.set_mode(*run),
             Event::Start { slot } => {
                 let outcome = self.start(*slot);
                 self.renew(hints);

@@ -3,11 +3,11 @@
 ghost use Rattle.std.specs.Prelude.{◌≡◌};
 ghost use Rattle.cip_events.specs.Outcomes.{Follows};
 ghost use Rattle.scanner_table.specs.Points.{start, stop};
-ghost use Rattle.scanner_table.specs.Whole.{IsWhole};
+ghost use Rattle.scanner_table.specs.Whole.{IsWellFormed};
 ghost use Rattle.slot_scanner.specs.Allowed.{can_start};
 ghost use Rattle.slot_scanner.specs.Tables.{table_in};
 
-use crate::answers::{taken, undone};
+use crate::answers::{commit, roll_back};
 use cip_events::{Outcome, StepFault};
 use scanner_table::{ScannerProfile, Slot, SlotState};
 use slot_places::{ScannerState, slot_at};
@@ -39,7 +39,7 @@ impl ScannerSlots {
     /// Starts a slot, which opens at once if it can.
     #[tactic(auto, unfolding(scanner_table::specs::Points::start))]
     pub fn start(&mut self, number: u32) -> Outcome
-        requires { IsWhole (table_in self.old) }
+        requires { IsWellFormed (table_in self.old) }
         ensures step { Follows (start (table_in self.old) number) (table_in self.old) result (table_in self.new) }
         ensures profile { self.new.profile ≡ self.old.profile }
     {
@@ -51,15 +51,15 @@ impl ScannerSlots {
         }
         let mut transaction = Transaction::begin(self.alloc, &self.profile, &mut self.state);
         match transaction.start(number) {
-            Ok(()) => Ok(taken(transaction, &mut self.state, Vec::new(self.alloc))),
-            Err(_) => Err(undone(transaction, &mut self.state, StepFault::OutOfMemory)),
+            Ok(()) => Ok(commit(transaction, &mut self.state, Vec::new(self.alloc))),
+            Err(_) => Err(roll_back(transaction, &mut self.state, StepFault::OutOfMemory)),
         }
     }
 
     /// Stops a slot.
     #[tactic(auto, unfolding(scanner_table::specs::Points::stop))]
     pub fn stop(&mut self, number: u32) -> Outcome
-        requires { IsWhole (table_in self.old) }
+        requires { IsWellFormed (table_in self.old) }
         ensures step { Follows (stop (table_in self.old) number) (table_in self.old) result (table_in self.new) }
         ensures profile { self.new.profile ≡ self.old.profile }
     {
@@ -68,8 +68,8 @@ impl ScannerSlots {
         }
         let mut transaction = Transaction::begin(self.alloc, &self.profile, &mut self.state);
         match transaction.stop(number) {
-            Ok(()) => Ok(taken(transaction, &mut self.state, Vec::new(self.alloc))),
-            Err(why) => Err(undone(transaction, &mut self.state, why)),
+            Ok(()) => Ok(commit(transaction, &mut self.state, Vec::new(self.alloc))),
+            Err(why) => Err(roll_back(transaction, &mut self.state, why)),
         }
     }
 }

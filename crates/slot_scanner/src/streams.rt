@@ -5,14 +5,14 @@ ghost use Rattle.std.specs.List.{list_any};
 ghost use Rattle.cip_events.specs.Outcomes.{Follows};
 ghost use Rattle.scanner_table.specs.Encapsulation.{stream_opened, stream_cut, frame};
 ghost use Rattle.scanner_table.specs.Sessions.{is_stream, is_to, is_taken};
-ghost use Rattle.scanner_table.specs.Whole.{IsWhole};
+ghost use Rattle.scanner_table.specs.Whole.{IsWellFormed};
 ghost use Rattle.slot_places.specs.Views.{table_of};
 ghost use Rattle.slot_runs.specs.FrameOutcomes.{frame_next};
 ghost use Rattle.slot_transactions.specs.Transactions.{view_transaction};
 ghost use Rattle.slot_transactions.specs.Undoing.{state_before, table_with};
 ghost use Rattle.slot_scanner.specs.Tables.{table_in};
 
-use crate::answers::{taken, unchanged, undone};
+use crate::answers::{commit, end_unchanged, roll_back};
 use crate::slots::ScannerSlots;
 use cip_events::{Answer, Outcome, StepFault, Verdict};
 use cip_types::limits::MOST_STREAMS;
@@ -67,12 +67,14 @@ fn answer_of(
     scanner: &mut ScannerState,
     outcome: FrameOutcome,
 ) -> Answer
-    ensures { let profile = transaction.entry.profile.now in (result, table_of profile scanner.new) ≡ frame_next (table_with profile (state_before transaction.entry)) outcome (view_transaction transaction.entry) }
+    ensures { let profile = transaction.entry.profile.now in (result, table_of profile scanner.new)
+        ≡ frame_next (table_with profile (state_before transaction.entry)) outcome
+        (view_transaction transaction.entry) }
 {
     match outcome {
-        FrameOutcome::Answered => taken(transaction, scanner, Vec::new(alloc)),
-        FrameOutcome::Ignored => unchanged(alloc, transaction, scanner, Verdict::Ignored),
-        FrameOutcome::BadFrame => unchanged(alloc, transaction, scanner, Verdict::BadFrame),
+        FrameOutcome::Answered => commit(transaction, scanner, Vec::new(alloc)),
+        FrameOutcome::Ignored => end_unchanged(alloc, transaction, scanner, Verdict::Ignored),
+        FrameOutcome::BadFrame => end_unchanged(alloc, transaction, scanner, Verdict::BadFrame),
     }
 }
 
@@ -80,7 +82,8 @@ impl ScannerSlots {
     /// Opens a stream to a target, and registers a session on it.
     #[tactic(auto, unfolding(scanner_table::specs::Encapsulation::stream_opened))]
     pub fn open_stream(&mut self, number: u16, target: Node) -> Outcome
-        ensures step { Follows (stream_opened (table_in self.old) number target) (table_in self.old) result (table_in self.new) }
+        ensures step { Follows (stream_opened (table_in self.old) number target) (table_in self.old) result
+            (table_in self.new) }
         ensures profile { self.new.profile ≡ self.old.profile }
     {
         if is_taken(&self.state.streams, number, target) {
@@ -103,7 +106,7 @@ impl ScannerSlots {
     /// Takes the cut of a stream, or its close by the target.
     #[tactic(auto, unfolding(scanner_table::specs::Encapsulation::stream_cut))]
     pub fn cut(&mut self, number: u16) -> Outcome
-        requires { IsWhole (table_in self.old) }
+        requires { IsWellFormed (table_in self.old) }
         ensures step { Follows (stream_cut (table_in self.old) number) (table_in self.old) result (table_in self.new) }
         ensures profile { self.new.profile ≡ self.old.profile }
     {
@@ -112,16 +115,17 @@ impl ScannerSlots {
         };
         let mut transaction = Transaction::begin(self.alloc, &self.profile, &mut self.state);
         match cut_stream(&mut transaction, stream) {
-            Ok(()) => Ok(taken(transaction, &mut self.state, Vec::new(self.alloc))),
-            Err(_) => Err(undone(transaction, &mut self.state, StepFault::OutOfMemory)),
+            Ok(()) => Ok(commit(transaction, &mut self.state, Vec::new(self.alloc))),
+            Err(_) => Err(roll_back(transaction, &mut self.state, StepFault::OutOfMemory)),
         }
     }
 
     /// Takes a frame of a stream.
     #[tactic(auto, unfolding(scanner_table::specs::Encapsulation::frame))]
     pub fn frame(&mut self, number: u16, bytes: &[u8]) -> Outcome
-        requires { IsWhole (table_in self.old) }
-        ensures step { Follows (frame (table_in self.old) number bytes.now) (table_in self.old) result (table_in self.new) }
+        requires { IsWellFormed (table_in self.old) }
+        ensures step { Follows (frame (table_in self.old) number bytes.now) (table_in self.old) result
+            (table_in self.new) }
         ensures profile { self.new.profile ≡ self.old.profile }
     {
         let Some(stream) = find_stream(&self.state.streams, number) else {
@@ -130,7 +134,7 @@ impl ScannerSlots {
         let mut transaction = Transaction::begin(self.alloc, &self.profile, &mut self.state);
         match receive_frame(&mut transaction, stream, bytes) {
             Ok(outcome) => Ok(answer_of(self.alloc, transaction, &mut self.state, outcome)),
-            Err(_) => Err(undone(transaction, &mut self.state, StepFault::OutOfMemory)),
+            Err(_) => Err(roll_back(transaction, &mut self.state, StepFault::OutOfMemory)),
         }
     }
 }

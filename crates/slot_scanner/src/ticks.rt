@@ -1,13 +1,15 @@
 //! Ticks.
 
-ghost use Rattle.std.specs.Prelude.{IfOk, ℕ, ◌≡◌, ◌<◌, ◌≤◌, ◌+◌, ◌^◌, map, min, Ok, None};
+ghost use Rattle.std.specs.Prelude.{IfOk, ℕ, ◌≡◌, ◌<◌, ◌≤◌, ◌+◌, ◌^◌, map, Ok, None};
 ghost use Rattle.cip_events.specs.Answers.{plain_answer};
 ghost use Rattle.cip_events.specs.Clock.{longest_tick, clock_end};
 ghost use Rattle.cip_events.specs.Outcomes.{Follows};
+ghost use Rattle.cip_tables.specs.declared.table.DeviceTable.{DeviceTable};
+ghost use Rattle.cip_tables.specs.Wakes.{due_in};
 ghost use Rattle.scanner_table.specs.Effects.{nothing};
 ghost use Rattle.scanner_table.specs.Ticks.{clocked_table, advanced, ticked, tick};
 ghost use Rattle.scanner_table.specs.Profiles.{profile_fault};
-ghost use Rattle.scanner_table.specs.Whole.{IsWhole};
+ghost use Rattle.scanner_table.specs.Whole.{IsWellFormed};
 ghost use Rattle.slot_hints.specs.Bounding.{IsHinted, at_time};
 ghost use Rattle.cip_productions.specs.Productions.{sent};
 ghost use Rattle.scanner_table.specs.Productions.{due_productions};
@@ -15,7 +17,7 @@ ghost use Rattle.slot_transactions.specs.Transactions.{begun, followed, view_tra
 ghost use Rattle.slot_transactions.specs.Undoing.{state_before};
 ghost use Rattle.slot_scanner.specs.Tables.{table_in};
 
-use crate::answers::{sent_answer, taken, undone};
+use crate::answers::{commit, roll_back, sent_answer};
 use crate::slots::ScannerSlots;
 use cip_events::{Answer, Outcome, OutgoingDatagram, StepFault, Verdict};
 use cip_types::limits::{CLOCK_END_MS, LONGEST_TICK_MS};
@@ -24,7 +26,7 @@ use scanner_table::advancing_keeps_tables_whole;
 use slot_data::{due_datagrams, produce};
 use slot_hints::{
     Bounds, Hints, bounds_are_kept_by_earlier_ones, bounds_of, connections_rest_before_bounds,
-    producers_rest_before_bounds,
+    first_due, producers_rest_before_bounds,
 };
 use slot_runs::advance;
 use slot_transactions::Transaction;
@@ -35,12 +37,14 @@ fn advanced(
     transaction: &mut Transaction<'_>,
     ms: u32,
 ) -> Result<Vec<OutgoingDatagram>, OutOfMemory>
-    requires whole { IsWhole (view_transaction transaction.old).table }
+    requires whole { IsWellFormed (view_transaction transaction.old).table }
     requires fresh { view_transaction transaction.old ≡ begun (view_transaction transaction.old).table }
     requires time { transaction.old.scanner.clock.0 + ms ≤ 2 ^ 48 }
-    ensures effect { let t = clocked_table (view_transaction transaction.old).table ms in IfOk result (λ _. view_transaction transaction.new ≡ followed (begun t) (advanced t)) }
-    ensures datagrams { IfOk result (λ datagrams. datagrams.items ≡ map sent (due_productions (view_transaction transaction.new).table)) }
-    ensures whole { IfOk result (λ _. IsWhole (view_transaction transaction.new).table) }
+    ensures effect { let t = clocked_table (view_transaction transaction.old).table ms in IfOk result
+        (λ _. view_transaction transaction.new ≡ followed (begun t) (advanced t)) }
+    ensures datagrams { IfOk result
+        (λ datagrams. datagrams.items ≡ map sent (due_productions (view_transaction transaction.new).table)) }
+    ensures whole { IfOk result (λ _. IsWellFormed (view_transaction transaction.new).table) }
     ensures profile { transaction.new.profile.now ≡ transaction.old.profile.now }
     ensures kept { state_before transaction.new ≡ state_before transaction.old }
 {
@@ -58,23 +62,14 @@ fn advanced(
     Ok(datagrams)
 }
 
-/// Returns the first of the three bounds.
-fn first(bounds: Bounds) -> Ms
-    ensures value { result.0 ≡ min (min bounds.ends.0 bounds.retries.0) bounds.dues.0 }
-    ensures ends { result.0 ≤ bounds.ends.0 }
-    ensures retries { result.0 ≤ bounds.retries.0 }
-    ensures dues { result.0 ≤ bounds.dues.0 }
-{
-    Ms(bounds.ends.0.min(bounds.retries.0).min(bounds.dues.0))
-}
-
 impl ScannerSlots {
     /// Moves the clock to a time by which no connection changes: only due slots send.
     fn pass(&mut self, clock: Ms) -> Outcome
-        requires whole { IsWhole (table_in self.old) }
+        requires whole { IsWellFormed (table_in self.old) }
         requires time { clock.0 ≤ 2 ^ 48 }
         requires quiet { advanced (at_time (table_in self.old) clock) ≡ nothing (at_time (table_in self.old) clock) }
-        ensures step { Follows (Ok (ticked (advanced (at_time (table_in self.old) clock)))) (table_in self.old) result (table_in self.new) }
+        ensures step { Follows (Ok (ticked (advanced (at_time (table_in self.old) clock))))
+            (table_in self.old) result (table_in self.new) }
         ensures profile { self.new.profile ≡ self.old.profile }
     {
         let datagrams = due_datagrams(self.alloc, &self.profile, &self.state, clock)?;
@@ -84,9 +79,10 @@ impl ScannerSlots {
 
     /// Performs a tick in which connections change: then due slots send. The clock does not pass its end.
     fn advance_by(&mut self, ms: u32) -> Outcome
-        requires whole { IsWhole (table_in self.old) }
+        requires whole { IsWellFormed (table_in self.old) }
         requires time { self.old.state.clock.0 + ms ≤ 2 ^ 48 }
-        ensures step { Follows (Ok (ticked (advanced (clocked_table (table_in self.old) ms)))) (table_in self.old) result (table_in self.new) }
+        ensures step { Follows (Ok (ticked (advanced (clocked_table (table_in self.old) ms))))
+            (table_in self.old) result (table_in self.new) }
         ensures profile { self.new.profile ≡ self.old.profile }
     {
         let mut transaction = Transaction::begin(self.alloc, &self.profile, &mut self.state);
@@ -94,9 +90,9 @@ impl ScannerSlots {
             Ok(datagrams) => {
                 let clock = transaction.scanner.clock;
                 produce(&mut transaction.scanner, clock);
-                Ok(taken(transaction, &mut self.state, datagrams))
+                Ok(commit(transaction, &mut self.state, datagrams))
             }
-            Err(_) => Err(undone(transaction, &mut self.state, StepFault::OutOfMemory)),
+            Err(_) => Err(roll_back(transaction, &mut self.state, StepFault::OutOfMemory)),
         }
     }
 
@@ -122,24 +118,13 @@ impl ScannerSlots {
         bounds
     }
 
-    /// Returns the bounds, taken anew if one of them has come. Takes no memory.
-    fn current_bounds(&self, bounds: Bounds) -> Bounds
-        requires faultless { profile_fault self.now.profile ≡ None }
-        requires hints { IsHinted bounds (table_in self.now) }
-        ensures { IsHinted result (table_in self.now) }
-    {
-        if bounds.are_after(self.state.clock) {
-            return bounds;
-        }
-        bounds_of(&self.profile, &self.state)
-    }
-
     /// Performs a tick by which connections may change, or slots may be due. The clock does not pass its end.
     fn advance_within(&mut self, bounds: Bounds, ms: u32) -> Outcome
-        requires whole { IsWhole (table_in self.old) }
+        requires whole { IsWellFormed (table_in self.old) }
         requires hints { IsHinted bounds (table_in self.old) }
         requires time { self.old.state.clock.0 + ms ≤ 2 ^ 48 }
-        ensures step { Follows (Ok (ticked (advanced (clocked_table (table_in self.old) ms)))) (table_in self.old) result (table_in self.new) }
+        ensures step { Follows (Ok (ticked (advanced (clocked_table (table_in self.old) ms))))
+            (table_in self.old) result (table_in self.new) }
         ensures profile { self.new.profile ≡ self.old.profile }
     {
         // Before the bounds, no connection changes.
@@ -154,10 +139,11 @@ impl ScannerSlots {
     /// Performs a tick that reaches a bound. The clock does not pass its end.
     #[inline(never)]
     fn reach<H: Hints>(&mut self, hints: &mut H, ms: u32) -> Outcome
-        requires whole { IsWhole (table_in self.old) }
+        requires whole { IsWellFormed (table_in self.old) }
         requires hints { IsHinted (H.bounds hints.old) (table_in self.old) }
         requires time { self.old.state.clock.0 + ms ≤ 2 ^ 48 }
-        ensures step { Follows (Ok (ticked (advanced (clocked_table (table_in self.old) ms)))) (table_in self.old) result (table_in self.new) }
+        ensures step { Follows (Ok (ticked (advanced (clocked_table (table_in self.old) ms))))
+            (table_in self.old) result (table_in self.new) }
         ensures hints { IsHinted (H.bounds hints.new) (table_in self.new) }
     {
         let outcome = self.advance_within(hints.bounds(), ms);
@@ -165,35 +151,37 @@ impl ScannerSlots {
         outcome
     }
 
-    /// Returns for how long ticks answer nothing and move the clock alone, at most the longest tick. Takes no memory.
+    /// Returns in how many milliseconds a slot is due, at most the longest tick: each tick of fewer answers nothing, and
+    /// moves the clock alone. Takes no memory.
     ///
-    /// The bounds serve if nothing happens by now before them. Otherwise they are taken anew, and the answer is 0 only if a slot
-    /// has to act by now.
+    /// The bounds do not say it, since a datagram moves a deadline and not its bound.
     #[tactic(auto, unfolding(scanner_table::specs::Ticks::tick))]
-    pub fn quiet_time(&self, bounds: Bounds) -> Ms
-        requires whole { IsWhole (table_in self.now) }
-        requires hints { IsHinted bounds (table_in self.now) }
-        ensures quiet { let t = table_in self.now in (ms : ℕ) → ms < result.0 → ms ≤ longest_tick → t.clock.0 + ms ≤ clock_end → tick t ms ≡ Ok (plain_answer Verdict.Done, clocked_table t ms) }
+    pub fn due_in(&self) -> Ms
+        requires { IsWellFormed (table_in self.now) }
+        ensures due { result.0 ≡ due_in (DeviceTable.Scanner (table_in self.now)) }
+        ensures quiet { let t = table_in self.now in (ms : ℕ) → ms < result.0 → ms ≤ longest_tick
+            → t.clock.0 + ms ≤ clock_end → tick t ms ≡ Ok (plain_answer Verdict.Done, clocked_table t ms) }
         ensures longest { result.0 ≤ longest_tick }
     {
         // Before the bounds, no connection changes and no slot produces.
         connections_rest_before_bounds();
         producers_rest_before_bounds();
-        let bounds = self.current_bounds(bounds);
-        let wait = first(bounds).0.saturating_sub(self.state.clock.0);
+        let due = first_due(&self.profile, &self.state);
+        let wait = due.0.saturating_sub(self.state.clock.0);
         Ms(wait.min(u64::from(LONGEST_TICK_MS)))
     }
 
     /// Performs a tick by which nothing happens: the clock moves.
     #[inline(always)]
     fn rest(&mut self, bounds: Bounds, ms: u32) -> Outcome
-        requires whole { IsWhole (table_in self.old) }
+        requires whole { IsWellFormed (table_in self.old) }
         requires hints { IsHinted bounds (table_in self.old) }
         requires time { self.old.state.clock.0 + ms ≤ 2 ^ 48 }
-        requires ends { self.old.state.clock.0 + ms < bounds.ends.0 }
+        requires ends { self.old.state.clock.0 + ms < bounds.deadlines.0 }
         requires retries { self.old.state.clock.0 + ms < bounds.retries.0 }
         requires dues { self.old.state.clock.0 + ms < bounds.dues.0 }
-        ensures step { Follows (Ok (ticked (advanced (clocked_table (table_in self.old) ms)))) (table_in self.old) result (table_in self.new) }
+        ensures step { Follows (Ok (ticked (advanced (clocked_table (table_in self.old) ms))))
+            (table_in self.old) result (table_in self.new) }
         ensures hints { IsHinted bounds (table_in self.new) }
     {
         // Before the bounds, no connection changes and no slot produces.
@@ -207,7 +195,7 @@ impl ScannerSlots {
     #[inline(always)]
     #[tactic(auto, unfolding(scanner_table::specs::Ticks::tick))]
     pub fn tick<H: Hints>(&mut self, hints: &mut H, ms: u32) -> Outcome
-        requires whole { IsWhole (table_in self.old) }
+        requires whole { IsWellFormed (table_in self.old) }
         requires hints { IsHinted (H.bounds hints.old) (table_in self.old) }
         ensures step { Follows (tick (table_in self.old) ms) (table_in self.old) result (table_in self.new) }
         ensures hints { IsHinted (H.bounds hints.new) (table_in self.new) }

@@ -1,5 +1,5 @@
 -- Lengths and times of a profile without a fault.
-use Rattle.std.proofs.Common.{◌≡◌, ◌≤◌, ◌^◌, ◌∙◌, ap, nat_le, length, Ok, Err, ℕ, zero, suc, Bool, true, false, not, ◌&&◌, ◌==◌, List, [], ◌∷◌, slice_get, Option, Some, None, refl, arith}
+use Rattle.std.proofs.Common.{◌≡◌, ◌≤◌, ◌^◌, ◌∙◌, ap, nat_le, length, Err, ℕ, zero, suc, Bool, true, false, not, ◌&&◌, ◌==◌, List, [], ◌∷◌, slice_get, Option, Some, None, refl, arith}
 use Rattle.std.specs.List.{list_all}
 use Rattle.std.proofs.lemmas.Bool.Decides.{nat_tests}
 use Rattle.cip_types.specs.Cases.{Case, first_case}
@@ -8,12 +8,10 @@ use Rattle.scanner_table.specs.declared.profile.ScannerProfile.{ScannerProfile}
 use Rattle.scanner_table.specs.declared.profile.SlotConfig.{SlotConfig}
 use Rattle.scanner_table.specs.Profiles.{profile_fault, are_served, are_apart, has_lengths, has_times, keeps_time, is_wait, are_few, listens_to_group, is_inhibit}
 use Rattle.cip_types.specs.declared.names.Mismatch.{Mismatch}
-use Rattle.cip_types.specs.declared.names.Mismatch.TheVariants as mismatch
 use Rattle.cip_netparams.specs.Rate.{is_interval, interval_ms}
 use Rattle.cip_fwdopen.specs.declared.reply.Opened as made
-use Rattle.conn_state.specs.declared.names.Link.{Link}
 use Rattle.conn_state.specs.declared.names.Requested.{Requested}
-use Rattle.conn_state.specs.Answers.{answer_tests, same_triad, is_requested_id, has_intervals, link_of}
+use Rattle.conn_state.specs.Answers.{answer_tests}
 use Rattle.slot_transactions.specs.Transactions.{link_or_why}
 
 no_more : {A : Type 0} (test : Bool) (says : A) (rest : List (Case A)) → first_case ((test, says) ∷ rest) ≡ None → (test ≡ false) × (first_case rest ≡ None)
@@ -92,26 +90,6 @@ mult_of config is =
 
 pub mult_at : (profile : ScannerProfile) (number : ℕ) (config : SlotConfig) → profile_fault profile ≡ None → slice_get profile.slots number ≡ Some config → config.mult ≤ 7
 mult_at profile number config sound is = mult_of config (all_at has_times profile.slots number config (faultless profile sound).times is)
-
-interval_fits : (rpi : ℕ) → is_interval rpi ≡ true → interval_ms rpi ≤ 10000
-interval_fits rpi is =
-    let le : rpi ≤ 10000000 = grind (arith, nat_tests) in
-    omega arith
-
--- a successful reply without a mismatch has packet intervals within their limits
-pub none_amiss : (requested : Requested) (opened : made.Opened) (free : Bool) → first_case (answer_tests requested opened free) ≡ None → interval_ms opened.t_o_api_us ≤ 10000
-none_amiss requested opened free is =
-    let second = (no_more (not (same_triad opened.triad requested.triad)) mismatch.Triad ((not (is_requested_id requested.t_o_id opened.t_o_id && free), mismatch.Id) ∷ (not (has_intervals opened), mismatch.Api) ∷ []) is).1 in
-    let third = (no_more (not (is_requested_id requested.t_o_id opened.t_o_id && free)) mismatch.Id ((not (has_intervals opened), mismatch.Api) ∷ []) second).1 in
-    let last = (no_more (not (has_intervals opened)) mismatch.Api [] third).0 in
-    interval_fits opened.t_o_api_us (both_so (is_interval opened.o_t_api_us) (is_interval opened.t_o_api_us) (is_so (has_intervals opened) last)).1
-
--- the same, by what is made of it
-pub linked_fits : (requested : Requested) (opened : made.Opened) (free : Bool) (link : Link) → Ok link ≡ link_or_why requested opened (first_case (answer_tests requested opened free)) → (interval_ms opened.t_o_api_us ≤ 10000) × (link ≡ link_of requested opened) × (first_case (answer_tests requested opened free) ≡ None)
-linked_fits requested opened free link is = by_case (first_case (answer_tests requested opened free)) refl where
-  by_case : (o : Option Mismatch) → first_case (answer_tests requested opened free) ≡ o → (interval_ms opened.t_o_api_us ≤ 10000) × (link ≡ link_of requested opened) × (first_case (answer_tests requested opened free) ≡ None)
-  by_case None at = let same : Ok link ≡ link_or_why requested opened None = is ∙ ap (link_or_why requested opened) at in (none_amiss requested opened free at, (cc), at)
-  by_case (Some why) at = let other : Ok link ≡ link_or_why requested opened (Some why) = is ∙ ap (link_or_why requested opened) at in absurd (cc)
 
 pub refused_by_why : (requested : Requested) (opened : made.Opened) (free : Bool) (why : Mismatch) → Err why ≡ link_or_why requested opened (first_case (answer_tests requested opened free)) → first_case (answer_tests requested opened free) ≡ Some why
 refused_by_why requested opened free why is = by_case (first_case (answer_tests requested opened free)) refl where

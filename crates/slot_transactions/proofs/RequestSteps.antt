@@ -6,7 +6,7 @@ use Rattle.cip_events.specs.declared.event.StepFault.{StepFault}
 use Rattle.cip_events.specs.declared.event.StepFault.TheVariants.{NotAllowedNow}
 use Rattle.scanner_table.specs.Closing.{stopped, stopped_at, slot_resigned}
 use Rattle.scanner_table.specs.Effects.{Effect}
-use Rattle.scanner_table.specs.declared.slot.Connection.{Connection}
+use Rattle.scanner_table.specs.declared.slot.SlotConnection.{SlotConnection}
 use Rattle.scanner_table.specs.declared.slot.SlotState.{SlotState}
 use Rattle.scanner_table.specs.declared.slot.SlotState.TheVariants.{Idle}
 use Rattle.std.specs.Option.{ForSome}
@@ -65,7 +65,7 @@ starts so_far number indexed slot_change slots is stands set =
 
 -- CLOSINGS
 
-pub requests_close : (so_far : Progress) (number : ℕ) (indexed : IndexedSlot) (connection : Connection) (session : Session) (frame : Frame) (slot_change : SlotChange) → Some indexed ≡ slot_at so_far.table number → frame ≡ sent_frame (numbered session so_far.table.next_request (closing (close_fields indexed.config connection.link.triad))) → slot_change ≡ closing_change so_far.table connection indexed.slot → after_at (slot_changed slot_change None) number (with_request frame so_far) ≡ after_at (close_requested_within connection session) number so_far
+pub requests_close : (so_far : Progress) (number : ℕ) (indexed : IndexedSlot) (connection : SlotConnection) (session : Session) (frame : Frame) (slot_change : SlotChange) → Some indexed ≡ slot_at so_far.table number → frame ≡ sent_frame (numbered session so_far.table.next_request (closing (close_fields indexed.config connection.link.triad))) → slot_change ≡ closing_change so_far.table connection indexed.slot → after_at (slot_changed slot_change None) number (with_request frame so_far) ≡ after_at (close_requested_within connection session) number so_far
 requests_close so_far number indexed connection session frame slot_change is sent stands =
     let before : Progress = with_request frame so_far in
     let core : followed before (slot_changed slot_change None before.table indexed) ≡ followed so_far (close_requested_within connection session so_far.table indexed) = rw (sent, stands) (rw (append-nil (so_far.frames ++ sent_frame (numbered session so_far.table.next_request (closing (close_fields indexed.config connection.link.triad))) ∷ [])) refl) in

@@ -4,7 +4,7 @@ use Rattle.std.specs.Option.{ForSome}
 use Rattle.std.proofs.lemmas.List.{append-nil}
 use Rattle.cip_events.specs.declared.event.Notice.{Notice}
 use Rattle.scanner_table.specs.declared.slot.Slot.{Slot}
-use Rattle.scanner_table.specs.Effects.{state_notices, changed, nothing, Effect}
+use Rattle.scanner_table.specs.Effects.{state_notices, changed, Effect}
 use Rattle.scanner_table.specs.declared.table.ScannerTable.{ScannerTable}
 use Rattle.scanner_table.specs.Slots.{IndexedSlot, slot_at}
 use Rattle.slot_transactions.specs.declared.transaction.SlotChange.{SlotChange}
@@ -12,7 +12,7 @@ use Rattle.cip_fwdopen.specs.declared.reply.Opened as made
 use Rattle.conn_state.specs.declared.names.Link.{Link}
 use Rattle.conn_state.specs.Answers.{answer_tests, link_of}
 use Rattle.scanner_table.specs.declared.slot.PendingOpen as pending
-use Rattle.scanner_table.specs.declared.slot.Connection.{Connection}
+use Rattle.scanner_table.specs.declared.slot.SlotConnection.{SlotConnection}
 use Rattle.scanner_table.specs.declared.slot.SlotState.TheVariants.{Established}
 use Rattle.scanner_table.specs.Replies.{established_slot, new_connection, is_id_free, judged_success}
 use Rattle.cip_types.specs.Cases.{first_case}
@@ -20,10 +20,6 @@ use Rattle.cip_types.specs.declared.names.Mismatch.{Mismatch}
 use Rattle.cip_events.specs.declared.event.Reason.TheVariants as reason
 use Rattle.slot_transactions.specs.Transactions.{connection_of, occupied, established_by, refused_by, judged_by, Progress, followed, after_at, at_number, at_found, slot_changed, with_change, listed}
 use Rattle.slot_transactions.proofs.Found.{found}
-
--- an effect that does nothing adds nothing
-pub still : (so_far : Progress) → so_far ≡ followed so_far (nothing so_far.table)
-still so_far = rw (append-nil so_far.frames, append-nil so_far.notices) refl
 
 pub some_found : (effect : ScannerTable → IndexedSlot → Effect) (so_far new : Progress) (number : ℕ) (indexed : IndexedSlot) → Some indexed ≡ slot_at so_far.table number → new ≡ followed so_far (effect so_far.table indexed) → new ≡ followed so_far (at_number effect so_far.table number)
 some_found effect so_far new number indexed is made =
@@ -42,7 +38,7 @@ slot_changed_adds so_far number slot_change reported indexed notices slots is sa
     some_found (slot_changed slot_change reported) so_far _ number indexed is (changed_adds so_far indexed (with_change slot_change indexed.slot) (listed reported) notices slots (said ∙ ap (λ (n : ℕ). so_far.notices ++ (listed reported ++ state_notices n indexed.slot.state slot_change.state)) at) (put ∙ ap (λ (n : ℕ). slice_set so_far.table.slots n (with_change slot_change indexed.slot)) at))
 
 -- a slot that has a connection
-pub occupied_adds : (so_far : Progress) (number : ℕ) (opening : pending.PendingOpen) (opened : made.Opened) (link : Link) (connection : Connection) (image : List ℕ) (indexed : IndexedSlot) (notices : List Notice) (slots : List Slot) → Some indexed ≡ slot_at so_far.table number → link ≡ link_of opening.requested opened → connection ≡ connection_of so_far.table.clock indexed.config indexed.number opening.request link opened → image ≡ replicate indexed.config.in_len 0 → notices ≡ so_far.notices ++ (listed {A = Notice} None ++ state_notices number indexed.slot.state (Established connection)) → ForSome (slice_get so_far.table.slots number) (λ slot. slots ≡ slice_set so_far.table.slots number (occupied (Established connection) image slot)) → record { frames = so_far.frames; notices = notices; table = record so_far.table { slots = slots } } ≡ followed so_far (at_number (established_by opening opened) so_far.table number)
+pub occupied_adds : (so_far : Progress) (number : ℕ) (opening : pending.PendingOpen) (opened : made.Opened) (link : Link) (connection : SlotConnection) (image : List ℕ) (indexed : IndexedSlot) (notices : List Notice) (slots : List Slot) → Some indexed ≡ slot_at so_far.table number → link ≡ link_of opening.requested opened → connection ≡ connection_of so_far.table.clock indexed.config indexed.number opening.request link opened → image ≡ replicate indexed.config.in_len 0 → notices ≡ so_far.notices ++ (listed {A = Notice} None ++ state_notices number indexed.slot.state (Established connection)) → ForSome (slice_get so_far.table.slots number) (λ slot. slots ≡ slice_set so_far.table.slots number (occupied (Established connection) image slot)) → record { frames = so_far.frames; notices = notices; table = record so_far.table { slots = slots } } ≡ followed so_far (at_number (established_by opening opened) so_far.table number)
 occupied_adds so_far number opening opened link connection image indexed notices slots is named begun zeros said set =
     let known = found number so_far.table.profile.slots so_far.table.slots indexed is in
     let slot : Slot = established_slot indexed (new_connection so_far.table indexed opening opened) in

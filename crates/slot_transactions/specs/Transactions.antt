@@ -14,7 +14,7 @@ use Rattle.cip_events.specs.declared.event.Notice.{Notice}
 use Rattle.cip_events.specs.declared.event.OutgoingDatagram.{OutgoingDatagram}
 use Rattle.cip_events.specs.declared.event.Verdict.TheVariants.{Done}
 use Rattle.scanner_table.specs.declared.profile.SlotConfig.{SlotConfig}
-use Rattle.scanner_table.specs.declared.slot.Connection.{Connection}
+use Rattle.scanner_table.specs.declared.slot.SlotConnection.{SlotConnection}
 use Rattle.scanner_table.specs.declared.slot.PendingOpen as pending
 use Rattle.scanner_table.specs.declared.slot.Slot.{Slot}
 use Rattle.scanner_table.specs.declared.slot.SlotState.{SlotState}
@@ -132,7 +132,7 @@ abbrev pub progress_answer : Progress → List OutgoingDatagram → Answer
 progress_answer so_far datagrams = record { frames = so_far.frames; datagrams = datagrams; verdict = Done; notices = so_far.notices }
 
 -- the change of a slot that waits for the reply to its Forward_Close
-abbrev pub closing_change : ScannerTable → Connection → Slot → SlotChange
+abbrev pub closing_change : ScannerTable → SlotConnection → Slot → SlotChange
 closing_change t connection slot = record {
   state = Closing (record { request = t.next_request; link = connection.link; deadline = later t.clock t.profile.open_timeout });
   desired_up = false;
@@ -140,11 +140,11 @@ closing_change t connection slot = record {
 }
 
 -- the slot sends a Forward_Close within this session
-abbrev pub close_requested_within : Connection → Session → ScannerTable → IndexedSlot → Effect
+abbrev pub close_requested_within : SlotConnection → Session → ScannerTable → IndexedSlot → Effect
 close_requested_within connection session t indexed = close_requested t indexed connection session
 
 -- the slot closes its connection
-abbrev pub closed : Connection → ScannerTable → IndexedSlot → Effect
+abbrev pub closed : SlotConnection → ScannerTable → IndexedSlot → Effect
 closed connection t indexed = closed_within t indexed connection (session_with t indexed.config.target)
 
 -- the effect of the answer on the slot that waits for it
@@ -197,7 +197,7 @@ production_of clock config number = record {
 }
 
 -- the connection that a successful reply opens, from its parts
-abbrev pub connection_of : Ms → SlotConfig → ℕ → ℕ → Link → made.Opened → Connection
+abbrev pub connection_of : Ms → SlotConfig → ℕ → ℕ → Link → made.Opened → SlotConnection
 connection_of clock config number opening link opened = record {
   opening = opening;
   link = link;

@@ -12,7 +12,7 @@ use crate::transaction::{SlotChange, Transaction};
 use crate::waits::later;
 use cip_events::{Notice, StepFault};
 use cip_types::OutOfMemory;
-use scanner_table::{Connection, PendingClose, Session, Slot, SlotState};
+use scanner_table::{PendingClose, Session, Slot, SlotConnection, SlotState};
 use slot_places::session_with;
 use slot_requests::close_frame;
 
@@ -43,7 +43,8 @@ impl Transaction<'_> {
     pub fn give_up(&mut self, number: u32) -> Result<(), OutOfMemory>
         requires ready { IsReady self.old }
         requires found { HasSlot self.old number }
-        ensures effect { IfOk result (λ _. view_transaction self.new ≡ after_at given_up number (view_transaction self.old)) }
+        ensures effect { IfOk result
+            (λ _. view_transaction self.new ≡ after_at given_up number (view_transaction self.old)) }
         ensures kept { GoesOn self.old self.new }
     {
         let indexed = self.slot(number);
@@ -65,7 +66,8 @@ impl Transaction<'_> {
     /// Makes a slot idle, with its connection no longer desired.
     fn resign(&mut self, number: u32) -> Result<(), OutOfMemory>
         requires { HasSlot self.old number }
-        ensures effect { IfOk result (λ _. view_transaction self.new ≡ after_at slot_resigned number (view_transaction self.old)) }
+        ensures effect { IfOk result
+            (λ _. view_transaction self.new ≡ after_at slot_resigned number (view_transaction self.old)) }
         ensures kept { GoesOn self.old self.new }
     {
         let slot_change = resigned(self.slot(number).slot);
@@ -75,7 +77,8 @@ impl Transaction<'_> {
     /// Makes a slot idle for which no request number or id is left, and adds a notice of that.
     pub(crate) fn exhaust(&mut self, number: u32) -> Result<(), OutOfMemory>
         requires { HasSlot self.old number }
-        ensures effect { IfOk result (λ _. view_transaction self.new ≡ after_at exhausted number (view_transaction self.old)) }
+        ensures effect { IfOk result
+            (λ _. view_transaction self.new ≡ after_at exhausted number (view_transaction self.old)) }
         ensures kept { GoesOn self.old self.new }
     {
         let indexed = self.slot(number);
@@ -88,13 +91,15 @@ impl Transaction<'_> {
     fn request_close(
         &mut self,
         number: u32,
-        connection: &Connection,
+        connection: &SlotConnection,
         session: Session,
     ) -> Result<(), OutOfMemory>
         requires ready { IsReady self.old }
         requires found { HasSlot self.old number }
         requires left { self.old.scanner.next_request ≤ 2 ^ 48 }
-        ensures effect { IfOk result (λ _. view_transaction self.new ≡ after_at (close_requested_within connection.now session) number (view_transaction self.old)) }
+        ensures effect { IfOk result
+            (λ _. view_transaction self.new
+            ≡ after_at (close_requested_within connection.now session) number (view_transaction self.old)) }
         ensures kept { GoesOn self.old self.new }
     {
         let indexed = self.slot(number);
@@ -117,10 +122,11 @@ impl Transaction<'_> {
     /// it. If no request number is left, the slot becomes idle.
     ///
     /// Volume 1, chapter 3, Forward_Close service.
-    fn close(&mut self, number: u32, connection: &Connection) -> Result<(), OutOfMemory>
+    fn close(&mut self, number: u32, connection: &SlotConnection) -> Result<(), OutOfMemory>
         requires ready { IsReady self.old }
         requires found { HasSlot self.old number }
-        ensures effect { IfOk result (λ _. view_transaction self.new ≡ after_at (closed connection.now) number (view_transaction self.old)) }
+        ensures effect { IfOk result
+            (λ _. view_transaction self.new ≡ after_at (closed connection.now) number (view_transaction self.old)) }
         ensures kept { GoesOn self.old self.new }
     {
         let target = self.slot(number).config.target;
@@ -139,7 +145,8 @@ impl Transaction<'_> {
     pub fn stop(&mut self, number: u32) -> Result<(), StepFault>
         requires ready { IsReady self.old }
         requires found { HasSlot self.old number }
-        ensures effect { let d = view_transaction self.old in Adds (stopped_at d.table (slot_at d.table number)) d result (view_transaction self.new) }
+        ensures effect { let d = view_transaction self.old in Adds
+            (stopped_at d.table (slot_at d.table number)) d result (view_transaction self.new) }
         ensures kept { GoesOn self.old self.new }
     {
         let indexed = self.slot(number);

@@ -18,7 +18,8 @@ impl Transaction<'_> {
     pub fn expire(&mut self, number: u32) -> Result<(), OutOfMemory>
         requires ready { IsReady self.old }
         requires found { HasSlot self.old number }
-        ensures effect { IfOk result (λ _. view_transaction self.new ≡ after_at expired number (view_transaction self.old)) }
+        ensures effect { IfOk result
+            (λ _. view_transaction self.new ≡ after_at expired number (view_transaction self.old)) }
         ensures kept { GoesOn self.old self.new }
     {
         let indexed = self.slot(number);

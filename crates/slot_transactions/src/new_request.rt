@@ -21,7 +21,9 @@ impl Transaction<'_> {
     ) -> Result<(), OutOfMemory>
         requires found { HasSlot self.old number }
         requires left { self.old.scanner.next_request ≤ 2 ^ 48 }
-        ensures effect { IfOk result (λ _. view_transaction self.new ≡ after_at (slot_changed slot_change None) number (with_request frame (view_transaction self.old))) }
+        ensures effect { IfOk result
+            (λ _. view_transaction self.new
+            ≡ after_at (slot_changed slot_change None) number (with_request frame (view_transaction self.old))) }
         ensures kept { GoesOn self.old self.new }
     {
         self.frames.push(frame)?;

@@ -24,7 +24,8 @@ const LAST_SERIAL: u16 = u16::MAX;
 
 /// Returns whether a request number is left and, for a point to point slot, a connection id.
 fn can_open(scanner: &ScannerState, multicast: bool) -> bool
-    ensures { result ≡ (nat_le scanner.now.next_request (2 ^ 48) && (multicast || nat_le scanner.now.next_id 16777215)) }
+    ensures { result ≡ (nat_le scanner.now.next_request (2 ^ 48) &&
+        (multicast || nat_le scanner.now.next_id 16777215)) }
 {
     scanner.next_request <= LAST_REQUEST && (multicast || scanner.next_id < IDS_PER_INCARNATION)
 }
@@ -88,8 +89,11 @@ impl Transaction<'_> {
     fn request_open(&mut self, number: u32, session: Session) -> Result<(), OutOfMemory>
         requires ready { IsReady self.old }
         requires found { HasSlot self.old number }
-        requires left { let t = (view_transaction self.old).table in ForSome (slot_at t number) (λ indexed. IsTrue (can_open t indexed.config)) }
-        ensures effect { IfOk result (λ _. view_transaction self.new ≡ after_at (open_requested_within session) number (view_transaction self.old)) }
+        requires left { let t = (view_transaction self.old).table in ForSome (slot_at t number)
+            (λ indexed. IsTrue (can_open t indexed.config)) }
+        ensures effect { IfOk result
+            (λ _. view_transaction self.new
+            ≡ after_at (open_requested_within session) number (view_transaction self.old)) }
         ensures kept { GoesOn self.old self.new }
     {
         let indexed = self.slot(number);
@@ -120,7 +124,8 @@ impl Transaction<'_> {
     pub fn open(&mut self, number: u32) -> Result<(), OutOfMemory>
         requires ready { IsReady self.old }
         requires found { HasSlot self.old number }
-        ensures effect { IfOk result (λ _. view_transaction self.new ≡ after_at opened number (view_transaction self.old)) }
+        ensures effect { IfOk result
+            (λ _. view_transaction self.new ≡ after_at opened number (view_transaction self.old)) }
         ensures kept { GoesOn self.old self.new }
     {
         let indexed = self.slot(number);
@@ -139,7 +144,8 @@ impl Transaction<'_> {
     pub fn start(&mut self, number: u32) -> Result<(), OutOfMemory>
         requires ready { IsReady self.old }
         requires found { HasSlot self.old number }
-        ensures effect { IfOk result (λ _. view_transaction self.new ≡ after_at freshly_started number (view_transaction self.old)) }
+        ensures effect { IfOk result
+            (λ _. view_transaction self.new ≡ after_at freshly_started number (view_transaction self.old)) }
         ensures kept { GoesOn self.old self.new }
     {
         let slot_change = SlotChange {

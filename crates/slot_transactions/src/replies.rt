@@ -20,7 +20,7 @@ use cip_productions::Production;
 use cip_types::limits::FIRST_WATCHDOG_MS;
 use cip_types::{Items, Mismatch, Ms, OutOfMemory};
 use conn_state::{Idle, Link, Requested};
-use scanner_table::{Connection, PendingOpen, Slot, SlotConfig, SlotState};
+use scanner_table::{PendingOpen, Slot, SlotConfig, SlotConnection, SlotState};
 use slot_places::{SlotTest, any_passes};
 use std::mem;
 
@@ -85,14 +85,14 @@ fn new_connection(
     opening: u64,
     link: Link,
     opened: &Opened,
-) -> Connection
+) -> SlotConnection
     requires time { clock.0 ≤ 2 ^ 48 }
     requires mult { config.now.mult ≤ 7 }
     requires interval { interval_ms opened.now.t_o_api_us ≤ 10000 }
     ensures { result ≡ connection_of clock config.now number opening link opened.now }
 {
     let t_o_api_ms = interval_ms(opened.t_o_api_us);
-    Connection {
+    SlotConnection {
         opening,
         link,
         o_t_api_ms: interval_ms(opened.o_t_api_us),
@@ -112,8 +112,12 @@ fn occupy(
     image: Items<u8>,
 ) -> Result<(), OutOfMemory>
     requires { number < length slots.old.items }
-    ensures slot { OnOk result (ForSome (slice_get slots.old.items number) (λ slot. slots.new.items ≡ slice_set slots.old.items number (occupied state image slot))) }
-    ensures before { OnOk result (ForSome (slice_get slots.old.items number) (λ slot. kept.new.items ≡ kept.old.items ++ kept_with_image number slot ∷ [])) }
+    ensures slot { OnOk result
+        (ForSome (slice_get slots.old.items number)
+        (λ slot. slots.new.items ≡ slice_set slots.old.items number (occupied state image slot))) }
+    ensures before { OnOk result
+        (ForSome (slice_get slots.old.items number)
+        (λ slot. kept.new.items ≡ kept.old.items ++ kept_with_image number slot ∷ [])) }
     ensures same { OnErr result (slots.new.items ≡ slots.old.items) }
     ensures none { OnErr result (kept.new.items ≡ kept.old.items) }
 {
@@ -136,7 +140,8 @@ impl Transaction<'_> {
     fn refuse(&mut self, number: u32, why: Reason) -> Result<(), OutOfMemory>
         requires ready { IsReady self.old }
         requires found { HasSlot self.old number }
-        ensures effect { IfOk result (λ _. view_transaction self.new ≡ after_at (refused_by why) number (view_transaction self.old)) }
+        ensures effect { IfOk result
+            (λ _. view_transaction self.new ≡ after_at (refused_by why) number (view_transaction self.old)) }
         ensures kept { GoesOn self.old self.new }
     {
         let indexed = self.slot(number);
@@ -161,7 +166,9 @@ impl Transaction<'_> {
         requires found { HasSlot self.old number }
         requires named { link ≡ link_of opening.now.requested opened.now }
         requires interval { interval_ms opened.now.t_o_api_us ≤ 10000 }
-        ensures effect { IfOk result (λ _. view_transaction self.new ≡ after_at (established_by opening.now opened.now) number (view_transaction self.old)) }
+        ensures effect { IfOk result
+            (λ _. view_transaction self.new
+            ≡ after_at (established_by opening.now opened.now) number (view_transaction self.old)) }
         ensures kept { GoesOn self.old self.new }
     {
         let indexed = self.slot(number);
@@ -196,7 +203,9 @@ impl Transaction<'_> {
     ) -> Result<(), OutOfMemory>
         requires ready { IsReady self.old }
         requires found { HasSlot self.old number }
-        ensures effect { IfOk result (λ _. view_transaction self.new ≡ after_at (judged_by opening.now opened.now) number (view_transaction self.old)) }
+        ensures effect { IfOk result
+            (λ _. view_transaction self.new
+            ≡ after_at (judged_by opening.now opened.now) number (view_transaction self.old)) }
         ensures kept { GoesOn self.old self.new }
     {
         let indexed = self.slot(number);
@@ -221,7 +230,9 @@ impl Transaction<'_> {
     ) -> Result<(), OutOfMemory>
         requires ready { IsReady self.old }
         requires found { HasSlot self.old number }
-        ensures effect { IfOk result (λ _. view_transaction self.new ≡ after_at (answered_by opening.now reported) number (view_transaction self.old)) }
+        ensures effect { IfOk result
+            (λ _. view_transaction self.new
+            ≡ after_at (answered_by opening.now reported) number (view_transaction self.old)) }
         ensures kept { GoesOn self.old self.new }
     {
         match reported {

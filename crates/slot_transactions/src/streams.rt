@@ -44,7 +44,8 @@ fn drop_stream(streams: &mut Vec<TargetStream>, number: u16)
 impl Transaction<'_> {
     /// Sets the stage of a stream's session. `OutOfMemory` is the only error.
     pub fn set_stage(&mut self, number: u16, stage: Stage) -> Result<(), OutOfMemory>
-        ensures effect { IfOk result (λ _. view_transaction self.new ≡ with_staged number stage (view_transaction self.old)) }
+        ensures effect { IfOk result
+            (λ _. view_transaction self.new ≡ with_staged number stage (view_transaction self.old)) }
         ensures kept { GoesOn self.old self.new }
     {
         keep_streams(self.alloc, &mut self.undo.streams, &self.scanner.streams)?;

@@ -44,8 +44,12 @@ pub(crate) fn change_slot(
     slot_change: SlotChange,
 ) -> Result<(), OutOfMemory>
     requires { number < length slots.old.items }
-    ensures slot { OnOk result (ForSome (slice_get slots.old.items number) (λ slot. slots.new.items ≡ slice_set slots.old.items number (with_change slot_change slot))) }
-    ensures before { OnOk result (ForSome (slice_get slots.old.items number) (λ slot. kept.new.items ≡ kept.old.items ++ kept_slot number slot ∷ [])) }
+    ensures slot { OnOk result
+        (ForSome (slice_get slots.old.items number)
+        (λ slot. slots.new.items ≡ slice_set slots.old.items number (with_change slot_change slot))) }
+    ensures before { OnOk result
+        (ForSome (slice_get slots.old.items number)
+        (λ slot. kept.new.items ≡ kept.old.items ++ kept_slot number slot ∷ [])) }
     ensures same { OnErr result (slots.new.items ≡ slots.old.items) }
     ensures none { OnErr result (kept.new.items ≡ kept.old.items) }
 {
@@ -73,7 +77,8 @@ pub(crate) fn report(
     old: &SlotState,
     new: &SlotState,
 ) -> Result<(), OutOfMemory>
-    ensures { IfOk result (λ _. notices.new.items ≡ notices.old.items ++ (listed reported ++ state_notices number old.now new.now)) }
+    ensures { IfOk result
+        (λ _. notices.new.items ≡ notices.old.items ++ (listed reported ++ state_notices number old.now new.now)) }
 {
     if let Some(notice) = reported {
         notices.push(notice)?;
@@ -114,7 +119,9 @@ impl Transaction<'_> {
         reported: Option<Notice>,
     ) -> Result<(), OutOfMemory>
         requires { HasSlot self.old number }
-        ensures effect { IfOk result (λ _. view_transaction self.new ≡ after_at (slot_changed slot_change reported) number (view_transaction self.old)) }
+        ensures effect { IfOk result
+            (λ _. view_transaction self.new
+            ≡ after_at (slot_changed slot_change reported) number (view_transaction self.old)) }
         ensures kept { GoesOn self.old self.new }
     {
         let old = self.slot(number).slot.state;

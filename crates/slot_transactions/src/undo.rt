@@ -60,7 +60,8 @@ pub(crate) fn keep_streams(
 /// Puts back what a slot held. Takes no memory.
 fn put_back(slots: &mut Vec<Slot>, before: SlotBefore)
     requires { before.number < length slots.old.items }
-    ensures { ForSome (slice_get slots.old.items before.number) (λ slot. slots.new.items ≡ slice_set slots.old.items before.number (slot_before before slot)) }
+    ensures { ForSome (slice_get slots.old.items before.number)
+        (λ slot. slots.new.items ≡ slice_set slots.old.items before.number (slot_before before slot)) }
 {
     let slot = &mut slots[before.number as usize];
     slot.state = before.state;

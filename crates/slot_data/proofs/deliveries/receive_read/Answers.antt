@@ -1,7 +1,7 @@
 use Rattle.std.proofs.Common.{◌∙◌, sym, arith, ap, subst, length, cond}
 use Rattle.cip_datagram.specs.Datagram.{view_datagram}
 use Rattle.cip_productions.specs.Acceptance.{is_duplicate}
-use Rattle.scanner_table.specs.declared.slot.Connection.{Connection}
+use Rattle.scanner_table.specs.declared.slot.SlotConnection.{SlotConnection}
 use Rattle.scanner_table.specs.declared.slot.Slot.{Slot}
 use Rattle.scanner_table.specs.declared.slot.SlotState.TheVariants.{Established}
 use Rattle.scanner_table.specs.Datagrams.{is_for}
@@ -38,7 +38,7 @@ returns-in-Ok-clause-step g c =
     let at = found _ t (view_slot c.in-Some.indexed) c.requires.whole c.in-Some.ensures.found in
     let old = c.index_mut.result.now in
     received_is t (view_slot c.in-Some.indexed) d c.in-Ok.connection _ old c.gather.new.slot c.gather.result c.in-Some.ensures.found (c.in-Ok.ensures.judged t) (c.index_mut.ensures.value ∙ at.slot _) c.gather.ensures.delivery
-    (c.gather.ensures.slot ∙ ap (λ (x : Connection). record old { state = Established x; image = cond (is_duplicate c.in-Ok.connection.last d.count) old.image d.payload }) c.accepted_connection-accepted.ensures)
+    (c.gather.ensures.slot ∙ ap (λ (x : SlotConnection). record old { state = Established x; image = cond (is_duplicate c.in-Ok.connection.last d.count) old.image d.payload }) c.accepted_connection-accepted.ensures)
 
 pub returns-in-Ok-clause-hints : goal.returns-in-Ok-clause-hints
 returns-in-Ok-clause-hints g c hinted =

@@ -21,7 +21,7 @@ returns-in_ok-answer-in-Opening-clause-effect c =
     let stands = searched_stands t test c.as_slice-configs.result.now c.deref.result.now indexed c.as_slice-configs.ensures c.deref.ensures.value c.in-Some.ensures.found in
     let is = searched_is t test c.as_slice-configs.result.now c.deref.result.now indexed c.as_slice-configs.ensures c.deref.ensures.value c.in-Some.ensures.found in
     let reported = open_answer (is_large indexed.config) m in
-    let made = c.in_ok-answer-in-Opening.ensures.effect ∙ ap (λ (r : Result OpenAnswer Reason). after_at (answered_by c.in-Opening.opening r) indexed.number start) (c.open_answer-reported.ensures ∙ ap (λ (large : _). open_answer large m) c.is_large.ensures) in
+    let made = c.in_ok-answer-in-Opening.ensures.effect ∙ ap (λ (r : Result OpenAnswer Reason). after_at (answered_by c.in-Opening.opening r) indexed.number start) (c.open_answer-reported.ensures ∙ ap (λ (large : _). open_answer large m) c.service_for.ensures) in
     slot_done (answered_by c.in-Opening.opening reported) t indexed indexed.number start _ stands c.requires.fresh made
     ∙ awaited t m indexed _ _ is c.in-Opening.is
 

@@ -14,7 +14,7 @@ returns-in-Answered c =
     let profile = c.args.transaction.profile.now in
     let t = table_with profile (state_before c.args.transaction) in
     let last = view_transaction c.args.transaction in
-    let same : ◌≡◌ {A = Next} (c.taken.result, table_of profile c.taken.new.scanner) (frame_next t Answered last) = both_same c.taken.result (progress_answer last []) (table_of profile c.taken.new.scanner) last.table (c.taken.ensures.answer ∙ ap (progress_answer last) c.new.ensures.items) c.taken.ensures.table in
+    let same : ◌≡◌ {A = Next} (c.commit.result, table_of profile c.commit.new.scanner) (frame_next t Answered last) = both_same c.commit.result (progress_answer last []) (table_of profile c.commit.new.scanner) last.table (c.commit.ensures.answer ∙ ap (progress_answer last) c.new.ensures.items) c.commit.ensures.table in
     same ∙ ap (λ (o : FrameOutcome). frame_next t o last) (sym c.in-Answered.is)
 
 pub returns-in-Ignored : goal.returns-in-Ignored
@@ -22,7 +22,7 @@ returns-in-Ignored c =
     let profile = c.args.transaction.profile.now in
     let t = table_with profile (state_before c.args.transaction) in
     let last = view_transaction c.args.transaction in
-    let same : ◌≡◌ {A = Next} (c.unchanged.result, table_of profile c.unchanged.new.scanner) (frame_next t Ignored last) = both_same c.unchanged.result _ (table_of profile c.unchanged.new.scanner) t c.unchanged.ensures.answer (ap (table_with profile) c.unchanged.ensures.state) in
+    let same : ◌≡◌ {A = Next} (c.end_unchanged.result, table_of profile c.end_unchanged.new.scanner) (frame_next t Ignored last) = both_same c.end_unchanged.result _ (table_of profile c.end_unchanged.new.scanner) t c.end_unchanged.ensures.answer (ap (table_with profile) c.end_unchanged.ensures.state) in
     same ∙ ap (λ (o : FrameOutcome). frame_next t o last) (sym c.in-Ignored.is)
 
 pub returns-in-BadFrame : goal.returns-in-BadFrame
@@ -30,5 +30,5 @@ returns-in-BadFrame c =
     let profile = c.args.transaction.profile.now in
     let t = table_with profile (state_before c.args.transaction) in
     let last = view_transaction c.args.transaction in
-    let same : ◌≡◌ {A = Next} (c.unchanged-in-BadFrame.result, table_of profile c.unchanged-in-BadFrame.new.scanner) (frame_next t BadFrame last) = both_same c.unchanged-in-BadFrame.result _ (table_of profile c.unchanged-in-BadFrame.new.scanner) t c.unchanged-in-BadFrame.ensures.answer (ap (table_with profile) c.unchanged-in-BadFrame.ensures.state) in
+    let same : ◌≡◌ {A = Next} (c.end_unchanged-in-BadFrame.result, table_of profile c.end_unchanged-in-BadFrame.new.scanner) (frame_next t BadFrame last) = both_same c.end_unchanged-in-BadFrame.result _ (table_of profile c.end_unchanged-in-BadFrame.new.scanner) t c.end_unchanged-in-BadFrame.ensures.answer (ap (table_with profile) c.end_unchanged-in-BadFrame.ensures.state) in
     same ∙ ap (λ (o : FrameOutcome). frame_next t o last) (sym c.in-BadFrame.is)

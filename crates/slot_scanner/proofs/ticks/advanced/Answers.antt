@@ -1,5 +1,5 @@
 use Rattle.std.proofs.Common.{sym, ap, subst}
-use Rattle.scanner_table.specs.Whole.{IsWhole}
+use Rattle.scanner_table.specs.Whole.{IsWellFormed}
 use Rattle.slot_transactions.specs.Transactions.{Progress, view_transaction}
 use Rattle.slot_scanner.proofs.Ticking.{clock_moved, moved_advanced}
 use Rattle.slot_scanner.proofs.ticks.advanced.Goals as goal
@@ -9,7 +9,7 @@ due_datagrams-requires c =
     let first = view_transaction c.args.transaction.now in
     let whole = c.advancing_keeps_tables_whole.ensures first.table c.args.ms c.requires.time c.requires.whole in
     let made = moved_advanced _ _ _ (clock_moved first.table c.args.ms c.from.result first c.requires.fresh c.from.ensures) c.in_ok-advance.ensures.effect in
-    record { whole = subst IsWhole (sym (ap (λ (d : Progress). d.table) made)) whole }
+    record { whole = subst IsWellFormed (sym (ap (λ (d : Progress). d.table) made)) whole }
 
 pub returns-clause-effect : goal.returns-clause-effect
 returns-clause-effect c =
@@ -21,4 +21,4 @@ returns-clause-whole c =
     let first = view_transaction c.args.transaction.now in
     let whole = c.advancing_keeps_tables_whole.ensures first.table c.args.ms c.requires.time c.requires.whole in
     let made = moved_advanced _ _ _ (clock_moved first.table c.args.ms c.from.result first c.requires.fresh c.from.ensures) c.in_ok-advance.ensures.effect in
-    subst IsWhole (sym (ap (λ (d : Progress). d.table) made)) whole
+    subst IsWellFormed (sym (ap (λ (d : Progress). d.table) made)) whole

@@ -1,5 +1,5 @@
 use Rattle.std.proofs.Common.{refl, sym, subst}
-use Rattle.scanner_laws.specs.Whole.{IsWholeScanner}
+use Rattle.scanner_whole.specs.Whole.{IsWholeScanner}
 use Rattle.slot_scanner.proofs.engine.ScannerDevice.new.Goals as goal
 
 pub invariant_of-result : goal.invariant_of-result

@@ -3,7 +3,7 @@ use Rattle.cip_events.specs.declared.event.StepFault.{StepFault}
 use Rattle.scanner_table.specs.declared.table.ScannerTable.{ScannerTable}
 use Rattle.scanner_table.specs.Effects.{Next}
 use Rattle.scanner_table.specs.Ticks.{clocked_table, advanced, ticked}
-use Rattle.scanner_table.specs.Whole.{IsWhole}
+use Rattle.scanner_table.specs.Whole.{IsWellFormed}
 use Rattle.slot_places.specs.Views.{table_of}
 use Rattle.slot_scanner.specs.Tables.{table_in}
 use Rattle.slot_transactions.specs.Transactions.{Progress, begun, followed, view_transaction}
@@ -12,7 +12,7 @@ use Rattle.slot_scanner.proofs.Undone.{same_table, undone_follows, is_fresh}
 use Rattle.slot_scanner.proofs.slots.ScannerSlots.advance_by.Goals as goal
 
 pub advanced-requires-clause-whole : goal.advanced-requires-clause-whole
-advanced-requires-clause-whole c = subst IsWhole (sym (ap (λ (d : Progress). d.table) c.begin-transaction.ensures.effect)) c.requires.whole
+advanced-requires-clause-whole c = subst IsWellFormed (sym (ap (λ (d : Progress). d.table) c.begin-transaction.ensures.effect)) c.requires.whole
 
 pub advanced-requires-clause-fresh : goal.advanced-requires-clause-fresh
 advanced-requires-clause-fresh c = is_fresh c.begin-transaction.result (table_in c.args.self.now) c.begin-transaction.ensures.effect
@@ -24,11 +24,11 @@ returns-in-Ok-clause-step c =
     let last = view_transaction c.advanced.new.transaction in
     let made = subst (λ (u : ScannerTable). let v = clocked_table u c.args.ms in last ≡ followed (begun v) (advanced v)) (ap (λ (d : Progress). d.table) c.begin-transaction.ensures.effect) c.in-Ok.ensures.effect in
     let same = c.advanced.ensures.profile ∙ c.begin-transaction.ensures.profile in
-    tick_taken t (advanced t) last c.in-Ok.datagrams.items c.taken.result (table_of c.advanced.new.transaction.profile.now c.produce.new.scanner) (table_of profile c.taken.new.scanner) made c.in-Ok.ensures.datagrams (c.produce.ensures c.advanced.new.transaction.profile.now) c.taken.ensures.answer (ap (λ (p : _). table_of p c.taken.new.scanner) (sym same) ∙ c.taken.ensures.table)
+    tick_taken t (advanced t) last c.in-Ok.datagrams.items c.commit.result (table_of c.advanced.new.transaction.profile.now c.produce.new.scanner) (table_of profile c.commit.new.scanner) made c.in-Ok.ensures.datagrams (c.produce.ensures c.advanced.new.transaction.profile.now) c.commit.ensures.answer (ap (λ (p : _). table_of p c.commit.new.scanner) (sym same) ∙ c.commit.ensures.table)
 
 pub returns-in-Err-clause-step : goal.returns-in-Err-clause-step
 returns-in-Err-clause-step c =
     let profile = c.args.self.now.profile in
-    let same = same_table profile c.begin-transaction.result c.advanced.new.transaction c.args.self.now.state c.undone.new.scanner c.begin-transaction.ensures.kept c.advanced.ensures.kept c.undone.ensures.state in
+    let same = same_table profile c.begin-transaction.result c.advanced.new.transaction c.args.self.now.state c.roll_back.new.scanner c.begin-transaction.ensures.kept c.advanced.ensures.kept c.roll_back.ensures.state in
     let said : Result Next StepFault = Ok (ticked (advanced (clocked_table (table_of profile c.args.self.now.state) c.args.ms))) in
-    undone_follows said (table_of profile c.args.self.now.state) (table_of profile c.undone.new.scanner) c.undone.result c.undone.ensures.fault same refl
+    undone_follows said (table_of profile c.args.self.now.state) (table_of profile c.roll_back.new.scanner) c.roll_back.result c.roll_back.ensures.fault same refl

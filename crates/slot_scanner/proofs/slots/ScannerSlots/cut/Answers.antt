@@ -11,12 +11,12 @@ pub returns-in-Ok-clause-step : goal.returns-in-Ok-clause-step
 returns-in-Ok-clause-step c =
     let profile = c.args.self.now.profile in
     let is : Some c.in-Some.stream ≡ find (is_stream c.args.number) c.args.self.now.state.streams.items = rw (← c.deref.ensures.value) c.in-Some.ensures in
-    cut_taken (table_of profile c.args.self.now.state) c.args.number c.in-Some.stream (view_transaction c.begin-transaction.result) (view_transaction c.cut_stream.new.transaction) c.taken.result _ (sym is) c.begin-transaction.ensures.effect c.in-Ok.ensures.effect (c.taken.ensures.answer ∙ ap (progress_answer (view_transaction c.cut_stream.new.transaction)) c.new.ensures.items) (same_profile c.begin-transaction.result c.cut_stream.new.transaction profile c.taken.new.scanner c.begin-transaction.ensures.profile c.cut_stream.ensures.kept.0 c.taken.ensures.table)
+    cut_taken (table_of profile c.args.self.now.state) c.args.number c.in-Some.stream (view_transaction c.begin-transaction.result) (view_transaction c.cut_stream.new.transaction) c.commit.result _ (sym is) c.begin-transaction.ensures.effect c.in-Ok.ensures.effect (c.commit.ensures.answer ∙ ap (progress_answer (view_transaction c.cut_stream.new.transaction)) c.new.ensures.items) (same_profile c.begin-transaction.result c.cut_stream.new.transaction profile c.commit.new.scanner c.begin-transaction.ensures.profile c.cut_stream.ensures.kept.0 c.commit.ensures.table)
 
 pub returns-in-Err-clause-step : goal.returns-in-Err-clause-step
 returns-in-Err-clause-step c =
     let profile = c.args.self.now.profile in
     let t = table_of profile c.args.self.now.state in
     let is : Some c.in-Some.stream ≡ find (is_stream c.args.number) c.args.self.now.state.streams.items = rw (← c.deref.ensures.value) c.in-Some.ensures in
-    let same = same_table profile c.begin-transaction.result c.cut_stream.new.transaction c.args.self.now.state c.undone.new.scanner c.begin-transaction.ensures.kept c.cut_stream.ensures.kept.2 c.undone.ensures.state in
-    undone_follows (stream_cut t c.args.number) t (table_of profile c.undone.new.scanner) c.undone.result c.undone.ensures.fault same (cut_ok t c.args.number c.in-Some.stream (sym is))
+    let same = same_table profile c.begin-transaction.result c.cut_stream.new.transaction c.args.self.now.state c.roll_back.new.scanner c.begin-transaction.ensures.kept c.cut_stream.ensures.kept.2 c.roll_back.ensures.state in
+    undone_follows (stream_cut t c.args.number) t (table_of profile c.roll_back.new.scanner) c.roll_back.result c.roll_back.ensures.fault same (cut_ok t c.args.number c.in-Some.stream (sym is))

@@ -33,5 +33,5 @@ returns-in-Err-clause-step c =
     let profile = c.args.self.now.profile in
     let t = table_of profile c.args.self.now.state in
     let is : Some c.in-Some.stream ≡ find (is_stream c.args.number) c.args.self.now.state.streams.items = rw (← c.deref.ensures.value) c.in-Some.ensures in
-    let same = same_table profile c.begin-transaction.result c.receive_frame.new.transaction c.args.self.now.state c.undone.new.scanner c.begin-transaction.ensures.kept c.receive_frame.ensures.kept.2 c.undone.ensures.state in
-    undone_follows (frame t c.args.number c.args.bytes.now) t (table_of profile c.undone.new.scanner) c.undone.result c.undone.ensures.fault same (frame_ok t c.args.number c.args.bytes.now c.in-Some.stream (sym is))
+    let same = same_table profile c.begin-transaction.result c.receive_frame.new.transaction c.args.self.now.state c.roll_back.new.scanner c.begin-transaction.ensures.kept c.receive_frame.ensures.kept.2 c.roll_back.ensures.state in
+    undone_follows (frame t c.args.number c.args.bytes.now) t (table_of profile c.roll_back.new.scanner) c.roll_back.result c.roll_back.ensures.fault same (frame_ok t c.args.number c.args.bytes.now c.in-Some.stream (sym is))

@@ -9,10 +9,10 @@ pub returns-in-Ok-clause-step : goal.returns-in-Ok-clause-step
 returns-in-Ok-clause-step c =
     let profile = c.args.self.now.profile in
     let last = view_transaction c.stop.new.self in
-    stop_taken (table_of profile c.args.self.now.state) c.args.number (view_transaction c.begin-transaction.result) last tt c.taken.result _ c.begin-transaction.ensures.effect c.in-Ok.ensures.effect (c.taken.ensures.answer ∙ ap (progress_answer last) c.new.ensures.items) (same_profile c.begin-transaction.result c.stop.new.self profile c.taken.new.scanner c.begin-transaction.ensures.profile c.stop.ensures.kept.0 c.taken.ensures.table)
+    stop_taken (table_of profile c.args.self.now.state) c.args.number (view_transaction c.begin-transaction.result) last tt c.commit.result _ c.begin-transaction.ensures.effect c.in-Ok.ensures.effect (c.commit.ensures.answer ∙ ap (progress_answer last) c.new.ensures.items) (same_profile c.begin-transaction.result c.stop.new.self profile c.commit.new.scanner c.begin-transaction.ensures.profile c.stop.ensures.kept.0 c.commit.ensures.table)
 
 pub returns-in-Err-clause-step : goal.returns-in-Err-clause-step
 returns-in-Err-clause-step c =
     let profile = c.args.self.now.profile in
-    let same = same_table profile c.begin-transaction.result c.stop.new.self c.args.self.now.state c.undone.new.scanner c.begin-transaction.ensures.kept c.stop.ensures.kept.2 c.undone.ensures.state in
-    stop_refused (table_of profile c.args.self.now.state) c.args.number (view_transaction c.begin-transaction.result) (view_transaction c.stop.new.self) c.in-Err.why c.undone.result (table_of profile c.undone.new.scanner) c.begin-transaction.ensures.effect c.in-Err.ensures.effect c.undone.ensures.fault same
+    let same = same_table profile c.begin-transaction.result c.stop.new.self c.args.self.now.state c.roll_back.new.scanner c.begin-transaction.ensures.kept c.stop.ensures.kept.2 c.roll_back.ensures.state in
+    stop_refused (table_of profile c.args.self.now.state) c.args.number (view_transaction c.begin-transaction.result) (view_transaction c.stop.new.self) c.in-Err.why c.roll_back.result (table_of profile c.roll_back.new.scanner) c.begin-transaction.ensures.effect c.in-Err.ensures.effect c.roll_back.ensures.fault same

@@ -4,7 +4,7 @@ use Rattle.slot_places.specs.declared.scanner.ScannerState.{ScannerState}
 use Rattle.slot_places.specs.Views.{table_of}
 use Rattle.slot_scanner.specs.Tables.{table_in}
 use Rattle.slot_scanner.proofs.Doing.{write_refused, write_refused_so}
-use Rattle.slot_scanner.proofs.slots.ScannerSlots.written.Goals as goal
+use Rattle.slot_scanner.proofs.slots.ScannerSlots.write.Goals as goal
 
 pub returns-in-Err-clause-step : goal.returns-in-Err-clause-step
 returns-in-Err-clause-step c =
