@@ -1,3 +1,1 @@
-pub mod Defects
-pub mod Lexical
 pub mod Lines

@@ -7,7 +7,8 @@ use crate::replies::push_reply;
 use crate::statuses::{encap_words, push_fault};
 use crate::values::{push_data, push_id, push_triad};
 use cip_events::{
-    Answer, Delivery, Frame, Notice, Outcome, OutgoingDatagram, Reason, Recipient, Verdict,
+    Answer, Delivery, Frame, Notice, Outcome, OutgoingDatagram, Reason, Recipient, SlotPhase,
+    Verdict,
 };
 use cip_tables::Config;
 use cip_types::OutOfMemory;
@@ -185,12 +186,12 @@ fn push_reason(out: &mut String, reason: Reason) -> Result<(), OutOfMemory> {
 ///
 /// Volume 1, chapter 3, connection instance states.
 fn state_words(state: u8) -> &'static str {
-    match state {
-        0 => "idle",
-        2 => "opening",
-        3 => "established",
-        4 => "timed out",
-        6 => "closing",
-        _ => "in another state",
+    match SlotPhase::of(state) {
+        Some(SlotPhase::Idle) => "idle",
+        Some(SlotPhase::Opening) => "opening",
+        Some(SlotPhase::Established) => "established",
+        Some(SlotPhase::TimedOut) => "timed out",
+        Some(SlotPhase::Closing) => "closing",
+        None => "in another state",
     }
 }

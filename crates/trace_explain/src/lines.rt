@@ -9,8 +9,7 @@ use cip_events::Event;
 use cip_tables::Config;
 use cip_types::OutOfMemory;
 use std::alloc::Global;
-use trace_outcomes::Recorded;
-use trace_text::Trace;
+use trace_text::{Recorded, Trace};
 
 /// An event in words: its number in the trace, from 1, its time in milliseconds, what happened, and what the device
 /// answered, if that is recorded.

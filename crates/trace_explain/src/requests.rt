@@ -3,7 +3,7 @@
 use crate::connections::{push_direction, push_multiplier, push_path, push_trigger};
 use crate::statuses::push_fault;
 use crate::values::{push_data, push_id, push_triad};
-use cip_fwdopen::{CloseRequest, OpenRequest};
+use cip_fwdopen::{CloseRequest, OpenRequest, OpenService};
 use cip_router::{RouterRequest, Status, read_router_request};
 use cip_tables::Config;
 use cip_types::OutOfMemory;
@@ -26,7 +26,9 @@ pub fn push_request(
         RouterRequest::Assembly(service, instance, attribute, data) => {
             push_assembly(alloc, out, service, instance, attribute, data)
         }
-        RouterRequest::Opening(large, request) => push_open(alloc, out, config, large, &request),
+        RouterRequest::Opening(service, request) => push_open(
+            alloc, out, config, service, &request,
+        ),
     }
 }
 
@@ -66,15 +68,14 @@ fn push_open(
     alloc: Global,
     out: &mut String,
     config: &Config,
-    large: bool,
+    service: OpenService,
     request: &OpenRequest<&[u8]>,
 ) -> Result<(), OutOfMemory> {
     push_text(
         out,
-        if large {
-            "Large_Forward_Open of "
-        } else {
-            "Forward_Open of "
+        match service {
+            OpenService::LargeForwardOpen => "Large_Forward_Open of ",
+            OpenService::ForwardOpen => "Forward_Open of ",
         },
     )?;
     push_triad(out, request.triad)?;

@@ -2,12 +2,12 @@
 use Rattle.std.specs.Prelude.{ℕ, ◌+◌, ◌-◌, ◌^◌, ◌≡◌, ◌==◌, ◌&&◌, nat_le, min, Bool, false, if◌then◌else◌, List, [], ◌∷◌, option_map, Option, Some, None, Result, Ok, Err}
 use Rattle.cip_events.specs.declared.event.Event.{Event}
 use Rattle.cip_events.specs.Outcomes.{Outcome}
-use Rattle.trace_outcomes.specs.declared.part.Part.{Part}
-use Rattle.trace_outcomes.specs.Parts.{part_reader}
-use Rattle.trace_outcomes.specs.Recorded.{recorded_with}
+use Rattle.trace_lines.specs.declared.part.Part.{Part}
+use Rattle.trace_lines.specs.Parts.{part_reader}
+use Rattle.trace_text.specs.Recorded.{recorded_with}
 use Rattle.trace_text.specs.Forms.{event_of, is_ascii}
-use Rattle.trace_words.specs.declared.words.LineFault.{LineFault}
-use Rattle.trace_words.specs.declared.words.LineFault.TheVariants.{Bad, OutOfMemory}
+use Rattle.trace_words.specs.declared.words.TextFault.{TextFault}
+use Rattle.trace_words.specs.declared.words.TextFault.TheVariants.{Bad, OutOfMemory}
 use Rattle.trace_words.specs.Reader.{Reader, ◌>>=◌, gives, next_word}
 use Rattle.trace_words.specs.Words.{number_of, words_of}
 use Rattle.trace_files.specs.declared.entry_reader.EntryReader.{EntryReader}
@@ -59,7 +59,7 @@ abbrev pub taken_line : EntryReader → List ℕ → Option Taken
 taken_line reader line = if begins_with_digit line then with_part reader (recorded_of line) else with_event reader (event_of line)
 
 -- A function did what the line does, or found it bad. If an allocation was refused, nothing is promised.
-abbrev pub TakesLine : Option Taken → Result (Option TraceEntry) LineFault → EntryReader → Type 0
+abbrev pub TakesLine : Option Taken → Result (Option TraceEntry) TextFault → EntryReader → Type 0
 TakesLine said (Ok entry) reader = said ≡ Some (entry, reader)
 TakesLine said (Err Bad) reader = said ≡ None
 TakesLine said (Err OutOfMemory) reader = Unit {0}

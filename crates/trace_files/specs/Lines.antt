@@ -9,8 +9,8 @@ use Rattle.trace_text.specs.Reading.{is_skipped, trace_reading}
 use Rattle.trace_files.specs.declared.entry_reader.EntryReader.{EntryReader}
 use Rattle.trace_files.specs.declared.entry_reader.TraceEntry.{TraceEntry}
 use Rattle.trace_files.specs.declared.profile_lines.ProfileLines.{ProfileLines}
-use Rattle.trace_files.specs.declared.trace_reader.Part.{Part}
-use Rattle.trace_files.specs.declared.trace_reader.Part.TheVariants as part
+use Rattle.trace_files.specs.declared.trace_reader.TracePart.{TracePart}
+use Rattle.trace_files.specs.declared.trace_reader.TracePart.TheVariants as part
 use Rattle.trace_files.specs.declared.trace_reader.TracePiece.{TracePiece}
 use Rattle.trace_files.specs.declared.trace_reader.TracePiece.TheVariants as piece
 use Rattle.trace_files.specs.Entries.{Taken, entry_of, taken_line}
@@ -88,7 +88,7 @@ StaysBefore old line (Ok (Some got)) new = ⊥
 StaysBefore old line (Err why) new = Gathers old line (Err why) new
 
 -- A reader read the line of this number.
-abbrev pub Reads : Part → Option ℕ → ℕ → List ℕ → Result (Option TracePiece) TraceFault → Part → Option ℕ → Type 0
+abbrev pub Reads : TracePart → Option ℕ → ℕ → List ℕ → Result (Option TracePiece) TraceFault → TracePart → Option ℕ → Type 0
 Reads (part.Profile old) wrong number line result (part.Profile new) after = StaysBefore old line result new × (after ≡ wrong)
 Reads (part.Profile old) wrong number line result (part.Entries new) after = IsFirst old line result new after
 Reads (part.Entries old) wrong number line result (part.Profile new) after = ⊥
@@ -109,6 +109,6 @@ EndsBehind last wrong (Err fault.OutOfMemory) = Unit {0}
 EndsBehind last wrong (Err why) = wrong ≡ Some why
 
 -- A reader ended with these bytes, in the line of this number.
-abbrev pub Ends : Part → Option ℕ → ℕ → List ℕ → Result TracePiece TraceFault → Type 0
+abbrev pub Ends : TracePart → Option ℕ → ℕ → List ℕ → Result TracePiece TraceFault → Type 0
 Ends (part.Profile profile) wrong number rest result = EndsBefore (config_of (trace_reading (profile.text.items ++ rest))) result
 Ends (part.Entries last) wrong number rest result = EndsBehind last (end_fault number wrong rest) result

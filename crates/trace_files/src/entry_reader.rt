@@ -2,16 +2,16 @@
 
 ghost use Rattle.std.specs.Prelude.{◌≡◌, IfOk};
 ghost use Rattle.trace_words.specs.Reader.{unread_words, Takes, Finds};
-ghost use Rattle.trace_text.specs.Forms.{event_of, is_ascii};
-ghost use Rattle.trace_files.specs.Entries.{begins_with_digit, entry_of, next_reader, recorded_of, recorded_reader, taken_line, with_event, with_part, TakesLine};
+ghost use Rattle.trace_text.specs.Forms.{event_of};
+ghost use Rattle.trace_files.specs.Entries.{begins_with_digit, entry_of, recorded_of, recorded_reader, taken_line, with_event, with_part, TakesLine};
 
 use cip_tables::{Event, Outcome};
 use cip_types::OutOfMemory;
 use std::alloc::Global;
-use std::{mem, str};
-use trace_outcomes::{Part, Recorded, read_part, recorded_with};
-use trace_text::read_event_line;
-use trace_words::{LineFault, Words};
+use std::mem;
+use trace_lines::{Part, read_part};
+use trace_text::{Recorded, ascii_text, read_event_line, recorded_with};
+use trace_words::{TextFault, Words};
 
 /// The event that came last, with its outcome as far as that is recorded, and its number, from 1.
 #[derive(Drop)]
@@ -43,7 +43,7 @@ impl EntryReader {
     /// Reads a line that is not skipped. If it is an event, the entry before it is whole, and is answered.
     ///
     /// The faults: `Bad` if the line is not allowed there, and `OutOfMemory`. After a fault the reader is of no use.
-    pub fn take(&mut self, alloc: Global, line: &[u8]) -> Result<Option<TraceEntry>, LineFault>
+    pub fn take(&mut self, alloc: Global, line: &[u8]) -> Result<Option<TraceEntry>, TextFault>
         ensures { TakesLine (taken_line self.old line.now) result self.new }
     {
         if begins_with_digit(line) {
@@ -61,7 +61,7 @@ impl EntryReader {
     }
 
     /// Reads the line of an event, in place of which the one before it is answered.
-    fn take_event(&mut self, alloc: Global, line: &[u8]) -> Result<Option<TraceEntry>, LineFault>
+    fn take_event(&mut self, alloc: Global, line: &[u8]) -> Result<Option<TraceEntry>, TextFault>
         ensures { TakesLine (with_event self.old (event_of line.now)) result self.new }
     {
         let event = read_event_line(alloc, line)?;
@@ -73,12 +73,12 @@ impl EntryReader {
     }
 
     /// Reads the line of a part of the outcome of the event that came last, whose number it has.
-    fn take_part(&mut self, alloc: Global, line: &[u8]) -> Result<Option<TraceEntry>, LineFault>
+    fn take_part(&mut self, alloc: Global, line: &[u8]) -> Result<Option<TraceEntry>, TextFault>
         ensures { TakesLine (with_part self.old (recorded_of line.now)) result self.new }
     {
         let (number, part) = read_recorded(alloc, line)?;
         if number != self.number {
-            return Err(LineFault::Bad);
+            return Err(TextFault::Bad);
         }
         let recorded = self.recorded.take();
         let outcome = recorded_with(alloc, recorded, part)?;
@@ -112,23 +112,14 @@ fn begins_with_digit(line: &[u8]) -> bool
 ///
 /// The faults: `Bad` if the line is none of a recorded outcome, and `OutOfMemory`.
 #[tactic(auto, unfolding(crate::specs::Entries::recorded_of))]
-fn read_recorded(alloc: Global, line: &[u8]) -> Result<(u64, Part), LineFault>
+fn read_recorded(alloc: Global, line: &[u8]) -> Result<(u64, Part), TextFault>
     ensures { Finds (recorded_of line.now) result }
 {
-    if !is_ascii(line) {
-        return Err(LineFault::Bad);
-    }
-    let text = unsafe { str::from_utf8_unchecked(line) };
+    let text = ascii_text(line).ok_or(TextFault::Bad)?;
     read_numbered(alloc, &mut Words::of(text))
 }
 
-fn is_ascii(line: &[u8]) -> bool
-    ensures { result ≡ is_ascii line.now }
-{
-    line.is_ascii()
-}
-
-fn read_numbered(alloc: Global, words: &mut Words<'_>) -> Result<(u64, Part), LineFault>
+fn read_numbered(alloc: Global, words: &mut Words<'_>) -> Result<(u64, Part), TextFault>
     ensures { Takes (recorded_reader (unread_words words.old)) result (unread_words words.new) }
 {
     let number = words.u64()?;

@@ -2,8 +2,8 @@
 
 ghost use Rattle.std.specs.Prelude.{◌≡◌, ◌↔◌, None, Err, IsTrue, IfOk, IfErr, OnOk, string_bytes};
 ghost use Rattle.cip_tables.specs.Run.{outcome_of, table_of};
-ghost use Rattle.cip_tables.specs.Step.{config_fault, makes_adapter, opening_table, same_kind, step};
-ghost use Rattle.trace_outcomes.specs.Written.{outcome_text};
+ghost use Rattle.cip_tables.specs.Step.{config_fault, opening_table, step};
+ghost use Rattle.trace_lines.specs.WrittenOutcomes.{outcome_text};
 ghost use Rattle.trace_stepper.specs.Stepping.{IsRefused};
 ghost use Rattle.trace_files.specs.Playing.{JudgesOn, StepsTo, WritesOutcome};
 ghost use Rattle.trace_files.specs.Profile.{one_more};
@@ -13,9 +13,8 @@ use cip_tables::{Config, Device, Event, NewFault, Outcome, StepFault};
 use cip_types::OutOfMemory;
 use std::alloc::Global;
 use std::io::Write;
-use trace_outcomes::Recorded;
 use trace_stepper::{StepperFault, agrees, write_text};
-use trace_text::push_outcome;
+use trace_text::{Recorded, push_outcome};
 
 /// A device that takes the entries of a trace one by one; their number so far; and the number of the first one whose
 /// recorded outcome was not given.
@@ -35,7 +34,7 @@ impl<D: Device + Drop> Player<D> {
         ensures table { IfOk result (λ player. D.table player.device ≡ opening_table config) }
         ensures count { IfOk result (λ player. player.count ≡ 0) }
         ensures differs { IfOk result (λ player. player.differs ≡ None) }
-        ensures fault { IfErr result (IsRefused (config_fault config) (same_kind D.ADAPTER (makes_adapter config))) }
+        ensures fault { IfErr result (IsRefused (config_fault config) (D.accepts config)) }
     {
         match D::new(alloc, config) {
             Ok(device) => Ok(Player {

@@ -41,7 +41,8 @@ impl ProfileLines {
     pub fn add(&mut self, alloc: Global, line: &[u8]) -> Result<(), TraceFault>
         ensures text { OnOk result (self.new.text.items ≡ self.old.text.items ++ kept_line line.now) }
         ensures lines { OnOk result (self.new.lines ≡ one_more self.old.lines) }
-        ensures fault { IfErr result (IsBadSoFar (self.old.text.items ++ kept_line line.now) (one_more self.old.lines)) }
+        ensures fault { IfErr result
+            (IsBadSoFar (self.old.text.items ++ kept_line line.now) (one_more self.old.lines)) }
     {
         add_line(&mut self.text, line)?;
         self.lines = self.lines.saturating_add(1);

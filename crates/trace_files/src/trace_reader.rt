@@ -12,7 +12,7 @@ use cip_tables::{Config, Event};
 use cip_types::OutOfMemory;
 use std::alloc::Global;
 use trace_text::{TraceFault, read_event_line};
-use trace_words::LineFault;
+use trace_words::TextFault;
 
 /// What the lines of a trace give, in this order: once the configuration, and then each entry.
 #[derive(Drop)]
@@ -25,7 +25,7 @@ pub enum TracePiece {
 
 /// The part of a trace that the lines so far are in.
 #[derive(Drop)]
-enum Part {
+enum TracePart {
     /// No event has come.
     Profile(ProfileLines),
     /// The profile is whole, and this is the event that came last.
@@ -43,7 +43,7 @@ enum Part {
 pub struct TraceReader {
     alloc: Global,
     lines: u64,
-    part: Part,
+    part: TracePart,
     wrong: Option<u8>,
 }
 
@@ -53,7 +53,7 @@ impl TraceReader {
         TraceReader {
             alloc,
             lines: 0,
-            part: Part::Profile(ProfileLines::new(alloc)),
+            part: TracePart::Profile(ProfileLines::new(alloc)),
             wrong: None,
         }
     }
@@ -64,19 +64,20 @@ impl TraceReader {
     /// The faults: `BadLine`, with the number of this line, or of an earlier one before the first event; `OutOfMemory`.
     pub fn take(&mut self, line: &[u8]) -> Result<Option<TracePiece>, TraceFault>
         ensures lines { self.new.lines ≡ one_more self.old.lines }
-        ensures line { Reads self.old.part self.old.wrong (one_more self.old.lines) line.now result self.new.part self.new.wrong }
+        ensures line { Reads self.old.part self.old.wrong
+            (one_more self.old.lines) line.now result self.new.part self.new.wrong }
     {
         self.lines = self.lines.saturating_add(1);
         match &mut self.part {
-            Part::Profile(profile) => match gather(self.alloc, profile, line)? {
+            TracePart::Profile(profile) => match gather(self.alloc, profile, line)? {
                 Some(event) => {
                     let config = profile.config(self.alloc, b"");
-                    self.part = Part::Entries(EntryReader::first(event));
+                    self.part = TracePart::Entries(EntryReader::first(event));
                     hand_out(config, &mut self.wrong)
                 }
                 None => Ok(None),
             },
-            Part::Entries(entries) => go_on(self.alloc, entries, self.wrong, self.lines, line),
+            TracePart::Entries(entries) => go_on(self.alloc, entries, self.wrong, self.lines, line),
         }
     }
 
@@ -95,8 +96,8 @@ impl TraceReader {
             wrong,
         } = self;
         match part {
-            Part::Profile(profile) => end_before(alloc, profile, rest),
-            Part::Entries(entries) => end_behind(
+            TracePart::Profile(profile) => end_before(alloc, profile, rest),
+            TracePart::Entries(entries) => end_behind(
                 alloc,
                 entries,
                 judge_end(lines.saturating_add(1), wrong, rest),
@@ -147,11 +148,11 @@ fn gather(
     }
     match read_event_line(alloc, line) {
         Ok(event) => Ok(Some(event)),
-        Err(LineFault::Bad) => {
+        Err(TextFault::Bad) => {
             profile.add(alloc, line)?;
             Ok(None)
         }
-        Err(LineFault::OutOfMemory) => Err(TraceFault::OutOfMemory),
+        Err(TextFault::OutOfMemory) => Err(TraceFault::OutOfMemory),
     }
 }
 
@@ -187,8 +188,8 @@ fn go_on(
     }
     match entries.take(alloc, line) {
         Ok(entry) => Ok(piece_of(wrong, entry)),
-        Err(LineFault::Bad) => Err(TraceFault::BadLine(number)),
-        Err(LineFault::OutOfMemory) => Err(TraceFault::OutOfMemory),
+        Err(TextFault::Bad) => Err(TraceFault::BadLine(number)),
+        Err(TextFault::OutOfMemory) => Err(TraceFault::OutOfMemory),
     }
 }
 

@@ -9,16 +9,17 @@ use Rattle.cip_events.specs.Outcomes.{Outcome}
 use Rattle.cip_tables.specs.declared.table.Config.{Config}
 use Rattle.trace_words.specs.Words.{node_word, bytes_word, line_text, number_of}
 use Rattle.trace_words.specs.Reader.{Reader, gives}
-use Rattle.trace_outcomes.specs.declared.part.Part.{Part}
-use Rattle.trace_outcomes.specs.Parts.{part_reader}
-use Rattle.trace_outcomes.specs.Recorded.{recorded_with}
+use Rattle.trace_lines.specs.declared.part.Part.{Part}
+use Rattle.trace_lines.specs.Kinds.{mode_of, mode_word}
+use Rattle.trace_lines.specs.Parts.{part_reader}
+use Rattle.trace_text.specs.Recorded.{recorded_with}
 use Rattle.trace_text.specs.declared.builder.TraceBuilder.{TraceBuilder}
 use Rattle.trace_text.specs.declared.builder.TraceBuilder.TheVariants.{Events}
 use Rattle.trace_text.specs.declared.forms.TraceLine.{TraceLine}
 use Rattle.trace_text.specs.declared.forms.TraceLine.TheVariants as line
-use Rattle.trace_text.specs.Forms.{line_reader, line_meanings, numbered, mode_of, event_only, event_of}
+use Rattle.trace_text.specs.Forms.{line_reader, line_meanings, numbered, event_only, event_of}
 use Rattle.trace_text.specs.Reading.{Entry, builder_with}
-use Rattle.trace_text.specs.Written.{event_words, mode_word}
+use Rattle.trace_text.specs.Written.{event_words}
 use Rattle.trace_laws.specs.TraceBack.{EventFits}
 use Rattle.trace_laws.proofs.WordLaws.{node_back, bytes_back}
 use Rattle.trace_laws.proofs.CleanWords.{decimal_clean, node_clean, bytes_clean}

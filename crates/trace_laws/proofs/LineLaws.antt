@@ -1,5 +1,5 @@
 -- A line of clean words is read word by word, and the text behind it follows.
-use Rattle.std.proofs.Common.{◌≡◌, ◌≢◌, ℕ, ◌+◌, ◌<◌, Bool, true, false, List, [], ◌∷◌, ◌++◌, length, Some, Ok, refl, sym, ap, ◌∙◌, arith, eqb, append_assoc}
+use Rattle.std.proofs.Common.{◌≡◌, ◌≢◌, ℕ, ◌+◌, ◌<◌, Bool, true, false, List, [], ◌∷◌, ◌++◌, length, Some, Ok, refl, ap, ◌∙◌, arith, eqb}
 use Rattle.std.specs.Prelude.{◌&&◌, nat_lt, ok_or}
 use Rattle.std.specs.List.{All, list_all, join_with_byte}
 use Rattle.std.proofs.lemmas.Bool.Decides.{nat_tests}
@@ -116,12 +116,3 @@ pub line_leads : (builder builder' : TraceBuilder) (c : ℕ) (cs : List ℕ) (wo
 line_leads builder builder' c cs words line rest other clean all read built = λ number.
     let parted : parts_of (join_with_byte 32 ((c ∷ cs) ∷ words) ++ 10 ∷ rest) ≡ join_with_byte 32 ((c ∷ cs) ∷ words) ∷ parts_of rest = slice_split_at is_line_feed (join_with_byte 32 ((c ∷ cs) ∷ words)) 10 rest (line_closed (c ∷ cs) words clean all) refl in
     (number + 1, ap (parsed_from number (Ok builder)) parted ∙ part_parsed number builder builder' (join_with_byte 32 ((c ∷ cs) ∷ words)) (parts_of rest) (some_part rest) (line_built builder builder' c cs words line other clean all read built))
-
--- the words of a line, right-nested, and what stands behind it
-abbrev pub spelled : List ℕ → List (List ℕ) → List ℕ → List ℕ
-spelled word [] rest = word ++ 10 ∷ rest
-spelled word (next ∷ words) rest = word ++ 32 ∷ spelled next words rest
-
-pub spelled_is : (word : List ℕ) (words : List (List ℕ)) (rest : List ℕ) → spelled word words rest ≡ join_with_byte 32 (word ∷ words) ++ 10 ∷ rest
-spelled_is word [] rest = refl
-spelled_is word (next ∷ words) rest = ap (λ t. word ++ 32 ∷ t) (spelled_is next words rest) ∙ sym (append_assoc word (32 ∷ join_with_byte 32 (next ∷ words)) (10 ∷ rest))

@@ -23,9 +23,9 @@ use Rattle.cip_events.specs.declared.event.Verdict.{Verdict}
 use Rattle.cip_events.specs.declared.event.Verdict.TheVariants as verdict
 use Rattle.cip_events.specs.Outcomes.{Outcome}
 use Rattle.trace_words.specs.Words.{node_word, nodes_word, bytes_word, id_word, general_word, extended_word, line_text}
-use Rattle.trace_outcomes.specs.declared.part.Part.TheVariants as part
-use Rattle.trace_outcomes.specs.Parts.{part_reader, verdict_of, fault_of, mismatch_of}
-use Rattle.trace_outcomes.specs.Written.{fault_word, delivery_word, verdict_words, triad_words, recipient_words, notice_words, frame_line, outgoing_line, notice_line, outcome_text}
+use Rattle.trace_lines.specs.declared.part.Part.TheVariants as part
+use Rattle.trace_lines.specs.Parts.{part_reader, verdict_of, fault_of, mismatch_of}
+use Rattle.trace_lines.specs.WrittenOutcomes.{fault_word, delivery_word, verdict_words, triad_words, recipient_words, notice_words, frame_line, outgoing_line, notice_line, outcome_text}
 use Rattle.trace_text.specs.declared.builder.TraceBuilder.{TraceBuilder}
 use Rattle.trace_text.specs.declared.builder.TraceBuilder.TheVariants.{Events}
 use Rattle.trace_text.specs.Reading.{Entry}

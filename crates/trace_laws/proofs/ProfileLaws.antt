@@ -1,28 +1,27 @@
 -- A profile that is written is read as itself.
 use Rattle.std.proofs.Common.{◌≡◌, ℕ, ◌<◌, ◌^◌, true, List, [], ◌∷◌, ◌++◌, Option, Some, None, refl, sym, ap, subst, arith, append_assoc}
-use Rattle.std.specs.Prelude.{decimal, codes, flat_map, IfSome}
+use Rattle.std.specs.Prelude.{decimal, codes, drop, flat_map, IfSome}
 use Rattle.std.specs.List.{All}
 use Rattle.std.proofs.lemmas.List.{append-nil}
-use Rattle.cip_types.specs.declared.names.Identity.{Identity}
 use Rattle.adapter_table.specs.declared.profile.Action.{Action}
 use Rattle.adapter_table.specs.declared.profile.Action.TheVariants.{Zero, Hold}
 use Rattle.adapter_table.specs.declared.profile.InputPoint.{InputPoint}
 use Rattle.adapter_table.specs.declared.profile.OutputPoint.{OutputPoint}
 use Rattle.adapter_table.specs.declared.profile.Profile.{Profile}
 use Rattle.cip_tables.specs.declared.table.Config.TheVariants as config
-use Rattle.trace_words.specs.Words.{number_of, node_word, action_word, line_text}
-use Rattle.trace_profiles.specs.declared.forms.AdapterLine.{AdapterLine}
-use Rattle.trace_profiles.specs.declared.forms.HeartbeatLine.{HeartbeatLine}
-use Rattle.trace_profiles.specs.Profiles.{identity_reader, profile_with}
-use Rattle.trace_profiles.specs.Written.{identity_words, adapter_words, output_words, point_words, heartbeat_words, config_text, profile_text}
+use Rattle.trace_words.specs.Words.{number_of, action_word, line_text}
+use Rattle.trace_lines.specs.declared.forms.AdapterLine.{AdapterLine}
+use Rattle.trace_lines.specs.declared.forms.HeartbeatLine.{HeartbeatLine}
+use Rattle.trace_lines.specs.Profiles.{profile_with}
+use Rattle.trace_lines.specs.WrittenProfiles.{adapter_words, output_words, point_words, heartbeat_words, config_text, profile_text}
 use Rattle.trace_text.specs.declared.builder.TraceBuilder.TheVariants.{Empty, Points, Configured, Events}
 use Rattle.trace_text.specs.declared.forms.TraceLine.TheVariants as line
 use Rattle.trace_text.specs.Forms.{line_reader}
-use Rattle.trace_laws.specs.TraceBack.{IdentityFits, OutputFits, InputFits, ProfileFits}
+use Rattle.trace_laws.specs.TraceBack.{OutputFits, InputFits, ProfileFits}
 use Rattle.trace_laws.proofs.WordLaws.{number_back, node_back, action_back}
 use Rattle.trace_laws.proofs.CleanWords.{decimal_clean, node_clean}
-use Rattle.trace_laws.proofs.LineLaws.{is_clean, are_clean, and_both}
-use Rattle.trace_laws.proofs.TextLaws.{first_of, rest_of, Reads, reads_none, reads_both, line_reads, next_reads}
+use Rattle.trace_laws.proofs.LineLaws.{is_clean, are_clean}
+use Rattle.trace_laws.proofs.TextLaws.{first_of, rest_of, Reads, reads_none, reads_both, line_reads}
 
 pub n8 : (n : ℕ) → n < 2 ^ 8 → number_of 8 (decimal n) ≡ Some n
 n8 n fits = number_back 8 n fits (omega (arith, fits))
@@ -38,19 +37,11 @@ n64 n fits = number_back 64 n fits fits
 
 -- THE LINES
 
-identity_read : (identity : Identity) → IdentityFits identity → identity_reader (identity_words identity) ≡ Some (identity, [])
-identity_read identity fits =
-    next_reads (number_of 16) _ _ _ identity.vendor _ (n16 _ fits.0)
-    (next_reads (number_of 16) _ _ _ identity.device_type _ (n16 _ fits.1)
-    (next_reads (number_of 16) _ _ _ identity.product _ (n16 _ fits.2)
-    (next_reads (number_of 8) _ _ _ identity.major _ (n8 _ fits.3)
-    (next_reads (number_of 8) _ _ _ identity.minor _ (n8 _ fits.4) refl))))
-
 abbrev adapter_line : Profile → AdapterLine
 adapter_line profile = record { incarnation = profile.incarnation; node = profile.node; mask = profile.mask; identity = profile.identity }
 
 adapter_read : (profile : Profile) → ProfileFits profile → line_reader (adapter_words profile) ≡ Some (line.Adapter (adapter_line profile), [])
-adapter_read profile fits = rw (n8 profile.incarnation fits.incarnation_fits, node_back profile.node fits.node_fits, node_back (record { 0 = profile.mask }) fits.mask_fits, identity_read profile.identity fits.identity_fits) refl
+adapter_read profile fits = rw (n8 profile.incarnation fits.incarnation_fits, node_back profile.node fits.node_fits, node_back (record { 0 = profile.mask }) fits.mask_fits, n16 profile.identity.vendor fits.identity_fits.0, n16 profile.identity.device_type fits.identity_fits.1, n16 profile.identity.product fits.identity_fits.2, n8 profile.identity.major fits.identity_fits.3, n8 profile.identity.minor fits.identity_fits.4) refl
 
 output_read : (point : OutputPoint) → OutputFits point → line_reader (output_words point) ≡ Some (line.Output point, [])
 output_read point fits = rw (n32 point.instance fits.0, n64 point.len fits.1, action_back point.idle, action_back point.fault) refl
@@ -81,9 +72,6 @@ c32 n fits = decimal_clean n (omega (arith, fits))
 action_clean : (action : Action) → is_clean (action_word action) ≡ true
 action_clean Zero = refl
 action_clean Hold = refl
-
-identity_clean : (identity : Identity) → IdentityFits identity → are_clean (identity_words identity) ≡ true
-identity_clean identity fits = rw (c16 identity.vendor fits.0, c16 identity.device_type fits.1, c16 identity.product fits.2, c8 identity.major fits.3, c8 identity.minor fits.4) refl
 
 -- ONE AFTER THE OTHER
 
@@ -121,13 +109,18 @@ ends_read profile (Some point) is fits fit =
     let last : Reads (Configured (adapter_line profile) profile.outputs profile.inputs point) (line_text (heartbeat_words profile)) (Events (config.Adapter (profile_with (adapter_line profile) profile.outputs profile.inputs (Some point) (heartbeat_line profile))) [] None) = line_reads _ _ (codes "heartbeat") (decimal profile.input_only ∷ decimal profile.listen_only ∷ []) (line.Heartbeat (heartbeat_line profile)) refl refl (heartbeat_clean profile fits) (heartbeat_read profile fits) refl in
     subst (λ p. Reads (Points (adapter_line profile) profile.outputs profile.inputs) (line_text (point_words (codes "config") point) ++ line_text (heartbeat_words profile)) (Events (config.Adapter p) [] None)) same (reads_both _ _ _ _ _ one last)
 
-adapter_clean : (profile : Profile) → ProfileFits profile → are_clean (decimal profile.incarnation ∷ node_word profile.node ∷ node_word (record { 0 = profile.mask }) ∷ identity_words profile.identity) ≡ true
+-- the words of an adapter behind its keyword
+abbrev behind_adapter : Profile → List (List ℕ)
+behind_adapter profile = drop 1 (adapter_words profile)
+
+adapter_clean : (profile : Profile) → ProfileFits profile → are_clean (behind_adapter profile) ≡ true
 adapter_clean profile fits =
-    and_both _ _ (c8 profile.incarnation fits.incarnation_fits) (and_both _ _ (node_clean profile.node) (and_both _ _ (node_clean (record { 0 = profile.mask })) (identity_clean profile.identity fits.identity_fits)))
+    let identity = fits.identity_fits in
+    rw (c8 profile.incarnation fits.incarnation_fits, node_clean profile.node, node_clean (record { 0 = profile.mask }), c16 profile.identity.vendor identity.0, c16 profile.identity.device_type identity.1, c16 profile.identity.product identity.2, c8 profile.identity.major identity.3, c8 profile.identity.minor identity.4) refl
 
 pub profile_read : (profile : Profile) → ProfileFits profile → Reads Empty (profile_text profile) (Events (config.Adapter profile) [] None)
 profile_read profile fits =
-    let one : Reads Empty (line_text (adapter_words profile)) (Points (adapter_line profile) [] []) = line_reads _ _ (codes "adapter") (decimal profile.incarnation ∷ node_word profile.node ∷ node_word (record { 0 = profile.mask }) ∷ identity_words profile.identity) (line.Adapter (adapter_line profile)) refl refl (adapter_clean profile fits) (adapter_read profile fits) refl in
+    let one : Reads Empty (line_text (adapter_words profile)) (Points (adapter_line profile) [] []) = line_reads _ _ (codes "adapter") (behind_adapter profile) (line.Adapter (adapter_line profile)) refl refl (adapter_clean profile fits) (adapter_read profile fits) refl in
     reads_both _ _ _ _ _ one
     (reads_both _ _ _ _ _ (outputs_read (adapter_line profile) [] profile.outputs fits.outputs_fit)
     (reads_both _ _ _ _ _ (inputs_read (adapter_line profile) profile.outputs [] profile.inputs fits.inputs_fit)

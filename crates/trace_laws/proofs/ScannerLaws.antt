@@ -1,7 +1,7 @@
 -- A scanner's profile that is written is read as itself.
 use Rattle.std.proofs.Common.{◌≡◌, ℕ, zero, suc, ◌<◌, ◌+◌, ◌^◌, ◌%◌, Bool, true, false, List, [], ◌∷◌, ◌++◌, length, Option, Some, None, refl, sym, ap, subst, ◌∙◌, arith, eqb, append_assoc}
 use Rattle.std.proofs.Math.Bridge.{le_prop}
-use Rattle.std.specs.Prelude.{decimal, codes, drop, flat_map, nat_le, if◌then◌else◌, IfSome}
+use Rattle.std.specs.Prelude.{decimal, codes, drop, flat_map, nat_le, if◌then◌else◌, option_and_then, IfSome}
 use Rattle.std.specs.List.{All}
 use Rattle.std.specs.Str.{all_ascii_digits}
 use Rattle.std.specs.Str.Parse.{digits_value}
@@ -22,10 +22,11 @@ use Rattle.cip_productions.specs.declared.kind.Kind.TheVariants.{ExclusiveOwner,
 use Rattle.scanner_table.specs.declared.profile.ScannerProfile.{ScannerProfile}
 use Rattle.scanner_table.specs.declared.profile.SlotConfig.{SlotConfig}
 use Rattle.trace_words.specs.Words.{number_of, node_of, bytes_of, instance_of, is_dash, bytes_word, line_text}
-use Rattle.trace_words.specs.Reader.{Reader, ◌>>=◌, next_word, gives, perhaps}
-use Rattle.trace_profiles.specs.declared.forms.Rate.{Rate}
-use Rattle.trace_profiles.specs.declared.forms.ScannerLine.{ScannerLine}
-use Rattle.trace_profiles.specs.Slots.{kind_of, multicast_of, trigger_of, key_of_bytes, key_with, key_reader, rate_reader, slot_reader, kind_word, multicast_word, instance_word, key_word, rate_words, slot_words, scanner_words, scanner_text}
+use Rattle.trace_words.specs.Reader.{Reader, ◌>>=◌, next_word, gives}
+use Rattle.trace_lines.specs.declared.forms.Rate.{Rate}
+use Rattle.trace_lines.specs.declared.forms.ScannerLine.{ScannerLine}
+use Rattle.trace_lines.specs.Kinds.{kind_of, multicast_of, trigger_of, key_of_bytes, key_of, key_with, kind_word, multicast_word, instance_word, key_word}
+use Rattle.trace_lines.specs.Slots.{rate_reader, slot_reader, rate_words, slot_words, scanner_words, scanner_text}
 use Rattle.trace_text.specs.declared.builder.TraceBuilder.TheVariants.{Empty, Slots}
 use Rattle.trace_text.specs.declared.forms.TraceLine.TheVariants as line
 use Rattle.trace_text.specs.Forms.{line_reader}
@@ -94,10 +95,10 @@ major_of : (compatible : Bool) (major : ℕ) → major < 128 → (major + (if co
 major_of true major small = omega (arith, small)
 major_of false major small = omega (arith, small)
 
-abbrev key_of : (v t p : ℕ) (c : Bool) (m n : ℕ) → m < 128 → ElectronicKey
-key_of v t p c m n s = record { vendor = v; device_type = t; product = p; compatible = c; major = m; minor = n; seven_bits = s }
+abbrev key_with_fields : (v t p : ℕ) (c : Bool) (m n : ℕ) → m < 128 → ElectronicKey
+key_with_fields v t p c m n s = record { vendor = v; device_type = t; product = p; compatible = c; major = m; minor = n; seven_bits = s }
 
-same_fields : (v v' t t' p p' m n : ℕ) (c c' : Bool) (s s' : m < 128) → v ≡ v' → t ≡ t' → p ≡ p' → c ≡ c' → key_of v t p c m n s ≡ key_of v' t' p' c' m n s'
+same_fields : (v v' t t' p p' m n : ℕ) (c c' : Bool) (s s' : m < 128) → v ≡ v' → t ≡ t' → p ≡ p' → c ≡ c' → key_with_fields v t p c m n s ≡ key_with_fields v' t' p' c' m n s'
 same_fields v v' t t' p p' m n c c' s s' ve te pe ce = λ i. record {
   vendor = ve i;
   device_type = te i;
@@ -109,8 +110,8 @@ same_fields v v' t t' p p' m n c c' s s' ve te pe ce = λ i. record {
 }
 
 -- a key is its fields: that its major revision has seven bits has one proof
-same_key : (v v' t t' p p' m m' n : ℕ) (c c' : Bool) (s : m < 128) (s' : m' < 128) → v ≡ v' → t ≡ t' → p ≡ p' → c ≡ c' → m ≡ m' → key_of v t p c m n s ≡ key_of v' t' p' c' m' n s'
-same_key v v' t t' p p' m m' n c c' s s' ve te pe ce me = subst (λ k. (s' : k < 128) → key_of v t p c m n s ≡ key_of v' t' p' c' k n s') me (λ s'. same_fields v v' t t' p p' m n c c' s s' ve te pe ce) s'
+same_key : (v v' t t' p p' m m' n : ℕ) (c c' : Bool) (s : m < 128) (s' : m' < 128) → v ≡ v' → t ≡ t' → p ≡ p' → c ≡ c' → m ≡ m' → key_with_fields v t p c m n s ≡ key_with_fields v' t' p' c' m' n s'
+same_key v v' t t' p p' m m' n c c' s s' ve te pe ce me = subst (λ k. (s' : k < 128) → key_with_fields v t p c m n s ≡ key_with_fields v' t' p' c' k n s') me (λ s'. same_fields v v' t t' p p' m n c c' s s' ve te pe ce) s'
 
 key_same : (key : ElectronicKey) → KeyFits key → key_with (key_bytes (Some key)) ≡ key
 key_same key fits = same_key _ _ _ _ _ _ _ _ _ _ _ _ _
@@ -148,10 +149,10 @@ all_bytes : (key : Option ElectronicKey) → IfSome key KeyFits → IsBytes (key
 all_bytes None fits i = omega arith
 all_bytes (Some key) fits i = bytes_fit key fits i
 
-key_read : (key : Option ElectronicKey) (words : List (List ℕ)) → IfSome key KeyFits → key_reader (key_word key ∷ words) ≡ Some (key, words)
-key_read key words fits =
+key_read : (key : Option ElectronicKey) → IfSome key KeyFits → key_of (key_word key) ≡ Some key
+key_read key fits =
     let spelled : bytes_of (key_word key) ≡ Some (key_bytes key) = ap bytes_of (key_is_bytes key) ∙ bytes_back (key_bytes key) (all_bytes key fits) in
-    next_reads bytes_of _ _ words (key_bytes key) _ spelled (ap (λ k. perhaps k words) (key_back key fits))
+    ap (option_and_then key_of_bytes) spelled ∙ key_back key fits
 
 key_clean : (key : Option ElectronicKey) → IfSome key KeyFits → is_clean (key_word key) ≡ true
 key_clean key fits = ap is_clean (key_is_bytes key) ∙ bytes_clean (key_bytes key) (all_bytes key fits)
@@ -213,7 +214,7 @@ slot_read slot fits =
     (next_reads (number_of 32) _ _ _ slot.t_o_rpi _ (n32 _ fits.t_o_rpi_fits)
     (next_reads (number_of 8) _ _ _ slot.mult _ (n8 _ fits.mult_fits)
     (next_reads multicast_of _ _ _ slot.multicast _ (multicast_back slot.multicast)
-    (then_reads key_reader (then_key slot) (key_word slot.key ∷ bytes_word slot.config_data ∷ rate_words slot.trigger slot.inhibit) slot.key (bytes_word slot.config_data ∷ rate_words slot.trigger slot.inhibit) _ (key_read slot.key _ fits.key_fits)
+    (next_reads key_of (then_key slot) _ (bytes_word slot.config_data ∷ rate_words slot.trigger slot.inhibit) slot.key _ (key_read slot.key fits.key_fits)
     (next_reads bytes_of (then_data slot slot.key) _ (rate_words slot.trigger slot.inhibit) slot.config_data _ (bytes_back slot.config_data fits.config_data_fits)
     (then_reads rate_reader (then_rate slot slot.key slot.config_data) (rate_words slot.trigger slot.inhibit) (record { trigger = slot.trigger; inhibit = slot.inhibit }) [] _ (rate_read slot.trigger slot.inhibit fits.inhibit_fits) refl)))))))))))))
 

@@ -10,7 +10,7 @@ use Rattle.cip_events.specs.Outcomes.{Outcome}
 use Rattle.cip_tables.specs.declared.table.Config.{Config}
 use Rattle.cip_tables.specs.declared.table.Config.TheVariants as config
 use Rattle.cip_tables.specs.Step.{config_fault}
-use Rattle.trace_profiles.specs.Written.{profile_text}
+use Rattle.trace_lines.specs.WrittenProfiles.{profile_text}
 use Rattle.trace_text.specs.declared.builder.TraceBuilder.TheVariants.{Empty, Slots, Events}
 use Rattle.trace_text.specs.declared.trace.Trace.{Trace}
 use Rattle.trace_text.specs.Reading.{Entry, trace_reading, parsed_from, parsed, judged, parts_of}
@@ -18,7 +18,7 @@ use Rattle.trace_text.specs.Written.{event_words, recorded_text, entries_text, t
 use Rattle.trace_words.specs.Words.{line_text}
 use Rattle.scanner_table.specs.declared.profile.ScannerProfile.{ScannerProfile}
 use Rattle.scanner_table.specs.Profiles as scanner
-use Rattle.trace_profiles.specs.Slots.{scanner_text}
+use Rattle.trace_lines.specs.Slots.{scanner_text}
 use Rattle.trace_laws.specs.TraceBack.{ProfileFits, ScannerFits, OutcomeFits, EntryFits}
 use Rattle.trace_laws.proofs.ProfileLaws.{profile_read}
 use Rattle.trace_laws.proofs.EventLaws.{event_read, event_reads}

@@ -1,6 +1,6 @@
 -- How a recorder writes a trace piece by piece: the profile, and then each event with its outcome. What is written is the
 -- text of the trace at each moment, and the line of an event alone is that event's.
-use Rattle.std.specs.Prelude.{ℕ, ◌≡◌, ◌+◌, List, [], ◌∷◌, ◌++◌, length, Some}
+use Rattle.std.specs.Prelude.{◌≡◌, ◌+◌, List, [], ◌∷◌, ◌++◌, length, Some}
 use Rattle.std.specs.List.{join_with_byte}
 use Rattle.cip_events.specs.declared.event.Event.{Event}
 use Rattle.cip_tables.specs.declared.table.Config.{Config}

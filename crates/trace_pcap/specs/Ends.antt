@@ -5,7 +5,7 @@ use Rattle.cip_tables.specs.declared.table.Config.{Config}
 use Rattle.cip_tables.specs.declared.table.Config.TheVariants.{Adapter, Scanner}
 use Rattle.trace_pcap.specs.declared.ends.Side.{Side}
 use Rattle.trace_pcap.specs.declared.ends.Ends.{Ends}
-use Rattle.trace_pcap.specs.declared.ends.Stream.{Stream}
+use Rattle.trace_pcap.specs.declared.ends.CapturedStream.{CapturedStream}
 
 -- an adapter's peers open its streams; a scanner opens its streams
 abbrev pub side_of : Config → Side
@@ -13,7 +13,7 @@ side_of (Adapter profile) = record { node = profile.node; opens = false }
 side_of (Scanner profile) = record { node = profile.node; opens = true }
 
 -- the end that opens a stream has the stream's port, and the other end the port of explicit messages
-abbrev pub ends_from_device : Side → Stream → Ends
+abbrev pub ends_from_device : Side → CapturedStream → Ends
 ends_from_device side stream = record {
   source = side.node;
   source_port = (if side.opens then stream.port else 44818);
@@ -21,7 +21,7 @@ ends_from_device side stream = record {
   destination_port = (if side.opens then 44818 else stream.port);
 }
 
-abbrev pub ends_to_device : Side → Stream → Ends
+abbrev pub ends_to_device : Side → CapturedStream → Ends
 ends_to_device side stream = record {
   source = stream.peer;
   source_port = (if side.opens then 44818 else stream.port);

@@ -11,7 +11,7 @@ use Rattle.cip_events.specs.declared.event.Recipient.{Recipient}
 use Rattle.cip_events.specs.declared.event.Recipient.TheVariants.{Stream, Peer}
 use Rattle.cip_events.specs.declared.event.Notice.{Notice}
 use Rattle.cip_events.specs.declared.event.Notice.TheVariants.{StreamClosed}
-use Rattle.trace_pcap.specs.declared.ends.Stream as opened
+use Rattle.trace_pcap.specs.declared.ends.CapturedStream as opened
 use Rattle.trace_pcap.specs.declared.headers.Control.{Control}
 use Rattle.trace_pcap.specs.declared.traffic.Moment.{Moment}
 use Rattle.trace_pcap.specs.Ends.{ends_to_device, ends_from_device, datagram_ends, is_multicast, stream_port}
@@ -20,39 +20,39 @@ use Rattle.trace_pcap.specs.Packets.{shown, tcp_record, udp_record}
 -- STREAMS
 
 abbrev pub Streams : Type 0
-Streams = List opened.Stream
+Streams = List opened.CapturedStream
 
 -- the open stream of a number
-abbrev pub stream_of : ℕ → Streams → Option opened.Stream
+abbrev pub stream_of : ℕ → Streams → Option opened.CapturedStream
 stream_of number streams = find (λ stream. stream.number == number) streams
 
 abbrev pub without : ℕ → Streams → Streams
 without number streams = filter (λ stream. not (stream.number == number)) streams
 
 -- the stream in place of the one with its number
-abbrev pub replaced_stream : opened.Stream → Streams → Streams
+abbrev pub replaced_stream : opened.CapturedStream → Streams → Streams
 replaced_stream stream streams = without stream.number streams ++ stream ∷ []
 
 -- SEGMENTS
 
-abbrev pub control_to_device : opened.Stream → ℕ → Control
+abbrev pub control_to_device : opened.CapturedStream → ℕ → Control
 control_to_device stream bits = record { sequence = stream.received; acknowledgement = stream.sent; bits = bits }
 
-abbrev pub control_from_device : opened.Stream → ℕ → Control
+abbrev pub control_from_device : opened.CapturedStream → ℕ → Control
 control_from_device stream bits = record { sequence = stream.sent; acknowledgement = stream.received; bits = bits }
 
 -- a segment from the peer of a stream to the device
-unfoldable pub to_device_record : Moment → opened.Stream → ℕ → List ℕ → List ℕ
+unfoldable pub to_device_record : Moment → opened.CapturedStream → ℕ → List ℕ → List ℕ
 to_device_record moment stream bits bytes = tcp_record moment.time (ends_to_device moment.side stream) (control_to_device stream bits) bytes
 
 -- a segment from the device to the peer of a stream
-unfoldable pub from_device_record : Moment → opened.Stream → ℕ → List ℕ → List ℕ
+unfoldable pub from_device_record : Moment → opened.CapturedStream → ℕ → List ℕ → List ℕ
 from_device_record moment stream bits bytes = tcp_record moment.time (ends_from_device moment.side stream) (control_from_device stream bits) bytes
 
 -- OPENING
 
 -- a stream of which these bytes were sent, by its peer and by the device
-abbrev pub stream_at : Moment → ℕ → Node → ℕ → ℕ → opened.Stream
+abbrev pub stream_at : Moment → ℕ → Node → ℕ → ℕ → opened.CapturedStream
 stream_at moment number peer received sent = record { number = number; peer = peer; port = stream_port moment.number; received = received; sent = sent }
 
 -- The end that opens sends SYN, the other one SYN and ACK, the first one ACK (RFC 9293, section 3.5). The numbers of
@@ -77,20 +77,20 @@ opened_streams moment number peer streams = replaced_stream (stream_at moment nu
 
 -- DATA: control bits PSH and ACK
 
-abbrev pub received_records : Moment → List ℕ → Option opened.Stream → List ℕ
+abbrev pub received_records : Moment → List ℕ → Option opened.CapturedStream → List ℕ
 received_records moment bytes None = []
 received_records moment bytes (Some stream) = to_device_record moment stream 24 bytes
 
-abbrev pub received_streams : List ℕ → Option opened.Stream → Streams → Streams
+abbrev pub received_streams : List ℕ → Option opened.CapturedStream → Streams → Streams
 received_streams bytes None streams = streams
 received_streams bytes (Some stream) streams =
     replaced_stream (record stream { received = (stream.received + length (shown 65495 bytes)) % 2 ^ 32 }) streams
 
-abbrev pub sent_records : Moment → List ℕ → Option opened.Stream → List ℕ
+abbrev pub sent_records : Moment → List ℕ → Option opened.CapturedStream → List ℕ
 sent_records moment bytes None = []
 sent_records moment bytes (Some stream) = from_device_record moment stream 24 bytes
 
-abbrev pub sent_streams : List ℕ → Option opened.Stream → Streams → Streams
+abbrev pub sent_streams : List ℕ → Option opened.CapturedStream → Streams → Streams
 sent_streams bytes None streams = streams
 sent_streams bytes (Some stream) streams =
     replaced_stream (record stream { sent = (stream.sent + length (shown 65495 bytes)) % 2 ^ 32 }) streams
@@ -98,12 +98,12 @@ sent_streams bytes (Some stream) streams =
 -- THE END OF A STREAM
 
 -- a stream that breaks, or that its peer closes: RST and ACK of the peer
-abbrev pub cut_records : Moment → Option opened.Stream → List ℕ
+abbrev pub cut_records : Moment → Option opened.CapturedStream → List ℕ
 cut_records moment None = []
 cut_records moment (Some stream) = to_device_record moment stream 20 []
 
 -- a stream that the device closes: its FIN and ACK
-abbrev pub closed_records : Moment → Option opened.Stream → List ℕ
+abbrev pub closed_records : Moment → Option opened.CapturedStream → List ℕ
 closed_records moment None = []
 closed_records moment (Some stream) = from_device_record moment stream 17 []
 

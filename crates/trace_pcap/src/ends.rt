@@ -32,7 +32,7 @@ pub struct Ends {
 /// An open stream: its number, its peer, the port of the end that opened it, and the next sequence number of the peer
 /// and of the device.
 #[derive(Clone, Copy)]
-pub struct Stream {
+pub struct CapturedStream {
     pub number: u16,
     pub peer: Node,
     pub port: u16,
@@ -40,7 +40,7 @@ pub struct Stream {
     pub sent: u32,
 }
 
-impl Numbered for Stream {
+impl Numbered for CapturedStream {
     ghost number = { λ stream. stream.number };
 
     fn number(&self) -> u16 {
@@ -65,7 +65,7 @@ pub fn side_of(config: &Config) -> Side
 }
 
 /// The ends of a segment from the peer of a stream to the device.
-pub fn ends_to_device(side: Side, stream: &Stream) -> Ends
+pub fn ends_to_device(side: Side, stream: &CapturedStream) -> Ends
     ensures { result ≡ ends_to_device side stream.now }
 {
     let ends = ends_from_device(side, stream);
@@ -78,7 +78,7 @@ pub fn ends_to_device(side: Side, stream: &Stream) -> Ends
 }
 
 /// The ends of a segment from the device to the peer of a stream.
-pub fn ends_from_device(side: Side, stream: &Stream) -> Ends
+pub fn ends_from_device(side: Side, stream: &CapturedStream) -> Ends
     ensures { result ≡ ends_from_device side stream.now }
 {
     let (source_port, destination_port) = if side.opens {

@@ -1,6 +1,6 @@
 //! The headers of packets.
 
-ghost use Rattle.std.specs.Prelude.{◌≡◌, ◌+◌, ◌≤◌, ◌<◌, length};
+ghost use Rattle.std.specs.Prelude.{◌≡◌, ◌+◌, ◌≤◌};
 ghost use Rattle.trace_pcap.specs.Headers.{ipv4_header, udp_header, tcp_header, pseudo_header, time_to_live};
 
 use crate::ends::{Ends, is_multicast};

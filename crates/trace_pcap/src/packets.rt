@@ -73,7 +73,8 @@ fn push_packet(
     payload: &[u8],
 ) -> Result<(), OutOfMemory>
     requires { length header.now + length payload.now ≤ 65515 }
-    ensures { OnOk result (out.new.items ≡ out.old.items ++ packet_record time ends.now protocol header.now payload.now) }
+    ensures { OnOk result
+        (out.new.items ≡ out.old.items ++ packet_record time ends.now protocol header.now payload.now) }
 {
     let len = (header.len() + payload.len()) as u16;
     let checksum = ipv4_checksum(ends, protocol, len);

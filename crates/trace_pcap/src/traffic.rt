@@ -1,10 +1,11 @@
 //! The packets of a trace's events.
 
-ghost use Rattle.std.specs.Prelude.{◌≡◌, ◌++◌, OnOk, length};
+ghost use Rattle.std.specs.Prelude.{◌≡◌, ◌++◌, OnOk};
 ghost use Rattle.trace_pcap.specs.Traffic.{without, replaced_stream, stream_of, control_to_device, control_from_device, to_device_record, from_device_record, stream_at, dialed_records, accepted_records, opening_records, opened_streams, received_records, received_streams, sent_records, sent_streams, cut_records, closed_records, event_records, event_streams, frame_records, frame_streams, frames_records, frames_streams, copies_records, outgoing_records, datagrams_records, notice_records, notice_streams, notices_records, notices_streams, answer_records, answer_streams};
 
 use crate::ends::{
-    Side, Stream, datagram_ends, ends_from_device, ends_to_device, is_multicast, stream_port,
+    CapturedStream, Side, datagram_ends, ends_from_device, ends_to_device, is_multicast,
+    stream_port,
 };
 use crate::headers::Control;
 use crate::packets::{MOST_TCP, push_tcp, push_udp, shown};
@@ -39,14 +40,17 @@ pub struct Moment {
 }
 
 /// Puts the stream in place of the one with its number.
-fn replace_stream(streams: &mut Vec<Stream>, stream: Stream) -> Result<(), OutOfMemory>
+fn replace_stream(
+    streams: &mut Vec<CapturedStream>,
+    stream: CapturedStream,
+) -> Result<(), OutOfMemory>
     ensures { OnOk result (streams.new.items ≡ replaced_stream stream streams.old.items) }
 {
     drop_stream(streams, stream.number);
     add_stream(streams, stream)
 }
 
-fn control_to_device(stream: &Stream, bits: u8) -> Control
+fn control_to_device(stream: &CapturedStream, bits: u8) -> Control
     ensures { result ≡ control_to_device stream.now bits }
 {
     Control {
@@ -56,7 +60,7 @@ fn control_to_device(stream: &Stream, bits: u8) -> Control
     }
 }
 
-fn control_from_device(stream: &Stream, bits: u8) -> Control
+fn control_from_device(stream: &CapturedStream, bits: u8) -> Control
     ensures { result ≡ control_from_device stream.now bits }
 {
     Control {
@@ -71,7 +75,7 @@ fn control_from_device(stream: &Stream, bits: u8) -> Control
 fn push_to_device(
     out: &mut Vec<u8>,
     moment: Moment,
-    stream: &Stream,
+    stream: &CapturedStream,
     bits: u8,
     bytes: &[u8],
 ) -> Result<(), OutOfMemory>
@@ -92,7 +96,7 @@ fn push_to_device(
 fn push_from_device(
     out: &mut Vec<u8>,
     moment: Moment,
-    stream: &Stream,
+    stream: &CapturedStream,
     bits: u8,
     bytes: &[u8],
 ) -> Result<(), OutOfMemory>
@@ -109,10 +113,10 @@ fn push_from_device(
 }
 
 /// A stream of which this many bytes were sent, by its peer and by the device.
-fn stream_at(moment: Moment, number: u16, peer: Node, received: u32, sent: u32) -> Stream
+fn stream_at(moment: Moment, number: u16, peer: Node, received: u32, sent: u32) -> CapturedStream
     ensures { result ≡ stream_at moment number peer received sent }
 {
-    Stream {
+    CapturedStream {
         number,
         peer,
         port: stream_port(moment.number),
@@ -178,7 +182,7 @@ fn push_opening(
 /// A stream opens, or opens anew.
 fn push_opened(
     out: &mut Vec<u8>,
-    streams: &mut Vec<Stream>,
+    streams: &mut Vec<CapturedStream>,
     moment: Moment,
     number: u16,
     peer: Node,
@@ -193,13 +197,15 @@ fn push_opened(
 /// The peer of a stream sends bytes.
 fn push_received(
     out: &mut Vec<u8>,
-    streams: &mut Vec<Stream>,
+    streams: &mut Vec<CapturedStream>,
     moment: Moment,
     number: u16,
     bytes: &[u8],
 ) -> Result<(), OutOfMemory>
-    ensures records { OnOk result (out.new.items ≡ out.old.items ++ received_records moment bytes.now (stream_of number streams.old.items)) }
-    ensures streams { OnOk result (streams.new.items ≡ received_streams bytes.now (stream_of number streams.old.items) streams.old.items) }
+    ensures records { OnOk result
+        (out.new.items ≡ out.old.items ++ received_records moment bytes.now (stream_of number streams.old.items)) }
+    ensures streams { OnOk result
+        (streams.new.items ≡ received_streams bytes.now (stream_of number streams.old.items) streams.old.items) }
 {
     let Some(stream) = find_stream(streams.as_slice(), number) else {
         return Ok(());
@@ -208,7 +214,7 @@ fn push_received(
     let len = shown(MOST_TCP, bytes).len() as u32;
     replace_stream(
         streams,
-        Stream {
+        CapturedStream {
             received: stream.received.wrapping_add(len),
             ..stream
         },
@@ -218,13 +224,15 @@ fn push_received(
 /// The device sends bytes over a stream.
 fn push_sent(
     out: &mut Vec<u8>,
-    streams: &mut Vec<Stream>,
+    streams: &mut Vec<CapturedStream>,
     moment: Moment,
     number: u16,
     bytes: &[u8],
 ) -> Result<(), OutOfMemory>
-    ensures records { OnOk result (out.new.items ≡ out.old.items ++ sent_records moment bytes.now (stream_of number streams.old.items)) }
-    ensures streams { OnOk result (streams.new.items ≡ sent_streams bytes.now (stream_of number streams.old.items) streams.old.items) }
+    ensures records { OnOk result
+        (out.new.items ≡ out.old.items ++ sent_records moment bytes.now (stream_of number streams.old.items)) }
+    ensures streams { OnOk result
+        (streams.new.items ≡ sent_streams bytes.now (stream_of number streams.old.items) streams.old.items) }
 {
     let Some(stream) = find_stream(streams.as_slice(), number) else {
         return Ok(());
@@ -233,7 +241,7 @@ fn push_sent(
     let len = shown(MOST_TCP, bytes).len() as u32;
     replace_stream(
         streams,
-        Stream {
+        CapturedStream {
             sent: stream.sent.wrapping_add(len),
             ..stream
         },
@@ -243,11 +251,12 @@ fn push_sent(
 /// A stream breaks, or its peer closes it.
 fn push_cut(
     out: &mut Vec<u8>,
-    streams: &mut Vec<Stream>,
+    streams: &mut Vec<CapturedStream>,
     moment: Moment,
     number: u16,
 ) -> Result<(), OutOfMemory>
-    ensures records { OnOk result (out.new.items ≡ out.old.items ++ cut_records moment (stream_of number streams.old.items)) }
+    ensures records { OnOk result
+        (out.new.items ≡ out.old.items ++ cut_records moment (stream_of number streams.old.items)) }
     ensures streams { OnOk result (streams.new.items ≡ without number streams.old.items) }
 {
     if let Some(stream) = find_stream(streams.as_slice(), number) {
@@ -260,11 +269,12 @@ fn push_cut(
 /// The device closes a stream.
 fn push_closed(
     out: &mut Vec<u8>,
-    streams: &mut Vec<Stream>,
+    streams: &mut Vec<CapturedStream>,
     moment: Moment,
     number: u16,
 ) -> Result<(), OutOfMemory>
-    ensures records { OnOk result (out.new.items ≡ out.old.items ++ closed_records moment (stream_of number streams.old.items)) }
+    ensures records { OnOk result
+        (out.new.items ≡ out.old.items ++ closed_records moment (stream_of number streams.old.items)) }
     ensures streams { OnOk result (streams.new.items ≡ without number streams.old.items) }
 {
     if let Some(stream) = find_stream(streams.as_slice(), number) {
@@ -277,7 +287,7 @@ fn push_closed(
 /// What arrives at the device in an event.
 pub fn push_event(
     out: &mut Vec<u8>,
-    streams: &mut Vec<Stream>,
+    streams: &mut Vec<CapturedStream>,
     moment: Moment,
     event: &Event,
 ) -> Result<(), OutOfMemory>
@@ -300,7 +310,7 @@ pub fn push_event(
 
 fn push_frame(
     out: &mut Vec<u8>,
-    streams: &mut Vec<Stream>,
+    streams: &mut Vec<CapturedStream>,
     moment: Moment,
     frame: &Frame,
 ) -> Result<(), OutOfMemory>
@@ -317,11 +327,12 @@ fn push_frame(
 
 fn push_frames(
     out: &mut Vec<u8>,
-    streams: &mut Vec<Stream>,
+    streams: &mut Vec<CapturedStream>,
     moment: Moment,
     frames: &[Frame],
 ) -> Result<(), OutOfMemory>
-    ensures records { OnOk result (out.new.items ≡ out.old.items ++ frames_records moment frames.now streams.old.items) }
+    ensures records { OnOk result
+        (out.new.items ≡ out.old.items ++ frames_records moment frames.now streams.old.items) }
     ensures streams { OnOk result (streams.new.items ≡ frames_streams frames.now streams.old.items) }
 {
     for frame in frames {
@@ -376,11 +387,12 @@ fn push_datagrams(
 
 fn push_notice(
     out: &mut Vec<u8>,
-    streams: &mut Vec<Stream>,
+    streams: &mut Vec<CapturedStream>,
     moment: Moment,
     notice: &Notice,
 ) -> Result<(), OutOfMemory>
-    ensures records { OnOk result (out.new.items ≡ out.old.items ++ notice_records moment notice.now streams.old.items) }
+    ensures records { OnOk result
+        (out.new.items ≡ out.old.items ++ notice_records moment notice.now streams.old.items) }
     ensures streams { OnOk result (streams.new.items ≡ notice_streams notice.now streams.old.items) }
 {
     match notice {
@@ -391,11 +403,12 @@ fn push_notice(
 
 fn push_notices(
     out: &mut Vec<u8>,
-    streams: &mut Vec<Stream>,
+    streams: &mut Vec<CapturedStream>,
     moment: Moment,
     notices: &[Notice],
 ) -> Result<(), OutOfMemory>
-    ensures records { OnOk result (out.new.items ≡ out.old.items ++ notices_records moment notices.now streams.old.items) }
+    ensures records { OnOk result
+        (out.new.items ≡ out.old.items ++ notices_records moment notices.now streams.old.items) }
     ensures streams { OnOk result (streams.new.items ≡ notices_streams notices.now streams.old.items) }
 {
     for notice in notices {
@@ -407,11 +420,12 @@ fn push_notices(
 /// What the device sends and closes in an answer: its frames, its datagrams, and the streams that it closed.
 pub fn push_answer(
     out: &mut Vec<u8>,
-    streams: &mut Vec<Stream>,
+    streams: &mut Vec<CapturedStream>,
     moment: Moment,
     answer: &Answer,
 ) -> Result<(), OutOfMemory>
-    ensures records { OnOk result (out.new.items ≡ out.old.items ++ answer_records moment answer.now streams.old.items) }
+    ensures records { OnOk result
+        (out.new.items ≡ out.old.items ++ answer_records moment answer.now streams.old.items) }
     ensures streams { OnOk result (streams.new.items ≡ answer_streams answer.now streams.old.items) }
 {
     push_frames(out, streams, moment, answer.frames.as_slice())?;

@@ -4,14 +4,13 @@ ghost use Rattle.std.specs.Prelude.{◌≡◌, ◌++◌, [], IfOk, OnOk};
 ghost use Rattle.trace_pcap.specs.Traffic.{event_records, event_streams, answer_records, answer_streams};
 ghost use Rattle.trace_pcap.specs.Written.{later, is_refused, time_after, entry_records, entry_streams, entries_records, pcap_text};
 
-use crate::ends::{Side, Stream, side_of};
+use crate::ends::{CapturedStream, Side, side_of};
 use crate::packets::push_file_header;
 use crate::traffic::{Moment, push_answer, push_event};
 use cip_events::{Answer, Event};
 use cip_types::OutOfMemory;
 use std::alloc::Global;
-use trace_outcomes::Recorded;
-use trace_text::Trace;
+use trace_text::{Recorded, Trace};
 
 /// The bytes of a capture file with the packets of a trace: a classic pcap file of raw IPv4 packets, in the order of
 /// the trace. OutOfMemory is the only fault.
@@ -87,12 +86,13 @@ fn is_refused(recorded: &Recorded) -> bool
 /// Appends the packets of an event and of its recorded answer.
 fn push_entry(
     out: &mut Vec<u8>,
-    streams: &mut Vec<Stream>,
+    streams: &mut Vec<CapturedStream>,
     moment: Moment,
     event: &Event,
     recorded: &Recorded,
 ) -> Result<(), OutOfMemory>
-    ensures records { OnOk result (out.new.items ≡ out.old.items ++ entry_records moment event.now recorded.now streams.old.items) }
+    ensures records { OnOk result
+        (out.new.items ≡ out.old.items ++ entry_records moment event.now recorded.now streams.old.items) }
     ensures streams { OnOk result (streams.new.items ≡ entry_streams moment event.now recorded.now streams.old.items) }
 {
     match recorded.get() {
@@ -105,13 +105,17 @@ fn push_entry(
 /// Appends the packets of an event and of its answer.
 fn push_answered(
     out: &mut Vec<u8>,
-    streams: &mut Vec<Stream>,
+    streams: &mut Vec<CapturedStream>,
     moment: Moment,
     event: &Event,
     answer: &Answer,
 ) -> Result<(), OutOfMemory>
-    ensures records { OnOk result (out.new.items ≡ out.old.items ++ (event_records moment event.now streams.old.items ++ answer_records moment answer.now (event_streams moment event.now streams.old.items))) }
-    ensures streams { OnOk result (streams.new.items ≡ answer_streams answer.now (event_streams moment event.now streams.old.items)) }
+    ensures records { OnOk result
+        (out.new.items ≡ out.old.items
+        ++ (event_records moment event.now streams.old.items
+        ++ answer_records moment answer.now (event_streams moment event.now streams.old.items))) }
+    ensures streams { OnOk result
+        (streams.new.items ≡ answer_streams answer.now (event_streams moment event.now streams.old.items)) }
 {
     push_event(out, streams, moment, event)?;
     push_answer(out, streams, moment, answer)

@@ -4,7 +4,7 @@ use Rattle.std.specs.Io.KnownBytes.{Appends}
 use Rattle.cip_events.specs.Outcomes.{Outcome}
 use Rattle.cip_tables.specs.Step.{config_fault}
 use Rattle.trace_text.specs.declared.trace.Trace.{Trace}
-use Rattle.trace_outcomes.specs.Written.{outcomes_text}
+use Rattle.trace_lines.specs.WrittenOutcomes.{outcomes_text}
 use Rattle.trace_stepper.specs.declared.stepper.StepperFault.{StepperFault}
 use Rattle.trace_stepper.specs.declared.stepper.StepperFault.TheVariants as fault
 use Rattle.trace_stepper.specs.Compared.{IsJudged}
@@ -17,10 +17,10 @@ WritesFirst trace old new = (first : List Outcome) × ((rest : List Outcome) × 
 
 -- All outcomes are written, and the first one that differs from the recorded one is found; or an allocation was
 -- refused, and the first outcomes are written; or a write failed, and a beginning of the text is written; or the
--- profile is wrong, or for a device of the other kind, and nothing is written.
+-- profile is wrong, or not accepted by the device, and nothing is written.
 abbrev pub IsPlayed : Bool → Trace → Option (List ℕ) → Option (List ℕ) → Result (Option ℕ) StepperFault → Type 0
-IsPlayed same_kind trace old new (Ok differs) = Appends old new (outcomes_text 1 (outcomes_of_trace trace)) × IsJudged trace.events (outcomes_of_trace trace) (length trace.events) differs
-IsPlayed same_kind trace old new (Err fault.OutOfMemory) = WritesFirst trace old new
-IsPlayed same_kind trace old new (Err fault.Write) = BeginsToWrite old (outcomes_text 1 (outcomes_of_trace trace)) new
-IsPlayed same_kind trace old new (Err fault.Profile) = (config_fault trace.config ≢ None) × (new ≡ old)
-IsPlayed same_kind trace old new (Err fault.WrongKind) = (same_kind ≡ false) × (new ≡ old)
+IsPlayed accepted trace old new (Ok differs) = Appends old new (outcomes_text 1 (outcomes_of_trace trace)) × IsJudged trace.events (outcomes_of_trace trace) (length trace.events) differs
+IsPlayed accepted trace old new (Err fault.OutOfMemory) = WritesFirst trace old new
+IsPlayed accepted trace old new (Err fault.Write) = BeginsToWrite old (outcomes_text 1 (outcomes_of_trace trace)) new
+IsPlayed accepted trace old new (Err fault.Profile) = (config_fault trace.config ≢ None) × (new ≡ old)
+IsPlayed accepted trace old new (Err fault.WrongKind) = (accepted ≡ false) × (new ≡ old)

@@ -29,9 +29,9 @@ MovesOn old left (Err fault.Profile) new rest = ⊥
 MovesOn old left (Err fault.WrongKind) new rest = ⊥
 MovesOn old left (Err fault.Write) new rest = ⊥
 
--- a stepper is refused for the profile, or else for the kind of device, or else for lack of memory
+-- a stepper is refused for the profile, or else since the device does not accept it, or else for lack of memory
 abbrev pub IsRefused : Option ProfileFault → Bool → StepperFault → Type 0
-IsRefused wrong same_kind fault.Profile = wrong ≢ None
-IsRefused wrong same_kind fault.WrongKind = (wrong ≡ None) × (same_kind ≡ false)
-IsRefused wrong same_kind fault.OutOfMemory = (wrong ≡ None) × (same_kind ≡ true)
-IsRefused wrong same_kind fault.Write = ⊥
+IsRefused wrong accepted fault.Profile = wrong ≢ None
+IsRefused wrong accepted fault.WrongKind = (wrong ≡ None) × (accepted ≡ false)
+IsRefused wrong accepted fault.OutOfMemory = (wrong ≡ None) × (accepted ≡ true)
+IsRefused wrong accepted fault.Write = ⊥

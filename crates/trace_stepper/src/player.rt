@@ -1,9 +1,6 @@
 //! The outcomes of a trace, each written before the next step.
 
-ghost use Rattle.std.specs.Prelude.{◌≡◌, ◌<◌, ◌+◌, length, IfErr, OnOk, OnErr};
-ghost use Rattle.std.specs.Io.KnownBytes.{Appends};
-ghost use Rattle.trace_outcomes.specs.Written.{outcome_text};
-ghost use Rattle.cip_tables.specs.Step.{makes_adapter, same_kind};
+ghost use Rattle.std.specs.Prelude.{◌≡◌, ◌<◌, ◌+◌, length};
 ghost use Rattle.trace_stepper.specs.Compared.{JudgesOn};
 ghost use Rattle.trace_stepper.specs.Playing.{IsPlayed};
 
@@ -24,7 +21,7 @@ pub fn play<D: Device + Drop, O: Write>(
     trace: &Trace,
     out: &mut O,
 ) -> Result<Option<usize>, StepperFault>
-    ensures { IsPlayed (same_kind D.ADAPTER (makes_adapter trace.now.config)) trace.now (O.contents out.old) (O.contents out.new) result }
+    ensures { IsPlayed (D.accepts trace.now.config) trace.now (O.contents out.old) (O.contents out.new) result }
 {
     let mut stepper: Stepper<'_, D> = Stepper::new(alloc, trace)?;
     let mut text = String::new(alloc);

@@ -1,11 +1,11 @@
 //! A device that is stepped by the events of a trace.
 
 ghost use Rattle.std.specs.Prelude.{◌≡◌, ◌↔◌, true, None, Err, IsTrue, IfOk, IfErr, drop};
-ghost use Rattle.cip_tables.specs.Step.{opening_table, config_fault, makes_adapter, same_kind};
+ghost use Rattle.cip_tables.specs.Step.{opening_table, config_fault};
 ghost use Rattle.trace_stepper.specs.Stepping.{outcomes_of_trace, MovesOn, IsRefused};
 
 use crate::writing::NotTaken;
-use cip_tables::{Config, Device, NewFault, Outcome, StepFault};
+use cip_tables::{Device, NewFault, Outcome, StepFault};
 use cip_types::{Items, OutOfMemory};
 use std::alloc::{AllocFailed, Global};
 use thiserror::Error;
@@ -20,7 +20,7 @@ pub enum StepperFault {
     /// An allocation was refused.
     #[error("no memory")]
     OutOfMemory = 2,
-    /// The configuration is for the other kind of device.
+    /// The device is not made of such a configuration.
     #[error("wrong kind of device")]
     WrongKind = 3,
     /// The outcomes could not be written.
@@ -74,13 +74,13 @@ impl<'a, D: Device> Stepper<'a, D> {
         ensures table { IfOk result (λ stepper. D.table stepper.device ≡ opening_table trace.now.config) }
         ensures events { IfOk result (λ stepper. drop stepper.place stepper.trace.now.events ≡ trace.now.events) }
         ensures good { IfOk result (λ _. config_fault trace.now.config ≡ None) }
-        ensures kind { IfOk result (λ _. same_kind D.ADAPTER (makes_adapter trace.now.config) ≡ true) }
-        ensures fault { IfErr result (IsRefused (config_fault trace.now.config) (same_kind D.ADAPTER (makes_adapter trace.now.config))) }
+        ensures kind { IfOk result (λ _. D.accepts trace.now.config ≡ true) }
+        ensures fault { IfErr result (IsRefused (config_fault trace.now.config) (D.accepts trace.now.config)) }
     {
         if trace.check().is_err() {
             return Err(StepperFault::Profile);
         }
-        if D::ADAPTER != makes_adapter(&trace.config) {
+        if !D::is_accepted(&trace.config) {
             return Err(StepperFault::WrongKind);
         }
         let Ok(config) = trace.config.copy(alloc) else {
@@ -101,7 +101,8 @@ impl<'a, D: Device> Stepper<'a, D> {
     /// Steps the device by the next event, and answers the outcome; None after the last event. The one fault is
     /// `OutOfMemory`: then the same event is next again.
     pub fn next(&mut self) -> Result<Option<Outcome>, StepperFault>
-        ensures { MovesOn (D.table self.old.device) (drop self.old.place self.old.trace.now.events) result (D.table self.new.device) (drop self.new.place self.new.trace.now.events) }
+        ensures { MovesOn (D.table self.old.device) (drop self.old.place self.old.trace.now.events) result
+            (D.table self.new.device) (drop self.new.place self.new.trace.now.events) }
     {
         let Some(entry) = self.trace.events.as_slice().get(self.place) else {
             return Ok(None);
@@ -112,16 +113,6 @@ impl<'a, D: Device> Stepper<'a, D> {
         }
         self.place += 1;
         Ok(Some(outcome))
-    }
-}
-
-/// Whether an adapter is made of a configuration.
-fn makes_adapter(config: &Config) -> bool
-    ensures { result ≡ makes_adapter config.now }
-{
-    match config {
-        Config::Adapter(_) => true,
-        Config::Scanner(_) => false,
     }
 }
 
@@ -146,7 +137,7 @@ pub struct Report {
 /// The faults, in order: `Profile`, `WrongKind`, and `OutOfMemory` wherever an allocation was refused.
 pub fn replay<D: Device + Drop>(alloc: Global, trace: &Trace) -> Result<Report, StepperFault>
     ensures outcomes { IfOk result (λ report. report.outcomes ≡ outcomes_of_trace trace.now) }
-    ensures fault { IfErr result (IsRefused (config_fault trace.now.config) (same_kind D.ADAPTER (makes_adapter trace.now.config))) }
+    ensures fault { IfErr result (IsRefused (config_fault trace.now.config) (D.accepts trace.now.config)) }
 {
     let mut stepper: Stepper<'_, D> = Stepper::new(alloc, trace)?;
     let mut outcomes = Vec::new(alloc);

@@ -1,6 +1,5 @@
 //! Texts on streams that can fail.
 
-ghost use Rattle.std.specs.Prelude.{◌++◌};
 ghost use Rattle.trace_stepper.specs.Written.{IsTaken};
 
 use std::io::{ErrorKind, Write};

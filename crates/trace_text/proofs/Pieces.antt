@@ -6,9 +6,3 @@ two s0 s1 s2 a b text one next is = next ∙ ap (λ s. s ++ b) one ∙ append_as
 
 pub three : (s0 s1 s2 s3 a b c text : List ℕ) → s1 ≡ s0 ++ a → s2 ≡ s1 ++ b → s3 ≡ s2 ++ c → a ++ (b ++ c) ≡ text → s3 ≡ s0 ++ text
 three s0 s1 s2 s3 a b c text one next last is = two s0 s1 s3 a (b ++ c) text one (two s1 s2 s3 b c (b ++ c) next last refl) is
-
-pub four : (s0 s1 s2 s3 s4 a b c d text : List ℕ) → s1 ≡ s0 ++ a → s2 ≡ s1 ++ b → s3 ≡ s2 ++ c → s4 ≡ s3 ++ d → a ++ (b ++ (c ++ d)) ≡ text → s4 ≡ s0 ++ text
-four s0 s1 s2 s3 s4 a b c d text e1 e2 e3 e4 is = two s0 s1 s4 a (b ++ (c ++ d)) text e1 (three s1 s2 s3 s4 b c d (b ++ (c ++ d)) e2 e3 e4 refl) is
-
-pub five : (s0 s1 s2 s3 s4 s5 a b c d e text : List ℕ) → s1 ≡ s0 ++ a → s2 ≡ s1 ++ b → s3 ≡ s2 ++ c → s4 ≡ s3 ++ d → s5 ≡ s4 ++ e → a ++ (b ++ (c ++ (d ++ e))) ≡ text → s5 ≡ s0 ++ text
-five s0 s1 s2 s3 s4 s5 a b c d e text e1 e2 e3 e4 e5 is = two s0 s1 s5 a (b ++ (c ++ (d ++ e))) text e1 (four s1 s2 s3 s4 s5 b c d e (b ++ (c ++ (d ++ e))) e2 e3 e4 e5 refl) is

@@ -1,5 +1,5 @@
 -- The text of a scanner's trace as it is read, line by line and whole.
-use Rattle.std.proofs.Common.{◌≡◌, false, List, [], ◌∷◌, ℕ, codes, refl, Option, Some, None, Ok, Err}
+use Rattle.std.proofs.Common.{◌≡◌, false, [], ◌∷◌, codes, refl, None, Ok, Err}
 use Rattle.std.specs.Net.Reader.{read_ipv4, read_octet, read_number}
 use Rattle.cip_netparams.specs.declared.Trigger.TheVariants.{Cyclic}
 use Rattle.cip_productions.specs.declared.kind.Kind.TheVariants.{InputOnly}
@@ -8,7 +8,7 @@ use Rattle.scanner_table.specs.Profiles.{profile_fault}
 use Rattle.scanner_table.specs.declared.profile.SlotConfig.{SlotConfig}
 use Rattle.scanner_table.specs.declared.profile.ScannerProfile.{ScannerProfile}
 use Rattle.cip_tables.specs.declared.table.Config.TheVariants.{Scanner}
-use Rattle.trace_profiles.specs.Slots.{kind_of, multicast_of, key_of_bytes}
+use Rattle.trace_lines.specs.Kinds.{kind_of, multicast_of, key_of_bytes}
 use Rattle.trace_words.specs.Words.{number_of, node_of, bytes_of, instance_of}
 use Rattle.trace_text.specs.declared.trace.TraceFault.TheVariants.{BadLine, BadProfile}
 use Rattle.trace_text.specs.Forms.{line_of}

@@ -14,8 +14,8 @@ use Rattle.trace_text.specs.declared.trace.Trace.{Trace}
 use Rattle.trace_text.specs.declared.trace.TraceFault.{TraceFault}
 use Rattle.trace_text.specs.declared.trace.TraceFault.TheVariants.{BadLine}
 use Rattle.trace_text.specs.Reading.{is_line_feed, parts_of, builder_after, builder_with, state_after, parsed, parsed_from, ended, Leaves}
-use Rattle.trace_words.specs.declared.words.LineFault.{LineFault}
-use Rattle.trace_words.specs.declared.words.LineFault.TheVariants.{Bad, OutOfMemory}
+use Rattle.trace_words.specs.declared.words.TextFault.{TextFault}
+use Rattle.trace_words.specs.declared.words.TextFault.TheVariants.{Bad, OutOfMemory}
 use Rattle.trace_words.specs.Reader.{Finds}
 
 chosen : (b : Bool) (n i : ℕ) → cond b (Some n) None ≡ Some i → (b ≡ true) × (n ≡ i)
@@ -88,7 +88,7 @@ stays_bad number bad (last ∷ []) = refl
 stays_bad number bad (line ∷ next ∷ parts) = stays_bad (number + 1) bad (next ∷ parts)
 
 -- a line that is refused behind the profile
-pub line_refused : (builder before after : TraceBuilder) (line : TraceLine) (fault : LineFault) → builder ≡ before → Leaves (builder_with before line) (Err fault) after → Finds (builder_with builder line) (Err fault)
+pub line_refused : (builder before after : TraceBuilder) (line : TraceLine) (fault : TextFault) → builder ≡ before → Leaves (builder_with before line) (Err fault) after → Finds (builder_with builder line) (Err fault)
 line_refused builder before after line Bad is refused = ap (λ b. builder_with b line) is ∙ refused
 line_refused builder before after line OutOfMemory is refused = tt
 

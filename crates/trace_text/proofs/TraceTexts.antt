@@ -1,5 +1,5 @@
 -- A text has one reading, which is that of its lines.
-use Rattle.std.proofs.Common.{◌≡◌, ◌≢◌, ℕ, zero, suc, ◌+◌, ◌<◌, Bool, true, false, cond, eqb, List, [], ◌∷◌, ◌++◌, length, map, Option, Some, None, Result, Ok, Err, refl, sym, ap, subst, ◌∙◌, inl, inr, arith, append_assoc}
+use Rattle.std.proofs.Common.{◌≡◌, ◌≢◌, ℕ, zero, suc, ◌+◌, Bool, true, false, cond, eqb, List, [], ◌∷◌, ◌++◌, length, map, Option, Some, None, Result, Ok, Err, refl, sym, ap, subst, ◌∙◌, inl, inr, arith, append_assoc}
 use Rattle.std.specs.Prelude.{◌⊎◌, option_and_then}
 use Rattle.std.specs.List.{All}
 use Rattle.std.proofs.lemmas.Bool.Decides.{nat_tests}
@@ -8,10 +8,9 @@ use Rattle.std.proofs.lemmas.List.Elements.{All-append, All-cons, All-nil}
 use Rattle.std.proofs.lemmas.List.Splits.{slice_split_at, slice_split_none}
 use Rattle.cip_events.specs.declared.profile_fault.ProfileFault.{ProfileFault}
 use Rattle.cip_events.specs.Faults.{fault_number}
-use Rattle.cip_tables.specs.declared.table.Config.{Config}
 use Rattle.cip_tables.specs.declared.table.Config.TheVariants as config
 use Rattle.cip_tables.specs.Step.{config_fault}
-use Rattle.trace_profiles.specs.Slots.{scanner_with}
+use Rattle.trace_lines.specs.Slots.{scanner_with}
 use Rattle.trace_text.specs.declared.builder.TraceBuilder.{TraceBuilder}
 use Rattle.trace_text.specs.declared.builder.TraceBuilder.TheVariants.{Empty, Points, Configured, Slots, Events}
 use Rattle.trace_text.specs.declared.forms.TraceLine.{TraceLine}
@@ -19,8 +18,8 @@ use Rattle.trace_text.specs.declared.trace.Trace.{Trace}
 use Rattle.trace_text.specs.declared.trace.TraceFault.{TraceFault}
 use Rattle.trace_text.specs.declared.trace.TraceFault.TheVariants as fault
 use Rattle.trace_text.specs.Forms.{line_of}
-use Rattle.trace_text.specs.Reading.{Entry, is_line_feed, is_skipped, parts_of, builder_with, builder_after, parsed_from, parsed, judged, judged_by, ended, trace_reading}
-use Rattle.trace_text.specs.Texts.{trace_values, IsOneLine, ended_lines, said_by, WriteTrace, BeginTrace, IsTraceText, IsBadNext, IsBadEnd, IsBadLine, IsBadProfile, IsTraceReading}
+use Rattle.trace_text.specs.Reading.{is_line_feed, is_skipped, parts_of, builder_with, builder_after, parsed_from, parsed, judged, judged_by, ended, trace_reading}
+use Rattle.trace_text.specs.Texts.{trace_values, IsOneLine, ended_lines, said_by, WriteTrace, BeginTrace, IsTraceText, IsBadNext, IsBadEnd, IsBadLine, IsTraceReading}
 use Rattle.trace_text.proofs.TextLines.{good_line, bad_line, open_line, text_ends}
 use Rattle.trace_text.proofs.TraceValues.{some_is, found_in, so_far, run, run_both, run_adds, completed, trace_run}
 

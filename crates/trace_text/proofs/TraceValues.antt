@@ -1,6 +1,6 @@
 -- What was read so far, as the lines that were read: each line that is allowed adds itself, each beginning can be
 -- completed, and the lines of a trace lead to that trace.
-use Rattle.std.proofs.Common.{◌≡◌, ◌≢◌, ℕ, ◌+◌, Bool, true, false, cond, eqb, List, [], ◌∷◌, ◌++◌, length, map, Option, Some, None, Result, Ok, Err, refl, sym, ap, ◌∙◌, arith, append_assoc}
+use Rattle.std.proofs.Common.{◌≡◌, ℕ, ◌+◌, Bool, true, false, cond, eqb, List, [], ◌∷◌, ◌++◌, length, map, Option, Some, None, Ok, Err, refl, sym, ap, ◌∙◌, arith, append_assoc}
 use Rattle.std.specs.Prelude.{option_to_list, option_map, option_and_then}
 use Rattle.std.proofs.lemmas.Bool.Decides.{nat_tests}
 use Rattle.std.proofs.lemmas.List.{append-nil, length-append}
@@ -18,20 +18,19 @@ use Rattle.cip_events.specs.declared.event.Verdict.{Verdict}
 use Rattle.cip_events.specs.Outcomes.{Outcome}
 use Rattle.cip_tables.specs.declared.table.Config.{Config}
 use Rattle.cip_tables.specs.declared.table.Config.TheVariants as config
-use Rattle.trace_profiles.specs.declared.forms.AdapterLine.{AdapterLine}
-use Rattle.trace_profiles.specs.declared.forms.HeartbeatLine.{HeartbeatLine}
-use Rattle.trace_profiles.specs.declared.forms.ScannerLine.{ScannerLine}
-use Rattle.trace_profiles.specs.Profiles.{profile_with}
-use Rattle.trace_profiles.specs.Slots.{scanner_with}
-use Rattle.trace_outcomes.specs.declared.part.Part.{Part}
-use Rattle.trace_outcomes.specs.declared.part.Part.TheVariants as part
-use Rattle.trace_outcomes.specs.Recorded.{recorded_with}
+use Rattle.trace_lines.specs.declared.forms.AdapterLine.{AdapterLine}
+use Rattle.trace_lines.specs.declared.forms.HeartbeatLine.{HeartbeatLine}
+use Rattle.trace_lines.specs.declared.forms.ScannerLine.{ScannerLine}
+use Rattle.trace_lines.specs.Profiles.{profile_with}
+use Rattle.trace_lines.specs.Slots.{scanner_with}
+use Rattle.trace_lines.specs.declared.part.Part.{Part}
+use Rattle.trace_lines.specs.declared.part.Part.TheVariants as part
+use Rattle.trace_text.specs.Recorded.{recorded_with}
 use Rattle.trace_text.specs.declared.builder.TraceBuilder.{TraceBuilder}
 use Rattle.trace_text.specs.declared.builder.TraceBuilder.TheVariants.{Empty, Points, Configured, Slots, Events}
 use Rattle.trace_text.specs.declared.forms.TraceLine.{TraceLine}
 use Rattle.trace_text.specs.declared.forms.TraceLine.TheVariants as line
 use Rattle.trace_text.specs.declared.trace.Trace.{Trace}
-use Rattle.trace_text.specs.declared.trace.TraceFault.{TraceFault}
 use Rattle.trace_text.specs.Reading.{Entry, builder_with, parsed, judged_by}
 use Rattle.trace_text.specs.Texts.{adapter_line_of, heartbeat_line_of, scanner_line_of, config_values, outcome_parts, recorded_parts, entry_values, entries_values, trace_values}
 

@@ -1,86 +1,18 @@
 -- The lines of a trace: the profile of a device, the events at the device, and their recorded outcomes. A line is a
 -- keyword or the number of an event, and words behind it.
-use Rattle.std.specs.Prelude.{ℕ, nat_lt, Bool, true, false, List, [], ◌∷◌, codes, Option, Some, None, if◌then◌else◌, option_map, option_and_then}
+use Rattle.std.specs.Prelude.{ℕ, nat_lt, Bool, List, [], ◌∷◌, codes, Option, Some, None, if◌then◌else◌, option_map, option_and_then}
 use Rattle.std.specs.List.{list_all}
 use Rattle.cip_events.specs.declared.event.Event.{Event}
 use Rattle.cip_events.specs.declared.event.Event.TheVariants as event
 use Rattle.trace_text.specs.declared.forms.TraceLine.{TraceLine}
 use Rattle.trace_text.specs.declared.forms.TraceLine.TheVariants as line
-use Rattle.trace_words.specs.Words.{words_of, number_of, node_of, bytes_of}
-use Rattle.trace_words.specs.Reader.{Reader, ◌>>=◌, next_word, ends, refuses, Meanings, meaning, mapped}
-use Rattle.trace_profiles.specs.Profiles.{adapter_reader, output_reader, point_reader, heartbeat_reader}
-use Rattle.trace_profiles.specs.Slots.{scanner_reader, slot_reader}
-use Rattle.trace_outcomes.specs.Parts.{part_reader}
-
--- EVENTS
-
-abbrev pub request_reader : Reader Event
-request_reader = do
-  peer ← next_word node_of
-  bytes ← next_word bytes_of
-  ends (event.Request peer bytes)
-
-abbrev pub stream_reader : Reader Event
-stream_reader = do
-  stream ← next_word (number_of 16)
-  peer ← next_word node_of
-  ends (event.StreamOpened stream peer)
-
-abbrev pub frame_reader : Reader Event
-frame_reader = do
-  stream ← next_word (number_of 16)
-  bytes ← next_word bytes_of
-  ends (event.Frame stream bytes)
-
-abbrev pub cut_reader : Reader Event
-cut_reader = do
-  stream ← next_word (number_of 16)
-  ends (event.StreamCut stream)
-
-abbrev pub datagram_reader : Reader Event
-datagram_reader = do
-  peer ← next_word node_of
-  bytes ← next_word bytes_of
-  ends (event.Datagram peer bytes)
-
-abbrev pub write_reader : Reader Event
-write_reader = do
-  point ← next_word (number_of 32)
-  bytes ← next_word bytes_of
-  ends (event.Write point bytes)
-
-abbrev pub read_reader : Reader Event
-read_reader = do
-  point ← next_word (number_of 32)
-  ends (event.Read point)
-
-abbrev pub tick_reader : Reader Event
-tick_reader = do
-  ms ← next_word (number_of 32)
-  ends (event.Tick ms)
-
--- the modes of a scanner's application by their words
-abbrev pub mode_meanings : Meanings (Option Bool)
-mode_meanings = (codes "run", Some true) ∷ (codes "idle", Some false) ∷ []
-
--- whether it runs
-unfoldable pub mode_of : List ℕ → Option Bool
-mode_of word = meaning mode_meanings None word
-
-abbrev pub mode_reader : Reader Event
-mode_reader = do
-  run ← next_word mode_of
-  ends (event.Mode run)
-
-abbrev pub start_reader : Reader Event
-start_reader = do
-  slot ← next_word (number_of 32)
-  ends (event.Start slot)
-
-abbrev pub stop_reader : Reader Event
-stop_reader = do
-  slot ← next_word (number_of 32)
-  ends (event.Stop slot)
+use Rattle.trace_words.specs.Words.{words_of, number_of}
+use Rattle.trace_words.specs.Reader.{Reader, next_word, ends, refuses, Meanings, meaning, mapped, ◌>>=◌}
+use Rattle.trace_lines.specs.Profiles.{adapter_reader, output_reader, point_reader, heartbeat_reader}
+use Rattle.trace_lines.specs.Slots.{scanner_reader, slot_reader}
+use Rattle.trace_lines.specs.declared.shapes.TheConstants.{FROM_NODE, STREAM, FRAME, CUT, WRITE, NUMBER, MODE}
+use Rattle.trace_lines.specs.Parts.{part_reader}
+use Rattle.trace_lines.specs.Shapes.{shaped}
 
 -- LINES
 
@@ -94,17 +26,17 @@ line_meanings =
     ∷ (codes "heartbeat", mapped line.Heartbeat heartbeat_reader)
     ∷ (codes "scanner", mapped line.Scanner scanner_reader)
     ∷ (codes "slot", mapped line.Slot slot_reader)
-    ∷ (codes "request", mapped line.Event request_reader)
-    ∷ (codes "stream", mapped line.Event stream_reader)
-    ∷ (codes "frame", mapped line.Event frame_reader)
-    ∷ (codes "cut", mapped line.Event cut_reader)
-    ∷ (codes "datagram", mapped line.Event datagram_reader)
-    ∷ (codes "write", mapped line.Event write_reader)
-    ∷ (codes "read", mapped line.Event read_reader)
-    ∷ (codes "tick", mapped line.Event tick_reader)
-    ∷ (codes "mode", mapped line.Event mode_reader)
-    ∷ (codes "start", mapped line.Event start_reader)
-    ∷ (codes "stop", mapped line.Event stop_reader)
+    ∷ (codes "request", mapped line.Event (shaped FROM_NODE (λ peer bytes. ends (event.Request peer bytes))))
+    ∷ (codes "stream", mapped line.Event (shaped STREAM (λ stream peer. ends (event.StreamOpened stream peer))))
+    ∷ (codes "frame", mapped line.Event (shaped FRAME (λ stream bytes. ends (event.Frame stream bytes))))
+    ∷ (codes "cut", mapped line.Event (shaped CUT (λ stream. ends (event.StreamCut stream))))
+    ∷ (codes "datagram", mapped line.Event (shaped FROM_NODE (λ peer bytes. ends (event.Datagram peer bytes))))
+    ∷ (codes "write", mapped line.Event (shaped WRITE (λ point bytes. ends (event.Write point bytes))))
+    ∷ (codes "read", mapped line.Event (shaped NUMBER (λ point. ends (event.Read point))))
+    ∷ (codes "tick", mapped line.Event (shaped NUMBER (λ ms. ends (event.Tick ms))))
+    ∷ (codes "mode", mapped line.Event (shaped MODE (λ run. ends (event.Mode run))))
+    ∷ (codes "start", mapped line.Event (shaped NUMBER (λ slot. ends (event.Start slot))))
+    ∷ (codes "stop", mapped line.Event (shaped NUMBER (λ slot. ends (event.Stop slot))))
     ∷ []
 
 -- a part of the outcome of the event of this number

@@ -1,4 +1,5 @@
 pub mod Forms
 pub mod Reading
+pub mod Recorded
 pub mod Texts
 pub mod Written

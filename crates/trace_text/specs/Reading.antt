@@ -11,21 +11,21 @@ use Rattle.cip_events.specs.declared.event.Event.{Event}
 use Rattle.cip_tables.specs.Step.{config_fault}
 use Rattle.cip_events.specs.Faults.{fault_number}
 use Rattle.cip_events.specs.Outcomes.{Outcome}
-use Rattle.trace_profiles.specs.declared.forms.AdapterLine.{AdapterLine}
+use Rattle.trace_lines.specs.declared.forms.AdapterLine.{AdapterLine}
 use Rattle.trace_text.specs.declared.forms.TraceLine.{TraceLine}
 use Rattle.trace_text.specs.declared.forms.TraceLine.TheVariants as line
-use Rattle.trace_outcomes.specs.declared.part.Part.{Part}
+use Rattle.trace_lines.specs.declared.part.Part.{Part}
 use Rattle.trace_text.specs.declared.builder.TraceBuilder.{TraceBuilder}
 use Rattle.trace_text.specs.declared.builder.TraceBuilder.TheVariants.{Empty, Points, Configured, Slots, Events}
 use Rattle.trace_text.specs.declared.trace.Trace.{Trace}
 use Rattle.trace_text.specs.declared.trace.TraceFault.{TraceFault}
 use Rattle.trace_text.specs.declared.trace.TraceFault.TheVariants as fault
 use Rattle.trace_text.specs.Forms.{line_of}
-use Rattle.trace_words.specs.declared.words.LineFault.{LineFault}
-use Rattle.trace_words.specs.declared.words.LineFault.TheVariants.{Bad, OutOfMemory}
-use Rattle.trace_profiles.specs.Profiles.{profile_with}
-use Rattle.trace_profiles.specs.Slots.{scanner_with}
-use Rattle.trace_outcomes.specs.Recorded.{recorded_with}
+use Rattle.trace_words.specs.declared.words.TextFault.{TextFault}
+use Rattle.trace_words.specs.declared.words.TextFault.TheVariants.{Bad, OutOfMemory}
+use Rattle.trace_lines.specs.Profiles.{profile_with}
+use Rattle.trace_lines.specs.Slots.{scanner_with}
+use Rattle.trace_text.specs.Recorded.{recorded_with}
 
 -- A TRACE, LINE BY LINE
 
@@ -118,7 +118,7 @@ Answers said (Err fault.OutOfMemory) = Unit {0}
 Answers said result = result ≡ said
 
 -- A function left the part that was read so far. If an allocation was refused, nothing is promised.
-abbrev pub Leaves : Option TraceBuilder → Result Unit LineFault → TraceBuilder → Type 0
+abbrev pub Leaves : Option TraceBuilder → Result Unit TextFault → TraceBuilder → Type 0
 Leaves said (Ok done) builder = said ≡ Some builder
 Leaves said (Err Bad) builder = said ≡ None
 Leaves said (Err OutOfMemory) builder = Unit {0}

@@ -10,11 +10,11 @@ use Rattle.cip_events.specs.Outcomes.{Outcome}
 use Rattle.cip_tables.specs.declared.table.Config.{Config}
 use Rattle.cip_tables.specs.declared.table.Config.TheVariants as config
 use Rattle.cip_tables.specs.Step.{config_fault}
-use Rattle.trace_profiles.specs.declared.forms.AdapterLine.{AdapterLine}
-use Rattle.trace_profiles.specs.declared.forms.HeartbeatLine.{HeartbeatLine}
-use Rattle.trace_profiles.specs.declared.forms.ScannerLine.{ScannerLine}
-use Rattle.trace_outcomes.specs.declared.part.Part.{Part}
-use Rattle.trace_outcomes.specs.declared.part.Part.TheVariants as part
+use Rattle.trace_lines.specs.declared.forms.AdapterLine.{AdapterLine}
+use Rattle.trace_lines.specs.declared.forms.HeartbeatLine.{HeartbeatLine}
+use Rattle.trace_lines.specs.declared.forms.ScannerLine.{ScannerLine}
+use Rattle.trace_lines.specs.declared.part.Part.{Part}
+use Rattle.trace_lines.specs.declared.part.Part.TheVariants as part
 use Rattle.trace_text.specs.declared.forms.TraceLine.{TraceLine}
 use Rattle.trace_text.specs.declared.forms.TraceLine.TheVariants as line
 use Rattle.trace_text.specs.declared.trace.Trace.{Trace}

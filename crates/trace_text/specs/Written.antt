@@ -1,37 +1,34 @@
 -- How a trace is written: the lines of its profile, and the line of each event with its recorded outcome. One space
 -- separates the words of a line, and LF ends it.
-use Rattle.std.specs.Prelude.{ℕ, ◌+◌, Bool, true, false, List, [], ◌∷◌, ◌++◌, codes, decimal, Option, Some, None}
+use Rattle.std.specs.Prelude.{ℕ, ◌+◌, List, [], ◌∷◌, ◌++◌, codes, Option, Some, None}
 use Rattle.cip_tables.specs.declared.table.Config.{Config}
 use Rattle.cip_tables.specs.declared.table.Config.TheVariants.{Adapter, Scanner}
 use Rattle.cip_events.specs.declared.event.Event.{Event}
 use Rattle.cip_events.specs.declared.event.Event.TheVariants.{Request, StreamOpened, Frame, StreamCut, Datagram, Write, Read, Tick, Mode, Start, Stop}
 use Rattle.cip_events.specs.Outcomes.{Outcome}
 use Rattle.trace_text.specs.declared.trace.Trace.{Trace}
-use Rattle.trace_words.specs.Words.{node_word, bytes_word, line_text}
+use Rattle.trace_words.specs.Words.{line_text}
+use Rattle.trace_lines.specs.declared.shapes.TheConstants.{FROM_NODE, STREAM, FRAME, CUT, WRITE, NUMBER, MODE}
+use Rattle.trace_lines.specs.Shapes.{spelled}
 use Rattle.trace_text.specs.Reading.{Entry}
-use Rattle.trace_outcomes.specs.Written.{outcome_text}
-use Rattle.trace_profiles.specs.Written.{profile_text}
-use Rattle.trace_profiles.specs.Slots.{scanner_text}
+use Rattle.trace_lines.specs.WrittenOutcomes.{outcome_text}
+use Rattle.trace_lines.specs.WrittenProfiles.{profile_text}
+use Rattle.trace_lines.specs.Slots.{scanner_text}
 
 -- EVENTS
 
--- the application of a scanner runs, or is idle
-abbrev pub mode_word : Bool → List ℕ
-mode_word true = codes "run"
-mode_word false = codes "idle"
-
 abbrev pub event_words : Event → List (List ℕ)
-event_words (Request peer bytes) = codes "request" ∷ node_word peer ∷ bytes_word bytes ∷ []
-event_words (StreamOpened stream peer) = codes "stream" ∷ decimal stream ∷ node_word peer ∷ []
-event_words (Frame stream bytes) = codes "frame" ∷ decimal stream ∷ bytes_word bytes ∷ []
-event_words (StreamCut stream) = codes "cut" ∷ decimal stream ∷ []
-event_words (Datagram peer bytes) = codes "datagram" ∷ node_word peer ∷ bytes_word bytes ∷ []
-event_words (Write point bytes) = codes "write" ∷ decimal point ∷ bytes_word bytes ∷ []
-event_words (Read point) = codes "read" ∷ decimal point ∷ []
-event_words (Tick ms) = codes "tick" ∷ decimal ms ∷ []
-event_words (Mode run) = codes "mode" ∷ mode_word run ∷ []
-event_words (Start slot) = codes "start" ∷ decimal slot ∷ []
-event_words (Stop slot) = codes "stop" ∷ decimal slot ∷ []
+event_words (Request peer bytes) = spelled (codes "request" ∷ []) FROM_NODE peer bytes
+event_words (StreamOpened stream peer) = spelled (codes "stream" ∷ []) STREAM stream peer
+event_words (Frame stream bytes) = spelled (codes "frame" ∷ []) FRAME stream bytes
+event_words (StreamCut stream) = spelled (codes "cut" ∷ []) CUT stream
+event_words (Datagram peer bytes) = spelled (codes "datagram" ∷ []) FROM_NODE peer bytes
+event_words (Write point bytes) = spelled (codes "write" ∷ []) WRITE point bytes
+event_words (Read point) = spelled (codes "read" ∷ []) NUMBER point
+event_words (Tick ms) = spelled (codes "tick" ∷ []) NUMBER ms
+event_words (Mode run) = spelled (codes "mode" ∷ []) MODE run
+event_words (Start slot) = spelled (codes "start" ∷ []) NUMBER slot
+event_words (Stop slot) = spelled (codes "stop" ∷ []) NUMBER slot
 
 abbrev pub recorded_text : ℕ → Option Outcome → List ℕ
 recorded_text number None = []

@@ -6,14 +6,15 @@ ghost use Rattle.cip_tables.specs.declared.table.Config.{Config};
 ghost use Rattle.trace_text.specs.Reading.{builder_with, Leaves};
 
 use crate::forms::TraceLine;
+use crate::kept::Recorded;
+use crate::recorded::{recorded_with, with_item};
 use cip_tables::{Config, Event, InputPoint, Outcome, OutputPoint};
 use cip_types::{Items, OutOfMemory};
 use scanner_table::SlotConfig;
 use std::alloc::Global;
 use std::mem;
-use trace_outcomes::{Part, Recorded, recorded_with, with_item};
-use trace_profiles::{AdapterLine, ScannerLine, profile_with, scanner_with};
-use trace_words::LineFault;
+use trace_lines::{AdapterLine, Part, ScannerLine, profile_with, scanner_with};
+use trace_words::TextFault;
 
 /// The part of a trace in the lines so far.
 #[derive(Drop)]
@@ -53,7 +54,7 @@ pub fn add_line(
     alloc: Global,
     builder: &mut TraceBuilder,
     parsed: TraceLine,
-) -> Result<(), LineFault>
+) -> Result<(), TextFault>
     ensures { Leaves (builder_with builder.old parsed) result builder.new }
 {
     // (in place, since most lines are events)
@@ -72,7 +73,7 @@ fn builder_with(
     alloc: Global,
     builder: TraceBuilder,
     parsed: TraceLine,
-) -> Result<TraceBuilder, LineFault>
+) -> Result<TraceBuilder, TextFault>
     ensures { Finds (builder_with builder parsed) result }
 {
     match builder {
@@ -106,7 +107,7 @@ fn builder_with(
     }
 }
 
-fn after_nothing(alloc: Global, parsed: TraceLine) -> Result<TraceBuilder, LineFault>
+fn after_nothing(alloc: Global, parsed: TraceLine) -> Result<TraceBuilder, TextFault>
     ensures { Finds (builder_with TraceBuilder.Empty parsed) result }
 {
     match parsed {
@@ -119,7 +120,7 @@ fn after_nothing(alloc: Global, parsed: TraceLine) -> Result<TraceBuilder, LineF
             scanner,
             slots: Items::new(alloc),
         }),
-        _ => Err(LineFault::Bad),
+        _ => Err(TextFault::Bad),
     }
 }
 
@@ -129,7 +130,7 @@ fn after_points(
     outputs: Items<OutputPoint>,
     inputs: Items<InputPoint>,
     parsed: TraceLine,
-) -> Result<TraceBuilder, LineFault>
+) -> Result<TraceBuilder, TextFault>
     ensures { Finds (builder_with (TraceBuilder.Points adapter outputs inputs) parsed) result }
 {
     match parsed {
@@ -153,7 +154,7 @@ fn after_points(
             let profile = profile_with(adapter, outputs, inputs, None, heartbeat);
             Ok(after_profile(alloc, Config::Adapter(profile), None))
         }
-        _ => Err(LineFault::Bad),
+        _ => Err(TextFault::Bad),
     }
 }
 
@@ -164,7 +165,7 @@ fn after_config(
     inputs: Items<InputPoint>,
     config: InputPoint,
     parsed: TraceLine,
-) -> Result<TraceBuilder, LineFault>
+) -> Result<TraceBuilder, TextFault>
     ensures { Finds (builder_with (TraceBuilder.Configured adapter outputs inputs config) parsed) result }
 {
     match parsed {
@@ -172,7 +173,7 @@ fn after_config(
             let profile = profile_with(adapter, outputs, inputs, Some(config), heartbeat);
             Ok(after_profile(alloc, Config::Adapter(profile), None))
         }
-        _ => Err(LineFault::Bad),
+        _ => Err(TextFault::Bad),
     }
 }
 
@@ -181,7 +182,7 @@ fn after_slots(
     scanner: ScannerLine,
     slots: Items<SlotConfig>,
     parsed: TraceLine,
-) -> Result<TraceBuilder, LineFault>
+) -> Result<TraceBuilder, TextFault>
     ensures { Finds (builder_with (TraceBuilder.Slots scanner slots) parsed) result }
 {
     match parsed {
@@ -193,7 +194,7 @@ fn after_slots(
             let config = Config::Scanner(scanner_with(scanner, slots));
             Ok(after_profile(alloc, config, Some((event, None))))
         }
-        _ => Err(LineFault::Bad),
+        _ => Err(TextFault::Bad),
     }
 }
 
@@ -218,8 +219,10 @@ fn add_to_events(
     entries: &mut Items<(Event, Recorded)>,
     last: &mut Option<(Event, Option<Outcome>)>,
     parsed: TraceLine,
-) -> Result<(), LineFault>
-    ensures { (made_of : Config) → Leaves (builder_with (TraceBuilder.Events made_of entries.old last.old) parsed) result (TraceBuilder.Events made_of entries.new last.new) }
+) -> Result<(), TextFault>
+    ensures { (made_of : Config)
+        → Leaves (builder_with (TraceBuilder.Events made_of entries.old last.old) parsed) result
+        (TraceBuilder.Events made_of entries.new last.new) }
 {
     match parsed {
         TraceLine::Event(event) => {
@@ -230,7 +233,7 @@ fn add_to_events(
         TraceLine::Recorded(number, part) => {
             add_part(alloc, entries.as_slice(), last, number, part)
         }
-        _ => Err(LineFault::Bad),
+        _ => Err(TextFault::Bad),
     }
 }
 
@@ -241,14 +244,16 @@ fn add_part(
     last: &mut Option<(Event, Option<Outcome>)>,
     number: u64,
     part: Part,
-) -> Result<(), LineFault>
-    ensures { (made_of : Config) → Leaves (builder_with (TraceBuilder.Events made_of entries.now last.old) (TraceLine.Recorded number part)) result (TraceBuilder.Events made_of entries.now last.new) }
+) -> Result<(), TextFault>
+    ensures { (made_of : Config)
+        → Leaves (builder_with (TraceBuilder.Events made_of entries.now last.old)
+        (TraceLine.Recorded number part)) result (TraceBuilder.Events made_of entries.now last.new) }
 {
     let Some((event, recorded)) = last.take() else {
-        return Err(LineFault::Bad);
+        return Err(TextFault::Bad);
     };
     if !is_next_number(entries, number) {
-        return Err(LineFault::Bad);
+        return Err(TextFault::Bad);
     }
     let outcome = recorded_with(alloc, recorded, part)?;
     *last = Some((event, Some(outcome)));

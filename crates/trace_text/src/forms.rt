@@ -2,8 +2,7 @@
 
 use cip_tables::{Event, InputPoint, OutputPoint};
 use scanner_table::SlotConfig;
-use trace_outcomes::Part;
-use trace_profiles::{AdapterLine, HeartbeatLine, ScannerLine};
+use trace_lines::{AdapterLine, HeartbeatLine, Part, ScannerLine};
 
 /// The value of a line, whatever its position.
 #[derive(Drop)]

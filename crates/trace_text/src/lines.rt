@@ -1,44 +1,51 @@
 //! The lines of a trace, one by one.
 
-ghost use Rattle.std.specs.Prelude.{◌≡◌, take};
-ghost use Rattle.trace_words.specs.Reader.{unread_words, Takes, Finds, meaning, next_word};
+ghost use Rattle.std.specs.Prelude.{◌≡◌, take, option_map, if◌then◌else◌, Some, None};
+ghost use Rattle.trace_words.specs.Reader.{unread_words, Takes, Finds, meaning};
 ghost use Rattle.trace_words.specs.Words.{number_of};
-ghost use Rattle.trace_text.specs.Forms.{event_of, is_ascii, line_of, mode_of, line_meanings, line_reader, numbered};
+ghost use Rattle.trace_text.specs.Forms.{event_of, is_ascii, line_of, line_meanings, line_reader, numbered};
 
 use crate::forms::TraceLine;
 use cip_tables::Event;
 use std::alloc::Global;
 use std::str;
-use trace_outcomes::read_part;
-use trace_profiles::{
-    read_adapter, read_heartbeat, read_output, read_point, read_scanner, read_slot,
+use trace_lines::{
+    read_adapter, read_heartbeat, read_mode, read_output, read_part, read_point, read_scanner,
+    read_slot,
 };
-use trace_words::{LineFault, Words, read_u64};
+use trace_words::{TextFault, Words, read_u64};
 
 /// The value of a line.
 ///
 /// The faults: `Bad` if it is no line of a trace, and `OutOfMemory`.
 #[tactic(auto, unfolding(crate::specs::Forms::line_of))]
-pub fn read_line(alloc: Global, line: &[u8]) -> Result<TraceLine, LineFault>
+pub fn read_line(alloc: Global, line: &[u8]) -> Result<TraceLine, TextFault>
     ensures { Finds (line_of line.now) result }
 {
-    if !is_ascii(line) {
-        return Err(LineFault::Bad);
-    }
-    let text = unsafe { str::from_utf8_unchecked(line) };
+    let text = ascii_text(line).ok_or(TextFault::Bad)?;
     read_words(alloc, &mut Words::of(text))
+}
+
+/// The text of a line. None if a byte of it is no ASCII character.
+pub fn ascii_text(line: &[u8]) -> Option<&str>
+    ensures { option_map (λ text. text.now) result ≡ (if is_ascii line.now then Some line.now else None) }
+{
+    if !is_ascii(line) {
+        return None;
+    }
+    Some(unsafe { str::from_utf8_unchecked(line) })
 }
 
 /// The event of a line. The line has no LF at its end.
 ///
 /// The faults: `Bad` if it is no line of a trace, or that of a profile or of an outcome, and `OutOfMemory`.
 #[tactic(auto, unfolding(crate::specs::Forms::event_of))]
-pub fn read_event_line(alloc: Global, line: &[u8]) -> Result<Event, LineFault>
+pub fn read_event_line(alloc: Global, line: &[u8]) -> Result<Event, TextFault>
     ensures { Finds (event_of line.now) result }
 {
     match read_line(alloc, line)? {
         TraceLine::Event(event) => Ok(event),
-        _ => Err(LineFault::Bad),
+        _ => Err(TextFault::Bad),
     }
 }
 
@@ -48,7 +55,7 @@ fn is_ascii(line: &[u8]) -> bool
     line.is_ascii()
 }
 
-fn read_words(alloc: Global, words: &mut Words<'_>) -> Result<TraceLine, LineFault>
+fn read_words(alloc: Global, words: &mut Words<'_>) -> Result<TraceLine, TextFault>
     ensures { Takes (line_reader (unread_words words.old)) result (unread_words words.new) }
 {
     // (most lines are of these events, so their words come first)
@@ -88,21 +95,10 @@ fn read_words(alloc: Global, words: &mut Words<'_>) -> Result<TraceLine, LineFau
     }
 }
 
-/// Whether the application of a scanner runs, by its word.
-#[tactic(auto, unfolding(crate::specs::Forms::mode_of))]
-fn read_mode(words: &mut Words<'_>) -> Result<bool, LineFault>
-    ensures { Takes (next_word mode_of (unread_words words.old)) result (unread_words words.new) }
-{
-    match words.word()? {
-        "run" => Ok(true),
-        "idle" => Ok(false),
-        _ => Err(LineFault::Bad),
-    }
-}
-
 /// What follows the word of a request, of a stream's event or of a profile's line, or the number of an event.
-fn read_other(alloc: Global, words: &mut Words<'_>, word: &str) -> Result<TraceLine, LineFault>
-    ensures { Takes (meaning (take 11 line_meanings) (numbered (number_of 64 word.now)) word.now (unread_words words.old)) result (unread_words words.new) }
+fn read_other(alloc: Global, words: &mut Words<'_>, word: &str) -> Result<TraceLine, TextFault>
+    ensures { Takes (meaning (take 11 line_meanings) (numbered (number_of 64 word.now)) word.now
+        (unread_words words.old)) result (unread_words words.new) }
 {
     match word {
         "request" => {
@@ -136,10 +132,10 @@ fn read_other(alloc: Global, words: &mut Words<'_>, word: &str) -> Result<TraceL
 }
 
 /// What follows the number of an event: a part of its outcome.
-fn read_recorded(alloc: Global, words: &mut Words<'_>, number: &str) -> Result<TraceLine, LineFault>
+fn read_recorded(alloc: Global, words: &mut Words<'_>, number: &str) -> Result<TraceLine, TextFault>
     ensures { Takes (numbered (number_of 64 number.now) (unread_words words.old)) result (unread_words words.new) }
 {
-    let number = read_u64(number).ok_or(LineFault::Bad)?;
+    let number = read_u64(number).ok_or(TextFault::Bad)?;
     let part = read_part(alloc, words)?;
     Ok(TraceLine::Recorded(number, part))
 }

@@ -8,15 +8,15 @@ ghost use Rattle.trace_text.specs.Texts.{IsTraceReading};
 ghost use Rattle.cip_tables.specs.Step.{config_fault};
 
 use crate::builder::{TraceBuilder, add_last, add_line};
+use crate::kept::Recorded;
 use crate::lines::read_line;
 use cip_tables::{Config, Event, ProfileFault};
 use cip_types::{Items, OutOfMemory};
 use memchr::memchr;
 use std::alloc::Global;
 use thiserror::Error;
-use trace_outcomes::Recorded;
-use trace_profiles::scanner_with;
-use trace_words::LineFault;
+use trace_lines::scanner_with;
+use trace_words::TextFault;
 
 /// A trace: the configuration of a device, and the events at it, each with its outcome if that is recorded.
 #[derive(Drop)]
@@ -78,8 +78,8 @@ pub fn read_trace(alloc: Global, text: &[u8]) -> Result<Trace, TraceFault>
     while let Some((line, after)) = first_line(rest) {
         match add_text(alloc, &mut builder, line) {
             Ok(()) => {}
-            Err(LineFault::Bad) => return Err(TraceFault::BadLine(number)),
-            Err(LineFault::OutOfMemory) => return Err(TraceFault::OutOfMemory),
+            Err(TextFault::Bad) => return Err(TraceFault::BadLine(number)),
+            Err(TextFault::OutOfMemory) => return Err(TraceFault::OutOfMemory),
         }
         number += 1;
         rest = after;
@@ -119,7 +119,7 @@ fn line_len(text: &[u8]) -> Option<usize>
 
 /// Adds the text of a line to the part that was read so far.
 #[tactic(auto, unfolding(crate::specs::Reading::builder_after))]
-fn add_text(alloc: Global, builder: &mut TraceBuilder, line: &[u8]) -> Result<(), LineFault>
+fn add_text(alloc: Global, builder: &mut TraceBuilder, line: &[u8]) -> Result<(), TextFault>
     ensures { Leaves (builder_after builder.old line.now) result builder.new }
 {
     if is_skipped(line) {

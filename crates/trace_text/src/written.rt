@@ -2,14 +2,15 @@
 
 ghost use Rattle.std.specs.Prelude.{◌≡◌, ◌++◌, ◌∷◌, [], OnOk, IfOk, string_bytes, decimal};
 ghost use Rattle.trace_words.specs.Words.{node_word, bytes_word, line_text};
-ghost use Rattle.trace_text.specs.Written.{mode_word, config_lines, event_words, recorded_text, entries_text, trace_text};
+ghost use Rattle.trace_lines.specs.Kinds.{mode_word};
+ghost use Rattle.trace_text.specs.Written.{config_lines, event_words, recorded_text, entries_text, trace_text};
 
+use crate::kept::Recorded;
 use crate::trace::Trace;
 use cip_tables::{Config, Event};
 use cip_types::{Node, OutOfMemory};
 use std::alloc::Global;
-use trace_outcomes::{Recorded, push_outcome};
-use trace_profiles::{push_profile, push_scanner};
+use trace_lines::{push_outcome, push_profile, push_scanner};
 use trace_words::{push_last_bytes, push_node};
 
 /// The text of a trace. The recorded outcome of an event follows its line.
@@ -77,7 +78,8 @@ pub fn push_event(out: &mut String, event: &Event) -> Result<(), OutOfMemory>
 }
 
 fn push_number(out: &mut String, keyword: &str, number: u32) -> Result<(), OutOfMemory>
-    ensures { OnOk result (string_bytes out.new ≡ string_bytes out.old ++ line_text (keyword.now ∷ decimal number ∷ [])) }
+    ensures { OnOk result
+        (string_bytes out.new ≡ string_bytes out.old ++ line_text (keyword.now ∷ decimal number ∷ [])) }
 {
     write!(out, "{keyword} {number}\n")?;
     Ok(())
@@ -90,7 +92,8 @@ fn mode_name(run: bool) -> &'static str
 }
 
 fn push_stream(out: &mut String, stream: u16, peer: Node) -> Result<(), OutOfMemory>
-    ensures { OnOk result (string_bytes out.new ≡ string_bytes out.old ++ line_text (event_words (Event.StreamOpened stream peer))) }
+    ensures { OnOk result
+        (string_bytes out.new ≡ string_bytes out.old ++ line_text (event_words (Event.StreamOpened stream peer))) }
 {
     write!(out, "stream {stream} ")?;
     push_node(out, peer)?;
@@ -104,7 +107,9 @@ fn push_of_node(
     node: Node,
     bytes: &[u8],
 ) -> Result<(), OutOfMemory>
-    ensures { OnOk result (string_bytes out.new ≡ string_bytes out.old ++ line_text (keyword.now ∷ node_word node ∷ bytes_word bytes.now ∷ [])) }
+    ensures { OnOk result
+        (string_bytes out.new ≡ string_bytes out.old
+        ++ line_text (keyword.now ∷ node_word node ∷ bytes_word bytes.now ∷ [])) }
 {
     write!(out, "{keyword} ")?;
     push_node(out, node)?;
@@ -118,7 +123,9 @@ fn push_of_number(
     number: u32,
     bytes: &[u8],
 ) -> Result<(), OutOfMemory>
-    ensures { OnOk result (string_bytes out.new ≡ string_bytes out.old ++ line_text (keyword.now ∷ decimal number ∷ bytes_word bytes.now ∷ [])) }
+    ensures { OnOk result
+        (string_bytes out.new ≡ string_bytes out.old
+        ++ line_text (keyword.now ∷ decimal number ∷ bytes_word bytes.now ∷ [])) }
 {
     write!(out, "{keyword} {number}")?;
     push_last_bytes(out, bytes)

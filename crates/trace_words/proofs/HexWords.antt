@@ -69,10 +69,6 @@ digits_read (digit ∷ digits) some = pairs_read (digit ∷ digits)
 abbrev pub behind : List ℕ → Option (List ℕ) → Option (List ℕ)
 behind front more = option_map (λ bytes. front ++ bytes) more
 
-pub nothing_read : (front : List ℕ) (more : Option (List ℕ)) → front ≡ [] → more ≡ behind front more
-nothing_read front None is = refl
-nothing_read front (Some bytes) is = rw is refl
-
 more_behind : (front : List ℕ) (byte : ℕ) (more : Option (List ℕ)) → behind front (option_map (λ bytes. byte ∷ bytes) more) ≡ behind (front ++ byte ∷ []) more
 more_behind front byte None = refl
 more_behind front byte (Some bytes) = ap Some (sym (append_assoc front (byte ∷ []) bytes))

@@ -2,8 +2,8 @@
 use Rattle.std.specs.Prelude.{ℕ, ◌≡◌, if◌then◌else◌, List, [], ◌∷◌, option_map, option_and_then, Option, Some, None, Result, Ok, Err}
 use Rattle.std.specs.Borrow.{Bor}
 use Rattle.trace_words.specs.declared.words.Words.{Words}
-use Rattle.trace_words.specs.declared.words.LineFault.{LineFault}
-use Rattle.trace_words.specs.declared.words.LineFault.TheVariants.{Bad, OutOfMemory}
+use Rattle.trace_words.specs.declared.words.TextFault.{TextFault}
+use Rattle.trace_words.specs.declared.words.TextFault.TheVariants.{Bad, OutOfMemory}
 use Rattle.trace_words.specs.Words.{words_of, is_word}
 
 abbrev pub Reader : Type 0 → Type 0
@@ -62,18 +62,18 @@ unread_words words = words_left words.rest
 
 -- A function answered the value of the reading, and left the words behind it. If an allocation was refused, nothing
 -- is promised.
-abbrev pub Takes : {A : Type 0} → Option (A × List (List ℕ)) → Result A LineFault → List (List ℕ) → Type 0
+abbrev pub Takes : {A : Type 0} → Option (A × List (List ℕ)) → Result A TextFault → List (List ℕ) → Type 0
 Takes said (Ok value) rest = said ≡ Some (value, rest)
 Takes said (Err Bad) rest = said ≡ None
 Takes said (Err OutOfMemory) rest = Unit {0}
 
 -- A function answered the value of the reading. If an allocation was refused, nothing is promised.
-abbrev pub Finds : {A : Type 0} → Option A → Result A LineFault → Type 0
+abbrev pub Finds : {A : Type 0} → Option A → Result A TextFault → Type 0
 Finds said (Ok value) = said ≡ Some value
 Finds said (Err Bad) = said ≡ None
 Finds said (Err OutOfMemory) = Unit {0}
 
 -- The next word is read, or there is none.
-abbrev pub TakesWord : List (List ℕ) → List (List ℕ) → Result (Bor (List ℕ)) LineFault → Type 0
+abbrev pub TakesWord : List (List ℕ) → List (List ℕ) → Result (Bor (List ℕ)) TextFault → Type 0
 TakesWord old new (Ok word) = old ≡ word.now ∷ new
 TakesWord old new (Err fault) = (fault ≡ Bad) × (old ≡ [])

@@ -4,7 +4,7 @@
 mod words;
 mod written;
 
-pub use words::{LineFault, Words, read_u64};
+pub use words::{TextFault, Words, read_u64};
 pub use written::{
     push_bytes, push_digits, push_last_bytes, push_node, push_nodes, push_number, push_text,
 };

@@ -14,7 +14,7 @@ use thiserror::Error;
 
 /// Why a line is not read.
 #[derive(Clone, Copy, Debug, PartialEq, Eq, Error)]
-pub enum LineFault {
+pub enum TextFault {
     /// It is none of the lines that are allowed there.
     #[error("bad line")]
     Bad,
@@ -23,33 +23,33 @@ pub enum LineFault {
     OutOfMemory,
 }
 
-impl From<OutOfMemory> for LineFault {
-    ghost use Rattle.trace_words.specs.declared.words.LineFault.TheVariants as fault;
+impl From<OutOfMemory> for TextFault {
+    ghost use Rattle.trace_words.specs.declared.words.TextFault.TheVariants as fault;
 
     ghost from_gives = { λ _ f. f ≡ fault.OutOfMemory };
 
-    fn from(_error: OutOfMemory) -> LineFault {
-        LineFault::OutOfMemory
+    fn from(_error: OutOfMemory) -> TextFault {
+        TextFault::OutOfMemory
     }
 }
 
-impl<T: Drop> From<AllocFailed<T>> for LineFault {
-    ghost use Rattle.trace_words.specs.declared.words.LineFault.TheVariants as fault;
+impl<T: Drop> From<AllocFailed<T>> for TextFault {
+    ghost use Rattle.trace_words.specs.declared.words.TextFault.TheVariants as fault;
 
     ghost from_gives = { λ _ f. f ≡ fault.OutOfMemory };
 
-    fn from(_refused: AllocFailed<T>) -> LineFault {
-        LineFault::OutOfMemory
+    fn from(_refused: AllocFailed<T>) -> TextFault {
+        TextFault::OutOfMemory
     }
 }
 
-impl From<AllocError> for LineFault {
-    ghost use Rattle.trace_words.specs.declared.words.LineFault.TheVariants as fault;
+impl From<AllocError> for TextFault {
+    ghost use Rattle.trace_words.specs.declared.words.TextFault.TheVariants as fault;
 
     ghost from_gives = { λ _ f. f ≡ fault.OutOfMemory };
 
-    fn from(_refused: AllocError) -> LineFault {
-        LineFault::OutOfMemory
+    fn from(_refused: AllocError) -> TextFault {
+        TextFault::OutOfMemory
     }
 }
 
@@ -71,10 +71,10 @@ impl<'a> Words<'a> {
     }
 
     /// The next word.
-    pub fn word(&mut self) -> Result<&'a str, LineFault>
+    pub fn word(&mut self) -> Result<&'a str, TextFault>
         ensures { TakesWord (unread_words self.old) (unread_words self.new) result }
     {
-        let rest = self.rest.ok_or(LineFault::Bad)?;
+        let rest = self.rest.ok_or(TextFault::Bad)?;
         match rest.split_once(' ') {
             Some((word, after)) => {
                 self.rest = Some(after);
@@ -88,55 +88,55 @@ impl<'a> Words<'a> {
     }
 
     /// The next word as a number of 64 bits.
-    pub fn u64(&mut self) -> Result<u64, LineFault>
+    pub fn u64(&mut self) -> Result<u64, TextFault>
         ensures { Takes (next_word (number_of 64) (unread_words self.old)) result (unread_words self.new) }
     {
-        read_u64(self.word()?).ok_or(LineFault::Bad)
+        read_u64(self.word()?).ok_or(TextFault::Bad)
     }
 
     /// The next word as a number of 32 bits.
-    pub fn u32(&mut self) -> Result<u32, LineFault>
+    pub fn u32(&mut self) -> Result<u32, TextFault>
         ensures { Takes (next_word (number_of 32) (unread_words self.old)) result (unread_words self.new) }
     {
-        read_u32(self.word()?).ok_or(LineFault::Bad)
+        read_u32(self.word()?).ok_or(TextFault::Bad)
     }
 
     /// The next word as a number of 32 bits, or none.
     #[tactic(auto, unfolding(crate::specs::Words::instance_of))]
-    pub fn u32_or_none(&mut self) -> Result<Option<u32>, LineFault>
+    pub fn u32_or_none(&mut self) -> Result<Option<u32>, TextFault>
         ensures { Takes (next_word instance_of (unread_words self.old)) result (unread_words self.new) }
     {
         let word = self.word()?;
         if is_dash(word) {
             return Ok(None);
         }
-        let instance = read_u32(word).ok_or(LineFault::Bad)?;
+        let instance = read_u32(word).ok_or(TextFault::Bad)?;
         Ok(Some(instance))
     }
 
     /// The next word as a number of 16 bits.
-    pub fn u16(&mut self) -> Result<u16, LineFault>
+    pub fn u16(&mut self) -> Result<u16, TextFault>
         ensures { Takes (next_word (number_of 16) (unread_words self.old)) result (unread_words self.new) }
     {
-        read_u16(self.word()?).ok_or(LineFault::Bad)
+        read_u16(self.word()?).ok_or(TextFault::Bad)
     }
 
     /// The next word as a number of 8 bits.
-    pub fn u8(&mut self) -> Result<u8, LineFault>
+    pub fn u8(&mut self) -> Result<u8, TextFault>
         ensures { Takes (next_word (number_of 8) (unread_words self.old)) result (unread_words self.new) }
     {
-        read_u8(self.word()?).ok_or(LineFault::Bad)
+        read_u8(self.word()?).ok_or(TextFault::Bad)
     }
 
     /// The next word as an address.
-    pub fn node(&mut self) -> Result<Node, LineFault>
+    pub fn node(&mut self) -> Result<Node, TextFault>
         ensures { Takes (next_word node_of (unread_words self.old)) result (unread_words self.new) }
     {
-        read_node(self.word()?).ok_or(LineFault::Bad)
+        read_node(self.word()?).ok_or(TextFault::Bad)
     }
 
     /// The next word as addresses.
-    pub fn nodes(&mut self, alloc: Global) -> Result<Items<Node>, LineFault>
+    pub fn nodes(&mut self, alloc: Global) -> Result<Items<Node>, TextFault>
         ensures { Takes (next_word nodes_of (unread_words self.old)) result (unread_words self.new) }
     {
         read_nodes(alloc, self.word()?)
@@ -144,43 +144,43 @@ impl<'a> Words<'a> {
 
     /// The next word as an action for an output.
     #[tactic(auto, unfolding(crate::specs::Words::action_of))]
-    pub fn action(&mut self) -> Result<Action, LineFault>
+    pub fn action(&mut self) -> Result<Action, TextFault>
         ensures { Takes (next_word action_of (unread_words self.old)) result (unread_words self.new) }
     {
         match self.word()? {
             "zero" => Ok(Action::Zero),
             "hold" => Ok(Action::Hold),
-            _ => Err(LineFault::Bad),
+            _ => Err(TextFault::Bad),
         }
     }
 
     /// The next word as a connection id: eight hexadecimal digits of either case.
     #[tactic(auto, unfolding(crate::specs::Words::id_of))]
-    pub fn id(&mut self, alloc: Global) -> Result<ConnId, LineFault>
+    pub fn id(&mut self, alloc: Global) -> Result<ConnId, TextFault>
         ensures { Takes (next_word id_of (unread_words self.old)) result (unread_words self.new) }
     {
         let bytes = read_digits(alloc, self.word()?)?;
         let [a, b, c, d] = bytes.as_slice() else {
-            return Err(LineFault::Bad);
+            return Err(TextFault::Bad);
         };
         Ok(ConnId(u32::from_be_bytes([*a, *b, *c, *d])))
     }
 
     /// The next word as a general status: two hexadecimal digits of either case.
     #[tactic(auto, unfolding(crate::specs::Words::general_of))]
-    pub fn general(&mut self, alloc: Global) -> Result<u8, LineFault>
+    pub fn general(&mut self, alloc: Global) -> Result<u8, TextFault>
         ensures { Takes (next_word general_of (unread_words self.old)) result (unread_words self.new) }
     {
         let bytes = read_digits(alloc, self.word()?)?;
         let [general] = bytes.as_slice() else {
-            return Err(LineFault::Bad);
+            return Err(TextFault::Bad);
         };
         Ok(*general)
     }
 
     /// The next word as an extended status: four hexadecimal digits of either case; `-` for none.
     #[tactic(auto, unfolding(crate::specs::Words::extended_of))]
-    pub fn extended(&mut self, alloc: Global) -> Result<Option<u16>, LineFault>
+    pub fn extended(&mut self, alloc: Global) -> Result<Option<u16>, TextFault>
         ensures { Takes (next_word extended_of (unread_words self.old)) result (unread_words self.new) }
     {
         let word = self.word()?;
@@ -189,14 +189,14 @@ impl<'a> Words<'a> {
         }
         let bytes = read_digits(alloc, word)?;
         let [high, low] = bytes.as_slice() else {
-            return Err(LineFault::Bad);
+            return Err(TextFault::Bad);
         };
         Ok(Some(u16::from_be_bytes([*high, *low])))
     }
 
     /// The next word as bytes: hexadecimal digits of either case, two a byte; `-` for no bytes.
     #[tactic(auto, unfolding(crate::specs::Words::bytes_of))]
-    pub fn bytes(&mut self, alloc: Global) -> Result<Items<u8>, LineFault>
+    pub fn bytes(&mut self, alloc: Global) -> Result<Items<u8>, TextFault>
         ensures { Takes (next_word bytes_of (unread_words self.old)) result (unread_words self.new) }
     {
         let word = self.word()?;
@@ -208,7 +208,7 @@ impl<'a> Words<'a> {
 
     /// A value at the end of the line.
     #[inline(always)]
-    pub fn last<T: Drop>(&self, value: T) -> Result<T, LineFault>
+    pub fn last<T: Drop>(&self, value: T) -> Result<T, TextFault>
         ensures { Takes (ends value (unread_words self.now)) result (unread_words self.now) }
     {
         self.end()?;
@@ -223,12 +223,12 @@ impl<'a> Words<'a> {
     }
 
     /// The end of the line.
-    pub fn end(&self) -> Result<(), LineFault>
+    pub fn end(&self) -> Result<(), TextFault>
         ensures end { IsOk result ↔ (unread_words self.now ≡ []) }
-        ensures bad { IfErr result (λ fault. fault ≡ LineFault.Bad) }
+        ensures bad { IfErr result (λ fault. fault ≡ TextFault.Bad) }
     {
         match self.rest {
-            Some(_) => Err(LineFault::Bad),
+            Some(_) => Err(TextFault::Bad),
             None => Ok(()),
         }
     }
@@ -294,23 +294,23 @@ fn is_dash(word: &str) -> bool
 }
 
 /// The bytes of hexadecimal digits, at least one byte.
-fn read_digits(alloc: Global, word: &str) -> Result<Items<u8>, LineFault>
+fn read_digits(alloc: Global, word: &str) -> Result<Items<u8>, TextFault>
     ensures { Finds (digits_of word.now) result }
 {
     if word.is_empty() {
-        return Err(LineFault::Bad);
+        return Err(TextFault::Bad);
     }
     let mut bytes = Vec::with_capacity(alloc, word.len() / 2)?;
     let mut rest = word.as_bytes();
     while let [high, low, after @ ..] = rest {
         let Some(byte) = byte_of(*high, *low) else {
-            return Err(LineFault::Bad);
+            return Err(TextFault::Bad);
         };
         bytes.push(byte)?;
         rest = after;
     }
     if !rest.is_empty() {
-        return Err(LineFault::Bad);
+        return Err(TextFault::Bad);
     }
     Ok(Items::from_vec(bytes))
 }
@@ -336,7 +336,7 @@ fn digit_value(digit: u8) -> Option<u8>
 
 /// Addresses separated by commas; `-` for none.
 #[tactic(auto, unfolding(crate::specs::Words::nodes_of))]
-fn read_nodes(alloc: Global, word: &str) -> Result<Items<Node>, LineFault>
+fn read_nodes(alloc: Global, word: &str) -> Result<Items<Node>, TextFault>
     ensures { Finds (nodes_of word.now) result }
 {
     if is_dash(word) {
@@ -346,13 +346,13 @@ fn read_nodes(alloc: Global, word: &str) -> Result<Items<Node>, LineFault>
     let mut rest = word;
     while let Some((node, after)) = rest.split_once(',') {
         let Some(node) = read_node(node) else {
-            return Err(LineFault::Bad);
+            return Err(TextFault::Bad);
         };
         nodes.push(node)?;
         rest = after;
     }
     let Some(last) = read_node(rest) else {
-        return Err(LineFault::Bad);
+        return Err(TextFault::Bad);
     };
     nodes.push(last)?;
     Ok(Items::from_vec(nodes))

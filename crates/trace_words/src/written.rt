@@ -62,7 +62,8 @@ fn push_piece(out: &mut String, piece: &[u8]) -> Result<(), OutOfMemory>
 
 /// A space, bytes, and the end of the line.
 pub fn push_last_bytes(out: &mut String, bytes: &[u8]) -> Result<(), OutOfMemory>
-    ensures { OnOk result (string_bytes out.new ≡ string_bytes out.old ++ (codes " " ++ (bytes_word bytes.now ++ codes "\n"))) }
+    ensures { OnOk result
+        (string_bytes out.new ≡ string_bytes out.old ++ (codes " " ++ (bytes_word bytes.now ++ codes "\n"))) }
 {
     out.push_str(" ")?;
     push_bytes(out, bytes)?;
@@ -81,7 +82,8 @@ pub fn push_nodes(out: &mut String, nodes: &[Node]) -> Result<(), OutOfMemory>
 }
 
 fn push_others(out: &mut String, nodes: &[Node]) -> Result<(), OutOfMemory>
-    ensures { OnOk result (string_bytes out.new ≡ string_bytes out.old ++ flat_map (λ other. codes "," ++ node_word other) nodes.now) }
+    ensures { OnOk result
+        (string_bytes out.new ≡ string_bytes out.old ++ flat_map (λ other. codes "," ++ node_word other) nodes.now) }
 {
     for node in nodes {
         out.push_str(",")?;

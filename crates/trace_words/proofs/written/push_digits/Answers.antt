@@ -1,4 +1,4 @@
-use Rattle.std.proofs.Common.{rules, ◌≡◌, ◌++◌, length, string_bytes}
+use Rattle.std.proofs.Common.{rules, ◌≡◌, ◌++◌, length}
 use Rattle.trace_words.proofs.HexWords.{piece_pushed, all_pushed}
 use Rattle.trace_words.proofs.written.push_digits.Goals as goal
 

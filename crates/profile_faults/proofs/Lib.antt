@@ -1,0 +1,5 @@
+pub mod Apart
+pub mod Groups
+pub mod Named
+pub mod Placed
+pub mod PlacedWords

@@ -1,0 +1,40 @@
+-- From a word of a line's item to the same word of the profile's line.
+use Rattle.std.proofs.Common.{ℕ, ◌≡◌, ◌<◌, false, List, length, get_or, codes, refl, sym, ◌∙◌, ap, Some}
+use Rattle.std.proofs.lemmas.Bool.{or_parts}
+use Rattle.std.proofs.lemmas.List.Folds.{list_all_at}
+use Rattle.std.proofs.lemmas.Option.{slice_get_read}
+use Rattle.adapter_table.specs.declared.profile.Profile.{Profile}
+use Rattle.scanner_table.specs.declared.profile.SlotConfig.{SlotConfig}
+use Rattle.scanner_table.specs.declared.profile.ScannerProfile.{ScannerProfile}
+use Rattle.scanner_table.specs.Profiles.{listens_to_group}
+use Rattle.trace_lines.specs.WrittenProfiles.{output_words, point_words}
+use Rattle.trace_lines.specs.Kinds.{multicast_word}
+use Rattle.profile_faults.specs.declared.defects.LineName.TheVariants as name
+use Rattle.profile_faults.specs.declared.defects.ProfileReason.{ProfileReason}
+use Rattle.profile_faults.specs.Defects.{IsFailing}
+use Rattle.profile_faults.specs.Named.{NamesItemWord, NamesConfigWord, NamesSlotWord, NamesWordOfSlots, NamesWord, NamesWordOfScanner}
+
+pub named_output : (profile : Profile) (reason : ProfileReason) → NamesItemWord name.Output output_words profile.outputs reason → NamesWord profile reason
+named_output profile reason is = rw is.0 is.1
+
+pub named_input : (profile : Profile) (reason : ProfileReason) → NamesItemWord name.Input (point_words (codes "input")) profile.inputs reason → NamesWord profile reason
+named_input profile reason is = rw is.0 is.1
+
+pub named_config : (profile : Profile) (reason : ProfileReason) → NamesConfigWord profile.config reason → NamesWord profile reason
+named_config profile reason is = rw is.0 is.1
+
+pub named_slot : (profile : ScannerProfile) (reason : ProfileReason) → NamesWordOfSlots profile.slots reason → NamesWordOfScanner profile reason
+named_slot profile reason is = (rw is.0 is.1.0, is.1.1)
+
+pub named_of_slots : (slots : List SlotConfig) (index : ℕ) (slot : SlotConfig) (reason : ProfileReason) → index < length slots → slot ≡ get_or slots index slot → NamesSlotWord index slot reason → NamesWordOfSlots slots reason
+named_of_slots slots index slot reason lt at is =
+    (is.0, (rw (is.1.0, slice_get_read slots (length slots) index slot refl lt at) is.1.1.0, rw is.1.0 is.1.1.1))
+
+-- a slot that listens to no group is not multicast
+pub cast_of_listener : (slot : SlotConfig) → listens_to_group slot ≡ false → multicast_word slot.multicast ≡ codes "p2p"
+cast_of_listener slot is = ap multicast_word (or_parts _ _ is).1
+
+-- a slot that fails the test, where it is
+pub is_failing : (slots : List SlotConfig) (index : ℕ) (slot : SlotConfig) → index < length slots → slot ≡ get_or slots index slot → listens_to_group slot ≡ false → IsFailing listens_to_group slots (Some index)
+is_failing slots index slot lt at is =
+    (lt, (list_all_at listens_to_group slots index slot lt (ap listens_to_group (sym at) ∙ is), rw (slice_get_read slots (length slots) index slot refl lt at) is))

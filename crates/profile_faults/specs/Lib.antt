@@ -1,0 +1,3 @@
+pub mod Defects
+pub mod Instances
+pub mod Named

@@ -1,0 +1,148 @@
+//! The profile at the front of a text, and the lines that it is in.
+
+use crate::defects::LineName;
+use crate::text_lines::first_line;
+use adapter_table::{InputPoint, OutputPoint};
+use cip_tables::Config;
+use cip_types::{Items, OutOfMemory};
+use scanner_table::SlotConfig;
+use std::alloc::Global;
+use std::str;
+use trace_lines::{
+    AdapterLine, HeartbeatLine, ScannerLine, profile_with, read_adapter, read_heartbeat,
+    read_output, read_point, read_scanner, read_slot, scanner_with,
+};
+use trace_words::{TextFault, Words};
+
+/// The name of a profile's line, by its first word.
+fn name_of(word: &str) -> Option<LineName> {
+    match word {
+        "adapter" => Some(LineName::Adapter),
+        "output" => Some(LineName::Output),
+        "input" => Some(LineName::Input),
+        "config" => Some(LineName::Config),
+        "heartbeat" => Some(LineName::Heartbeat),
+        "scanner" => Some(LineName::Scanner),
+        "slot" => Some(LineName::Slot),
+        _ => None,
+    }
+}
+
+/// The words of a line of a profile behind the first one, and the line's name.
+fn named_words(line: &[u8]) -> Option<(LineName, Words<'_>)> {
+    let mut words = Words::of(str::from_utf8(line).ok()?);
+    let name = name_of(words.word().ok()?)?;
+    Some((name, words))
+}
+
+/// The number of a line of this name in a text, from 1, where so many lines of this name are before it.
+pub fn line_number(text: &[u8], name: LineName, index: usize) -> Option<u64> {
+    let mut number = 1u64;
+    let mut before = 0usize;
+    let mut rest = text;
+    while let Some((line, after)) = first_line(rest) {
+        if is_named(line, name) {
+            if before == index {
+                return Some(number);
+            }
+            before = before.saturating_add(1);
+        }
+        number = number.saturating_add(1);
+        rest = after;
+    }
+    None
+}
+
+fn is_named(line: &[u8], name: LineName) -> bool {
+    match named_words(line) {
+        Some((found, _)) => found == name,
+        None => false,
+    }
+}
+
+/// The part of a profile in the lines so far.
+#[derive(Drop)]
+struct ProfileDraft {
+    adapter: Option<AdapterLine>,
+    outputs: Vec<OutputPoint>,
+    inputs: Vec<InputPoint>,
+    config: Option<InputPoint>,
+    heartbeat: Option<HeartbeatLine>,
+    scanner: Option<ScannerLine>,
+    slots: Vec<SlotConfig>,
+}
+
+impl ProfileDraft {
+    fn new(alloc: Global) -> ProfileDraft {
+        ProfileDraft {
+            adapter: None,
+            outputs: Vec::new(alloc),
+            inputs: Vec::new(alloc),
+            config: None,
+            heartbeat: None,
+            scanner: None,
+            slots: Vec::new(alloc),
+        }
+    }
+
+    /// Adds a line of a profile. The faults are those of the line.
+    fn add(
+        &mut self,
+        alloc: Global,
+        name: LineName,
+        words: &mut Words<'_>,
+    ) -> Result<(), TextFault> {
+        match name {
+            LineName::Adapter => self.adapter = Some(read_adapter(words)?),
+            LineName::Output => self.outputs.push(read_output(words)?)?,
+            LineName::Input => self.inputs.push(read_point(words)?)?,
+            LineName::Config => self.config = Some(read_point(words)?),
+            LineName::Heartbeat => self.heartbeat = Some(read_heartbeat(words)?),
+            LineName::Scanner => self.scanner = Some(read_scanner(words)?),
+            LineName::Slot => self.slots.push(read_slot(alloc, words)?)?,
+        }
+        Ok(())
+    }
+
+    /// The configuration of the device of these lines, if they are a profile.
+    fn config(self) -> Option<Config> {
+        let outputs = Items::from_vec(self.outputs);
+        let inputs = Items::from_vec(self.inputs);
+        let slots = Items::from_vec(self.slots);
+        if let Some(scanner) = self.scanner {
+            return Some(Config::Scanner(scanner_with(scanner, slots)));
+        }
+        let profile = profile_with(self.adapter?, outputs, inputs, self.config, self.heartbeat?);
+        Some(Config::Adapter(profile))
+    }
+}
+
+/// The configuration of the profile at the front of a text. None if the text begins with no profile. OutOfMemory is the
+/// only fault.
+pub fn profile_of(alloc: Global, text: &[u8]) -> Result<Option<Config>, OutOfMemory> {
+    let mut draft = ProfileDraft::new(alloc);
+    let mut rest = text;
+    while let Some((line, after)) = first_line(rest) {
+        rest = after;
+        if is_skipped(line) {
+            continue;
+        }
+        let Some((name, mut words)) = named_words(line) else {
+            break;
+        };
+        match draft.add(alloc, name, &mut words) {
+            Ok(()) => {}
+            Err(TextFault::OutOfMemory) => return Err(OutOfMemory),
+            Err(TextFault::Bad) => break,
+        }
+    }
+    Ok(draft.config())
+}
+
+/// Whether a line is empty or a comment.
+fn is_skipped(line: &[u8]) -> bool {
+    match line {
+        [] => true,
+        [first, ..] => *first == b'#',
+    }
+}

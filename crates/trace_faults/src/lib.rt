@@ -1,0 +1,12 @@
+//! Why a text is no trace, in words: which line is bad, and its first character or word that makes it so, with what is
+//! allowed there; or which fault its profile has, and where.
+#![tactic(auto)]
+
+mod faults;
+mod lexical;
+mod reasons;
+mod text_lines;
+
+pub use faults::explain_fault;
+pub use lexical::{Character, bad_character};
+pub use reasons::{BadWord, LineReason, WordReason, reason_of};

@@ -1,0 +1,4 @@
+mod Keys
+mod Pieces
+mod Skipping
+mod SlotSamples

@@ -1,0 +1,45 @@
+-- Readers of the lines of a profile, behind their keywords.
+use Rattle.std.specs.Prelude.{List, Option}
+use Rattle.adapter_table.specs.declared.profile.OutputPoint.{OutputPoint}
+use Rattle.adapter_table.specs.declared.profile.InputPoint.{InputPoint}
+use Rattle.adapter_table.specs.declared.profile.Profile.{Profile}
+use Rattle.trace_lines.specs.declared.forms.AdapterLine.{AdapterLine}
+use Rattle.trace_lines.specs.declared.forms.HeartbeatLine.{HeartbeatLine}
+use Rattle.trace_lines.specs.declared.shapes.TheConstants.{ADAPTER, OUTPUT, POINT, HEARTBEAT}
+use Rattle.trace_words.specs.Reader.{Reader, ends}
+use Rattle.trace_lines.specs.Shapes.{shaped}
+
+-- incarnation, address, network mask and identity
+abbrev pub adapter_reader : Reader AdapterLine
+adapter_reader = shaped ADAPTER (λ incarnation node mask vendor device_type product major minor. ends (record {
+  incarnation = incarnation;
+  node = node;
+  mask = mask.0;
+  identity = record { vendor = vendor; device_type = device_type; product = product; major = major; minor = minor };
+}))
+
+-- instance, length, and the actions when the owner is idle and when it is lost
+abbrev pub output_reader : Reader OutputPoint
+output_reader = shaped OUTPUT (λ instance len idle lost. ends (record { instance = instance; len = len; idle = idle; fault = lost }))
+
+-- instance and length
+abbrev pub point_reader : Reader InputPoint
+point_reader = shaped POINT (λ instance len. ends (record { instance = instance; len = len }))
+
+-- the points of input-only and of listen-only connections
+abbrev pub heartbeat_reader : Reader HeartbeatLine
+heartbeat_reader = shaped HEARTBEAT (λ input_only listen_only. ends (record { input_only = input_only; listen_only = listen_only }))
+
+-- the profile with the values of its lines
+abbrev pub profile_with : AdapterLine → List OutputPoint → List InputPoint → Option InputPoint → HeartbeatLine → Profile
+profile_with adapter outputs inputs config heartbeat = record {
+  incarnation = adapter.incarnation;
+  node = adapter.node;
+  mask = adapter.mask;
+  identity = adapter.identity;
+  outputs = outputs;
+  inputs = inputs;
+  config = config;
+  input_only = heartbeat.input_only;
+  listen_only = heartbeat.listen_only;
+}

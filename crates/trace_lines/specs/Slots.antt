@@ -1,0 +1,76 @@
+-- The lines of a scanner's profile: how they are read behind their keywords, and how they are written. Their last two
+-- words, the trigger and the inhibit time of the target, are left out if it produces cyclically without inhibit time.
+use Rattle.std.specs.Prelude.{ℕ, ◌==◌, if◌then◌else◌, List, [], ◌∷◌, ◌++◌, codes, flat_map, Some}
+use Rattle.cip_netparams.specs.declared.Trigger.{Trigger}
+use Rattle.cip_netparams.specs.declared.Trigger.TheVariants.{Cyclic, ChangeOfState}
+use Rattle.scanner_table.specs.declared.profile.SlotConfig.{SlotConfig}
+use Rattle.scanner_table.specs.declared.profile.ScannerProfile.{ScannerProfile}
+use Rattle.trace_lines.specs.declared.forms.Rate.{Rate}
+use Rattle.trace_lines.specs.declared.forms.ScannerLine.{ScannerLine}
+use Rattle.trace_lines.specs.declared.shapes.TheConstants.{SCANNER, SLOT, RATE}
+use Rattle.trace_words.specs.Words.{line_text}
+use Rattle.trace_words.specs.Reader.{Reader, gives, ends, ◌>>=◌}
+use Rattle.trace_lines.specs.Shapes.{shaped, spelled}
+
+-- LINES THAT ARE READ
+
+-- incarnation, address, vendor number, serial number, the open timeout and the retry delay
+abbrev pub scanner_reader : Reader ScannerLine
+scanner_reader = shaped SCANNER (λ incarnation node vendor serial open_timeout retry. ends (record { incarnation = incarnation; node = node; vendor = vendor; serial = serial; open_timeout = open_timeout; retry = retry }))
+
+-- the trigger of the target's productions, and the least time between two of them at a change
+abbrev pub stated_rate : Reader Rate
+stated_rate = shaped RATE (λ trigger inhibit. ends (record { trigger = trigger; inhibit = inhibit }))
+
+-- cyclic, if the line ends here
+abbrev pub rate_reader : Reader Rate
+rate_reader [] = Some (record { trigger = Cyclic; inhibit = 0 }, [])
+rate_reader (word ∷ words) = stated_rate (word ∷ words)
+
+-- a slot, in the order of its fields
+abbrev pub slot_reader : Reader SlotConfig
+slot_reader = shaped SLOT (λ target kind config consumed produced out_len in_len o_t_rpi t_o_rpi mult multicast key config_data. rate_reader >>= λ rate. gives (record {
+  target = target;
+  kind = kind;
+  config = config;
+  consumed = consumed;
+  produced = produced;
+  out_len = out_len;
+  in_len = in_len;
+  o_t_rpi = o_t_rpi;
+  t_o_rpi = t_o_rpi;
+  mult = mult;
+  multicast = multicast;
+  key = key;
+  config_data = config_data;
+  trigger = rate.trigger;
+  inhibit = rate.inhibit;
+}))
+
+-- the profile with the values of its lines
+abbrev pub scanner_with : ScannerLine → List SlotConfig → ScannerProfile
+scanner_with scanner slots = record {
+  incarnation = scanner.incarnation;
+  node = scanner.node;
+  vendor = scanner.vendor;
+  serial = scanner.serial;
+  open_timeout = scanner.open_timeout;
+  retry = scanner.retry;
+  slots = slots;
+}
+
+-- WHAT IS WRITTEN
+
+-- the trigger of the target's productions, and the least time between two of them at a change
+abbrev pub rate_words : Trigger → ℕ → List (List ℕ)
+rate_words Cyclic inhibit = if inhibit == 0 then [] else spelled [] RATE Cyclic inhibit
+rate_words ChangeOfState inhibit = spelled [] RATE ChangeOfState inhibit
+
+abbrev pub slot_words : SlotConfig → List (List ℕ)
+slot_words slot = spelled (codes "slot" ∷ []) SLOT slot.target slot.kind slot.config slot.consumed slot.produced slot.out_len slot.in_len slot.o_t_rpi slot.t_o_rpi slot.mult slot.multicast slot.key slot.config_data ++ rate_words slot.trigger slot.inhibit
+
+abbrev pub scanner_words : ScannerProfile → List (List ℕ)
+scanner_words profile = spelled (codes "scanner" ∷ []) SCANNER profile.incarnation profile.node profile.vendor profile.serial profile.open_timeout profile.retry
+
+abbrev pub scanner_text : ScannerProfile → List ℕ
+scanner_text profile = line_text (scanner_words profile) ++ flat_map (λ slot. line_text (slot_words slot)) profile.slots

@@ -1,0 +1,33 @@
+-- How a profile is written: a line for the device, and a line for each of its points. One space separates the words of
+-- a line, and LF ends it.
+use Rattle.std.specs.Prelude.{ℕ, List, [], ◌∷◌, ◌++◌, codes, flat_map, Option, Some, None}
+use Rattle.adapter_table.specs.declared.profile.OutputPoint.{OutputPoint}
+use Rattle.adapter_table.specs.declared.profile.InputPoint.{InputPoint}
+use Rattle.adapter_table.specs.declared.profile.Profile.{Profile}
+use Rattle.trace_lines.specs.declared.shapes.TheConstants.{ADAPTER, OUTPUT, POINT, HEARTBEAT}
+use Rattle.trace_words.specs.Words.{line_text}
+use Rattle.trace_lines.specs.Shapes.{spelled}
+
+abbrev pub adapter_words : Profile → List (List ℕ)
+adapter_words profile = spelled (codes "adapter" ∷ []) ADAPTER profile.incarnation profile.node (record { 0 = profile.mask }) profile.identity.vendor profile.identity.device_type profile.identity.product profile.identity.major profile.identity.minor
+
+abbrev pub output_words : OutputPoint → List (List ℕ)
+output_words point = spelled (codes "output" ∷ []) OUTPUT point.instance point.len point.idle point.fault
+
+-- the words of an input or of the configuration
+abbrev pub point_words : List ℕ → InputPoint → List (List ℕ)
+point_words keyword point = spelled (keyword ∷ []) POINT point.instance point.len
+
+abbrev pub heartbeat_words : Profile → List (List ℕ)
+heartbeat_words profile = spelled (codes "heartbeat" ∷ []) HEARTBEAT profile.input_only profile.listen_only
+
+abbrev pub config_text : Option InputPoint → List ℕ
+config_text None = []
+config_text (Some point) = line_text (point_words (codes "config") point)
+
+abbrev pub profile_text : Profile → List ℕ
+profile_text profile =
+    line_text (adapter_words profile)
+    ++ (flat_map (λ point. line_text (output_words point)) profile.outputs
+    ++ (flat_map (λ point. line_text (point_words (codes "input") point)) profile.inputs
+    ++ (config_text profile.config ++ line_text (heartbeat_words profile))))

@@ -1,0 +1,61 @@
+//! The lines of an adapter's profile.
+
+ghost use Rattle.trace_words.specs.Reader.{unread_words, Takes};
+ghost use Rattle.trace_lines.specs.Profiles.{adapter_reader, output_reader, point_reader, heartbeat_reader};
+
+use crate::forms::{AdapterLine, HeartbeatLine};
+use adapter_table::{InputPoint, OutputPoint};
+use cip_types::Identity;
+use trace_words::{TextFault, Words};
+
+/// What follows `adapter`: `INCARNATION NODE MASK VENDOR TYPE PRODUCT MAJOR MINOR`.
+pub fn read_adapter(words: &mut Words<'_>) -> Result<AdapterLine, TextFault>
+    ensures { Takes (adapter_reader (unread_words words.old)) result (unread_words words.new) }
+{
+    let line = AdapterLine {
+        incarnation: words.u8()?,
+        node: words.node()?,
+        mask: words.node()?.0,
+        identity: Identity {
+            vendor: words.u16()?,
+            device_type: words.u16()?,
+            product: words.u16()?,
+            major: words.u8()?,
+            minor: words.u8()?,
+        },
+    };
+    words.last(line)
+}
+
+/// What follows `output`: `INSTANCE LEN IDLE FAULT`.
+pub fn read_output(words: &mut Words<'_>) -> Result<OutputPoint, TextFault>
+    ensures { Takes (output_reader (unread_words words.old)) result (unread_words words.new) }
+{
+    let point = OutputPoint {
+        instance: words.u32()?,
+        len: words.u64()?,
+        idle: words.action()?,
+        fault: words.action()?,
+    };
+    words.last(point)
+}
+
+/// What follows `input` or `config`: `INSTANCE LEN`.
+pub fn read_point(words: &mut Words<'_>) -> Result<InputPoint, TextFault>
+    ensures { Takes (point_reader (unread_words words.old)) result (unread_words words.new) }
+{
+    let instance = words.u32()?;
+    let len = words.u64()?;
+    words.last(InputPoint { instance, len })
+}
+
+/// What follows `heartbeat`: `INPUTONLY LISTENONLY`.
+pub fn read_heartbeat(words: &mut Words<'_>) -> Result<HeartbeatLine, TextFault>
+    ensures { Takes (heartbeat_reader (unread_words words.old)) result (unread_words words.new) }
+{
+    let line = HeartbeatLine {
+        input_only: words.u32()?,
+        listen_only: words.u32()?,
+    };
+    words.last(line)
+}

@@ -1,0 +1,108 @@
+//! Profiles as they are written.
+
+ghost use Rattle.std.specs.Prelude.{◌≡◌, ◌++◌, OnOk, string_bytes, flat_map, codes, drop};
+ghost use Rattle.trace_words.specs.Words.{action_word, line_text};
+ghost use Rattle.trace_lines.specs.WrittenProfiles.{adapter_words, output_words, point_words, heartbeat_words, config_text, profile_text};
+
+use adapter_table::{Action, InputPoint, OutputPoint, Profile};
+use cip_types::{Node, OutOfMemory};
+use trace_words::push_node;
+
+/// Appends the lines of an adapter's profile. If an allocation is refused, a part of them may be appended.
+pub fn push_profile(out: &mut String, profile: &Profile) -> Result<(), OutOfMemory>
+    ensures { OnOk result (string_bytes out.new ≡ string_bytes out.old ++ profile_text profile.now) }
+{
+    push_adapter(out, profile)?;
+    push_outputs(out, profile.outputs.as_slice())?;
+    push_inputs(out, profile.inputs.as_slice())?;
+    push_config(out, profile.config)?;
+    push_heartbeat(out, profile)?;
+    Ok(())
+}
+
+fn push_adapter(out: &mut String, profile: &Profile) -> Result<(), OutOfMemory>
+    ensures { OnOk result (string_bytes out.new ≡ string_bytes out.old ++ line_text (adapter_words profile.now)) }
+{
+    write!(out, "adapter {} ", profile.incarnation)?;
+    push_node(out, profile.node)?;
+    out.push_str(" ")?;
+    push_node(out, Node(profile.mask))?;
+    push_identity(out, profile)?;
+    Ok(())
+}
+
+fn push_identity(out: &mut String, profile: &Profile) -> Result<(), OutOfMemory>
+    ensures { OnOk result
+        (string_bytes out.new ≡ string_bytes out.old ++ (codes " " ++ line_text (drop 4 (adapter_words profile.now)))) }
+{
+    let identity = profile.identity;
+    write!(
+        out,
+        " {} {} {} {} {}\n",
+        identity.vendor, identity.device_type, identity.product, identity.major, identity.minor
+    )?;
+    Ok(())
+}
+
+fn push_outputs(out: &mut String, outputs: &[OutputPoint]) -> Result<(), OutOfMemory>
+    ensures { OnOk result
+        (string_bytes out.new ≡ string_bytes out.old
+        ++ flat_map (λ point. line_text (output_words point)) outputs.now) }
+{
+    for output in outputs {
+        let idle = action_name(output.idle);
+        let fault = action_name(output.fault);
+        write!(
+            out,
+            "output {} {} {idle} {fault}\n",
+            output.instance, output.len
+        )?;
+    }
+    Ok(())
+}
+
+fn action_name(action: Action) -> &'static str
+    ensures { result.now ≡ action_word action }
+{
+    match action {
+        Action::Zero => "zero",
+        Action::Hold => "hold",
+    }
+}
+
+fn push_inputs(out: &mut String, inputs: &[InputPoint]) -> Result<(), OutOfMemory>
+    ensures { OnOk result
+        (string_bytes out.new ≡ string_bytes out.old
+        ++ flat_map (λ point. line_text (point_words (codes "input") point)) inputs.now) }
+{
+    for input in inputs {
+        push_point(out, "input", *input)?;
+    }
+    Ok(())
+}
+
+fn push_point(out: &mut String, keyword: &str, point: InputPoint) -> Result<(), OutOfMemory>
+    ensures { OnOk result (string_bytes out.new ≡ string_bytes out.old ++ line_text (point_words keyword.now point)) }
+{
+    Ok(write!(out, "{keyword} {} {}\n", point.instance, point.len)?)
+}
+
+fn push_config(out: &mut String, config: Option<InputPoint>) -> Result<(), OutOfMemory>
+    ensures { OnOk result (string_bytes out.new ≡ string_bytes out.old ++ config_text config) }
+{
+    match config {
+        Some(config) => push_point(out, "config", config),
+        None => Ok(()),
+    }
+}
+
+fn push_heartbeat(out: &mut String, profile: &Profile) -> Result<(), OutOfMemory>
+    ensures { OnOk result (string_bytes out.new ≡ string_bytes out.old ++ line_text (heartbeat_words profile.now)) }
+{
+    write!(
+        out,
+        "heartbeat {} {}\n",
+        profile.input_only, profile.listen_only
+    )?;
+    Ok(())
+}

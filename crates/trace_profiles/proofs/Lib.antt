@@ -1,3 +1,0 @@
-mod Keys
-mod Pieces
-mod SlotSamples

@@ -1,7 +1,0 @@
-use Rattle.std.proofs.Common.{◌≡◌, ◌++◌, string_bytes, flat_map, take}
-use Rattle.trace_profiles.specs.Written.{output_words}
-use Rattle.trace_words.specs.Words.{line_text}
-use Rattle.trace_profiles.proofs.written.push_outputs.Given as goal
-
-abbrev pub invariant-loop-output : goal.invariant-loop-output
-invariant-loop-output l = string_bytes l.out ≡ string_bytes l.fn.out ++ flat_map (λ point. line_text (output_words point)) (take l.output-index l.outputs)

@@ -1,3 +1,0 @@
-pub mod Profiles
-pub mod Slots
-pub mod Written

@@ -1,6 +1,0 @@
-use Rattle.std.proofs.Common.{sym}
-use Rattle.trace_text.proofs.AsciiLines.{ascii_text}
-use Rattle.trace_text.proofs.lines.read_line.Goals as goal
-
-pub from_utf8_unchecked-text-requires : goal.from_utf8_unchecked-text-requires
-from_utf8_unchecked-text-requires c = ascii_text c.args.line.now (sym c.if-not-is_ascii.ensures)
